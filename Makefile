@@ -121,8 +121,9 @@ oracle: lib
 	python3 -m compare.hostile build/lib/libscrypt_c.so
 	python3 -m compare.groups build/lib/libscrypt_c.so
 
+# For arm64 the program is built too.
 lib: kit
-	$(MAKE) -j$(SIDE_BY_SIDE) proved-scrypt
+	$(MAKE) -j$(SIDE_BY_SIDE) proved-scrypt$(if $(filter aarch64-%,$(ARCH)),_commands)
 	bindings/lib.sh
 
 js: kit

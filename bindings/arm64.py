@@ -1,13 +1,11 @@
 #!/usr/bin/env python3
-"""Proves and compiles for arm64: a copy of the crate scrypt that mixes one chunk in words, and two one after the other
-(one_in_words.edit), and over it the crate scrypt_c, the commands and the program scrypt_tool. What it makes is in
+"""Proves and compiles the crate scrypt_c and the program scrypt_tool for arm64, with the mixer for it. What it makes is in
 crates/NAME/out/arm64.
 
-usage: python3 -m bindings.arm64 NAME[=KEPT] ..   scrypt, scrypt_c, scrypt_commands and scrypt_tool, in this order; KEPT is a
-                                                  folder of proofs of the crate that are kept
+usage: python3 -m bindings.arm64 NAME[=KEPT] ..   scrypt_c and scrypt_tool; KEPT is a folder of proofs of the crate that are kept
 
-It needs the kit, and the libraries below the crate scrypt, which `make lib` proves. Without KEPT it begins with what it kept itself,
-or a check of the crate did.
+It needs the kit, and the libraries below, which `make lib` and `make run` prove: they are the same for each processor. Without KEPT it
+begins with what it kept itself, or a check of the crate did.
 """
 
 import os
@@ -19,9 +17,7 @@ from pathlib import Path
 from tools import copies, kit
 
 TARGET = "aarch64-unknown-linux-gnu"
-LIBRARIES = {"scrypt": "scrypt.rlib", "scrypt_commands": "scrypt_commands.rlib"}
-MADE = LIBRARIES | {"scrypt_c": "libscrypt_c.a", "scrypt_tool": "scrypt_tool.o"}
-EDITS = {"scrypt": ["bindings/one_in_words.edit"]}
+MADE = {"scrypt_c": "libscrypt_c.a", "scrypt_tool": "scrypt_tool.o"}
 
 # The gate proves from nothing.
 IS_GATE = "PROVED_LIBRARIES" in os.environ
@@ -33,11 +29,12 @@ def begin(name, given):
     return next((it for it in [given, *own] if os.path.isdir(it)), None)
 
 
-def build(room, name, given, *options):
+def build(room, name, given):
     """Proves and builds a copy of a crate."""
     out = Path(f"crates/{name}/out/arm64").resolve()
     out.mkdir(parents=True, exist_ok=True)
-    copies.copy_crate(name, room / name, EDITS.get(name, ()))
+    copies.copy_crate(name, room / name, TARGET)
+    options = ["--toolchain", f"{kit.located()}/toolchain", "--backend", "llvm", "--target", TARGET]
     verdict = copies.build(name, room / name, out / MADE[name], *options, kept=begin(name, given))
     shutil.rmtree(out / "kept", ignore_errors=True)
     shutil.move(room / name / "kept", out / "kept")
@@ -46,15 +43,9 @@ def build(room, name, given, *options):
 
 def main(*words):
     # Not in the repository, in which rt refuses sources that are of no crate.
-    with tempfile.TemporaryDirectory() as folder:
-        room = Path(folder)
-        copies.libraries_with(room / "libraries", "scrypt").symlink_to(copies.TOP / "crates/scrypt/out/arm64/scrypt.rlib")
-        (room / "libraries/scrypt_commands/out/rlib").mkdir(parents=True)
-        made = copies.TOP / "crates/scrypt_commands/out/arm64/scrypt_commands.rlib"
-        (room / "libraries/scrypt_commands/out/rlib/scrypt_commands.rlib").symlink_to(made)
-        compiled = ["--toolchain", f"{kit.located()}/toolchain", "--backend", "llvm", "--target", TARGET]
+    with tempfile.TemporaryDirectory() as room:
         for name, _, given in (it.partition("=") for it in words):
-            build(room, name, given, *([] if name in LIBRARIES else compiled))
+            build(Path(room), name, given)
 
 
 if __name__ == "__main__":

@@ -6,9 +6,8 @@
   in an empty folder; the second, the module for JavaScript, and the wrong bodies of that crate, take from it what they leave
   unchanged. Then they are linked and called.
 - When the program is proved: its answers. It is linked with what asks at a terminal after that.
-- For arm64: a copy of the crate scrypt that mixes one chunk otherwise, as soon as the crates below it are proved; then, side by
-  side, the program and the library over that copy, whose calls and answers run in an emulator. A package that this needs and isn't
-  installed is named. Nothing else takes as long from its beginning to its end: this waits for no other task, at no lower priority.
+- For arm64: the library and the program, with another mixer, whose calls and answers run in an emulator. A package that this needs
+  and isn't installed is named.
 
 All else but the calls runs on the processors that `rt ci` leaves idle, at a lower priority, since its crates wait for one another.
 What they print, with the time that each took, follows what `rt ci` prints. The last line counts what passed: the crates
@@ -43,8 +42,6 @@ NEWER = "x86-64-v3"
 
 LIBRARY = "the library for C"
 
-SCRYPT_FOR_ARM64 = "scrypt for arm64"
-
 MODULE = "the module for JavaScript"
 
 PROGRAM = "crates/scrypt_tool/out/scrypt_tool"
@@ -54,9 +51,6 @@ PROGRAM_FOR_ARM64 = "the program for arm64"
 LIBRARY_FOR_ARM64 = "the library for arm64"
 
 ARM64 = "callers for arm64"
-
-# The longest chain of tasks, which have a lane of their own.
-CHAIN = SCRYPT_FOR_ARM64, PROGRAM_FOR_ARM64, LIBRARY_FOR_ARM64, ARM64
 
 # What the build for arm64 and its tests need, and the Debian packages that have it.
 FOR_ARM64 = {
@@ -121,7 +115,7 @@ class Tasks:
         """Runs a task. If one fails that needs nothing proved, the prover is ended too."""
         if not all([it.result()[0] for it in before]):
             return False, ""
-        with contextlib.nullcontext() if name in CHAIN else self.lanes:
+        with self.lanes:
             begun, self.spent.seconds = clock(), 0
             is_well, text = call()
             text = f"{begun} to {clock()}, {in_minutes(self.spent.seconds)} of a processor: {name}\n{text}"
@@ -239,7 +233,7 @@ def missing_for_arm64():
 
 
 def prove_for_arm64(tasks, *names):
-    """Proves copies of these crates for arm64."""
+    """Proves these crates for arm64."""
     return tasks.run(sys.executable, "-m", "bindings.arm64", *names, nice=0)
 
 
@@ -250,18 +244,16 @@ def test_arm64(tasks):
 
 
 def add_for_arm64(tasks, kept):
-    """Adds what is over the copy of the crate scrypt for arm64."""
-    program = "scrypt_commands", "scrypt_tool"
-    tasks.add(PROGRAM_FOR_ARM64, prover_command.below("scrypt"), lambda: prove_for_arm64(tasks, *program), SCRYPT_FOR_ARM64)
-    needs = prover_command.below("scrypt_c")
-    tasks.add(LIBRARY_FOR_ARM64, needs, lambda: prove_for_arm64(tasks, f"scrypt_c={kept}-arm64"), SCRYPT_FOR_ARM64, LIBRARY)
-    tasks.add(ARM64, needs, lambda: test_arm64(tasks), PROGRAM_FOR_ARM64, LIBRARY_FOR_ARM64)
+    """Adds what is for arm64."""
+    below = prover_command.below("scrypt_tool")
+    tasks.add(LIBRARY_FOR_ARM64, prover_command.below("scrypt_c"), lambda: prove_for_arm64(tasks, f"scrypt_c={kept}-arm64"), LIBRARY)
+    tasks.add(PROGRAM_FOR_ARM64, below, lambda: prove_for_arm64(tasks, "scrypt_tool"))
+    tasks.add(ARM64, below, lambda: test_arm64(tasks), PROGRAM_FOR_ARM64, LIBRARY_FOR_ARM64)
 
 
-def build_module(tasks, kept, is_for_arm64):
-    """Builds the module for JavaScript over what the build of the libraries kept, and that of the crate scrypt for arm64."""
-    below = ["crates/scrypt/out/arm64/kept"] if is_for_arm64 else []
-    return tasks.run(sys.executable, "-m", "bindings.js.build", f"{kept}-module", *below)
+def build_module(tasks, kept):
+    """Builds the module for JavaScript over what the build of the libraries kept."""
+    return tasks.run(sys.executable, "-m", "bindings.js.build", f"{kept}-module")
 
 
 def add_all(tasks, made, kept, is_built):
@@ -269,19 +261,13 @@ def add_all(tasks, made, kept, is_built):
     what the build of the libraries kept."""
     tasks.add("the documents", [], lambda: tasks.run("make", "--no-print-directory", "documents"))
     tasks.add("what must not compile", [], lambda: tasks.run(sys.executable, "-m", "ci.must_not_compile"))
-    is_for_arm64 = is_built and not missing_for_arm64()
-    if is_for_arm64:
-        tasks.lanes.acquire()
-        tasks.add(SCRYPT_FOR_ARM64, prover_command.below("scrypt"), lambda: prove_for_arm64(tasks, "scrypt"))
     if is_built:
         tasks.add(LIBRARY, prover_command.below("scrypt_c"), lambda: build(tasks, made, kept))
-    if is_for_arm64:
-        add_for_arm64(tasks, kept)
-    if is_built:
         tasks.add("callers of the library", prover_command.below("scrypt_c"), lambda: link_and_call(tasks, made), LIBRARY)
-        before = [LIBRARY, SCRYPT_FOR_ARM64] if is_for_arm64 else [LIBRARY]
-        tasks.add(MODULE, prover_command.below("scrypt_c"), lambda: build_module(tasks, kept, is_for_arm64), *before)
+        tasks.add(MODULE, prover_command.below("scrypt_c"), lambda: build_module(tasks, kept), LIBRARY)
         tasks.add("callers of the module", prover_command.below("scrypt_c"), lambda: tasks.run("bindings/js/test/test.sh"), MODULE)
+    if is_built and not missing_for_arm64():
+        add_for_arm64(tasks, kept)
     for name in edits.crates_with(edits.GATE):
         is_over = name == "scrypt_c" and is_built
         command = [sys.executable, "-m", "ci.wrong_bodies", *(["over", kept] if is_over else []), name]

@@ -20,7 +20,7 @@ from tools import edits, sources
 
 HANDWRITTEN = ["crates/scrypt_kernel/proofs/cores/count/CoreCount/of/Proof.antt"]
 NEW_COUNTS = {
-    "crates/scrypt/src/derivation.rt": 1,
+    "crates/scrypt/src/derivation.rt": 2,
     "crates/scrypt/src/hashing.rt": 1,
     "crates/scrypt/src/mcf/verifying.rt": 1,
     "crates/scrypt/src/phc/verifying.rt": 1,

@@ -1,6 +1,6 @@
-"""Copies of crates and of the kit's toolchain, for a target for which other code is faster or smaller, and their build.
+"""Copies of crates and of the kit's toolchain for another target, and their build.
 
-A copy is changed by edits, as those of wrong bodies are written (edits.py), and is proved as the crate is.
+A copy is the crate with the mixer of that target in `src/target.rt`, and is proved as the crate is, over the same libraries.
 """
 
 import os
@@ -10,9 +10,12 @@ import subprocess
 import sys
 from pathlib import Path
 
-from tools import edits, kit, prover_command
+from tools import kit, prover_command
 
 TOP = Path(__file__).resolve().parents[1]
+
+# How chunks are mixed there (crates/scrypt/src/mixers.rt). The crates themselves have that for x86-64.
+MIXERS = {"aarch64-unknown-linux-gnu": "Words", "wasm64-unknown-unknown": "Pairs"}
 
 
 def run(*words, cwd=None):
@@ -24,14 +27,18 @@ def run(*words, cwd=None):
     return ran.stdout
 
 
-def copy_crate(name, to, changes=(), left_out=()):
-    """Copies a crate, changed by these edits, without these functions and their proofs."""
+def copy_crate(name, to, target, left_out=()):
+    """Copies a crate for a target, without these functions and their proofs."""
     for part in "src", "specs", "proofs":
         if os.path.isdir(f"crates/{name}/{part}"):
             shutil.copytree(f"crates/{name}/{part}", to / part)
     for function in left_out:
         leave_out(to, function)
-    edits.write(edits.texts_after(map(edits.of_file, changes), to))
+    chosen = to / "src/target.rt"
+    text, count = re.subn(r"::Vectors\b", f"::{MIXERS[target]}", chosen.read_text("utf-8"))
+    if count != 1:
+        sys.exit(f"{chosen}: {count} mixers")
+    chosen.write_text(text, "utf-8")
 
 
 def leave_out(crate, function):
@@ -56,16 +63,6 @@ def copy_toolchain(to, *flags):
     compiler.unlink()
     compiler.write_text(f'#!/bin/sh\nexec "{own}/bin/clang" {" ".join(flags)} "$@"\n')
     compiler.chmod(0o755)
-
-
-def libraries_with(to, changed):
-    """A folder of libraries, as PROVED_LIBRARIES names one, for a crate over a changed one, which is built there."""
-    own = Path(os.environ.get("PROVED_LIBRARIES") or TOP / "crates")
-    (to / changed / "out/rlib").mkdir(parents=True)
-    for library in prover_command.below(changed):
-        (to / library).symlink_to(own / library)
-    os.environ["PROVED_LIBRARIES"] = str(to)
-    return to / changed / f"out/rlib/{changed}.rlib"
 
 
 def build(name, crate, output, *options, kept=None):

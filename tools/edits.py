@@ -94,12 +94,6 @@ def read(crate, text):
     return found
 
 
-def of_file(path):
-    """The edit that a file has by itself, after a comment: of a copy for another processor (copies.py)."""
-    _, *lines = Path(path).read_text("utf-8").splitlines()
-    return Edit("", "", path, tuple(line_of(line) for line in lines))
-
-
 def line_of(line):
     """The word that a line begins with, and what follows it."""
     word, _, rest = line.partition(":")

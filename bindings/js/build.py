@@ -1,12 +1,11 @@
 #!/usr/bin/env python3
 """Makes bindings/js/scrypt.wasm of the crate scrypt_c, without what the package doesn't call.
 
-usage: build.py                     begins with the proofs that are kept in crates/scrypt_c/out and crates/scrypt/out
-       build.py KEPT [KEPT_BELOW]   or in these folders, the second of which is of the crate scrypt
+usage: build.py         begins with the proofs that are kept in crates/scrypt_c/out
+       build.py KEPT    or in this folder
 
-The crate is proved for WebAssembly with a 64-bit memory, over a copy of the crate scrypt that mixes at most two chunks at a
-time (two_at_once.edit): with three or four, engines lack registers. It is linked as build/wasm/scrypt64.wasm. scrypt.wasm is
-the same with a 32-bit memory. It needs the kit, and the libraries below the crate, which `make lib` proves.
+The crate is proved for WebAssembly with a 64-bit memory and the mixer for it, and linked as build/wasm/scrypt64.wasm.
+scrypt.wasm is the same with a 32-bit memory. It needs the kit, and the libraries below the crate, which `make lib` proves.
 """
 
 import re
@@ -42,20 +41,17 @@ def other_calls():
     return sorted({name for text in texts for name in re.findall(r'extern "C" fn (\w+)', text)} - CALLS)
 
 
-def prove(room, kept, kept_below):
-    """Proves the two crates, and returns what the linker takes."""
-    scrypt, crate, toolchain, archive = (room / name for name in ("scrypt", "scrypt_c", "toolchain", "libscrypt_c.a"))
-    copies.copy_crate("scrypt", scrypt, ["bindings/js/two_at_once.edit"])
-    copies.copy_crate("scrypt_c", crate, left_out=other_calls())
+def prove(room, kept):
+    """Proves the crate, and returns what the linker takes."""
+    crate, toolchain, archive = (room / name for name in ("scrypt_c", "toolchain", "libscrypt_c.a"))
+    copies.copy_crate("scrypt_c", crate, TARGET, left_out=other_calls())
     copies.copy_toolchain(toolchain, VECTORS)
-    library = copies.libraries_with(room / "libraries", "scrypt")
-    below = copies.build("scrypt", scrypt, library, kept=kept_below)
     options = ["--target", TARGET, "--toolchain", toolchain, "--backend", "llvm"]
     verdict = copies.build("scrypt_c", crate, archive, *options, kept=kept)
     # It calls nothing outside, so that no axiom is reached.
     if f" target={TARGET} " not in verdict or "axioms=" in verdict:
         sys.exit(f"{verdict}\nnot proved as wanted")
-    print(f"== scrypt-two-at-once\n{below}\n== scrypt_c-wasm64\n{verdict}")
+    print(f"== scrypt_c-wasm64\n{verdict}")
     return archive
 
 
@@ -76,15 +72,15 @@ def lower_memory(source, target):
     return "lower.py"
 
 
-def main(kept, kept_below=None):
+def main(kept):
     MADE.parent.mkdir(parents=True, exist_ok=True)
     # Not in the repository, in which rt refuses sources that are of no crate.
     with tempfile.TemporaryDirectory() as room:
-        archive = prove(Path(room), kept, kept_below)
+        archive = prove(Path(room), kept)
         own = copies.kit.located()
         copies.run(f"{own}/bin/rattle-link", "--target", TARGET, "--toolchain", f"{own}/toolchain", "-o", MADE, archive)
     print(f"{lower_memory(MADE, MODULE)} made {MODULE.stat().st_size} bytes of {MADE.stat().st_size}")
 
 
 if __name__ == "__main__":
-    main(*sys.argv[1:] or ("crates/scrypt_c/out/incremental", "crates/scrypt/out/incremental"))
+    main(*sys.argv[1:] or ["crates/scrypt_c/out/incremental"])

@@ -3,7 +3,8 @@
 use crate::failing_allocations::{CallEnd, failing_allocations};
 use crate::holds;
 use scrypt::{
-    CoreCount, DeriveError, Kdf, Params, Scrypt, kdf, scrypt, scrypt_counted, scrypt_in_groups,
+    CoreCount, DeriveError, Kdf, Params, Scrypt, Vectors, kdf, scrypt, scrypt_counted,
+    scrypt_in_groups,
 };
 use std::alloc::Global;
 use std::test::Fail;
@@ -110,7 +111,7 @@ fn ended(call: Call, alloc: Global, params: &Params) -> CallEnd {
             &mut cores,
         )),
         Call::DeriveKey => end_of_trait(alloc, params, &mut output),
-        Call::InGroups(tables) => end_of(scrypt_in_groups(
+        Call::InGroups(tables) => end_of(scrypt_in_groups::<Vectors>(
             alloc,
             b"",
             b"",

@@ -1,7 +1,10 @@
 // Derivations with several chunks at a time, and several logins at once.
 
 use crate::holds;
-use scrypt::{CoreCount, LimitedError, Login, Params, StoredHash, scrypt_in_groups, verify_logins};
+use scrypt::{
+    CoreCount, LimitedError, Login, Mixer, Pairs, Params, StoredHash, Vectors, Words, scrypt_by,
+    verify_logins,
+};
 use std::alloc::{AllocError, Global};
 use std::test::Fail;
 
@@ -24,18 +27,16 @@ const MOST_BYTES: usize = 4 * (4096 + 512) + 5 * 256;
 
 #[test]
 fn keys_in_groups(rt: HostRuntime) -> Result<(), Fail> {
+    keys_by::<Vectors>(rt.alloc())?;
+    keys_by::<Words>(rt.alloc())?;
+    keys_by::<Pairs>(rt.alloc())
+}
+
+// No processor needs more than one mixer, but each computes on every processor.
+fn keys_by<W: Mixer>(alloc: Global) -> Result<(), Fail> {
     for &(p, wanted, reason) in &KEYS {
-        let params = Params::new(4, 2, p)?;
-        let (mut key, mut cores) = ([0u8; 16], CoreCount::new());
-        scrypt_in_groups(
-            rt.alloc(),
-            b"pw",
-            b"NaCl",
-            &params,
-            MOST_BYTES,
-            &mut key,
-            &mut cores,
-        )?;
+        let (params, mut key) = (Params::new(4, 2, p)?, [0u8; 16]);
+        scrypt_by::<W>(alloc, b"pw", b"NaCl", &params, MOST_BYTES, &mut key)?;
         holds(u128::from_be_bytes(key) == wanted, reason)?;
     }
     Ok(())
@@ -96,7 +97,7 @@ fn many_logins(rt: HostRuntime) -> Result<(), Fail> {
     for &(first, others, is_first, is_last, reason) in &LOGINS {
         let logins = logins_of(rt.alloc(), first, others)?;
         let mut verdicts = vec![in rt.alloc(); Ok(()); logins.len()]?;
-        verify_logins(
+        verify_logins::<Vectors>(
             &logins,
             &mut verdicts,
             &mut chunks,

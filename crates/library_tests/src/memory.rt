@@ -2,7 +2,7 @@
 
 use crate::{holds, is};
 use password_hash::{PasswordHasher, PasswordVerifier, mcf};
-use scrypt::{CoreCount, Kdf, Params, Scrypt, scrypt, scrypt_in_groups};
+use scrypt::{CoreCount, Kdf, Params, Scrypt, Vectors, scrypt, scrypt_in_groups};
 use std::fs;
 use std::test::Fail;
 
@@ -53,7 +53,7 @@ fn tables(rt: HostRuntime) -> Result<(), Fail> {
         "verified",
     )?;
     for &(most_bytes, tables, reason) in &TABLES {
-        scrypt_in_groups(alloc, b"", b"", &params, most_bytes, &mut key, &mut cores)?;
+        scrypt_in_groups::<Vectors>(alloc, b"", b"", &params, most_bytes, &mut key, &mut cores)?;
         let taken = most_memory(&rt)?.saturating_sub(before);
         holds(
             taken.saturating_add(TABLE / 2048) / (TABLE / 1024) == tables,

@@ -2,7 +2,7 @@ use Rattle.std.specs.Prelude.{IsSome, None, Option}
 use Rattle.std.proofs.Common.{◌≡◌, ℕ, List, refl}
 use Rattle.password_hash.specs.Refusal.{Refusal, refusal}
 use Rattle.password_hash.specs.declared.error.Error.{Error}
-use Rattle.scrypt.specs.Hashing.{HashingIsRefused, IsCallRefused, by_algorithm, by_memory, by_salt, by_version, of_algorithm, of_version}
+use Rattle.scrypt.specs.Hashing.{HashingIsRefused, IsCallRefused, IsNamedOrNone, by_algorithm, by_memory, by_salt, by_version, of_algorithm, of_version}
 
 pub refused_call : {name : List ℕ} {SaltFits : Type 0} {alg_id : Option (List ℕ)} {version : Option ℕ} {e : Error}
     → IsCallRefused name alg_id version e → HashingIsRefused name SaltFits alg_id version (refusal e)
@@ -30,5 +30,14 @@ refused_once (by_memory named none fits) (by_algorithm other) = absurd (other na
 refused_once (by_memory named none fits) (by_version named' some) = absurd (versioned some none)
 refused_once (by_memory named none fits) (by_salt named' none' unfit) = absurd (unfit fits)
 refused_once (by_memory named none fits) (by_memory named' none' fits') = refl
+
+-- what hashing without these two arguments refuses, it refuses with them too if they are allowed
+pub refused_alike : {name : List ℕ} {SaltFits : Type 0} {alg_id : Option (List ℕ)} {version : Option ℕ} {why : Refusal}
+    → IsNamedOrNone name alg_id → version ≡ None → HashingIsRefused name SaltFits None None why
+    → HashingIsRefused name SaltFits alg_id version why
+refused_alike named none (by_algorithm other) = absurd (other cc)
+refused_alike named none (by_version named' some) = absurd (versioned some refl)
+refused_alike named none (by_salt named' none' unfit) = by_salt named none unfit
+refused_alike named none (by_memory named' none' fits) = by_memory named none fits
 
 pub ruleset errors = (refused_call, by_memory, by_salt)

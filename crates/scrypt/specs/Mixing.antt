@@ -1,5 +1,5 @@
 -- Private: the chunks of B, mixed one after another, and the memory for it.
-use Rattle.std.specs.Prelude.{◌≡◌, ℕ, ◌+◌, ◌-◌, ◌*◌, ◌<◌, ◌≤◌, ◌&&◌, nat_eq, nat_lt, min, if◌then◌else◌, List, length, replicate, take, drop}
+use Rattle.std.specs.Prelude.{◌≡◌, Bool, ℕ, ◌+◌, ◌-◌, ◌*◌, ◌<◌, ◌≤◌, ◌&&◌, nat_eq, nat_lt, min, if◌then◌else◌, List, length, replicate, take, drop}
 use Rattle.scrypt_kernel.specs.Count.{AreCounted}
 use Rattle.scrypt.specs.Accepted.{Parameters}
 use Rattle.scrypt.specs.Cost.{chunks_bytes, cost, scratch_words, table_words, thin_scratch_words}
@@ -27,6 +27,13 @@ pub record HasTables (log_n s r w room scratch : ℕ) : Type 0 where
 -- alone and three or more can be mixed at a time.
 unfoldable pub next_group : ℕ → ℕ → ℕ
 next_group w left = if nat_lt 2 w && nat_eq left (w + 1) then w - 1 else min w left
+
+-- The same of a mixer that mixes `most` at a time at most, where there are so many tables. In words, two are mixed one
+-- after the other.
+unfoldable pub group_by : ℕ → Bool → ℕ → ℕ → ℕ
+group_by most in_words tables left =
+    let n = next_group (min tables most) left in
+    if nat_eq n 2 && in_words then 1 else n
 
 -- of n chunks in these buffers, which are long enough for them, w are mixed at a time, also in the part of them that is used
 pub record IsWidth (log_n r n w : ℕ) (chunks table scratch : List ℕ) : Type 0 where

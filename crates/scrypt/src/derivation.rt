@@ -13,7 +13,7 @@ pub(crate) mod mixing;
 
 use crate::buffers::{Buffers, InUse, chunks_at_once};
 use crate::derivation::mixing::mix_all;
-use crate::{CoreCount, DeriveError, InvalidOutputLen, Params};
+use crate::{CoreCount, DeriveError, InvalidOutputLen, Mixer, Params, Vectors};
 use scrypt_kernel::memory::{Buffer, TableMemory};
 use scrypt_kernel::pbkdf2::pbkdf2_one;
 use std::alloc::Global;
@@ -74,7 +74,28 @@ pub fn scrypt_counted(
     ensures uncounted { OnErr result (cores.new ≡ cores.old) }
 {
     // In no bytes a derivation takes one table.
-    scrypt_in_groups(alloc, password, salt, params, 0, output, cores)
+    scrypt_in_groups::<Vectors>(alloc, password, salt, params, 0, output, cores)
+}
+
+/// Does what [`scrypt`] does, by the mixer `W`, in buffers that may have `most_bytes` bytes together, as
+/// [`scrypt_in_groups`] does: in 0 bytes it takes one table.
+pub fn scrypt_by<W: Mixer>(
+    alloc: Global,
+    password: &[u8],
+    salt: &[u8],
+    params: &Params,
+    most_bytes: usize,
+    output: &mut [u8],
+) -> Result<(), DeriveError>
+    ensures length { IsErrOf result BadLength ↔ ¬ IsTrue (is_output_len (length output.old)) }
+    ensures value { OnOk result (output.new ≡ derived_key password.now salt.now
+        params.now.log_n params.now.r params.now.p (length output.old)) }
+    ensures refused { OnErr result (output.new ≡ output.old) }
+{
+    let mut cores = CoreCount::new();
+    scrypt_in_groups::<W>(
+        alloc, password, salt, params, most_bytes, output, &mut cores,
+    )
 }
 
 /// Does what [`scrypt_counted`] does, in buffers that may have `most_bytes` bytes together: with as many
@@ -83,7 +104,7 @@ pub fn scrypt_counted(
 ///
 /// Returns `OutOfMemory` if an allocation for one table fails.
 #[tactic(auto, using(crate::proofs::AcceptedFacts::most_output_len))]
-pub fn scrypt_in_groups(
+pub fn scrypt_in_groups<W: Mixer>(
     alloc: Global,
     password: &[u8],
     salt: &[u8],
@@ -110,7 +131,7 @@ pub fn scrypt_in_groups(
         &mut own.scratch,
         cores,
     );
-    derive_in::<Vec<u32>>(password, salt, params, 0, &mut used, output);
+    derive_in::<Vec<u32>, W>(password, salt, params, 0, &mut used, output);
     Ok(())
 }
 
@@ -125,8 +146,35 @@ pub fn scrypt_in_groups(
 ///
 /// Returns `InvalidOutputLen`, and changes nothing, exactly if the length of `output` is
 /// not allowed ([`output_len_ok`](crate::output_len_ok)).
-#[tactic(auto, using(crate::proofs::AcceptedFacts::most_output_len))]
 pub fn scrypt_with_buffers(
+    password: &[u8],
+    salt: &[u8],
+    params: &Params,
+    chunks: &mut [u8],
+    table: &mut [u32],
+    scratch: &mut [u32],
+    output: &mut [u8],
+    cores: &mut CoreCount,
+) -> Result<(), InvalidOutputLen>
+    requires chunks { length chunks.old ≡ chunks_bytes params.now.r params.now.p }
+    requires table { table_words params.now.log_n params.now.r ≤ length table.old }
+    requires scratch { scratch_words params.now.r ≤ length scratch.old }
+    ensures allowed { IsOk result ↔ IsTrue (is_output_len (length output.old)) }
+    ensures value { OnOk result (output.new ≡ derived_key password.now salt.now
+        params.now.log_n params.now.r params.now.p (length output.old)) }
+    ensures counted { OnOk result (AreCounted (cost params.now.log_n params.now.r params.now.p) cores.old cores.new) }
+    ensures refused { OnErr result (output.new ≡ output.old) }
+    ensures buffers { OnErr result ((chunks.new ≡ chunks.old) × (table.new ≡ table.old) × (scratch.new ≡ scratch.old)) }
+    ensures uncounted { OnErr result (cores.new ≡ cores.old) }
+{
+    scrypt_with_buffers_by::<Vectors>(
+        password, salt, params, chunks, table, scratch, output, cores,
+    )
+}
+
+/// Does what [`scrypt_with_buffers`] does, by the mixer `W`.
+#[tactic(auto, using(crate::proofs::AcceptedFacts::most_output_len))]
+pub fn scrypt_with_buffers_by<W: Mixer>(
     password: &[u8],
     salt: &[u8],
     params: &Params,
@@ -153,7 +201,7 @@ pub fn scrypt_with_buffers(
     let width = chunks_at_once(params, params.p() as usize, table.len(), scratch.len());
     let mut rows = Buffer::new(table);
     let mut used = InUse::new(width, chunks, &mut rows, scratch, cores);
-    derive_in::<Buffer<'_>>(password, salt, params, 0, &mut used, output);
+    derive_in::<Buffer<'_>, W>(password, salt, params, 0, &mut used, output);
     Ok(())
 }
 
@@ -170,8 +218,38 @@ pub fn scrypt_with_buffers(
 ///
 /// Returns `InvalidOutputLen`, and changes nothing, exactly if the length of `output` is
 /// not allowed ([`output_len_ok`](crate::output_len_ok)).
-#[tactic(auto, using(crate::proofs::AcceptedFacts::most_output_len))]
 pub fn scrypt_thin(
+    password: &[u8],
+    salt: &[u8],
+    params: &Params,
+    s: u8,
+    chunks: &mut [u8],
+    table: &mut [u32],
+    scratch: &mut [u32],
+    output: &mut [u8],
+    cores: &mut CoreCount,
+) -> Result<(), InvalidOutputLen>
+    requires spacing { s ≤ params.now.log_n }
+    requires chunks { length chunks.old ≡ chunks_bytes params.now.r params.now.p }
+    requires table { length table.old ≡ table_words (params.now.log_n - s) params.now.r }
+    requires scratch { length scratch.old ≡ thin_scratch_words params.now.r }
+    ensures allowed { IsOk result ↔ IsTrue (is_output_len (length output.old)) }
+    ensures value { OnOk result (output.new ≡ derived_key password.now salt.now
+        params.now.log_n params.now.r params.now.p (length output.old)) }
+    ensures counted { OnOk result (AreCounted (thin_cost password.now salt.now params.now.log_n params.now.r params.now.p s)
+        cores.old cores.new) }
+    ensures refused { OnErr result (output.new ≡ output.old) }
+    ensures buffers { OnErr result ((chunks.new ≡ chunks.old) × (table.new ≡ table.old) × (scratch.new ≡ scratch.old)) }
+    ensures uncounted { OnErr result (cores.new ≡ cores.old) }
+{
+    scrypt_thin_by::<Vectors>(
+        password, salt, params, s, chunks, table, scratch, output, cores,
+    )
+}
+
+/// Does what [`scrypt_thin`] does, by the mixer `W`.
+#[tactic(auto, using(crate::proofs::AcceptedFacts::most_output_len))]
+pub fn scrypt_thin_by<W: Mixer>(
     password: &[u8],
     salt: &[u8],
     params: &Params,
@@ -201,13 +279,13 @@ pub fn scrypt_thin(
     params.expose_invariant();
     let mut rows = Buffer::new(table);
     let mut used = InUse::new(1, chunks, &mut rows, scratch, cores);
-    derive_in::<Buffer<'_>>(password, salt, params, s, &mut used, output);
+    derive_in::<Buffer<'_>, W>(password, salt, params, s, &mut used, output);
     Ok(())
 }
 
 /// Steps 1 to 3, in any memory, and a table that keeps one row in `2^s`.
 #[tactic(auto, unfolding(crate::specs::Key::derived_key))]
-pub(crate) fn derive_in<M: TableMemory>(
+pub(crate) fn derive_in<M: TableMemory, W: Mixer>(
     password: &[u8],
     salt: &[u8],
     params: &Params,
@@ -226,7 +304,7 @@ pub(crate) fn derive_in<M: TableMemory>(
 {
     derive_chunks(password, salt, params, used.chunks);
     let count = params.p() as usize;
-    mix_all::<M>(params, s, count, used);
+    mix_all::<M, W>(params, s, count, used);
     // Step 3: DK, with B as salt.
     pbkdf2_one(password, used.chunks, output);
 }

@@ -11,7 +11,7 @@ ghost use Rattle.password_hash.specs.declared.error.Error.TheVariants.{OutOfMemo
 
 use crate::buffers::{Buffers, InUse};
 use crate::derivation::derive_in;
-use crate::{CoreCount, Params};
+use crate::{CoreCount, Mixer, Params};
 use password_hash::phc::Output;
 use password_hash::{Error, Result, Version};
 use scrypt_kernel::memory::TableMemory;
@@ -50,7 +50,7 @@ fn is_named_or_none(name: &str, alg_id: Option<&str>) -> bool
 /// table and the scratch, allocated in this order and before the first core.
 ///
 /// Returns `OutOfMemory` if an allocation fails.
-pub(crate) fn key_allocating(
+pub(crate) fn key_allocating<W: Mixer>(
     alloc: Global,
     password: &[u8],
     salt: &[u8],
@@ -69,11 +69,11 @@ pub(crate) fn key_allocating(
         &mut own.scratch,
         &mut cores,
     );
-    Ok(stored_key::<Vec<u32>>(password, salt, params, &mut used))
+    Ok(stored_key::<Vec<u32>, W>(password, salt, params, &mut used))
 }
 
 /// Derives the same key in any memory. Afterwards the chunks and the scratch are zeros.
-pub(crate) fn stored_key<M: TableMemory>(
+pub(crate) fn stored_key<M: TableMemory, W: Mixer>(
     password: &[u8],
     salt: &[u8],
     params: &Params,
@@ -85,7 +85,7 @@ pub(crate) fn stored_key<M: TableMemory>(
 {
     let mut places = [0u8; Output::MAX_LENGTH];
     let key = &mut places[..params.key_len_or_default()];
-    derive_in::<M>(password, salt, params, 0, used, key);
+    derive_in::<M, W>(password, salt, params, 0, used, key);
     used.chunks.fill(0);
     used.scratch.fill(0);
     let Ok(key) = Output::new(key) else {

@@ -25,6 +25,7 @@ pub mod laws;
 mod limits;
 mod logins;
 pub mod mcf;
+mod mixers;
 mod params;
 pub mod phc;
 mod rehashing;
@@ -36,11 +37,13 @@ mod wiping;
 pub use algorithm::Scrypt;
 pub use buffers::{BufferLens, used_lens};
 pub use derivation::{
-    output_len_ok, scrypt, scrypt_counted, scrypt_in_groups, scrypt_thin, scrypt_with_buffers,
+    output_len_ok, scrypt, scrypt_by, scrypt_counted, scrypt_in_groups, scrypt_thin,
+    scrypt_thin_by, scrypt_with_buffers, scrypt_with_buffers_by,
 };
 pub use errors::{DeriveError, InvalidOutputLen, InvalidParams, LimitedError};
 pub use limits::Limits;
 pub use logins::{Login, verify_logins};
+pub use mixers::{Mixer, Pairs, Vectors, Words};
 pub use params::Params;
 pub use password_hash;
 pub use password_hash::kdf;

@@ -19,7 +19,7 @@ use crate::errors::LimitedError;
 use crate::stored_hash::within::limited;
 use crate::stored_parts::StoredParts;
 use crate::verifying::{verdict, verify_in_buffers};
-use crate::{BufferLens, CoreCount, Limits, Params, StoredHash};
+use crate::{BufferLens, CoreCount, Limits, Mixer, Params, StoredHash};
 use scrypt_kernel::memory::Buffer;
 
 /// A password and the stored hash that it is verified with.
@@ -114,7 +114,7 @@ impl<'p, 't> Login<'p, 't> {
     }
 
     // Verifies the password alone.
-    fn verify(
+    fn verify<W: Mixer>(
         &self,
         chunks: &mut [u8],
         table: &mut [u32],
@@ -126,7 +126,7 @@ impl<'p, 't> Login<'p, 't> {
             (workspace_of chunks.old table.old scratch.old cores.old) (workspace_of chunks.new table.new scratch.new cores.new) }
     {
         match self.parts() {
-            Ok(parts) => limited(verify_in_buffers(
+            Ok(parts) => limited(verify_in_buffers::<W>(
                 self.password,
                 parts,
                 chunks,
@@ -148,7 +148,7 @@ impl<'p, 't> Login<'p, 't> {
 /// have a table and a scratch there, at most four. Otherwise the first is verified alone, and then the others, likewise.
 /// Afterwards all that was used of `chunks` and `scratch` is zeros. `cores` counts the `4 * N * r * p` cores of each
 /// hash whose keys are compared.
-pub fn verify_logins(
+pub fn verify_logins<W: Mixer>(
     logins: &[Login<'_, '_>],
     verdicts: &mut [Result<(), LimitedError>],
     chunks: &mut [u8],
@@ -164,15 +164,15 @@ pub fn verify_logins(
 {
     for i in 0..logins.len() {
         let (_, rest) = logins.split_at(i);
-        if verified_at_once(rest, &mut verdicts[i..], chunks, table, scratch, cores) {
+        if verified_at_once::<W>(rest, &mut verdicts[i..], chunks, table, scratch, cores) {
             return;
         }
-        verdicts[i] = logins[i].verify(chunks, table, scratch, cores);
+        verdicts[i] = logins[i].verify::<W>(chunks, table, scratch, cores);
     }
 }
 
 // Verifies all at once and returns true, or returns false if there is no room for that, or no login.
-fn verified_at_once(
+fn verified_at_once<W: Mixer>(
     logins: &[Login<'_, '_>],
     verdicts: &mut [Result<(), LimitedError>],
     chunks: &mut [u8],
@@ -200,7 +200,7 @@ fn verified_at_once(
     let (scratch, _) = scratch.split_at_mut(lens.scratch);
     let mut rows = Buffer::new(table);
     let mut used = InUse::new(width, chunks, &mut rows, scratch, cores);
-    verify_at_once(logins, verdicts, &params, count, &mut used);
+    verify_at_once::<W>(logins, verdicts, &params, count, &mut used);
     true
 }
 
@@ -240,7 +240,7 @@ fn count_of(params: &Params, logins: &[Login<'_, '_>]) -> Option<u32>
 
 // Derives all keys at once and compares them. Afterwards the chunks and the scratch are zeros.
 #[tactic(auto, using(crate::proofs::LoginFacts::chunks_together))]
-fn verify_at_once(
+fn verify_at_once<W: Mixer>(
     logins: &[Login<'_, '_>],
     verdicts: &mut [Result<(), LimitedError>],
     params: &Params,
@@ -255,7 +255,7 @@ fn verify_at_once(
 {
     params.expose_invariant();
     derive_all_chunks(logins, used.chunks);
-    mix_all::<Buffer<'_>>(params, 0, count as usize, used);
+    mix_all::<Buffer<'_>, W>(params, 0, count as usize, used);
     compare(logins, used.chunks, verdicts);
     used.chunks.fill(0);
     used.scratch.fill(0);

@@ -16,7 +16,7 @@ use crate::mcf::reading::parts_of_mcf;
 use crate::phc::reading::{parts_of_phc, read_params};
 use crate::stored_parts::StoredParts;
 use crate::verifying::{verify_allocating, verify_in_buffers};
-use crate::{BufferLens, CoreCount, Params};
+use crate::{BufferLens, CoreCount, Mixer, Params, Vectors};
 use password_hash::{Error, Result, mcf, phc};
 use std::alloc::Global;
 use std::marker::Model;
@@ -132,13 +132,20 @@ impl<'a> StoredHash<'a> {
     pub fn verify(&self, alloc: Global, password: &[u8]) -> Result<()>
         ensures verdict { IsVerdict password.now (reading self.now) (with_refusal result) }
     {
-        self.verify_counted(alloc, password, &mut CoreCount::new())
+        self.verify_by::<Vectors>(alloc, password)
     }
 
-    /// Does what [`StoredHash::verify`] does, and counts the `4 * N * r * p` cores of the hash's parameters.
+    /// Does what [`StoredHash::verify`] does, by the mixer `W`.
+    pub fn verify_by<W: Mixer>(&self, alloc: Global, password: &[u8]) -> Result<()>
+        ensures verdict { IsVerdict password.now (reading self.now) (with_refusal result) }
+    {
+        self.verify_counted::<W>(alloc, password, &mut CoreCount::new())
+    }
+
+    /// Does what [`StoredHash::verify_by`] does, and counts the `4 * N * r * p` cores of the hash's parameters.
     ///
     /// Unless the keys are compared, the count is unchanged.
-    pub fn verify_counted(
+    pub fn verify_counted<W: Mixer>(
         &self,
         alloc: Global,
         password: &[u8],
@@ -151,7 +158,7 @@ impl<'a> StoredHash<'a> {
             → AreCounted (cost s.params.log_n s.params.r s.params.p) cores.old cores.new) }
     {
         match self.parts() {
-            Ok(parts) => verify_allocating(alloc, password, parts, cores),
+            Ok(parts) => verify_allocating::<W>(alloc, password, parts, cores),
             Err(refused) => Err(refused),
         }
     }
@@ -202,7 +209,7 @@ impl<'a> StoredHash<'a> {
     /// Returns the same errors in the same order, `OutOfMemory` exactly if the hash can be read and
     /// a buffer is too short for it. Unless the keys are compared, the buffers and the count are
     /// unchanged.
-    pub fn verify_with_buffers(
+    pub fn verify_with_buffers<W: Mixer>(
         &self,
         password: &[u8],
         chunks: &mut [u8],
@@ -216,7 +223,7 @@ impl<'a> StoredHash<'a> {
             (workspace_of chunks.old table.old scratch.old cores.old) (workspace_of chunks.new table.new scratch.new cores.new) }
     {
         match self.parts() {
-            Ok(parts) => verify_in_buffers(password, parts, chunks, table, scratch, cores),
+            Ok(parts) => verify_in_buffers::<W>(password, parts, chunks, table, scratch, cores),
             Err(unread) => Err(unread),
         }
     }

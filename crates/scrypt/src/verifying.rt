@@ -15,7 +15,7 @@ use crate::comparing::is_derived_key;
 use crate::derivation::derive_chunks;
 use crate::derivation::mixing::mix_all;
 use crate::stored_parts::StoredParts;
-use crate::{BufferLens, CoreCount};
+use crate::{BufferLens, CoreCount, Mixer};
 use password_hash::{Error, Result};
 use scrypt_kernel::memory::{Buffer, TableMemory};
 use std::alloc::Global;
@@ -34,7 +34,7 @@ pub(crate) fn verdict(same: bool) -> Result<()>
 
 // Derives the key of the stored one's length, in any memory, and returns whether it is the stored
 // key. Afterwards the chunks and the scratch are zeros.
-fn is_key_of<M: TableMemory>(
+fn is_key_of<M: TableMemory, W: Mixer>(
     password: &[u8],
     parts: &StoredParts<'_>,
     used: &mut InUse<'_, M>,
@@ -45,7 +45,7 @@ fn is_key_of<M: TableMemory>(
 {
     derive_chunks(password, parts.salt.as_bytes(), &parts.params, used.chunks);
     let count = parts.params.p() as usize;
-    mix_all::<M>(&parts.params, 0, count, used);
+    mix_all::<M, W>(&parts.params, 0, count, used);
     let same = is_derived_key(password, used.chunks, parts);
     used.chunks.fill(0);
     used.scratch.fill(0);
@@ -56,7 +56,7 @@ fn is_key_of<M: TableMemory>(
 /// scratch, allocated in this order.
 ///
 /// Returns `OutOfMemory` if an allocation fails, before the first core, and otherwise `PasswordInvalid` if the keys differ.
-pub(crate) fn verify_allocating(
+pub(crate) fn verify_allocating<W: Mixer>(
     alloc: Global,
     password: &[u8],
     parts: &StoredParts<'_>,
@@ -76,7 +76,7 @@ pub(crate) fn verify_allocating(
         &mut own.scratch,
         cores,
     );
-    verdict(is_key_of::<Vec<u32>>(password, parts, &mut used))
+    verdict(is_key_of::<Vec<u32>, W>(password, parts, &mut used))
 }
 
 /// Verifies with the parts of a hash, in the caller's buffers. Does not allocate.
@@ -84,7 +84,7 @@ pub(crate) fn verify_allocating(
 /// Returns `OutOfMemory` exactly if a buffer is too short for its parameters, and changes nothing
 /// then, and otherwise `PasswordInvalid` if the keys differ.
 #[tactic(auto, using(crate::proofs::ReadingFacts::not_enough))]
-pub(crate) fn verify_in_buffers(
+pub(crate) fn verify_in_buffers<W: Mixer>(
     password: &[u8],
     parts: &StoredParts<'_>,
     chunks: &mut [u8],
@@ -106,5 +106,5 @@ pub(crate) fn verify_in_buffers(
     let (scratch, _) = scratch.split_at_mut(lens.scratch);
     let mut rows = Buffer::new(table);
     let mut used = InUse::new(width, chunks, &mut rows, scratch, cores);
-    verdict(is_key_of::<Buffer<'_>>(password, parts, &mut used))
+    verdict(is_key_of::<Buffer<'_>, W>(password, parts, &mut used))
 }

@@ -12,10 +12,11 @@ ghost use Rattle.scrypt_c.specs.Texts.{bytes_reading};
 use crate::statuses::{
     BUFFER_SIZE, INVALID_PARAMS, MISMATCH, NEEDS_REHASH, OK, OUT_OF_MEMORY, SALT_INVALID, status_of,
 };
+use crate::target::Target;
 use crate::texts::{copy_to, stored_hash};
-use password_hash::{PasswordHasher, Result, mcf, phc};
+use password_hash::Result;
 use scrypt::laws::reading_names_no_password;
-use scrypt::{Params, Scrypt};
+use scrypt::{Params, mcf, phc};
 use std::alloc::Global;
 
 /// Writes the PHC text of the hash of `password` and `salt` to the front of `text`, and its length to
@@ -51,8 +52,7 @@ pub extern "C" fn scrypt_hash_phc(
     let Ok(params) = Params::new_with_output_len(log_n, r, p, key_len) else {
         return INVALID_PARAMS;
     };
-    let hasher = Scrypt::new_with_params(params);
-    let made: Result<phc::PasswordHash> = hasher.hash_password_with_salt(alloc, password, salt);
+    let made = phc::hash::<Target>(alloc, password, salt, &params);
     match made {
         Ok(hash) => copy_to(hash.to_array_string().as_str(), text, text_len),
         Err(error) => status_of(error),
@@ -91,8 +91,7 @@ pub extern "C" fn scrypt_hash_mcf(
     let Ok(params) = Params::new_with_output_len(log_n, r, p, key_len) else {
         return INVALID_PARAMS;
     };
-    let hasher = Scrypt::new_with_params(params);
-    let made: Result<mcf::PasswordHash> = hasher.hash_password_with_salt(alloc, password, salt);
+    let made = mcf::hash::<Target>(alloc, password, salt, &params);
     match made {
         Ok(hash) => copy_to(hash.as_str(), text, text_len),
         Err(error) => status_of(error),
@@ -153,7 +152,7 @@ pub extern "C" fn scrypt_verify(alloc: Global, password: &[u8], text: &[u8]) -> 
     ensures status { IsVerifyStatus password.now (bytes_reading text.now) result }
 {
     match stored_hash(text) {
-        Ok(hash) => verify_status(hash.verify(alloc, password)),
+        Ok(hash) => verify_status(hash.verify_by::<Target>(alloc, password)),
         Err(error) => status_of(error),
     }
 }

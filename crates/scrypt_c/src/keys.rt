@@ -11,9 +11,10 @@ ghost use Rattle.scrypt_c.specs.Limits.{params_of};
 ghost use Rattle.scrypt_c.specs.Statuses.{IsKeyStatus};
 
 use crate::statuses::{BUFFER_SIZE, INVALID_OUTPUT_LEN, INVALID_PARAMS, OK, OUT_OF_MEMORY};
+use crate::target::Target;
 use scrypt::{
-    BufferLens, CoreCount, DeriveError, Params, output_len_ok, scrypt, scrypt_thin,
-    scrypt_with_buffers, used_lens,
+    BufferLens, CoreCount, DeriveError, Params, output_len_ok, scrypt_by, scrypt_thin_by,
+    scrypt_with_buffers_by, used_lens,
 };
 use std::alloc::Global;
 
@@ -44,7 +45,8 @@ pub extern "C" fn scrypt_kdf(
     let Ok(params) = Params::new(log_n, r, p) else {
         return INVALID_PARAMS;
     };
-    match scrypt(alloc, password, salt, &params, output) {
+    // In no bytes a derivation takes one table.
+    match scrypt_by::<Target>(alloc, password, salt, &params, 0, output) {
         Ok(()) => OK,
         Err(DeriveError::InvalidOutputLen) => INVALID_OUTPUT_LEN,
         Err(DeriveError::OutOfMemory) => OUT_OF_MEMORY,
@@ -146,7 +148,7 @@ fn derive_at_front(
     let table = &mut table[..used.table];
     let scratch = &mut scratch[..used.scratch];
     let mut cores = CoreCount::new();
-    let derived = scrypt_with_buffers(
+    let derived = scrypt_with_buffers_by::<Target>(
         password, salt, params, chunks, table, scratch, output, &mut cores,
     );
     derived.unwrap();
@@ -191,7 +193,7 @@ pub extern "C" fn scrypt_kdf_thin(
         return scrypt_kdf_with_buffers(password, salt, log_n, r, p, output, chunks, table, scratch);
     }
     let mut cores = CoreCount::new();
-    let derived = scrypt_thin(
+    let derived = scrypt_thin_by::<Target>(
         password, salt, &params, s, chunks, table, scratch, output, &mut cores,
     );
     // The length of the output was checked above.

@@ -9,5 +9,6 @@ pub mod hashes;
 pub mod keys;
 pub mod needs;
 pub mod statuses;
+mod target;
 mod texts;
 pub mod with_buffers;

@@ -16,6 +16,7 @@ ghost use Rattle.scrypt_c.specs.Texts.{bytes_reading};
 use crate::statuses::{
     BUFFER_SIZE, INVALID_PARAMS, OK, SALT_INVALID, limited_status_of, status_of,
 };
+use crate::target::Target;
 use crate::texts::{copy_to, stored_hash};
 use password_hash::Error;
 use scrypt::{CoreCount, LimitedError, Login, Params, mcf, phc, verify_logins, wipe};
@@ -65,7 +66,9 @@ pub extern "C" fn scrypt_hash_phc_with_buffers(
         return INVALID_PARAMS;
     };
     let mut cores = CoreCount::new();
-    match phc::hash_with_buffers(password, salt, &params, chunks, table, scratch, &mut cores) {
+    match phc::hash_with_buffers::<Target>(
+        password, salt, &params, chunks, table, scratch, &mut cores,
+    ) {
         Ok(hash) => copy_to(hash.to_array_string().as_str(), text, text_len),
         Err(error) => short_status_of(error),
     }
@@ -112,7 +115,7 @@ pub extern "C" fn scrypt_hash_mcf_with_buffers(
         return INVALID_PARAMS;
     };
     let mut cores = CoreCount::new();
-    let hashed = mcf::hash_with_buffers(
+    let hashed = mcf::hash_with_buffers::<Target>(
         password, salt, &params, text, chunks, table, scratch, &mut cores,
     );
     match hashed {
@@ -168,7 +171,7 @@ fn verify(
         Ok(hash) => hash,
         Err(error) => return Err(LimitedError::Hash(error)),
     };
-    match hash.verify_with_buffers(password, chunks, table, scratch, cores) {
+    match hash.verify_with_buffers::<Target>(password, chunks, table, scratch, cores) {
         Ok(()) => Ok(()),
         Err(error) => Err(LimitedError::Hash(error)),
     }
@@ -212,7 +215,7 @@ pub extern "C" fn scrypt_verify_group_with_buffers<'a>(
     ];
     let mut verdicts = [Ok(()); 4];
     let mut cores = CoreCount::new();
-    verify_logins(&logins, &mut verdicts, chunks, table, scratch, &mut cores);
+    verify_logins::<Target>(&logins, &mut verdicts, chunks, table, scratch, &mut cores);
     let [a, b, c, d] = verdicts;
     *statuses = [status(a), status(b), status(c), status(d)];
 }

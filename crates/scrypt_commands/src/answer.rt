@@ -14,9 +14,11 @@ ghost use Rattle.scrypt_commands.specs.declared.error.CliError.TheVariants.{OutO
 use crate::command::{Command, Format, Making, Target};
 use crate::error::CliError;
 use crate::limit_options::LimitOptions;
-use password_hash::{Error, PasswordHasher, mcf, phc};
+use password_hash::Error;
 use scrypt::laws::{hashers_are_accepted, made_hashes_are_accepted, texts_have_one_reading};
-use scrypt::{CoreCount, LimitedError, Limits, Params, Scrypt, StoredHash, scrypt};
+use scrypt::{
+    CoreCount, LimitedError, Limits, Mixer, Params, Scrypt, StoredHash, mcf, phc, scrypt_by,
+};
 use std::alloc::Global;
 
 /// The answer to a command.
@@ -50,7 +52,7 @@ impl<'a> Command<'a> {
     /// Returns the error of hashing or verifying, also `TooCostly` or `KeyTooShort` if a hash exceeds
     /// the limits, and `OutOfMemory` if an allocation fails. `cores` counts the cores of verifying: none if
     /// the hash cannot be read or exceeds the limits.
-    pub fn answer(
+    pub fn answer<M: Mixer>(
         &self,
         alloc: Global,
         password: &[u8],
@@ -61,12 +63,12 @@ impl<'a> Command<'a> {
         ensures cores { AreOfRequest options (request_view self.now) (IsErrOf result OutOfMemory) cores.old cores.new }
     {
         match self {
-            Command::Make(making) => make(alloc, password, making),
+            Command::Make(making) => make::<M>(alloc, password, making),
             Command::Verify { hash, wanted } => {
-                if !verify(alloc, hash, password, limits_by(options, wanted), cores)? {
+                if !verify::<M>(alloc, hash, password, limits_by(options, wanted), cores)? {
                     return Ok(Answer::Wrong);
                 }
-                replace(alloc, hash, password, wanted)
+                replace::<M>(alloc, hash, password, wanted)
             }
         }
     }
@@ -84,7 +86,7 @@ fn limits_by(options: Option<LimitOptions>, wanted: &Option<Making>) -> Option<L
 }
 
 // Makes what is wanted in place of a hash with this password, if the hash is weaker.
-fn replace(
+fn replace<M: Mixer>(
     alloc: Global,
     hash: &StoredHash<'_>,
     password: &[u8],
@@ -93,13 +95,13 @@ fn replace(
     ensures { Gives reply_view (right_reply (option_map making_view wanted.now) (reading hash.now) password.now) result }
 {
     match wanted {
-        Some(making) if is_weaker(hash, &making.params) => make(alloc, password, making),
+        Some(making) if is_weaker(hash, &making.params) => make::<M>(alloc, password, making),
         _ => Ok(Answer::Right),
     }
 }
 
 // Returns whether the password is that of the hash, which is within the limits.
-fn verify(
+fn verify<M: Mixer>(
     alloc: Global,
     hash: &StoredHash<'_>,
     password: &[u8],
@@ -110,7 +112,7 @@ fn verify(
         (right_of limits (verdict password.now (bounded limits (reading hash.now)))) result }
     ensures cores { AreOfHash (bounded limits (reading hash.now)) (IsErrOf result OutOfMemory) cores.old cores.new }
 {
-    match verify_within(alloc, hash, password, limits, cores) {
+    match verify_within::<M>(alloc, hash, password, limits, cores) {
         Ok(()) => Ok(true),
         Err(LimitedError::Hash(Error::PasswordInvalid)) => Ok(false),
         Err(why) => Err(CliError::of(why, limits.unwrap_or(Limits::USUAL))),
@@ -118,7 +120,7 @@ fn verify(
 }
 
 // Verifies the password, if the hash is within the limits.
-fn verify_within(
+fn verify_within<M: Mixer>(
     alloc: Global,
     hash: &StoredHash<'_>,
     password: &[u8],
@@ -134,7 +136,7 @@ fn verify_within(
             return Err(refused);
         }
     }
-    match hash.verify_counted(alloc, password, cores) {
+    match hash.verify_counted::<M>(alloc, password, cores) {
         Ok(()) => Ok(()),
         Err(refused) => Err(LimitedError::Hash(refused)),
     }
@@ -151,15 +153,15 @@ fn is_weaker(hash: &StoredHash<'_>, wanted: &Params) -> bool
 }
 
 // Makes what is made of the password.
-fn make(alloc: Global, password: &[u8], making: &Making) -> Result<Answer, CliError>
+fn make<M: Mixer>(alloc: Global, password: &[u8], making: &Making) -> Result<Answer, CliError>
     ensures { Gives reply_view (made_reply (making_view making.now) password.now) result }
 {
-    let line = line(alloc, password, making)?;
+    let line = line::<M>(alloc, password, making)?;
     Ok(Answer::Made { line })
 }
 
 // Returns the line of what is made of the password.
-fn line(alloc: Global, password: &[u8], making: &Making) -> Result<Vec<u8>, CliError>
+fn line<M: Mixer>(alloc: Global, password: &[u8], making: &Making) -> Result<Vec<u8>, CliError>
     ensures { Gives (λ line. line.items) (new_line making.now.target making.now.params password.now making.now.salt.items) result }
 {
     let Making {
@@ -168,9 +170,9 @@ fn line(alloc: Global, password: &[u8], making: &Making) -> Result<Vec<u8>, CliE
         salt,
     } = making;
     match target {
-        Target::Key { len, is_raw } => key(alloc, password, salt, params, *len, *is_raw),
+        Target::Key { len, is_raw } => key::<M>(alloc, password, salt, params, *len, *is_raw),
         Target::Hash { format } => {
-            let mut text = make_hash(alloc, password, salt, params, *format)?;
+            let mut text = make_hash::<M>(alloc, password, salt, params, *format)?;
             text.push('\n')?;
             Ok(text.into_bytes())
         }
@@ -179,7 +181,7 @@ fn line(alloc: Global, password: &[u8], making: &Making) -> Result<Vec<u8>, CliE
 
 // Returns the text of the hash of this format.
 #[tactic(auto, using(crate::proofs::OutcomeFacts::phc_refused))]
-fn make_hash(
+fn make_hash<M: Mixer>(
     alloc: Global,
     password: &[u8],
     salt: &[u8],
@@ -194,18 +196,18 @@ fn make_hash(
     texts_have_one_reading();
     match format {
         Format::Phc => {
-            let hash: phc::PasswordHash = hasher.hash_password_with_salt(alloc, password, salt)?;
+            let hash = phc::hash::<M>(alloc, password, salt, params)?;
             Ok(hash.to_string(alloc)?)
         }
         Format::Mcf => {
-            let hash: mcf::PasswordHash = hasher.hash_password_with_salt(alloc, password, salt)?;
+            let hash = mcf::hash::<M>(alloc, password, salt, params)?;
             Ok(hash.into_string())
         }
     }
 }
 
 // Returns the line of the derived key of `len` bytes.
-fn key(
+fn key<M: Mixer>(
     alloc: Global,
     password: &[u8],
     salt: &[u8],
@@ -217,7 +219,7 @@ fn key(
 {
     let mut key = vec![in alloc; 0u8; len]?;
     // The length is allowed, so this fails only if an allocation does.
-    if scrypt(alloc, password, salt, params, &mut key).is_err() {
+    if scrypt_by::<M>(alloc, password, salt, params, 0, &mut key).is_err() {
         return Err(CliError::OutOfMemory);
     }
     if is_raw {

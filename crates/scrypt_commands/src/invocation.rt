@@ -12,12 +12,16 @@ use crate::command_line::CommandLine;
 use crate::error::CliError;
 use crate::options::parse_options;
 use crate::run::{Ended, answered, end, run_line, write_line};
+use scrypt::Mixer;
 use std::alloc::Global;
 use std::io;
 use std::io::{Read, Write};
 
-/// A source of salts.
-pub trait SaltSource {
+/// The machine that the program runs on.
+pub trait Machine {
+    /// how chunks are mixed there
+    type Mixer: Mixer;
+
     /// what it has drawn
     ghost draws: { Self → List ℕ → Type 0 };
 
@@ -79,21 +83,21 @@ impl<'a> Invocation<'a> {
     /// Runs the program on what is asked for, and on the text of the file of the hash if it names one. Without an option
     /// it is `run`.
     ///
-    /// Prints what `--help` or `--version` ask for. Draws a salt of 16 bytes from `source` if the options say so.
+    /// Prints what `--help` or `--version` ask for. Draws a salt of 16 bytes on `machine` if the options say so.
     ///
-    /// Returns an error only if the options draw a salt and the source fails. Then the input is not read, and nothing is
-    /// written. No salt is used but one that the source has drawn.
-    pub fn run<S: SaltSource, R: Read, W: Write, F: Write>(
+    /// Returns an error only if the options draw a salt and the machine fails to. Then the input is not read, and nothing is
+    /// written. No salt is used but one that it has drawn.
+    pub fn run<M: Machine, R: Read, W: Write, F: Write>(
         self,
         alloc: Global,
-        source: &S,
+        machine: &M,
         file_text: Option<&str>,
         reader: &mut R,
         writer: &mut W,
         faults: &mut F,
     ) -> io::Result<Ended>
         ensures run { IfOk result (λ ended. (salt : List ℕ) × (length salt ≡ 16)
-            × (draws_salt (invocation_view self.entry) ≡ true → S.draws source.now salt)
+            × (draws_salt (invocation_view self.entry) ≡ true → M.draws machine.now salt)
             × IsRun (plan_of salt (option_copied file_text.entry) (invocation_view self.entry))
             (record { input = R.remaining reader.old; output = W.contents writer.old; faults = F.contents faults.old })
             (record { input = R.remaining reader.new; output = W.contents writer.new; faults = F.contents faults.new }) ended) }
@@ -107,25 +111,25 @@ impl<'a> Invocation<'a> {
             Invocation::Refuse(error) => Ok(end(error, faults)),
             Invocation::Command(line) => {
                 let line = CommandLine {
-                    drawn: draw(source, line.options.draws_salt)?,
+                    drawn: draw(machine, line.options.draws_salt)?,
                     file_text,
                     ..line
                 };
-                Ok(run_line(alloc, line, reader, writer, faults))
+                Ok(run_line::<M::Mixer, R, W, F>(alloc, line, reader, writer, faults))
             }
         }
     }
 }
 
-// Draws a salt, if one is to be. Returns the error of the source.
-fn draw<S: SaltSource>(source: &S, is_drawn: bool) -> io::Result<Option<[u8; 16]>>
-    ensures salt { IfOk result (IsDrawn is_drawn (S.draws source.now)) }
+// Draws a salt, if one is to be. Returns the error of the machine.
+fn draw<M: Machine>(machine: &M, is_drawn: bool) -> io::Result<Option<[u8; 16]>>
+    ensures salt { IfOk result (IsDrawn is_drawn (M.draws machine.now)) }
     ensures drawn { OnErr result (IsTrue is_drawn) }
 {
     if !is_drawn {
         return Ok(None);
     }
-    Ok(Some(source.draw_salt()?))
+    Ok(Some(machine.draw_salt()?))
 }
 
 // Returns whether the first word is `--hash-file`, which is no option without a file.

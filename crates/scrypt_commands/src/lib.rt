@@ -13,3 +13,5 @@ mod limit_options;
 mod options;
 pub mod run;
 mod usage;
+
+pub use scrypt::{Mixer, Pairs, Vectors, Words};

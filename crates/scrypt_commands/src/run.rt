@@ -15,7 +15,7 @@ use crate::command::Command;
 use crate::command_line::CommandLine;
 use crate::error::CliError;
 use crate::options::NONE;
-use scrypt::CoreCount;
+use scrypt::{CoreCount, Mixer, Vectors};
 use std::alloc::Global;
 use std::io::{ErrorKind, Read, Write};
 
@@ -53,14 +53,14 @@ pub fn run<R: Read, W: Write, F: Write>(
     ensures refused { (plan_of_words (texts_of words.now)).is_unread ≡ true → (result.status ≡ 2) ⊎ (result.status ≡ 3) }
 {
     match CommandLine::new(NONE, words) {
-        Ok(line) => run_line(alloc, line, reader, writer, faults),
+        Ok(line) => run_line::<Vectors, R, W, F>(alloc, line, reader, writer, faults),
         Err(usage) => end(usage, faults),
     }
 }
 
 /// The same of a command by its options.
 #[tactic(auto, using(crate::proofs::OutcomeFacts::ends))]
-pub(crate) fn run_line<R: Read, W: Write, F: Write>(
+pub(crate) fn run_line<M: Mixer, R: Read, W: Write, F: Write>(
     alloc: Global,
     line: CommandLine<'_>,
     reader: &mut R,
@@ -72,7 +72,7 @@ pub(crate) fn run_line<R: Read, W: Write, F: Write>(
         (record { input = R.remaining reader.new; output = W.contents writer.new; faults = F.contents faults.new }) result }
     ensures refused { IsErr (request_of (line_view line.entry)) → (result.status ≡ 2) ⊎ (result.status ≡ 3) }
 {
-    match execute(alloc, line, reader, writer) {
+    match execute::<M, R, W>(alloc, line, reader, writer) {
         Ok(status) => answered(status),
         Err(error) => end(error, faults),
     }
@@ -80,7 +80,7 @@ pub(crate) fn run_line<R: Read, W: Write, F: Write>(
 
 // Does the work in its order, up to the line of the outcome, and returns the status.
 #[tactic(auto, using(crate::proofs::OutcomeFacts::endings))]
-fn execute<R: Read, W: Write>(
+fn execute<M: Mixer, R: Read, W: Write>(
     alloc: Global,
     line: CommandLine<'_>,
     reader: &mut R,
@@ -104,7 +104,7 @@ fn execute<R: Read, W: Write>(
 {
     let command = Command::read(alloc, line)?;
     let input = read_all(alloc, reader)?;
-    let answer = command.answer(
+    let answer = command.answer::<M>(
         alloc,
         line.options.password(&input),
         line.options.limit_options,

@@ -8,7 +8,7 @@ ghost use Rattle.scrypt.specs.Workspace.{IsLeft, verdict_in, workspace_of};
 ghost use Rattle.scrypt_examples.specs.Login.{let_in};
 
 use password_hash::Error;
-use scrypt::{CoreCount, LimitedError, Limits, StoredHash};
+use scrypt::{CoreCount, LimitedError, Limits, StoredHash, Vectors};
 
 /// Whether the password is that of the stored text, in buffers that are kept from login to login.
 ///
@@ -35,7 +35,7 @@ pub fn log_in(
         Ok(hash) => hash,
         Err(error) => return Err(LimitedError::Hash(error)),
     };
-    match hash.verify_within(password, limits, chunks, table, scratch, cores) {
+    match hash.verify_within::<Vectors>(password, limits, chunks, table, scratch, cores) {
         Ok(()) => Ok(true),
         Err(LimitedError::Hash(Error::PasswordInvalid)) => Ok(false),
         Err(error) => Err(error),

@@ -10,7 +10,9 @@ ghost use Rattle.scrypt_examples.specs.Buffers.{AreEnoughFor};
 
 use crate::buffers::Buffers;
 use scrypt::laws::parameters_are_those_of_the_reading;
-use scrypt::{BufferLens, CoreCount, LimitedError, Limits, Login, StoredHash, verify_logins};
+use scrypt::{
+    BufferLens, CoreCount, LimitedError, Limits, Login, StoredHash, Vectors, verify_logins,
+};
 use std::alloc::{AllocError, Global};
 
 /// Returns the verdict on a text, in buffers of the lengths that its hash needs. No core is run for a hash that cannot be
@@ -36,7 +38,7 @@ pub fn verdict(
         Err(error) => return Ok(Err(error)),
     };
     let mut own = Buffers::allocate(alloc, &lens)?;
-    Ok(hash.verify_with_buffers(
+    Ok(hash.verify_with_buffers::<Vectors>(
         password,
         &mut own.chunks,
         &mut own.table,
@@ -77,7 +79,7 @@ pub fn two_verdicts_within<'a>(
         },
     ];
     let mut verdicts = [Ok(()); 2];
-    verify_logins(
+    verify_logins::<Vectors>(
         &logins,
         &mut verdicts,
         &mut own.chunks,

@@ -8,7 +8,10 @@
 
 ghost use Rattle.std.specs.Prelude.{⊤};
 
-use scrypt_commands::invocation::{Invocation, SaltSource};
+mod target;
+
+use crate::target::Target;
+use scrypt_commands::invocation::{Invocation, Machine};
 use std::fs::{Files, OpenOptions};
 use std::io::{ErrorKind, IsTerminal, Read};
 use std::process::ExitCode;
@@ -48,11 +51,13 @@ fn main(rt: HostRuntime) -> ExitCode {
     ExitCode::from(ended.status)
 }
 
-// The random bytes of the system.
+// The system's random bytes, and its processor.
 #[derive(Drop)]
 struct System<'a>(&'a HostRuntime);
 
-impl SaltSource for System<'_> {
+impl Machine for System<'_> {
+    type Mixer = Target;
+
     ghost draws = { λ _ _. ⊤ };
 
     fn draw_salt(&self) -> io::Result<[u8; 16]> {

@@ -1,25 +1,30 @@
 // Step 2 of a derivation (RFC 7914, section 6): each chunk becomes its scryptROMix.
 
-ghost use Rattle.std.specs.Prelude.{◌≡◌, ◌≢◌, ℕ, List, ◌+◌, ◌*◌, ◌<◌, ◌≤◌, length};
+ghost use Rattle.std.specs.Prelude.{◌≡◌, ◌≢◌, ℕ, List, ◌+◌, ◌*◌, ◌<◌, ◌≤◌, length, true};
 ghost use Rattle.scrypt_kernel.specs.Count.{AreCounted, AreCountedAs};
 ghost use Rattle.scrypt_kernel.specs.Table.{thin_ro_mix_cost};
 ghost use Rattle.scrypt_kernel.specs.Words.{part, words_of};
 ghost use Rattle.scrypt.specs.Cost.{chunks_bytes, cost, thin_chunks_cost};
 ghost use Rattle.scrypt.specs.Key.{mixed_chunks};
-ghost use Rattle.scrypt.specs.Mixing.{AreMixed, HasTables, IsKept, IsReady, next_group};
+ghost use Rattle.scrypt.specs.Mixing.{AreMixed, HasTables, IsKept, IsReady, group_by, next_group};
 
-use crate::Params;
 use crate::buffers::InUse;
+use crate::{Mixer, Params};
 use scrypt_kernel::memory::TableMemory;
 use scrypt_kernel::order::OrderedBlocks;
-use scrypt_kernel::order::diagonal::{Both, Diagonal};
+use scrypt_kernel::order::diagonal::{Both, Diagonal, Scalars};
 use scrypt_kernel::romix;
 use std::simd::{u32x4, u32x8};
 
-/// Each of `count` chunks becomes its scryptROMix, at most `used.width` of them at a time. They are those of one
-/// derivation or of several, all with the `N` and the `r` of `params`. The table keeps one row in `2^s`.
+/// Each of `count` chunks becomes its scryptROMix, at most `used.width` of them at a time, by `W`. They are those
+/// of one derivation or of several, all with the `N` and the `r` of `params`. The table keeps one row in `2^s`.
 #[tactic(auto, unfolding(crate::specs::Cost::extra_rows_of_chunks))]
-pub(crate) fn mix_all<M: TableMemory>(params: &Params, s: u8, count: usize, used: &mut InUse<'_, M>)
+pub(crate) fn mix_all<M: TableMemory, W: Mixer>(
+    params: &Params,
+    s: u8,
+    count: usize,
+    used: &mut InUse<'_, M>,
+)
     requires ready { IsReady M.room params.now.log_n s params.now.r count used.old }
     ensures kept { IsKept M.room used.old used.new }
     ensures value { used.new.chunks.now ≡ mixed_chunks used.old.chunks.now params.now.log_n params.now.r count }
@@ -28,10 +33,26 @@ pub(crate) fn mix_all<M: TableMemory>(params: &Params, s: u8, count: usize, used
 {
     let mut i = 0;
     'groups: while i < count {
-        let n = next_group(used.width, count - i);
-        mix_at_once::<M>(params, s, n, i, used);
+        let n = group_by::<W>(used.width, count - i);
+        mix_at_once::<M, W>(params, s, n, i, used);
         i += n;
     }
+}
+
+// Returns how many of the chunks that are left are mixed next by `W`, where there are so many tables.
+#[tactic(auto, unfolding(crate::specs::Mixing::group_by))]
+fn group_by<W: Mixer>(tables: usize, left: usize) -> usize
+    requires some { 0 < tables }
+    requires left { 0 < left }
+    ensures some { 0 < result }
+    ensures within { result ≤ tables }
+    ensures left { result ≤ left }
+    ensures few { result ≤ W.most }
+    ensures alone { W.in_words ≡ true → result ≢ 2 }
+    ensures exact { result ≡ group_by W.most W.in_words tables left }
+{
+    let n = next_group(tables.min(W::most_at_once()), left);
+    if n == 2 && W::is_in_words() { 1 } else { n }
 }
 
 // Returns how many of the chunks that are left are mixed next. None of several is mixed alone if three or more can be
@@ -55,7 +76,15 @@ fn next_group(width: usize, left: usize) -> usize
 }
 
 // Mixes the `n` chunks from `i` on at once.
-fn mix_at_once<M: TableMemory>(params: &Params, s: u8, n: usize, i: usize, used: &mut InUse<'_, M>)
+fn mix_at_once<M: TableMemory, W: Mixer>(
+    params: &Params,
+    s: u8,
+    n: usize,
+    i: usize,
+    used: &mut InUse<'_, M>,
+)
+    requires few { n ≤ W.most }
+    requires alone { W.in_words ≡ true → n ≢ 2 }
     requires inside { i * (128 * params.now.r) + n * (128 * params.now.r) ≤ length used.old.chunks.now }
     requires memory { HasTables params.now.log_n s params.now.r n (M.room used.old.rows.now) (length used.old.scratch.now) }
     ensures mixed { (b : List ℕ) → AreMixed b params.now.log_n params.now.r i used.old.chunks.now
@@ -64,11 +93,18 @@ fn mix_at_once<M: TableMemory>(params: &Params, s: u8, n: usize, i: usize, used:
     ensures counted { AreCounted (n
         * thin_ro_mix_cost (words_of (part (128 * params.now.r) used.old.chunks.now i)) params.now.log_n s params.now.r) used.old.cores.now used.new.cores.now }
 {
+    // A mixer's answers are constants, so that the compiler leaves out the groups that it never mixes.
     match n {
+        1 if W::is_in_words() => mix_group::<Diagonal<Scalars>, M>(params, s, n, i, used),
         1 => mix_group::<Diagonal<u32x4>, M>(params, s, n, i, used),
-        2 => mix_group::<Diagonal<u32x8>, M>(params, s, n, i, used),
-        3 => mix_group::<Diagonal<Both<u32x8, u32x4>>, M>(params, s, n, i, used),
-        _ => mix_group::<Diagonal<Both<u32x8, u32x8>>, M>(params, s, n, i, used),
+        2 if !W::is_in_words() => mix_group::<Diagonal<u32x8>, M>(params, s, n, i, used),
+        3 if W::most_at_once() > 2 => {
+            mix_group::<Diagonal<Both<u32x8, u32x4>>, M>(params, s, n, i, used);
+        }
+        4 if W::most_at_once() > 3 => {
+            mix_group::<Diagonal<Both<u32x8, u32x8>>, M>(params, s, n, i, used);
+        }
+        _ => unreachable!(),
     }
 }
 

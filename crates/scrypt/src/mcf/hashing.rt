@@ -18,7 +18,7 @@ use crate::buffers::{InUse, width_in};
 use crate::hashing::{check_call, key_allocating, stored_key};
 use crate::mcf::five_letters::five_letters;
 use crate::mcf::reading::is_mcf;
-use crate::{BufferLens, CoreCount, Params, Scrypt};
+use crate::{BufferLens, CoreCount, Mixer, Params, Scrypt, Vectors};
 use password_hash::mcf::alphabet::letter;
 use password_hash::mcf::{Base64, PasswordHash};
 use password_hash::phc::Output;
@@ -73,19 +73,26 @@ impl CustomizedPasswordHasher<PasswordHash> for Scrypt {
         params: Params,
     ) -> Result<PasswordHash> {
         check_call("7", alg_id, version)?;
-        hash_of(alloc, password, salt, &params)
+        hash::<Vectors>(alloc, password, salt, &params)
     }
 }
 
-// Hashes a password with a salt.
+/// Hashes `password` as [`Scrypt`] does with these parameters, by the mixer `W`.
+///
+/// Returns `OutOfMemory` if an allocation fails.
 #[tactic(auto, using(crate::proofs::McfTextFacts::key_fills))]
-fn hash_of(alloc: Global, password: &[u8], salt: &[u8], params: &Params) -> Result<PasswordHash>
+pub fn hash<W: Mixer>(
+    alloc: Global,
+    password: &[u8],
+    salt: &[u8],
+    params: &Params,
+) -> Result<PasswordHash>
     ensures value { IfOk result (IsMadeHash params.now password.now salt.now) }
     ensures memory { IfErr result (λ e. e ≡ OutOfMemory) }
 {
     // The whole text is allocated before the buffers of the derivation.
     let mut text = vec![in alloc; 0u8; hash_len(params, salt)]?;
-    let key = match key_by_letters(alloc, password, salt, params, &mut text) {
+    let key = match key_by_letters::<W>(alloc, password, salt, params, &mut text) {
         Ok(key) => key,
         Err(error) => return Err(error),
     };
@@ -95,7 +102,7 @@ fn hash_of(alloc: Global, password: &[u8], salt: &[u8], params: &Params) -> Resu
 
 // Derives the key of a hash. The letters of the salt are the salt of the derivation: they lie in `text` until it is written.
 #[tactic(auto, using(crate::proofs::McfTextFacts::key_fills))]
-fn key_by_letters(
+fn key_by_letters<W: Mixer>(
     alloc: Global,
     password: &[u8],
     salt: &[u8],
@@ -108,7 +115,7 @@ fn key_by_letters(
 {
     let letters = &mut text[..Base64::Crypt.encoded_len(salt.len())];
     encode(salt, letters);
-    key_allocating(alloc, password, letters, params)
+    key_allocating::<W>(alloc, password, letters, params)
 }
 
 /// Returns the length in bytes of the text that hashing with these parameters and this salt makes.
@@ -192,7 +199,7 @@ fn hash_of_text(text: Vec<u8>) -> PasswordHash
 ///
 /// Returns `OutOfMemory` exactly if `text` or another buffer is too short, and then changes nothing.
 #[tactic(auto, using(crate::proofs::HashingFacts::errors))]
-pub fn hash_with_buffers(
+pub fn hash_with_buffers<W: Mixer>(
     password: &[u8],
     salt: &[u8],
     params: &Params,
@@ -228,13 +235,13 @@ pub fn hash_with_buffers(
     let (scratch, _) = scratch.split_at_mut(lens.scratch);
     let mut rows = Buffer::new(table);
     let mut used = InUse::new(width, chunks, &mut rows, scratch, cores);
-    fill_with_hash(password, salt, params, &mut text[..len], &mut used);
+    fill_with_hash::<W>(password, salt, params, &mut text[..len], &mut used);
     Ok(len)
 }
 
 // Hashes a password. The text fills `text`.
 #[tactic(auto, using(crate::proofs::McfTextFacts::key_fills))]
-fn fill_with_hash(
+fn fill_with_hash<W: Mixer>(
     password: &[u8],
     salt: &[u8],
     params: &Params,
@@ -249,6 +256,6 @@ fn fill_with_hash(
 {
     let letters = &mut text[..Base64::Crypt.encoded_len(salt.len())];
     encode(salt, letters);
-    let key = stored_key::<Buffer<'_>>(password, letters, params, used);
+    let key = stored_key::<Buffer<'_>, W>(password, letters, params, used);
     write_text(text, params, salt, &key);
 }

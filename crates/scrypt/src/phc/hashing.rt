@@ -13,7 +13,7 @@ use crate::buffers::{InUse, width_in};
 use crate::hashing::{check_call, key_allocating, stored_key};
 use crate::phc::ALG_ID;
 use crate::phc::params::written;
-use crate::{BufferLens, CoreCount, Params, Scrypt};
+use crate::{BufferLens, CoreCount, Mixer, Params, Scrypt, Vectors};
 use password_hash::phc::{Output, PasswordHash, Salt};
 use password_hash::{CustomizedPasswordHasher, Error, PasswordHasher, Result, Version};
 use scrypt_kernel::memory::Buffer;
@@ -49,7 +49,7 @@ impl CustomizedPasswordHasher<PasswordHash> for Scrypt {
     /// Returns the first of these errors: `Algorithm` if `alg_id` is given and not `scrypt`,
     /// `Version` if `version` is given, `SaltInvalid` if `salt` does not have 1 to 64 bytes, and
     /// `OutOfMemory` if an allocation fails.
-    #[tactic(auto, using(crate::proofs::HashingFacts::errors))]
+    #[tactic(auto, using(crate::proofs::HashingFacts::errors, crate::proofs::HashingFacts::refused_alike))]
     fn hash_password_customized(
         &self,
         alloc: Global,
@@ -60,13 +60,30 @@ impl CustomizedPasswordHasher<PasswordHash> for Scrypt {
         params: Params,
     ) -> Result<PasswordHash> {
         check_call(ALG_ID.as_str(), alg_id, version)?;
-        let Ok(salt) = Salt::new(salt) else {
-            return Err(Error::SaltInvalid);
-        };
-        match key_allocating(alloc, password, salt.as_bytes(), &params) {
-            Ok(key) => Ok(hash_of(&params, salt, key)),
-            Err(error) => Err(error),
-        }
+        hash::<Vectors>(alloc, password, salt, &params)
+    }
+}
+
+/// Hashes `password` as [`Scrypt`] does with these parameters, by the mixer `W`.
+///
+/// Returns `SaltInvalid` if `salt` does not have 1 to 64 bytes, and otherwise `OutOfMemory` if an
+/// allocation fails.
+#[tactic(auto, using(crate::proofs::HashingFacts::errors))]
+pub fn hash<W: Mixer>(
+    alloc: Global,
+    password: &[u8],
+    salt: &[u8],
+    params: &Params,
+) -> Result<PasswordHash>
+    ensures made { IfOk result (λ hash. IsMadeHash params.now password.now salt.now hash) }
+    ensures err { IfErr result (λ e. HashIsRefused salt.now None None (refusal e)) }
+{
+    let Ok(salt) = Salt::new(salt) else {
+        return Err(Error::SaltInvalid);
+    };
+    match key_allocating::<W>(alloc, password, salt.as_bytes(), params) {
+        Ok(key) => Ok(hash_of(params, salt, key)),
+        Err(error) => Err(error),
     }
 }
 
@@ -94,7 +111,7 @@ fn hash_of(params: &Params, salt: Salt, key: Output) -> PasswordHash
 /// Returns `SaltInvalid` if `salt` does not have 1 to 64 bytes, and otherwise `OutOfMemory` exactly
 /// if a buffer is too short. On an error the buffers and the count are unchanged.
 #[tactic(auto, using(crate::proofs::HashingFacts::errors))]
-pub fn hash_with_buffers(
+pub fn hash_with_buffers<W: Mixer>(
     password: &[u8],
     salt: &[u8],
     params: &Params,
@@ -127,6 +144,6 @@ pub fn hash_with_buffers(
     let (scratch, _) = scratch.split_at_mut(lens.scratch);
     let mut rows = Buffer::new(table);
     let mut used = InUse::new(width, chunks, &mut rows, scratch, cores);
-    let key = stored_key::<Buffer<'_>>(password, salt.as_bytes(), params, &mut used);
+    let key = stored_key::<Buffer<'_>, W>(password, salt.as_bytes(), params, &mut used);
     Ok(hash_of(params, salt, key))
 }

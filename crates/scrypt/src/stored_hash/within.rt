@@ -14,7 +14,7 @@ use super::StoredHash;
 use crate::errors::LimitedError;
 use crate::stored_parts::StoredParts;
 use crate::verifying::verify_in_buffers;
-use crate::{BufferLens, CoreCount, Limits, Params};
+use crate::{BufferLens, CoreCount, Limits, Mixer, Params};
 
 impl<'a> StoredHash<'a> {
     /// Returns the lengths of the buffers for [`StoredHash::verify_within`]: what verifying needs,
@@ -43,7 +43,7 @@ impl<'a> StoredHash<'a> {
     /// Returns the errors of [`StoredHash::buffer_lens_within`], in the same order and however long
     /// the buffers are, and then those of [`StoredHash::verify_with_buffers`]. On an error of the
     /// first kind no core is run, and the buffers and the count are unchanged.
-    pub fn verify_within(
+    pub fn verify_within<W: Mixer>(
         &self,
         password: &[u8],
         limits: &Limits,
@@ -58,7 +58,9 @@ impl<'a> StoredHash<'a> {
             (workspace_of chunks.old table.old scratch.old cores.old) (workspace_of chunks.new table.new scratch.new cores.new) }
     {
         match self.parts_within(limits) {
-            Ok(parts) => limited(verify_in_buffers(password, parts, chunks, table, scratch, cores)),
+            Ok(parts) => limited(verify_in_buffers::<W>(
+                password, parts, chunks, table, scratch, cores,
+            )),
             Err(error) => Err(error),
         }
     }

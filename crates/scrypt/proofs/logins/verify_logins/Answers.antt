@@ -11,7 +11,7 @@ use Rattle.scrypt.proofs.ReadingFacts.{same_verdict}
 use Rattle.scrypt.proofs.logins.verify_logins.Goals as goal
 
 pub returns-then-verified_at_once-clause-verdicts : goal.returns-then-verified_at_once-clause-verdicts
-returns-then-verified_at_once-clause-verdicts c =
+returns-then-verified_at_once-clause-verdicts g c =
     let logins = c.args.logins.now in
     let before = workspace_of c.args.chunks.now c.args.table.now c.args.scratch.now c.args.cores.now in
     let now = workspace_of c.loop-i.chunks c.loop-i.table c.loop-i.scratch c.loop-i.cores in
@@ -27,11 +27,11 @@ returns-then-verified_at_once-clause-verdicts c =
     ∙ ap (map (verdict_on before)) (take-append-drop i (attempts logins))
 
 pub returns-then-verified_at_once-clause-left : goal.returns-then-verified_at_once-clause-left
-returns-then-verified_at_once-clause-left c =
+returns-then-verified_at_once-clause-left g c =
     c.loop-i.invariant.left _ (rw (drop-map attempt_of c.loop-i.i c.args.logins.now, ← c.split_at.ensures.back) (c.if-verified_at_once.ensures.left (search rules)))
 
 pub loop-i-preserved : goal.loop-i-preserved
-loop-i-preserved c =
+loop-i-preserved g c =
     let logins = c.args.logins.now in
     let login = c.index-logins-i.result in
     let i = c.loop-i.i in

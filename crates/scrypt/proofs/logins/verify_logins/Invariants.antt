@@ -6,7 +6,7 @@ use Rattle.scrypt.proofs.logins.verify_logins.Given as goal
 
 -- the first i are verified alone
 abbrev pub invariant-loop-i : goal.invariant-loop-i
-invariant-loop-i l =
+invariant-loop-i g l =
     let before = workspace_of l.initial.chunks l.initial.table l.initial.scratch l.initial.cores in
     let now = workspace_of l.chunks l.table l.scratch l.cores in
     record {

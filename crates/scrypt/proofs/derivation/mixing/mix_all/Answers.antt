@@ -8,7 +8,7 @@ use Rattle.scrypt.proofs.derivation.mixing.mix_all.Goals as goal
 
 pub mix_at_once-requires-clause-inside : goal.mix_at_once-requires-clause-inside
 mix_at_once-requires-clause-inside g c =
-    let below : c.groups.i + c.next_group-n.result ≤ c.args.count = omega arith in
+    let below : c.groups.i + c.group_by-n.result ≤ c.args.count = omega arith in
     omega (arith, c.requires.ready.chunks_len, mul-le-mul_right (128 * c.args.params.now.r) below)
 
 pub mix_at_once-requires-clause-memory : goal.mix_at_once-requires-clause-memory
@@ -16,9 +16,9 @@ mix_at_once-requires-clause-memory g c =
     let has = c.requires.ready.memory in
     let r = c.args.params.now.r in
     let table = table_words (c.args.params.now.log_n - c.args.s) r in
-    let fewer : c.next_group-n.result ≤ c.args.used.now.width = rw c.groups.invariant.kept.width at c.next_group-n.ensures.within in
+    let fewer : c.group_by-n.result ≤ c.args.used.now.width = rw c.groups.invariant.kept.width at c.group_by-n.ensures.within in
     record {
-      some = c.next_group-n.ensures.some;
+      some = c.group_by-n.ensures.some;
       few = omega (arith, has.few);
       spacing = has.spacing;
       alone = λ above. omega (arith, has.alone above);
@@ -30,7 +30,7 @@ mix_at_once-requires-clause-memory g c =
 pub groups-preserved : goal.groups-preserved
 groups-preserved g c =
     let before = c.groups.invariant in
-    let alone : 0 < c.args.s → c.next_group-n.result ≡ 1 = λ above. omega (arith, c.requires.ready.memory.alone above) in
+    let alone : 0 < c.args.s → c.group_by-n.result ≡ 1 = λ above. omega (arith, c.requires.ready.memory.alone above) in
     record {
       mixed = c.mix_at_once.ensures.mixed c.args.used.now.chunks.now before.mixed;
       some = omega arith;
