@@ -1,7 +1,7 @@
 """Runs `rt ci`, which proves every crate, and all else that the gate checks.
 
-- At once: the documents, the scripts and what must not compile. A fault there ends the gate early.
-- When the crates below are proved, over a copy of their libraries: the wrong bodies, and the static libraries for C, since
+- At once: the documents, the scripts and where counts of cores are made. A fault there ends the gate early.
+- When the crates below are proved, over a copy of their libraries: the wrong bodies, what must not compile, and the static libraries for C, since
   `rt lib` takes nothing from `rt ci` and would prove the crates below again. The first of these libraries checks its crate
   in an empty folder; the second, the module for JavaScript, and the wrong bodies of that crate, take from it what they leave
   unchanged. Then they are linked and called.
@@ -260,7 +260,7 @@ def add_all(tasks, made, kept, is_built):
     """Adds the tasks: those that may end the gate early, and then the longest first. The wrong bodies of scrypt_c are tried over
     what the build of the libraries kept."""
     tasks.add("the documents", [], lambda: tasks.run("make", "--no-print-directory", "documents"))
-    tasks.add("what must not compile", [], lambda: tasks.run(sys.executable, "-m", "ci.must_not_compile"))
+    tasks.add("counts of cores", [], lambda: tasks.run(sys.executable, "-m", "ci.must_not_compile", "sources"))
     if is_built:
         tasks.add(LIBRARY, prover_command.below("scrypt_c"), lambda: build(tasks, made, kept))
         tasks.add("callers of the library", prover_command.below("scrypt_c"), lambda: link_and_call(tasks, made), LIBRARY)
@@ -273,6 +273,8 @@ def add_all(tasks, made, kept, is_built):
         command = [sys.executable, "-m", "ci.wrong_bodies", *(["over", kept] if is_over else []), name]
         before = [LIBRARY] if is_over else []
         tasks.add(f"wrong bodies of {name}", prover_command.below(name), lambda command=command: tasks.run(*command), *before)
+    not_compiled = [sys.executable, "-m", "ci.must_not_compile", "edits"]
+    tasks.add("what must not compile", prover_command.below("scrypt_c"), lambda: tasks.run(*not_compiled))
     tasks.add("answers of the program", ["scrypt_tool"], lambda: answer(tasks, is_built))
     tasks.add("answers to hashes", ["scrypt_tool"], lambda: tasks.run(sys.executable, "-m", "ci.hashes", PROGRAM))
 

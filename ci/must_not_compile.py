@@ -9,6 +9,9 @@ another count. Another name for the counter is refused too, since it could hide 
 
 An impl of `PartialEq` chooses its own relation, and the contract of `Clone` does not require a copy to be equal. So
 `Clone` is always derived, and `PartialEq` is derived or its clause compares the whole values.
+
+usage: python3 -m ci.must_not_compile sources   what no clause can refuse
+       python3 -m ci.must_not_compile edits     what the compiler has to refuse; the libraries below a crate have to be built
 """
 
 import glob
@@ -16,7 +19,7 @@ import re
 import subprocess
 import sys
 
-from tools import edits, sources
+from tools import edits, prover_command, sources
 
 HANDWRITTEN = ["crates/scrypt_kernel/proofs/cores/count/CoreCount/of/Proof.antt"]
 NEW_COUNTS = {
@@ -58,9 +61,9 @@ def kind_of(printed):
     return next((kind for kind, error in KINDS.items() if errors and all(map(error.match, errors))), None)
 
 
-def refused_as(crate):
-    """What the compiler refuses the crate for before any proof, or None."""
-    ran = subprocess.run(["rt", "check", "--only="], cwd=crate, capture_output=True, text=True)
+def refused_as(name, crate):
+    """What the compiler refuses a copy of a crate for before any proof, or None."""
+    ran = subprocess.run([*prover_command.of("check", name), "--only", ""], cwd=crate, capture_output=True, text=True)
     return kind_of(ran.stdout + ran.stderr) if ran.returncode != 0 else None
 
 
@@ -109,16 +112,26 @@ def complaints(those):
     return [*count_complaints(those), *(found for source in those for found in impl_complaints(source))]
 
 
-def main():
+def wrong_in_sources():
+    """What is refused of the sources and the proofs."""
     wrong = complaints(own_sources())
     if sorted(glob.glob("crates/*/proofs/**/Proof.antt", recursive=True)) != HANDWRITTEN:
         wrong.append(f"handwritten proofs other than {', '.join(HANDWRITTEN)}")
+    return wrong
+
+
+def wrong_edits():
+    """The edits that the compiler does not refuse."""
     for edit, crate in edits.tried(edits.NOT_COMPILED, left_out=["out"]):
-        kind = refused_as(crate)
+        kind = refused_as(edit.crate, crate)
         print(f"must-not-compile {edit}: {f'refused, as {kind}' if kind else 'NOT REFUSED'}", flush=True)
-        wrong += [] if kind else [f"{edit} was not refused"]
-    sys.exit("\n".join(wrong) or 0)
+        if not kind:
+            yield f"{edit} was not refused"
+
+
+def main(part):
+    sys.exit("\n".join({"sources": wrong_in_sources, "edits": wrong_edits}[part]()) or 0)
 
 
 if __name__ == "__main__":
-    main()
+    main(*sys.argv[1:])
