@@ -45,22 +45,36 @@ func (a *Accounts) SignUp(ctx context.Context, name, password string) (string, e
 	return a.put(ctx, password, errTaken, `INSERT INTO users VALUES ($1, $2) ON CONFLICT DO NOTHING RETURNING hash`, name)
 }
 
-// LogIn returns the text of the user's hash, or errWrong. If the wanted password differs, or the hash is weaker than new
-// ones, the hash is replaced first, by one statement: if the process dies, the store has one text or the other.
-func (a *Accounts) LogIn(ctx context.Context, name, password, wanted string) (string, error) {
+// LogIn returns the text of the user's hash, or errWrong. A hash that is weaker than new ones is replaced first.
+func (a *Accounts) LogIn(ctx context.Context, name, password string) (string, error) {
 	text, err := a.verify(ctx, name, password)
 	if err != nil {
 		return "", err
 	}
-	if weak, err := a.hasher.NeedsRehash(text); err != nil || !weak && wanted == password {
+	if weak, err := a.hasher.NeedsRehash(text); err != nil || !weak {
 		return text, err
 	}
-	stronger, err := a.put(ctx, wanted, errChanged,
-		`UPDATE users SET hash = $3 WHERE name = $1 AND hash = $2 RETURNING hash`, name, text)
-	if err == errChanged && wanted == password { // another login may have replaced it
+	stronger, err := a.replace(ctx, name, text, password)
+	if err == errChanged { // another login may have replaced it
 		return a.verify(ctx, name, password)
 	}
 	return stronger, err
+}
+
+// Change replaces the user's hash and returns the text of the new one, or errWrong. The text is another one even if the
+// wanted password is the same, so a change always ends the other sessions.
+func (a *Accounts) Change(ctx context.Context, name, password, wanted string) (string, error) {
+	text, err := a.verify(ctx, name, password)
+	if err != nil {
+		return "", err
+	}
+	return a.replace(ctx, name, text, wanted)
+}
+
+// replace stores a new hash in place of one, by one statement: if the process dies, the store has one text or the other.
+func (a *Accounts) replace(ctx context.Context, name, text, password string) (string, error) {
+	return a.put(ctx, password, errChanged,
+		`UPDATE users SET hash = $3 WHERE name = $1 AND hash = $2 RETURNING hash`, name, text)
 }
 
 // hash returns the text of the user's hash, or errWrong if there is no such user.

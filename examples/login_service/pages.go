@@ -154,10 +154,13 @@ func (s *Service) try(r *http.Request, action, name, password, wanted string) (t
 		return "", errFull
 	}
 	defer s.names.leave(of[0].key)
-	if action == "sign-up" {
+	switch action {
+	case "sign-up":
 		text, err = s.accounts.SignUp(r.Context(), name, wanted)
-	} else {
-		text, err = s.accounts.LogIn(r.Context(), name, password, wanted)
+	case "change":
+		text, err = s.accounts.Change(r.Context(), name, password, wanted)
+	default:
+		text, err = s.accounts.LogIn(r.Context(), name, password)
 	}
 	s.tries.charge(cost(r.Context(), action, err), of...)
 	if err == errWrong {

@@ -27,10 +27,15 @@ func TestPages(t *testing.T) {
 	one, two := w.browser(), w.browser()
 	w.expect(303)(one.signUp("ada", "first password"))
 	w.isIn(one, true, "a sign-up is no log-in")
-	w.expect(303)(two.logIn("ada", "first password"))
-	w.expect(303)(one.change("first password", "second password"))
-	w.isIn(one, true, "a change of the password ended its own session")
-	w.isIn(two, false, "a change of the password left another session")
+	for _, it := range []struct{ why, password, wanted string }{
+		{"a change of the password", "first password", "second password"},
+		{"a change to the same password, after which another session is not trusted either", "second password", "second password"},
+	} {
+		w.expect(303)(two.logIn("ada", it.password))
+		w.expect(303)(one.change(it.password, it.wanted))
+		w.isIn(one, true, it.why+" ended its own session")
+		w.isIn(two, false, it.why+" left another session")
+	}
 	w.expect(303)(two.signUp("Ame\u0301lie ", right))
 	w.expect(303)(two.logIn("Am\u00e9lie", right))
 	for _, it := range []struct {
