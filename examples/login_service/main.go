@@ -48,7 +48,8 @@ func main() {
 	// A drawn key signs cookies: a restart logs all users out, and no hash depends on it.
 	places := runtime.GOMAXPROCS(0) + *waiting
 	service := &Service{accounts, drawn(32), newCrowd(places, places), newCrowd(2, 2*places), newLimiter()}
-	serve(&http.Server{Addr: *listen, Handler: service, ReadHeaderTimeout: *patience / 4, ReadTimeout: *patience,
+	handler := http.AllowQuerySemicolons(service) // of which net/http logs a warning for each request
+	serve(&http.Server{Addr: *listen, Handler: handler, ReadHeaderTimeout: *patience / 4, ReadTimeout: *patience,
 		WriteTimeout: 3 * *patience, MaxHeaderBytes: mostForm, ConnState: newCrowd(64, 960).watch}) // with the store, 1024 descriptors
 }
 

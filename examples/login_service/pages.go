@@ -63,7 +63,7 @@ func (s *Service) ServeHTTP(w http.ResponseWriter, r *http.Request) {
 	w.Header().Set("X-Content-Type-Options", "nosniff")
 	err, refusal := s.answer(w, r), errNotNow
 	if err != nil && !errors.As(err, &refusal) {
-		log.Printf("%s: %v", r.URL.Path, err)
+		report(r, r.URL.Path, err)
 	}
 	if err != nil {
 		s.show(w, r, refusal)
@@ -183,6 +183,13 @@ func cost(ctx context.Context, action string, err error) time.Duration {
 	return *pause / 20
 }
 
+// report logs a fault of the service. What fails because the client has left is not one: to leave costs a client nothing.
+func report(r *http.Request, of string, err error) {
+	if r.Context().Err() != context.Canceled {
+		log.Printf("%s: %v", of, err)
+	}
+}
+
 // show writes the page with a message. With status 503 it has no form, needs no query, and asks to come back.
 func (s *Service) show(w http.ResponseWriter, r *http.Request, message Refusal) {
 	name, err := "", error(nil)
@@ -190,7 +197,7 @@ func (s *Service) show(w http.ResponseWriter, r *http.Request, message Refusal) 
 		name, err = s.user(r, "session")
 	}
 	if err != nil {
-		log.Print("the page: ", err)
+		report(r, "the page", err)
 		message = errNotNow
 	}
 	if later := map[int]time.Duration{503: time.Second, 429: *pause}[message.Status]; later > 0 {

@@ -89,6 +89,32 @@ func TestPages(t *testing.T) {
 	}
 }
 
+// What costs no try writes no line to the log: it would be one for each request, without an address.
+func TestRequestsThatAreNotLogged(t *testing.T) {
+	w := newWorld(t, small)
+	one := w.browser()
+	w.expect(303)(one.signUp("ada", right))
+	w.exec(`BEGIN`)
+	w.exec(`LOCK TABLE users`)
+	for _, it := range []struct {
+		why, request, cookie string
+		patience             time.Duration // after which the client leaves
+	}{
+		{"a semicolon in the query, of which net/http warns", "GET /?done=a;b", "", time.Minute},
+		{"one in that of a form", "POST /log-in?a;b", "", time.Minute},
+		{"a client that leaves before the store answers", "GET /", one.cookies["session"], 200 * time.Millisecond},
+	} {
+		one, words, before := w.browser(), strings.Fields(it.request), len(w.logged())
+		one.http.Timeout, one.cookies["session"] = it.patience, it.cookie
+		_, _ = one.ask(words[0], words[1], nil)
+		time.Sleep(200 * time.Millisecond) // in which the service notices that the client has left
+		if lines := w.logged()[before:]; lines != "" {
+			t.Errorf("%s: %s", it.why, lines)
+		}
+	}
+	w.exec(`ROLLBACK`)
+}
+
 func TestCookies(t *testing.T) {
 	w := newWorld(t, small)
 	for prefix, flag := range map[string]string{"": "-https=false", "__Host-": "-https"} {
