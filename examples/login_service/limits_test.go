@@ -155,6 +155,29 @@ func (w *world) step(row, number int, part []string, stay map[string]*browser) (
 	return one.send(part[1], "name", name, "password", password, "new", another)
 }
 
+// Who has a stolen session and the cookie of the known browser tries passwords to log in and to change, from that browser and
+// others: the tries of the browser, and those of the name.
+func TestTriesWithStolenCookies(t *testing.T) {
+	const each = 5
+	w := newWorld(t, small, fmt.Sprint("-tries=", each), "-pause=1h", proxied)
+	one, tried := w.at("192.0.2.1"), 0
+	w.expect(303)(one.signUp("ada", right))
+	for i := 0; i < 8*each; i++ {
+		thief, action := w.at(fmt.Sprint("198.51.100.", i)), []string{"log-in", "change"}[i%2]
+		thief.cookies["session"] = one.cookies["session"]
+		if i < 4*each {
+			thief.cookies["known"] = one.cookies["known"]
+		}
+		got, err := thief.send(action, "name", "ada", "password", wrong, "new", another)
+		if tried++; err != nil || got.status != 403 {
+			tried--
+		}
+	}
+	if tried != 2*each {
+		t.Errorf("%d wrong passwords and not %d", tried, 2*each)
+	}
+}
+
 // Forms that come at once are checked before one of them is charged, so as many more passwords may be tried as there are
 // places. An office is one address: its people log in at once, whatever tries are left.
 func TestTriesAtOnce(t *testing.T) {

@@ -142,7 +142,11 @@ func (s *Service) try(r *http.Request, action, name, password, wanted string) (t
 	if err != nil {
 		return "", err
 	}
-	of := allowances(action+" "+name, from, known == name)
+	kind := action
+	if action == "change" { // its session is signed too, and its wrong passwords are counted with those of log-ins
+		kind, known = "log-in", name
+	}
+	of := allowances(kind+" "+name, from, known == name)
 	if !s.tries.charge(0, of...) { // first, so that a form that is refused takes no place
 		return "", errTries
 	}

@@ -203,5 +203,8 @@ func TestKnownBrowsersHaveTriesOfTheirOwn(t *testing.T) {
 		before.cookies["known"] = own
 		w.expect(429)(before.logIn("ada", another))
 		w.expect(303)(browser.change(another, right))
+		// For a change the session suffices, so that others do not keep a user who is logged in from it.
+		delete(browser.cookies, "known")
+		w.expect(303)(browser.change(right, right))
 	}
 }
