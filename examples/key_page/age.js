@@ -6,7 +6,7 @@ const ARMOR = /^\s*-----BEGIN AGE ENCRYPTED FILE-----\r?\n([A-Za-z0-9+/=\r\n]+)-
 const HEADER = /^(age-encryption\.org\/v1\n-> scrypt ([A-Za-z0-9+/]{22}) ([1-9][0-9]?)\n([A-Za-z0-9+/]{43})\n---) ([A-Za-z0-9+/]{43})\n/;
 const CHUNK = 65536 + 16;
 
-const latin1 = (bytes) => Array.from(bytes, (it) => String.fromCharCode(it)).join('');
+const latin1 = (bytes) => new TextDecoder('latin1').decode(bytes);
 
 async function hkdf(key, salt, info) {
   const from = await crypto.subtle.importKey('raw', key, 'HKDF', false, ['deriveBits']);

@@ -8,8 +8,12 @@ const LIMITS = { maxmem: 257 * 2 ** 20, maxwork: 4 * 4 * (2 ** 17 + 32) * 8 };
 
 const coresOf = ({ N, r, p }) => 4 * (N + 32) * r * p;
 
+// What is decrypted keeps the page's own thread busy, for up to a second.
+export const MOST_BYTES = 2 ** 20;
+
 /** What a file of either kind says. */
 export function read(bytes) {
+  if (bytes.length > MOST_BYTES) throw new Error('A key file has at most 1 MiB.');
   const isJson = String.fromCharCode(...bytes.subarray(0, 100)).trimStart().startsWith('{');
   return isJson ? readEthereum(new TextDecoder().decode(bytes)) : readAge(bytes);
 }

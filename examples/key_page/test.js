@@ -62,9 +62,31 @@ test('what is refused before a key is derived', async () => {
   for (const text of ['', '{}', '[]', '{"crypto":{}}', 'age-encryption.org/v1\n-> X25519 A\n', '-----BEGIN AGE ENCRYPTED FILE-----\nAA']) {
     assert.throws(() => read(utf8(text)), /This is not/, text);
   }
-  const { text } = JSON.parse(process.env.ETHEREUM);
-  const without = JSON.parse(text);
-  delete without.crypto.kdfparams.n;
-  await assert.rejects(() => open(read(utf8(JSON.stringify(without))), ''), { code: 'INVALID_TYPE' });
+  assert.throws(() => read(new Uint8Array(2 ** 20 + 1)), /at most 1 MiB/);
   assert.equal(decrypted(KEY, new Uint8Array(12), joined()), null, 'no tag');
+});
+
+test('a file of Ethereum is refused before a key is derived, with a reason in words', () => {
+  const { text } = JSON.parse(process.env.ETHEREUM);
+  const number = /^n, r and p are not whole numbers\.$/;
+  const ROWS = [
+    ['kdfparams', 'n', undefined, number, 'left out'],
+    ['kdfparams', 'n', '262144', number, 'a text, to which 32 would be appended'],
+    ['kdfparams', 'r', [1], number, 'an array'],
+    ['kdfparams', 'p', null, number, 'nothing'],
+    ['kdfparams', 'salt', 12, /^salt is not hexadecimal/, 'a number'],
+    ['kdfparams', 'salt', ['ab'], /^salt is not hexadecimal/, 'an array whose text is hexadecimal'],
+    ['kdfparams', 'salt', 'ab'.repeat(2 ** 18), /^salt is not hexadecimal/, 'long, in the thread of the page'],
+    [null, 'mac', { length: 64 }, /^mac is not hexadecimal/, 'an object'],
+    [null, 'mac', 'd1', /^mac is not hexadecimal/, 'no whole digest'],
+    [null, 'mac', 'zz'.repeat(32), /not hexadecimal/, 'other letters'],
+    [null, 'cipherparams', null, /^iv is not hexadecimal/, 'left out'],
+    ['cipherparams', 'iv', '83', /^iv is not hexadecimal/, 'another length, for which WebCrypto gives no reason'],
+    [null, 'ciphertext', 'd1'.repeat(2 ** 18), /^ciphertext is not hexadecimal/, 'long, so that its digest takes a second in the thread of the page'],
+  ];
+  for (const [part, name, value, reason, why] of ROWS) {
+    const file = JSON.parse(text);
+    (part ? file.crypto[part] : file.crypto)[name] = value;
+    assert.throws(() => read(utf8(JSON.stringify(file))), { message: reason }, `${name}: ${why}`);
+  }
 });
