@@ -1,5 +1,5 @@
 import { toHex } from './bytes.js';
-import { estimate, open, read } from './key_file.js';
+import { MOST_BYTES, estimate, open, read } from './key_file.js';
 
 const [form, out, bar, cancel] = ['form', 'output', 'progress', '#cancel'].map((it) => document.querySelector(it));
 const seconds = (ms) => `${(ms / 1000).toFixed(1)} s`;
@@ -27,15 +27,18 @@ function show(content) {
 }
 
 async function run(signal) {
-  const given = form.chosen.files[0];
+  const password = form.password.value;
+  const given = form.chosen.files[0]?.slice(0, MOST_BYTES + 1);
   const bytes = given ? new Uint8Array(await given.arrayBuffer()) : new TextEncoder().encode(form.file.value);
   const file = read(bytes);
   const ms = await estimate(file.params);
+  signal.throwIfAborted();
   out.textContent = `This takes about ${seconds(ms)} here.\n`;
   const stop = moveBar(ms);
   const begun = performance.now();
   try {
-    const content = await open(file, form.password.value, { signal });
+    const content = await open(file, password, { signal });
+    signal.throwIfAborted();
     bar.value = 1;
     out.textContent = content ? `Opened after ${seconds(performance.now() - begun)}:\n` : 'Another password.';
     if (content) show(content);
@@ -44,16 +47,23 @@ async function run(signal) {
   }
 }
 
+let last = new AbortController();
+cancel.onclick = () => last.abort();
+
 form.addEventListener('submit', async (event) => {
   event.preventDefault();
+  last.abort(); // since both would write to the page
   const abort = new AbortController();
+  last = abort;
   cancel.disabled = false;
-  cancel.onclick = () => abort.abort();
   [bar.value, out.textContent] = [0, ''];
+  let reason = null;
   try {
     await run(abort.signal);
   } catch (error) {
-    out.textContent = error.name === 'AbortError' ? 'Cancelled.' : error.message;
+    reason = error.name === 'AbortError' ? 'Cancelled.' : error.message;
   }
+  if (last !== abort) return;
+  if (reason !== null) out.textContent = reason;
   cancel.disabled = true;
 });

@@ -76,11 +76,16 @@ let last = performance.now(), value = 0;
 })()"""
 
 
+SUBMIT = """document.querySelector('#file').value = arguments[0];
+document.querySelector('#password').value = arguments[1];
+document.querySelector('button').click();"""
+ENDED = "document.querySelector('#cancel').disabled && document.querySelector('output').textContent !== ''"
+
+
 def opened(chromium, text, password):
     """What the page says of a file and a password."""
-    fill = "document.querySelector('#file').value = arguments[0]; document.querySelector('#password').value = arguments[1];"
-    chromium.add(f"seen.moves = seen.longest = 0; {fill} document.querySelector('button').click()", text, password)
-    until(chromium, "document.querySelector('#cancel').disabled && document.querySelector('output').textContent !== ''")
+    chromium.add(f"seen.moves = seen.longest = 0; {SUBMIT}", text, password)
+    until(chromium, ENDED)
     said = chromium.run("document.querySelector('output').textContent")
     moves, longest = chromium.run("seen.moves"), round(chromium.run("seen.longest"))
     print(said.replace("\n", " ").strip(), f"| the bar moved {moves} times, the longest frame took {longest} ms")
@@ -104,7 +109,19 @@ def opens(chromium, at, picture=None):
     asked = chromium.run("performance.getEntriesByType('resource').map((it) => it.name)")
     others = [it for it in asked if not it.startswith((f"{at}/examples/key_page/", f"{at}/bindings/js/"))]
     print(f"{len(asked)} requests, to others: {others}")
-    return is_well and not others and refuses_requests(chromium)
+    return is_well and not others and shows_the_last(chromium) and refuses_requests(chromium)
+
+
+def shows_the_last(chromium):
+    """Whether a second submit ends the first one, which would open another file."""
+    watch = "new MutationObserver(() => said.push(output.textContent)).observe(output, {childList: true, subtree: true})"
+    chromium.add(f"const output = document.querySelector('output'); window.said = []; {watch}")
+    for text in (ETHEREUM, EXAMPLE.read_text("utf-8")):
+        chromium.add(SUBMIT, text, PASSWORD)
+    until(chromium, ENDED)
+    said = chromium.run("said")
+    print("of two submits the page says", [it.strip() for it in said if it])
+    return CONTENT in said[-1] and not any(key_vectors.ETHEREUM_SECRET in it for it in said)
 
 
 def refuses_requests(chromium):
