@@ -4,6 +4,8 @@ import base64
 
 # The tags of DER that are read as something else than bytes.
 INTEGER, SEQUENCE = 0x02, 0x30
+OCTET_STRING, SET = 0x04, 0x31
+IN_PARTS = range(0x20, 0x40)  # tags of BER, of which DER has only SEQUENCE and SET
 
 # The rotations of Keccak-f[1600] for x + 5 * y, and its round constants.
 ROTATIONS = [0, 1, 62, 28, 27, 36, 44, 6, 55, 20, 3, 10, 43, 25, 39, 41, 45, 15, 21, 8, 18, 2, 61, 56, 14]
@@ -35,6 +37,8 @@ def from_der(data, depth=8):
         if len(data) < 2 or depth == 0:
             raise ValueError("DER that is cut, or too deep")
         tag, length, at = data[0], data[1], 2
+        if length == 0x80 or tag in IN_PARTS and tag not in (SEQUENCE, SET):
+            raise ValueError("BER that is not DER")
         if length & 0x80:
             at += length & 0x7F
             length = int.from_bytes(data[2:at], "big")

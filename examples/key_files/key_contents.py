@@ -15,10 +15,11 @@ from cryptography.hazmat.primitives.hashes import SHA256
 from cryptography.hazmat.primitives.kdf.hkdf import HKDF
 from cryptography.hazmat.primitives.serialization import Encoding, NoEncryption, PrivateFormat, PublicFormat
 
-from key_codecs import INTEGER, SEQUENCE, keccak_256, to_base64, to_der, xor
+from key_codecs import INTEGER, OCTET_STRING, SEQUENCE, keccak_256, to_base64, to_der, xor
 
-OCTET_STRING, OBJECT_ID = 0x04, 0x06
+OBJECT_ID = 0x06
 PBES2_ID = bytes.fromhex("2a864886f70d01050d")
+RSA_ID, DSA_ID = bytes.fromhex("2a864886f70d010101"), bytes.fromhex("2a8648ce380401")
 AGE_CHUNK, AGE_TAG, AGE_NONCE = 65536, 16, 16
 
 
@@ -110,15 +111,24 @@ def pkcs8_file(private_info, password, params, key_of, scrypt_id, cipher_id):
     (log_n, r, p), salt, iv = params, os.urandom(16), os.urandom(16)
     key, count = key_of(password, salt, 1 << log_n, r, p, 32), 16 - len(private_info) % 16
     encrypted = aes(key, modes.CBC(iv), private_info + bytes([count]) * count)
-
-    def sequence(*items):
-        return to_der(SEQUENCE, items)
-
     numbers = [to_der(INTEGER, number) for number in (1 << log_n, r, p)]
     kdf = sequence(to_der(OBJECT_ID, scrypt_id), sequence(to_der(OCTET_STRING, salt), *numbers))
     cipher = sequence(to_der(OBJECT_ID, cipher_id), to_der(OCTET_STRING, iv))
     method = sequence(to_der(OBJECT_ID, PBES2_ID), sequence(kdf, cipher))
     return pem(sequence(method, to_der(OCTET_STRING, encrypted)))
+
+
+def sequence(*items):
+    return to_der(SEQUENCE, items)
+
+
+def numbers_in_der(*numbers):
+    return sequence(*(to_der(INTEGER, it) for it in numbers))
+
+
+def info(kind, params, key):
+    """A private key in unencrypted PKCS#8, from its parts in DER, whatever they are."""
+    return sequence(to_der(INTEGER, 0), sequence(to_der(OBJECT_ID, kind), params), key)
 
 
 def pem(data):

@@ -21,6 +21,7 @@ MOST_MEMORY = 256 << 20  # bytes of the table
 MOST_WORK = scrypt_c.MOST_WORK  # four times the work of the recommended parameters (17, 8, 1)
 
 MOST_LETTERS = 1 << 16  # of a file, or of the header of one of age
+MOST_KEY_BYTES, MOST_PRIME_BITS = 2560, 2048  # of an unencrypted private key: those of RSA with 4096 bits
 
 SCRYPT_ID, AES_256_CBC_ID = bytes.fromhex("2b06010401da47040b"), bytes.fromhex("60864801650304012a")
 
@@ -87,6 +88,22 @@ def ethereum_secret(text, password, **limits):
     return Cipher(algorithms.AES(key[:16]), modes.CTR(iv)).decryptor().update(encrypted)
 
 
+def bounded(info):
+    """The unencrypted key. If its numbers are long, OpenSSL takes minutes to find that those of RSA are primes, or to compute
+    the public key of DSA."""
+    match from_der(info):
+        case [[_, [*_], bytes(key), *_]] if len(info) <= MOST_KEY_BYTES:
+            numbers = from_der(key)
+        case _:
+            raise ValueError("wrong password, or a longer key than one of RSA with 4096 bits")
+    match numbers:
+        case [[int(), int(), int(), int(), *primes]] if (
+            any(not isinstance(it, int) or it.bit_length() > MOST_PRIME_BITS for it in primes)
+        ):
+            raise ValueError("an RSA key of more than 4096 bits, or of more than two primes")
+    return info
+
+
 def pkcs8_key(pem, password, **limits):
     """The private key in a file of `openssl pkcs8 -topk8 -scrypt -v2 aes-256-cbc`."""
     letters = "".join("".join(short(pem).split("-----")[2:3]).split())
@@ -99,7 +116,7 @@ def pkcs8_key(pem, password, **limits):
             raise ValueError("unsupported method")
     plain = Cipher(algorithms.AES(key), modes.CBC(iv)).decryptor().update(encrypted)
     try:
-        return load_der_private_key(plain[: -plain[-1]], None)
+        return load_der_private_key(bounded(plain[: -plain[-1]]), None)
     except (LookupError, TypeError, InternalError, UnsupportedAlgorithm):
         raise ValueError("wrong password, or an unsupported key") from None
 

@@ -9,7 +9,7 @@ import sys
 import key_contents
 import key_vectors
 from foreign import Missing, installed
-from key_codecs import keccak_256, to_base64
+from key_codecs import INTEGER, OCTET_STRING, keccak_256, to_base64, to_der
 from key_trial import changed, other_values, read, run
 from tools.terminal import on_terminal
 
@@ -199,9 +199,23 @@ def pkcs8(trial):
     odd = [key_contents.pem(it) for it in (b"", *flipped, *trial.damaged(data), b"\x02\x00" * LARGE, b"\x30\x00" * LARGE)]
     odd.append(key_contents.pkcs8_file(b"", b"", (LARGE, 8, 1), lambda *_: bytes(32), *ids))  # N of 2^(2^19)
     odd += [it.decode("latin-1") for it in trial.damaged(small.encode())]
+    odd += [key_contents.pkcs8_file(it, b"password", (4, 1, 1), trial.key_of, *ids) for it in slow_keys()]
     trial.raises_nothing_else("PKCS#8", trial.pkcs8_key, odd, b"password")
     many = key_contents.pkcs8_file(info, b"", (40, 8, 1), lambda *_: bytes(32), *ids)
     trial.refuses_at_once("PKCS#8: N of 2^40", trial.pkcs8_key, many, b"")
+
+
+def slow_keys():
+    """Private keys on which OpenSSL spends more than five seconds."""
+    info, rsa, dsa, null, octets = key_contents.info, key_contents.RSA_ID, key_contents.DSA_ID, b"\x05\x00", OCTET_STRING
+    prime, other = (1 << 4423) - 1, (1 << 20000) - 1
+    numbers = key_contents.numbers_in_der(0, 15, 3, 3, prime, 5, 1, 1, 1)
+    yield info(rsa, null, to_der(octets, numbers))
+    yield info(rsa, null, to_der(octets, key_contents.numbers_in_der(0, 15, 3, 3, 5, prime, 1, 1, 1)))
+    # Strings in parts and sequences without a length, which some versions of OpenSSL's readers take.
+    yield info(rsa, null, to_der(0x20 | octets, to_der(octets, numbers)))
+    yield info(rsa, null, to_der(octets, b"\x30\x80" + numbers[4:] + b"\x00\x00"))
+    yield info(dsa, key_contents.numbers_in_der(other, 257, 3), to_der(octets, to_der(INTEGER, other - 1)))
 
 
 def whole_pkcs8(file, password, trial):
