@@ -1,9 +1,11 @@
 # shellcheck shell=sh
-# The PHC text of $salt and $key in hexadecimal, with or without colons, for $log_n, $r and $p. There is none, and the status
-# is 1, if one of them is not hexadecimal.
+# The PHC text of $salt and $key in hexadecimal, with or without colons and line ends, for $log_n, $r and $p. If one of the
+# two is not hexadecimal, the status is 1 and there is no text. It needs basenc, of GNU coreutils.
 letters() {
-  digits=$(printf %s "$1" | tr -d : | tr a-f A-F)
-  printf '%s\n' "$digits" | grep -qxE '([0-9A-F]{2})+' && printf %s "$digits" | basenc --base16 -d | basenc --base64 -w 0 | tr -d =
+  digits=$(printf %s "$1" | tr -d ':\n' | tr a-f A-F)
+  case $digits in *[!0123456789ABCDEF]*) return 1 ;; esac
+  # The last command fails if there are no letters: without digits, or without basenc.
+  test $((${#digits} % 2)) = 0 && printf %s "$digits" | basenc --base16 -d | basenc --base64 -w 0 | tr -d = | grep .
 }
 text=
 salt_letters=$(letters "$salt") && key_letters=$(letters "$key") &&

@@ -23,6 +23,7 @@ import sys
 import tempfile
 
 from foreign import NODE, Missing, answers, asked, go_keys, installed, openssl_key
+from migration_cases import CRYPT_REFUSES, DJANGO_TEXTS, PASSLIB_SPELLINGS, SHELL_SALTS
 
 HERE = os.path.dirname(os.path.abspath(__file__))
 TOP = os.path.join(HERE, "..", "..")
@@ -34,30 +35,6 @@ from tools.worker import Worker
 from scrypt_c import migration
 
 CASES = 20
-
-# Texts of Django's own tests, each after its password: Django has scrypt from 4.0, and Debian 12 an older one.
-DJANGO_TEXTS = [
-    ("lètmein", "scrypt$16384$seasalt$8$1$"
-     "Qj3+9PPyRjSJIebHnG81TMjsqtaIGxNQG/aEB/NYafTJ7tibgfYz71m0ldQESkXFRkdVCBhhY8mx7rQwite/Pw=="),
-    ("lètmein", "scrypt$16384$seasalt$8$5$"
-     "ECMIUp+LMxMSK8xB/IVyba+KYGTI7FTnet025q/1f/vBAVnnP3hdYqJuRi+mJn6ji6ze3Fbb7JEFPKGpuEf5vw=="),
-]
-
-# What passlib reads and the program does not: a part of a text with the salt `s`, another spelling, and the error.
-PASSLIB_SPELLINGS = [
-    ("ln=4", "ln=04", "ParamInvalid ln"),
-    ("$cw$", "$cw==$", "EncodingInvalid"),
-    ("$cw$", "$cx$", "EncodingInvalid"),
-]
-
-# What crypt(3) doesn't verify and the program does: log_n, r, p and the length of the key, a salt and a password.
-CRYPT_REFUSES = [
-    ((0, 8, 1, 32), b"salt", b"password"),
-    ((1, 8, 1, 32), b"salt", b"password"),
-    ((4, 8, 1, 31), b"salt", b"password"),
-    ((4, 8, 1, 33), b"salt", b"password"),
-    ((4, 8, 1, 32), b"salt", b"p" * 512),
-]
 
 # Asks PyNaCl to verify a text.
 SODIUM_VERIFIES = """
@@ -296,9 +273,20 @@ def openssl(trial):
         env = os.environ | {name: str(value) for name, value in values.items()}
         text = subprocess.run(["sh", "-c", script], env=env, capture_output=True, text=True, check=True).stdout
         trial.verifies(text, password.encode())
+    for salt, stored, reason in SHELL_SALTS:
+        in_shell(trial, salt, stored and migration.stored_text(stored, bytes(32), 64, 8, 1), reason)
+    in_shell(trial, "00", None, "no basenc, as outside of GNU", "basenc() { return 127; }")
     for log_n, r, refused in ((0, 8, True), (16, 1, True), (21, 8, True), (17, 8, False), (20, 8, False)):
         status, _ = openssl_key("password", "00", 1 << log_n, r, 1, 32)
         trial.check((status != 0) == refused, ("openssl", log_n, r, status))
+
+
+def in_shell(trial, salt, wanted, reason, before=":"):
+    """The text that stored_text.sh makes of a salt, or its status of 1 and no text."""
+    script = before + "\n" + example("stored_text.sh") + 'status=$?\nprintf %s "$text"\nexit $status'
+    env = os.environ | {"salt": salt, "key": "00" * 32, "log_n": "6", "r": "8", "p": "1"}
+    ran = subprocess.run(["sh", "-c", script], env=env, capture_output=True, text=True)
+    trial.check((ran.returncode, ran.stdout) == ((1, "") if wanted is None else (0, wanted)), (reason, salt, ran))
 
 
 def rust_crate(trial):
