@@ -7,6 +7,7 @@ import math
 import os
 import threading
 import time
+from types import MemberDescriptorType
 from typing import Any, Callable, Literal, NamedTuple, Optional, Union
 
 from . import library
@@ -122,10 +123,11 @@ class PasswordHasher:
         options = f"mcf={self.options.mcf}, at_once={self.options.at_once}"
         return f"PasswordHasher(log_n={log_n}, r={r}, p={p}, key_len={key_len}, {options})"
 
-    def __reduce__(self) -> tuple[Callable[..., PasswordHasher], tuple[Any, ...], dict[str, Any]]:
+    def __reduce__(self) -> tuple[Callable[..., PasswordHasher], tuple[Any, ...], Any]:
         """A copy, also in another process, is a new hasher with the same arguments, and the attributes of a subclass."""
         attributes = {name: value for name, value in vars(self).items() if name not in ("_c", "_refused")}
-        return _copied, (type(self), self._params, self._options), attributes
+        slots = _slots(self)
+        return _copied, (type(self), self._params, self._options), (attributes, slots) if slots else attributes
 
     def close(self) -> None:
         """Frees the memory that is kept. Derivations that have begun go on; those that wait, and later ones, raise
@@ -194,6 +196,14 @@ class PasswordHasher:
         if status == KEY_TOO_SHORT:
             check(status, f"its length is {needs.key_len}, and at least {most.least_key_len} is required")
         check_costs(status, needs, most.most_bytes, most.most_work)
+
+
+def _slots(hasher: PasswordHasher) -> dict[str, Any]:
+    """The attributes that are in `__slots__` of a subclass. Their names are those of the class's members, since Python
+    changes private ones."""
+    kinds = [vars(kind) for kind in type(hasher).__mro__ if "__slots__" in vars(kind)]
+    names = [name for kind in kinds for name, it in kind.items() if isinstance(it, MemberDescriptorType)]
+    return {name: getattr(hasher, name) for name in names if hasattr(hasher, name)}
 
 
 def _copied(kind: type[PasswordHasher], params: Params, options: dict[str, Any]) -> PasswordHasher:

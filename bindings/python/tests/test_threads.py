@@ -295,7 +295,7 @@ class Processes(unittest.TestCase):
             size = len(hasher.hash("pw"))
             for copied in (pickle.loads(pickle.dumps(hasher)), copy.copy(hasher), copy.deepcopy(hasher)):
                 self.assertEqual((type(copied), repr(copied)), (Other, repr(hasher)))
-                self.assertEqual(*((it.params, it._options, it._timeout, it.tenants) for it in (copied, hasher)))
+                self.assertEqual(*((it.params, it._options, it._timeout, it.own()) for it in (copied, hasher)))
                 with hasher:
                     pass
                 self.assertRaises(ValueError, hasher.hash, "pw")
@@ -323,11 +323,16 @@ class Processes(unittest.TestCase):
 
 
 class Other(PasswordHasher):
-    """A subclass with arguments and attributes of its own."""
+    """A subclass with arguments and attributes of its own, also in slots: one has a private name, and one is not set."""
+
+    __slots__ = "pepper", "__number", "unset"
 
     def __init__(self, tenant, **options):
         super().__init__(**options)
-        self.tenants = [tenant]
+        self.tenants, self.pepper, self.__number = [tenant], b"pepper", 7
+
+    def own(self):
+        return self.tenants, self.pepper, self.__number, hasattr(self, "unset")
 
 
 if __name__ == "__main__":
