@@ -278,7 +278,7 @@ func TestOthersFindPlaces(t *testing.T) {
 	}
 }
 
-// If all places are taken, a form is refused without a query, also one with the cookie of a known browser.
+// If all places are taken, a form is refused without a query, also one with the cookies of a known browser and of a session.
 func TestOverloadNeedsNoStore(t *testing.T) {
 	w := newWorld(t, small, "-waiting=0")
 	w.users(1, 10)
@@ -287,12 +287,15 @@ func TestOverloadNeedsNoStore(t *testing.T) {
 	w.signal(syscall.SIGSTOP)
 	wait := meanwhile(all, func(i int) (answer, error) { return w.browser().logIn(fmt.Sprint("nobody", i), wrong) })
 	time.Sleep(500 * time.Millisecond)
-	got, err := known.logIn("user0", right)
+	refused := func(got answer, err error) {
+		if err != nil || got.status != 503 || got.took > 2*time.Second || !strings.Contains(got.page, "Too many people") {
+			t.Errorf("%d after %v, %v\n%s", got.status, got.took, err, got.page)
+		}
+	}
+	refused(known.logIn("user0", right))
+	refused(known.change(right, another))
 	w.signal(syscall.SIGCONT)
 	wait()
-	if err != nil || got.status != 503 || got.took > 2*time.Second || !strings.Contains(got.page, "Too many people") {
-		t.Errorf("%d after %v, %v\n%s", got.status, got.took, err, got.page)
-	}
 }
 
 // Those who send a byte a second take no place from others, have no more connections than their share, and lose them in the

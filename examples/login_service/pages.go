@@ -112,9 +112,14 @@ func (s *Service) act(w http.ResponseWriter, r *http.Request, action string) err
 	case action == "log-out":
 		setCookie(w, "session", "", -1)
 		return nil
-	case action == "log-in":
+	case !s.places.enter("", false): // with no key, so that overload is refused without a query
+		return errFull
+	}
+	s.places.leave("")
+	switch action {
+	case "log-in":
 		wanted, least = password, 0
-	case action == "change":
+	case "change":
 		var err error
 		if name, err = s.user(r, "session"); err != nil {
 			return err
@@ -133,10 +138,6 @@ func (s *Service) act(w http.ResponseWriter, r *http.Request, action string) err
 // try returns the text of the hash if the accounts allow what a form asks for. Before the derivation, there must be places,
 // and the name and the address must have a try left, or the browser, if this user has logged in there.
 func (s *Service) try(r *http.Request, action, name, password, wanted string) (text string, err error) {
-	if !s.places.enter("", false) { // with no key, so that overload is refused without a query
-		return "", errFull
-	}
-	s.places.leave("")
 	from := network(client(r))
 	known, err := s.user(r, "known")
 	if err != nil {
