@@ -18,7 +18,7 @@ export function read(text) {
   const { cipher, kdf, kdfparams, cipherparams, ciphertext, mac } = JSON.parse(text).crypto ?? {};
   const { salt, n: N, r, p, dklen } = kdfparams ?? {};
   if (kdf !== 'scrypt' || cipher !== 'aes-128-ctr' || dklen !== 32) throw new Error('This is not a key file with scrypt.');
-  if (![N, r, p].every(Number.isInteger)) throw new Error('n, r and p are not whole numbers.');
+  if (![N, r, p].every((it) => Number.isSafeInteger(it) && it > 0)) throw new Error('n, r and p are not positive whole numbers.');
   const encrypted = bytesOf(ciphertext, 'ciphertext');
   const digest = bytesOf(mac, 'mac', 32, 32);
   const iv = bytesOf(cipherparams?.iv, 'iv', 16, 16);

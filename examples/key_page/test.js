@@ -68,12 +68,15 @@ test('what is refused before a key is derived', async () => {
 
 test('a file of Ethereum is refused before a key is derived, with a reason in words', () => {
   const { text } = JSON.parse(process.env.ETHEREUM);
-  const number = /^n, r and p are not whole numbers\.$/;
+  const number = /^n, r and p are not positive whole numbers\.$/;
   const ROWS = [
     ['kdfparams', 'n', undefined, number, 'left out'],
     ['kdfparams', 'n', '262144', number, 'a text, to which 32 would be appended'],
     ['kdfparams', 'r', [1], number, 'an array'],
     ['kdfparams', 'p', null, number, 'nothing'],
+    ['kdfparams', 'r', 0, number, 'for which the bar would be 0 / 0'],
+    ['kdfparams', 'n', -32, number, 'the same'],
+    ['kdfparams', 'n', 2.5, number, 'no power of two'],
     ['kdfparams', 'salt', 12, /^salt is not hexadecimal/, 'a number'],
     ['kdfparams', 'salt', ['ab'], /^salt is not hexadecimal/, 'an array whose text is hexadecimal'],
     ['kdfparams', 'salt', 'ab'.repeat(2 ** 18), /^salt is not hexadecimal/, 'long, in the thread of the page'],
