@@ -24,13 +24,18 @@ type Accounts struct {
 	nobody string // a hash whose password nobody knows, verified if there is no other
 }
 
+// unseen has the symbols that are drawn as nothing: the braille pattern without dots, and the note without a head.
+const unseen = "\u2800\U0001d159"
+
 // normal returns a name as it is stored, or "" if it is not allowed: in NFKC, so that one name is not stored as two, without
 // surrounding or repeated spaces, and with 1 to 64 characters, all of them visible.
 func normal(name string) string {
 	name = strings.Join(strings.Fields(norm.NFKC.String(name)), " ")
 	for _, it := range name {
-		// IsGraphic is false for control and bidirectional characters. The two tables have letters and marks that aren't seen.
-		if !unicode.IsGraphic(it) || unicode.In(it, unicode.Other_Default_Ignorable_Code_Point, unicode.Variation_Selector) {
+		// IsGraphic is false for control and bidirectional characters. The two tables have letters and marks that aren't seen,
+		// and the constant symbols.
+		if !unicode.IsGraphic(it) || unicode.In(it, unicode.Other_Default_Ignorable_Code_Point, unicode.Variation_Selector) ||
+			strings.ContainsRune(unseen, it) {
 			return ""
 		}
 	}

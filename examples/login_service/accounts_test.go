@@ -30,6 +30,8 @@ func TestNames(t *testing.T) {
 		{"what changes the direction", "ada\u202eadmin", ""},
 		{"a joiner without width", "a\u200dda", ""},
 		{"a letter that isn't seen", "ada\u3164", ""},
+		{"a braille pattern without dots", "ada\u2800", ""},
+		{"a note without a head", "\U0001d159", ""},
 		{"no UTF-8", "ada\xff", ""},
 	} {
 		if got := normal(it.typed); got != it.name || normal(got) != got {
