@@ -5,9 +5,9 @@ import { compile } from './load.js';
 const MOST_WORKERS = Math.max(1, Math.min(globalThis.navigator?.hardwareConcurrency ?? 4, 4));
 const IDLE_MS = 5000; // after which a worker ends, and its memory is free
 
+const workers = new Set(); // those that have not ended
 const idle = [];
-const waiting = []; // those that try again once a worker is idle, or one more may start
-let count = 0;
+const waiting = []; // calls that no worker has yet
 
 function start() {
   // Bundlers look for exactly this expression.
@@ -21,48 +21,70 @@ function start() {
   worker.unref();
   worker.on('message', (data) => worker.onmessage({ data }));
   worker.on('error', (error) => worker.onerror(error));
+  worker.on('messageerror', (error) => worker.onmessageerror(error));
+  worker.on('exit', (status) => worker.onerror({ message: `status ${status}` }));
   return worker;
 }
 
-function end(worker) {
-  if (worker.isEnded) return;
-  worker.isEnded = true;
+function started() {
+  const worker = start();
+  worker.onmessage = ({ data }) => answered(worker, data);
+  worker.onerror = (event) => end(worker, failed(event));
+  worker.onmessageerror = worker.onerror;
+  workers.add(worker);
+  return worker;
+}
+
+function end(worker, reason) {
+  if (!workers.delete(worker)) return;
   if (idle.includes(worker)) idle.splice(idle.indexOf(worker), 1);
   clearTimeout(worker.timer);
   worker.terminate();
-  count -= 1;
-  waiting.shift()?.();
+  worker.call?.reject(reason);
+  assign();
 }
 
-function release(worker) {
+// A worker that ended is not idle again: Node delivers what it had posted before.
+function answered(worker, { value, error }) {
+  if (!workers.has(worker) || worker.call === undefined) return;
+  const { call } = worker;
+  rest(worker);
+  if (error) call.reject(new ScryptError(error.code ?? 'INTERNAL', error.message));
+  else call.resolve(value);
+  assign();
+}
+
+function rest(worker) {
+  worker.call = undefined;
   worker.unref?.();
-  worker.onerror = () => end(worker);
   worker.timer = setTimeout(end, IDLE_MS, worker);
   worker.timer.unref?.();
   idle.push(worker);
-  waiting.shift()?.();
 }
 
-async function take(signal) {
-  for (;;) {
-    if (idle.length > 0) {
-      const worker = idle.pop();
-      clearTimeout(worker.timer);
-      return worker;
+// Gives the calls that wait to workers that are idle, and to new ones.
+function assign() {
+  while (waiting.length > 0 && (idle.length > 0 || workers.size < MOST_WORKERS)) {
+    const call = waiting.shift();
+    try {
+      give(idle.pop() ?? started(), call);
+    } catch (cause) {
+      call.reject(failed(cause));
     }
-    if (count < MOST_WORKERS) return startOne();
-    await turn(signal);
   }
 }
 
-function startOne() {
-  count += 1;
+function give(worker, call) {
+  clearTimeout(worker.timer);
+  worker.ref?.();
+  worker.call = call;
+  call.worker = worker;
+  const { module, name, args } = call;
   try {
-    return start();
+    worker.postMessage({ module, name, args }, args.filter(ArrayBuffer.isView).map((it) => it.buffer));
   } catch (cause) {
-    count -= 1;
-    waiting.shift()?.();
-    throw failed(cause);
+    rest(worker);
+    call.reject(new ScryptError('INVALID_TYPE', 'an option is not a number or a text', { cause }));
   }
 }
 
@@ -82,53 +104,43 @@ function onAbort(signal, abort) {
   return () => ends.delete(abort);
 }
 
-function turn(signal) {
+// Browsers give no reason if the page's policy forbids workers, or the script is not there.
+const failed = (cause) => new ScryptError('WORKER_FAILED', `worker.js did not start, or ended: ${cause.message || 'is it allowed here?'}`, { cause });
+
+// Until the call is answered, refused or aborted. An abort is heard at each moment: before there is a module, in the line, and in a worker.
+function answer(call, signal) {
   return new Promise((resolve, reject) => {
-    const go = () => {
+    const over = (finish) => (value) => {
       ignore();
-      resolve();
+      call.isOver = true;
+      finish(value);
     };
-    const ignore = onAbort(signal, () => {
-      waiting.splice(waiting.indexOf(go), 1);
-      reject(signal.reason);
-    });
-    waiting.push(go);
+    const ignore = onAbort(signal, () => abort(call, signal.reason));
+    Object.assign(call, { resolve: over(resolve), reject: over(reject) });
+    compile().then((module) => {
+      if (call.isOver) return;
+      waiting.push(Object.assign(call, { module }));
+      assign();
+    }, call.reject);
   });
 }
 
-// Browsers give no reason if the page's policy forbids workers, or the script is not there.
-const failed = (cause) => new ScryptError('WORKER_FAILED', `worker.js did not start, or ended: ${cause.message || 'is it allowed here?'}`, { cause });
+function abort(call, reason) {
+  if (call.worker !== undefined) {
+    end(call.worker, reason);
+    return;
+  }
+  if (waiting.includes(call)) waiting.splice(waiting.indexOf(call), 1);
+  call.reject(reason);
+}
 
 /** Calls a method of Scrypt in a worker. The bytes of `args` are given away. An abort ends the worker. */
 export async function call(name, args, signal) {
   try {
     if (signal !== undefined && !signal?.throwIfAborted) throw new ScryptError('INVALID_TYPE', 'signal must be an AbortSignal');
     signal?.throwIfAborted();
-    const module = await compile();
-    const worker = await take(signal);
-    return await answer(worker, { module, name, args }, signal);
+    return await answer({ name, args }, signal);
   } finally {
     for (const it of args) if (ArrayBuffer.isView(it) && it.length > 0) it.fill(0); // what no worker was given
   }
-}
-
-function answer(worker, message, signal) {
-  return new Promise((resolve, reject) => {
-    const over = (finish, value, leave) => {
-      ignore();
-      finish(value);
-      leave(worker);
-    };
-    const ignore = onAbort(signal, () => over(reject, signal.reason, end));
-    worker.onmessage = ({ data: { value, error } }) =>
-      (error ? over(reject, new ScryptError(error.code ?? 'INTERNAL', error.message), release) : over(resolve, value, release));
-    worker.onerror = (event) => over(reject, failed(event), end);
-    if (signal?.aborted) return over(reject, signal.reason, release);
-    worker.ref?.();
-    try {
-      worker.postMessage(message, message.args.filter(ArrayBuffer.isView).map((it) => it.buffer));
-    } catch (cause) {
-      over(reject, new ScryptError('INVALID_TYPE', 'an option is not a number or a text', { cause }), release);
-    }
-  });
 }

@@ -2,30 +2,12 @@
 import * as workers from '../index.js';
 import { Scrypt } from '../core.js';
 import { compile } from '../load.js';
+import { endingChecks } from './endings.js';
+import { bytes, equal, hex, instead, refused, works } from './support.js';
 
-const { ScryptError, hash, isSupported, load, needsRehash, params, scrypt, verify } = workers;
-
-const hex = (bytes) => Array.from(bytes, (it) => it.toString(16).padStart(2, '0')).join('');
-const bytes = (text) => Uint8Array.from(text.match(/../g) ?? [], (it) => parseInt(it, 16));
-
-function equal(found, wanted, what = '') {
-  if (found !== wanted) throw new Error(`${what}: ${found}, and not ${wanted}`);
-}
-
-async function refused(code, work, what = `${work}`, reason = '') {
-  let found = 'nothing';
-  try {
-    found = JSON.stringify(await work());
-  } catch (error) {
-    found = error instanceof ScryptError ? error.code : error.name;
-    equal(error.message?.includes(reason) ?? true, true, `${error.message} names ${reason}`);
-  }
-  equal(found, code, what);
-}
+const { hash, isSupported, load, needsRehash, params, scrypt, verify } = workers;
 
 const shown = (call, it) => `${call} ${typeof it} ${Object.entries(it ?? {}).map(String)}`;
-
-const works = async (api) => equal(hex(await api.scrypt('', '', { N: 16, r: 1, p: 1, dkLen: 4 })), '77d65762', 'the next call');
 
 // RFC 7914, section 12: password, salt, N, r, p, key.
 const VECTORS = [
@@ -225,18 +207,6 @@ function ownChecks(open, cases) {
   return list;
 }
 
-// In the caller's stead, since a page or Node has its own.
-async function instead(object, name, value, work) {
-  const own = Object.getOwnPropertyDescriptor(object, name);
-  Object.defineProperty(object, name, { value, configurable: true, writable: true });
-  try {
-    await work();
-  } finally {
-    if (own) Object.defineProperty(object, name, own);
-    else delete object[name];
-  }
-}
-
 // In workers.
 function workerChecks() {
   const list = { isSupported: () => equal(isSupported(), true) };
@@ -334,6 +304,7 @@ export function checks(cases, wide) {
   const named = (of, list) => Object.fromEntries(Object.entries(list).map(([name, check]) => [`${of}: ${name}`, check]));
   return {
     ...named('in workers', workerChecks()),
+    ...named('endings', endingChecks()),
     ...named('32-bit memory', ownChecks(async () => opened(await compile()), cases)),
     ...(WebAssembly.validate(wide) ? named('64-bit memory', ownChecks(() => WebAssembly.compile(wide).then(opened), cases)) : {}),
   };

@@ -14,6 +14,19 @@ const PROGRAMS = [
   ['one signal for many calls', `const { signal } = new AbortController();
     const all = await Promise.all(Array.from({ length: 50 }, () => scrypt('', '', { N: 2, r: 1, p: 1, signal })));
     console.log(all.length)`, '50\n'],
+  ['aborts that meet the answer', `for (let i = 0; i < 5; i++) {
+      const abort = new AbortController();
+      const call = hash('', { N: 2 ** 14, signal: abort.signal }).catch(({ name }) => name);
+      await new Promise((resolve) => setTimeout(resolve, 5));
+      for (const end = Date.now() + 300; Date.now() < end;);
+      abort.abort();
+      console.log((await call).slice(0, 10), (await hash('', { N: 2 })).slice(0, 10));
+    }`, 'AbortError $scrypt$ln\n'.repeat(5)],
+  ['a worker that ends by itself', `const { EventEmitter } = process.getBuiltinModule('node:events');
+    process.getBuiltinModule('node:worker_threads').Worker = class extends EventEmitter {
+      ref() {} unref() {} terminate() {} postMessage() { setTimeout(() => this.emit('exit', 3)); }
+    };
+    for (let i = 0; i < 5; i++) console.log(await hash('', { N: 2 }).catch(({ code }) => code));`, 'WORKER_FAILED\n'.repeat(5)],
 ];
 const PACKAGE = new URL('../index.js', import.meta.url);
 for (const [name, program, wanted] of PROGRAMS) {
