@@ -1,5 +1,6 @@
 // The module: where it is, and whether this engine can run it.
-import { Scrypt, ScryptError } from './core.js';
+import { Scrypt } from './core.js';
+import { ScryptError } from './errors.js';
 
 // A module of one function, which makes a vector.
 const VECTOR = Uint8Array.of(0, 97, 115, 109, 1, 0, 0, 0, 1, 5, 1, 96, 0, 1, 123, 3, 2, 1, 0, 10, 8, 1, 6, 0, 65, 0, 253, 15, 11);

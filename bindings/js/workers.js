@@ -1,5 +1,5 @@
 // Calls in workers, so that the thread of a page or of a server goes on meanwhile.
-import { ScryptError } from './core.js';
+import { ScryptError } from './errors.js';
 import { compile } from './load.js';
 
 const MOST_WORKERS = Math.max(1, Math.min(globalThis.navigator?.hardwareConcurrency ?? 4, 4));

@@ -3,6 +3,7 @@ import * as workers from '../index.js';
 import { Scrypt } from '../core.js';
 import { compile } from '../load.js';
 import { endingChecks } from './endings.js';
+import { givenChecks } from './given.js';
 import { bytes, equal, hex, instead, refused, works } from './support.js';
 
 const { hash, isSupported, load, needsRehash, params, scrypt, verify } = workers;
@@ -305,6 +306,7 @@ export function checks(cases, wide) {
   return {
     ...named('in workers', workerChecks()),
     ...named('endings', endingChecks()),
+    ...named('given', givenChecks()),
     ...named('32-bit memory', ownChecks(async () => opened(await compile()), cases)),
     ...(WebAssembly.validate(wide) ? named('64-bit memory', ownChecks(() => WebAssembly.compile(wide).then(opened), cases)) : {}),
   };

@@ -1,5 +1,5 @@
 // What checks share.
-import { ScryptError } from '../core.js';
+import { ScryptError } from '../errors.js';
 
 export const hex = (bytes) => Array.from(bytes, (it) => it.toString(16).padStart(2, '0')).join('');
 export const bytes = (text) => Uint8Array.from(text.match(/../g) ?? [], (it) => parseInt(it, 16));

@@ -1,0 +1,107 @@
+// What a caller hands in, as bytes and numbers. A caller's class or Proxy may run code at each property that is read, which may call this
+// package again: so bytes are read by the engine's own getters, which no class replaces.
+import { ScryptError, outOfMemory } from './errors.js';
+
+/** The engine's own getter. It throws if it is called for another kind of object. */
+export function getterOf(prototype, name) {
+  const { get } = Object.getOwnPropertyDescriptor(prototype, name);
+  return (it) => Reflect.apply(get, it, []);
+}
+
+const TYPED = Object.getPrototypeOf(Uint8Array.prototype);
+const { keys } = TYPED;
+const getters = (prototype) => ['buffer', 'byteOffset', 'byteLength'].map((name) => getterOf(prototype, name));
+const [ofTyped, ofDataView] = [TYPED, DataView.prototype].map(getters);
+const typeOf = getterOf(TYPED, Symbol.toStringTag); // undefined of what is not a typed array
+const lengthOfBuffer = getterOf(ArrayBuffer.prototype, 'byteLength');
+
+function succeeds(work) {
+  try {
+    work();
+    return true;
+  } catch {
+    return false;
+  }
+}
+
+// Every buffer can have a DataView, unless it is detached. A shared one is of another class, which pages that are not isolated lack.
+const isBuffer = (it) => succeeds(() => lengthOfBuffer(it));
+const isShared = (it) => !isBuffer(it) && succeeds(() => new DataView(it));
+
+function encoded(text, name) {
+  if (/\p{Surrogate}/u.test(text)) throw new ScryptError('LONE_SURROGATE', `${name} has a lone surrogate`);
+  try {
+    return new TextEncoder().encode(text);
+  } catch (cause) {
+    throw outOfMemory(cause);
+  }
+}
+
+/** The bytes of a password, a salt or a text: new ones of a string, in UTF-8, otherwise the caller's own. */
+export function bytesOf(value, name) {
+  if (typeof value === 'string') return encoded(value, name);
+  const isView = ArrayBuffer.isView(value);
+  const isTyped = isView && typeOf(value) !== undefined;
+  const [bufferOf, offsetOf, lengthOf] = isTyped ? ofTyped : ofDataView;
+  const buffer = isView ? bufferOf(value) : value;
+  if (isShared(buffer)) {
+    throw new ScryptError('SHARED_BUFFER', `${name} is in a shared buffer, which another thread may change meanwhile`);
+  }
+  if (!isBuffer(buffer)) throw new ScryptError('INVALID_TYPE', `${name} must be a string, a Uint8Array or an ArrayBuffer`);
+  try {
+    if (!isView) return new Uint8Array(buffer);
+    if (isTyped) Reflect.apply(keys, value, []); // throws if the buffer has shrunk, where the length would be 0
+    return new Uint8Array(buffer, offsetOf(value), lengthOf(value));
+  } catch (cause) {
+    throw new ScryptError('DETACHED_BUFFER', `${name} is in a buffer that was detached or has shrunk`, { cause });
+  }
+}
+
+/** New bytes of values, which a worker can be given. */
+export function copiesOf(values) {
+  const made = [];
+  try {
+    for (const [name, value] of Object.entries(values)) {
+      const bytes = bytesOf(value, name);
+      made.push(typeof value === 'string' ? bytes : bytes.slice());
+    }
+    return made;
+  } catch (error) {
+    for (const it of made) it.fill(0);
+    throw error;
+  }
+}
+
+/** Wipes the bytes of those values that are strings. */
+export function wipeEncoded(bytes, values) {
+  Object.values(values).forEach((value, i) => typeof value === 'string' && bytes[i]?.fill(0));
+}
+
+/** The limit that admits all. */
+export const NO_LIMIT = 2n ** 64n - 1n;
+
+// A number that the module can be passed, which would take it modulo a power of two.
+function integer(value, name, most, code = 'INVALID_PARAMS') {
+  if (typeof value !== 'number') throw new ScryptError('INVALID_TYPE', `${name} must be a number`);
+  if (!Number.isInteger(value) || value < 0 || value > most) throw new ScryptError(code, `${name} of ${value} is not accepted`);
+  return value;
+}
+
+/** The numbers that the module takes of N, r and p. */
+export function parameters({ N, r, p }) {
+  const logN = Math.round(Math.log2(integer(N, 'N', 2 ** 63)));
+  if (N === 0 || 2 ** logN !== N) throw new ScryptError('INVALID_PARAMS', 'N must be a power of two');
+  return [logN, integer(r, 'r', 2 ** 32 - 1), integer(p, 'p', 2 ** 32 - 1)];
+}
+
+/** The same, where they may be left out. */
+export const withDefaults = ({ N = 2 ** 17, r = 8, p = 1 }) => parameters({ N, r, p });
+
+/** The length of a key. */
+export const lengthOf = (dkLen = 32) => integer(dkLen, 'dkLen', 2 ** 32 - 1);
+
+/** A limit, or another one if it is left out. */
+export function limit(value, name, otherwise) {
+  if (value === undefined) return otherwise;
+  return value === Infinity ? NO_LIMIT : BigInt(integer(value, name, Number.MAX_SAFE_INTEGER, 'INVALID_LIMIT'));
+}
