@@ -77,12 +77,59 @@ export function wipeEncoded(bytes, values) {
   Object.values(values).forEach((value, i) => typeof value === 'string' && bytes[i]?.fill(0));
 }
 
+const PARAMS = ['N', 'r', 'p', 'dkLen'];
+const OPTIONS = {
+  scrypt: [...PARAMS, 'maxmem', 'maxwork'],
+  hash: [...PARAMS, 'salt', 'format', 'maxmem'],
+  verify: [...PARAMS, 'maxmem', 'maxwork', 'minKeyLength'],
+  needsRehash: PARAMS,
+};
+
+// What could be taken for options, and has none: the limits that were meant would not hold.
+const OTHERS = [ArrayBuffer, Boolean, Map, Number, Promise, Set, String];
+
+function isOptions(it) {
+  try {
+    return typeof it === 'object' && !Array.isArray(it) && !ArrayBuffer.isView(it) && !OTHERS.some((Kind) => it instanceof Kind);
+  } catch {
+    return false; // a Proxy that doesn't answer
+  }
+}
+
+function read(given, name) {
+  try {
+    return given[name];
+  } catch (cause) {
+    throw new ScryptError('INVALID_TYPE', `the option ${name} cannot be read`, { cause });
+  }
+}
+
+function option(given, name) {
+  const value = read(given, name);
+  if (value === undefined || name === 'salt' || name === 'signal') return value;
+  if (name !== 'format') return number(value, name);
+  if (value !== 'phc' && value !== 'mcf') throw new ScryptError('INVALID_TYPE', "format must be 'phc' or 'mcf'");
+  return value;
+}
+
+/** The options of a call, each read once: also those that the object inherits, or has a getter for. */
+export function optionsOf(given, call, ...more) {
+  if (given === undefined || given === null) return {};
+  if (!isOptions(given)) throw new ScryptError('INVALID_TYPE', 'the options must be an object that has them as properties');
+  return Object.fromEntries([...OPTIONS[call], ...more].map((name) => [name, option(given, name)]));
+}
+
 /** The limit that admits all. */
 export const NO_LIMIT = 2n ** 64n - 1n;
 
-// A number that the module can be passed, which would take it modulo a power of two.
-function integer(value, name, most, code = 'INVALID_PARAMS') {
+function number(value, name) {
   if (typeof value !== 'number') throw new ScryptError('INVALID_TYPE', `${name} must be a number`);
+  return value;
+}
+
+// A number that the module can be passed, which would take it modulo a power of two.
+function integer(given, name, most, code = 'INVALID_PARAMS') {
+  const value = number(given, name);
   if (!Number.isInteger(value) || value < 0 || value > most) throw new ScryptError(code, `${name} of ${value} is not accepted`);
   return value;
 }

@@ -1,5 +1,5 @@
 // The proved calls, in memory that is wiped after each of them.
-import { NO_LIMIT, bytesOf, lengthOf, limit, parameters, wipeEncoded, withDefaults } from './arguments.js';
+import { NO_LIMIT, bytesOf, lengthOf, limit, optionsOf, parameters, wipeEncoded, withDefaults } from './arguments.js';
 import { NO, OK, ScryptError, errorOf, outOfMemory } from './errors.js';
 
 const PAGE = 65536;
@@ -37,7 +37,7 @@ export class Scrypt {
   }
 
   scrypt(password, salt, given) {
-    const options = { ...given };
+    const options = optionsOf(given, 'scrypt');
     const params = parameters(options);
     const [mostBytes, mostWork] = [limit(options.maxmem, 'maxmem', MOST_MEMORY), limit(options.maxwork, 'maxwork', NO_LIMIT)];
     return this.#run({ password, salt }, (...slices) => {
@@ -49,12 +49,11 @@ export class Scrypt {
   }
 
   hash(password, given) {
-    const options = { ...given };
+    const options = optionsOf(given, 'hash');
     const { salt = crypto.getRandomValues(new Uint8Array(16)), format = 'phc' } = options;
     const params = withDefaults(options);
     const keyLen = BigInt(lengthOf(options.dkLen));
     const mostBytes = limit(options.maxmem, 'maxmem', MOST_MEMORY);
-    if (format !== 'phc' && format !== 'mcf') throw new ScryptError('INVALID_TYPE', "format must be 'phc' or 'mcf'");
     return this.#run({ password, salt }, (...slices) => {
       const text = this.#take(TEXT_CAPACITY + 2 * slices[1].length);
       const [textLen] = this.#words(1);
@@ -65,7 +64,7 @@ export class Scrypt {
   }
 
   verify(password, text, given) {
-    const options = { ...given };
+    const options = optionsOf(given, 'verify');
     const wanted = withDefaults(options);
     const keyLen = BigInt(lengthOf(options.dkLen));
     return this.#run({ password, text }, (...slices) => {
@@ -80,7 +79,7 @@ export class Scrypt {
   }
 
   needsRehash(text, given) {
-    const options = { ...given };
+    const options = optionsOf(given, 'needsRehash');
     const params = withDefaults(options);
     const keyLen = BigInt(lengthOf(options.dkLen));
     return this.#run({ text }, (slice) => !this.#isOk('scrypt_needs_rehash', slice, ...params, keyLen));

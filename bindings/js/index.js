@@ -1,5 +1,5 @@
 // scrypt (RFC 7914) and its password hashes. What computes is proved; this code around it is tested.
-import { copiesOf } from './arguments.js';
+import { copiesOf, optionsOf } from './arguments.js';
 import { ScryptError } from './errors.js';
 import { isSupported, load } from './load.js';
 import { call } from './workers.js';
@@ -8,20 +8,20 @@ export { ScryptError, isSupported, load };
 
 /** Derives a key, in a worker. */
 export async function scrypt(password, salt, given) {
-  const { signal, ...options } = { ...given };
+  const { signal, ...options } = optionsOf(given, 'scrypt', 'signal');
   return call('scrypt', [...copiesOf({ password, salt }), options], signal);
 }
 
 /** Makes the text of a hash with a random salt, in a worker. */
 export async function hash(password, given) {
-  const { signal, salt, ...options } = { ...given };
-  if (salt !== undefined) [options.salt] = copiesOf({ salt });
-  return call('hash', [...copiesOf({ password }), options], signal);
+  const { signal, salt, ...options } = optionsOf(given, 'hash', 'signal');
+  const [copy, saltCopy] = copiesOf(salt === undefined ? { password } : { password, salt });
+  return call('hash', [copy, { ...options, salt: saltCopy }], signal);
 }
 
 /** Whether the password is that of the text, in a worker. */
 export async function verify(password, text, given) {
-  const { signal, ...options } = { ...given };
+  const { signal, ...options } = optionsOf(given, 'verify', 'signal');
   return call('verify', [...copiesOf({ password, text }), options], signal);
 }
 
@@ -41,7 +41,7 @@ async function reading(name, text, ...options) {
 
 /** Whether the hash of the text is weaker than one with these options. */
 export async function needsRehash(text, given) {
-  return reading('needsRehash', text, { ...given });
+  return reading('needsRehash', text, optionsOf(given, 'needsRehash'));
 }
 
 /** The parameters of the text of a hash, and the length of its key. */

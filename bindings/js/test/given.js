@@ -86,5 +86,82 @@ export function givenChecks() {
       equal(await answer, wanted, `${call}`);
     }
   };
+  list['options that are inherited, or come by getters'] = async () => {
+    const short = await workers.hash('', { N: 2, dkLen: 10 });
+    const text = await workers.hash('', { N: 1024 });
+    const ways = [
+      (it) => Object.create(it), (it) => Object.freeze(Object.create(null, Object.getOwnPropertyDescriptors(it))),
+      (it) => new Proxy({}, { get: (_, name) => it[name] }),
+      (it) => new (class extends class { get maxmem() { return it.maxmem; } get N() { return it.N; } } {
+        get maxwork() { return it.maxwork; }
+        get minKeyLength() { return it.minKeyLength; }
+        get r() { return it.r; }
+        get p() { return it.p; }
+        get dkLen() { return it.dkLen; }
+        get salt() { return it.salt; }
+        get format() { return it.format; }
+        get signal() { return it.signal; }
+      })(),
+    ];
+    for (const api of await apis()) {
+      for (const way of ways) {
+        for (const limit of [{ maxmem: 1000 }, { maxwork: 100 }]) {
+          await refused('TOO_COSTLY', () => api.scrypt('', '', way({ N: 1024, r: 8, p: 1, ...limit })), `scrypt ${way}`);
+          await refused('TOO_COSTLY', () => api.verify('', text, way(limit)), `verify ${way}`);
+        }
+        await refused('TOO_COSTLY', () => api.hash('', way({ maxmem: 1000 })), `hash ${way}`);
+        await refused('KEY_TOO_SHORT', () => api.verify('', short), 'a short key');
+        equal(await api.verify('', short, way({ minKeyLength: 10 })), true, `minKeyLength ${way}`);
+        equal(await api.needsRehash(text, way({ N: 1024 })), false, `needsRehash ${way}`);
+        equal(await api.hash('', way({ N: 2, dkLen: 10, salt: 'salt', format: 'mcf' })), await api.hash('', { N: 2, dkLen: 10, salt: 'salt', format: 'mcf' }));
+      }
+    }
+    for (const way of ways) await refused('AbortError', () => workers.hash('', way({ N: 2, signal: AbortSignal.abort() })), `signal ${way}`);
+  };
+  list['options that are none'] = async () => {
+    const { proxy, revoke } = Proxy.revocable({}, {});
+    revoke();
+    const fault = (name) => ({ ...OF, get [name]() { throw new Error('a fault of the caller'); } });
+    const none = [5, 0, NaN, 'maxmem', '', true, false, 5n, Symbol('x'), () => OF, class {}, [], [OF], new Uint8Array(16), new ArrayBuffer(16),
+      new DataView(new ArrayBuffer(8)), new Map([['maxmem', 1]]), new Set(), Promise.resolve(OF), Object(''), Object(5), proxy, fault('N'), fault('dkLen')];
+    const text = await workers.hash('', { N: 2 });
+    for (const api of await apis()) {
+      for (const it of none) {
+        const what = typeof it;
+        await refused('INVALID_TYPE', () => api.scrypt('', '', it), `scrypt ${what}`);
+        await refused('INVALID_TYPE', () => api.hash('', it), `hash ${what}`);
+        await refused('INVALID_TYPE', () => api.verify('', text, it), `verify ${what}`);
+        await refused('INVALID_TYPE', () => api.needsRehash(text, it), `needsRehash ${what}`);
+      }
+      for (const name of ['maxmem', 'maxwork', 'minKeyLength']) await refused('INVALID_TYPE', () => api.verify('', text, fault(name)), name);
+      for (const name of ['salt', 'format']) await refused('INVALID_TYPE', () => api.hash('', fault(name)), name);
+      await works(api);
+    }
+    await refused('INVALID_TYPE', () => workers.hash('', fault('signal')), 'signal');
+  };
+  list['options that run code'] = async () => {
+    for (const api of await apis()) {
+      const key = hex(await api.scrypt('password', 'NaCl', OF));
+      const counts = {};
+      const given = Object.defineProperties({}, Object.fromEntries(Object.entries({ ...OF, maxmem: 2 ** 20, maxwork: 2 ** 20 }).map(([name, value]) => [name, {
+        get() {
+          counts[name] = (counts[name] ?? 0) + 1;
+          api.params('$scrypt$ln=17,r=8,p=1');
+          return value;
+        },
+      }])));
+      equal(hex(await api.scrypt('password', 'NaCl', given)), key, 'a key');
+      equal(`${Object.values(counts)}`, '1,1,1,1,1,1', 'how often each is read');
+      const password = utf8('password');
+      const detaches = { ...OF, get p() { structuredClone(password.buffer, { transfer: [password.buffer] }); return 1; } };
+      await refused('DETACHED_BUFFER', () => api.scrypt(password, 'NaCl', detaches));
+      // A value of another type runs none.
+      const value = { valueOf: () => counts.none++, get [Symbol.toPrimitive]() { return counts.none++; }, get cloned() { return counts.none++; } };
+      for (const name of Object.keys(OF)) await refused('INVALID_TYPE', () => api.scrypt('', '', { ...OF, [name]: value }), name);
+      for (const name of ['maxmem', 'maxwork', 'minKeyLength']) await refused('INVALID_TYPE', () => api.verify('', '$7$', { [name]: value }), name);
+      for (const name of ['salt', 'format']) await refused('INVALID_TYPE', () => api.hash('', { [name]: value }), name);
+      equal(counts.none, undefined, 'values that were asked');
+    }
+  };
   return list;
 }
