@@ -1,6 +1,7 @@
 // Calls in workers, so that the thread of a page or of a server goes on meanwhile.
 import { ScryptError } from './errors.js';
 import { compile } from './load.js';
+import { onAbort, listenTo } from './signals.js';
 
 const MOST_WORKERS = Math.max(1, Math.min(globalThis.navigator?.hardwareConcurrency ?? 4, 4));
 const IDLE_MS = 5000; // after which a worker ends, and its memory is free
@@ -88,22 +89,6 @@ function give(worker, call) {
   }
 }
 
-const aborts = new WeakMap(); // what a signal ends
-
-// Calls `abort` if the signal aborts, until the function that this returns is called.
-function onAbort(signal, abort) {
-  if (signal === undefined) return () => {};
-  let ends = aborts.get(signal);
-  if (ends === undefined) {
-    ends = new Set();
-    aborts.set(signal, ends);
-    // One listener for all calls: Node warns of more than ten.
-    signal.addEventListener('abort', () => ends.forEach((it) => it()));
-  }
-  ends.add(abort);
-  return () => ends.delete(abort);
-}
-
 // Browsers give no reason if the page's policy forbids workers, or the script is not there.
 const failed = (cause) => new ScryptError('WORKER_FAILED', `worker.js did not start, or ended: ${cause.message || 'is it allowed here?'}`, { cause });
 
@@ -115,7 +100,7 @@ function answer(call, signal) {
       call.isOver = true;
       finish(value);
     };
-    const ignore = onAbort(signal, () => abort(call, signal.reason));
+    const ignore = onAbort(signal, (reason) => abort(call, reason));
     Object.assign(call, { resolve: over(resolve), reject: over(reject) });
     compile().then((module) => {
       if (call.isOver) return;
@@ -137,8 +122,7 @@ function abort(call, reason) {
 /** Calls a method of Scrypt in a worker. The bytes of `args` are given away. An abort ends the worker. */
 export async function call(name, args, signal) {
   try {
-    if (signal !== undefined && !signal?.throwIfAborted) throw new ScryptError('INVALID_TYPE', 'signal must be an AbortSignal');
-    signal?.throwIfAborted();
+    listenTo(signal);
     return await answer({ name, args }, signal);
   } finally {
     for (const it of args) if (ArrayBuffer.isView(it) && it.length > 0) it.fill(0); // what no worker was given

@@ -163,5 +163,44 @@ export function givenChecks() {
       equal(counts.none, undefined, 'values that were asked');
     }
   };
+  list['signals that are none'] = async () => {
+    const like = { aborted: false, throwIfAborted() {}, addEventListener() { throw new Error('not here'); } };
+    const none = [null, 1, 'abort', {}, { ...like, addEventListener: undefined }, like, { ...like, addEventListener() {} }, { throwIfAborted: true },
+      new AbortController(), new EventTarget(), AbortSignal];
+    // More often than there are workers.
+    for (const signal of [...none, ...none]) {
+      await refused('INVALID_TYPE', () => workers.scrypt('', '', { ...OF, signal }));
+      await refused('INVALID_TYPE', () => workers.hash('', { N: 2, signal }));
+      await refused('INVALID_TYPE', () => workers.verify('', '$7$', { signal }));
+      await works(workers);
+    }
+    const real = () => new AbortController().signal;
+    // Signals to Node alone, where a property is looked up that a Proxy passes on.
+    const throws = (trap) => new Proxy(real(), { [trap]: () => { throw new Error('not here'); } });
+    for (const signal of [throws('get'), throws('set'), throws('getPrototypeOf'), new Proxy(real(), {}), Object.create(real())]) {
+      for (let i = 0; i < 5; i++) {
+        const found = await workers.hash('', { N: 2, signal }).catch(({ code }) => code);
+        equal(/^(INVALID_TYPE|\$scrypt\$.*)$/.test(found), true, found);
+      }
+      await works(workers);
+    }
+  };
+  list['signals whose properties are the caller\'s'] = async () => {
+    const LONG = { N: 2 ** 18, r: 8, p: 64 };
+    const own = { get: () => { throw new Error('a fault of the caller'); } };
+    for (let i = 0; i < 6; i++) {
+      const abort = new AbortController();
+      const { signal } = abort;
+      for (const name of ['aborted', 'reason', 'throwIfAborted', 'addEventListener', 'removeEventListener', 'onabort']) Object.defineProperty(signal, name, own);
+      setTimeout(() => abort.abort(new RangeError('enough')), 20);
+      await refused('RangeError', () => workers.scrypt('', '', { ...LONG, signal }));
+    }
+    // An event that is no abort ends no call.
+    const { signal } = new AbortController();
+    const answer = workers.scrypt('', '', { ...OF, signal });
+    signal.dispatchEvent(new Event('abort'));
+    equal((await answer).length, 8, 'a key');
+    await works(workers);
+  };
   return list;
 }

@@ -1,0 +1,38 @@
+// A caller's AbortSignal, by the engine's own getters: what only looks like one may throw, or never tell of an abort.
+import { getterOf } from './arguments.js';
+import { ScryptError } from './errors.js';
+
+const abortedOf = getterOf(AbortSignal.prototype, 'aborted');
+const reasonOf = getterOf(AbortSignal.prototype, 'reason');
+const { addEventListener } = EventTarget.prototype;
+
+const listeners = new WeakMap(); // what a signal ends
+
+function listen(signal) {
+  const all = new Set();
+  // One listener for all calls: Node warns of more than ten. An event of the caller's own is not an abort.
+  Reflect.apply(addEventListener, signal, ['abort', () => {
+    if (abortedOf(signal)) all.forEach((abort) => abort(reasonOf(signal)));
+  }]);
+  listeners.set(signal, all);
+}
+
+/** Begins to listen to a signal. Throws its reason if it has aborted, and an error for what is not a signal. */
+export function listenTo(signal) {
+  if (signal === undefined) return;
+  let isAborted;
+  try {
+    isAborted = abortedOf(signal);
+    if (!isAborted && !listeners.has(signal)) listen(signal);
+  } catch (cause) {
+    throw new ScryptError('INVALID_TYPE', 'signal must be an AbortSignal', { cause });
+  }
+  if (isAborted) throw reasonOf(signal);
+}
+
+/** Calls `abort` with the reason if the signal, which has not aborted, does, until the function that this returns is called. */
+export function onAbort(signal, abort) {
+  const all = listeners.get(signal);
+  all?.add(abort);
+  return () => all?.delete(abort);
+}
