@@ -1,6 +1,6 @@
 // What a caller hands in, as bytes and numbers. A caller's class or Proxy may run code at each property that is read, which may call this
 // package again: so bytes are read by the engine's own getters, which no class replaces.
-import { ScryptError, outOfMemory } from './errors.js';
+import { ScryptError, errorFor, outOfMemory } from './errors.js';
 
 /** The engine's own getter. It throws if it is called for another kind of object. */
 export function getterOf(prototype, name) {
@@ -19,8 +19,9 @@ function succeeds(work) {
   try {
     work();
     return true;
-  } catch {
-    return false;
+  } catch (cause) {
+    if (cause instanceof TypeError) return false;
+    throw outOfMemory(cause);
   }
 }
 
@@ -53,7 +54,7 @@ export function bytesOf(value, name) {
     if (isTyped) Reflect.apply(keys, value, []); // throws if the buffer has shrunk, where the length would be 0
     return new Uint8Array(buffer, offsetOf(value), lengthOf(value));
   } catch (cause) {
-    throw new ScryptError('DETACHED_BUFFER', `${name} is in a buffer that was detached or has shrunk`, { cause });
+    throw errorFor(cause, 'DETACHED_BUFFER', `${name} is in a buffer that was detached or has shrunk`);
   }
 }
 
@@ -88,24 +89,19 @@ const OPTIONS = {
 // What could be taken for options, and has none: the limits that were meant would not hold.
 const OTHERS = [ArrayBuffer, Boolean, Map, Number, Promise, Set, String];
 
-function isOptions(it) {
-  try {
-    return typeof it === 'object' && !Array.isArray(it) && !ArrayBuffer.isView(it) && !OTHERS.some((Kind) => it instanceof Kind);
-  } catch {
-    return false; // a Proxy that doesn't answer
-  }
-}
+const isOptions = (it) => typeof it === 'object' && !Array.isArray(it) && !ArrayBuffer.isView(it) && !OTHERS.some((Kind) => it instanceof Kind);
 
-function read(given, name) {
+// What a getter or a Proxy of the caller's says.
+function asked(work, what) {
   try {
-    return given[name];
+    return work();
   } catch (cause) {
-    throw new ScryptError('INVALID_TYPE', `the option ${name} cannot be read`, { cause });
+    throw errorFor(cause, 'INVALID_TYPE', `${what} cannot be read`);
   }
 }
 
 function option(given, name) {
-  const value = read(given, name);
+  const value = asked(() => given[name], `the option ${name}`);
   if (value === undefined || name === 'salt' || name === 'signal') return value;
   if (name !== 'format') return number(value, name);
   if (value !== 'phc' && value !== 'mcf') throw new ScryptError('INVALID_TYPE', "format must be 'phc' or 'mcf'");
@@ -115,7 +111,7 @@ function option(given, name) {
 /** The options of a call, each read once: also those that the object inherits, or has a getter for. */
 export function optionsOf(given, call, ...more) {
   if (given === undefined || given === null) return {};
-  if (!isOptions(given)) throw new ScryptError('INVALID_TYPE', 'the options must be an object that has them as properties');
+  if (!asked(() => isOptions(given), 'the object of the options')) throw new ScryptError('INVALID_TYPE', 'the options must be an object that has them as properties');
   return Object.fromEntries([...OPTIONS[call], ...more].map((name) => [name, option(given, name)]));
 }
 

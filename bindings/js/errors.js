@@ -32,5 +32,12 @@ const ERRORS = new Map([
 export const errorOf = (status, options) =>
   new ScryptError(...(ERRORS.get(status) ?? ['INTERNAL', `the module returned ${status}`]), options);
 
-/** Where the engine throws: there is no memory for a copy, or for a table. */
+/** There is no memory for a copy or a table, or the stack ends: `cause` is what the engine threw. */
 export const outOfMemory = (cause) => errorOf(OUT_OF_MEMORY, { cause });
+
+// Firefox throws an InternalError at the end of the stack, and a text where memory ends.
+const EXHAUSTED = [RangeError, globalThis.InternalError ?? RangeError];
+const isExhausted = (cause) => typeof cause === 'string' || EXHAUSTED.some((Kind) => cause instanceof Kind);
+
+/** The error for what was thrown: another one if that was for want of memory or stack. */
+export const errorFor = (cause, code, message) => (isExhausted(cause) ? outOfMemory(cause) : new ScryptError(code, message, { cause }));

@@ -64,6 +64,7 @@ export type ErrorCode =
   | 'LONE_SURROGATE'
   | 'DETACHED_BUFFER'
   | 'SHARED_BUFFER'
+  /** Also where the stack ends: `cause` is what the engine threw. */
   | 'OUT_OF_MEMORY'
   /** The parameters exceed the limit on memory or on work. */
   | 'TOO_COSTLY'

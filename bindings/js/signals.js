@@ -1,6 +1,6 @@
 // A caller's AbortSignal, by the engine's own getters: what only looks like one may throw, or never tell of an abort.
 import { getterOf } from './arguments.js';
-import { ScryptError } from './errors.js';
+import { errorFor } from './errors.js';
 
 const abortedOf = getterOf(AbortSignal.prototype, 'aborted');
 const reasonOf = getterOf(AbortSignal.prototype, 'reason');
@@ -25,7 +25,7 @@ export function listenTo(signal) {
     isAborted = abortedOf(signal);
     if (!isAborted && !listeners.has(signal)) listen(signal);
   } catch (cause) {
-    throw new ScryptError('INVALID_TYPE', 'signal must be an AbortSignal', { cause });
+    throw errorFor(cause, 'INVALID_TYPE', 'signal must be an AbortSignal');
   }
   if (isAborted) throw reasonOf(signal);
 }

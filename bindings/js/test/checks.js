@@ -1,10 +1,9 @@
 // What is checked in each engine. Each check is a name and a function, which throws.
 import * as workers from '../index.js';
-import { Scrypt } from '../core.js';
 import { compile } from '../load.js';
-import { endingChecks } from './endings.js';
+import { endingChecks, ownEndingChecks } from './endings.js';
 import { givenChecks } from './given.js';
-import { bytes, equal, hex, instead, refused, works } from './support.js';
+import { bytes, equal, hex, instead, opened, refused, works } from './support.js';
 
 const { hash, isSupported, load, needsRehash, params, scrypt, verify } = workers;
 
@@ -90,35 +89,6 @@ const REFUSED = [
   ['TOO_COSTLY', (api) => api.scrypt('secret', '', { ...OF, maxwork: 1 })],
   ['OUT_OF_MEMORY', (api) => api.scrypt('secret', '', { N: 2 ** 30, r: 8, p: 1, maxmem: 2 ** 45 })],
 ];
-
-// The calls on a module, whose memory can be read, and can be kept from growing above `most` bytes.
-async function opened(module) {
-  const { exports } = await WebAssembly.instantiate(module);
-  const { memory } = exports;
-  const base = Number(exports.__heap_base.value);
-  const it = { most: Infinity };
-  const data = new Uint8Array(memory.buffer).slice(2 ** 20, base);
-  const grow = (pages) => {
-    if (memory.buffer.byteLength + pages * 65536 > it.most) throw new RangeError('no memory');
-    return it.wide ? memory.grow(BigInt(pages)) : memory.grow(pages);
-  };
-  try {
-    memory.grow(0);
-  } catch {
-    it.wide = true; // engines in which the size of a 64-bit memory is a BigInt
-  }
-  it.own = new Scrypt({ exports: { ...exports, memory: { get buffer() { return memory.buffer; }, grow } } });
-  // Whether all but the module's own data, which are above its stack, is zeros.
-  it.isWiped = () => {
-    const now = new Uint8Array(memory.buffer);
-    equal(hex(now.subarray(2 ** 20, base)), hex(data), 'data');
-    const words = new Uint32Array(memory.buffer);
-    for (let at = 0; at < words.length; at++) {
-      if (words[at] !== 0 && (at < 2 ** 18 || at > base / 4)) throw new Error(`${words[at]} is at ${4 * at}`);
-    }
-  };
-  return it;
-}
 
 // In the caller's thread, on one module.
 function ownChecks(open, cases) {
@@ -300,6 +270,9 @@ function workerChecks() {
   return list;
 }
 
+// Of one module.
+const ofModule = (open, cases) => ({ ...ownChecks(open, cases), ...ownEndingChecks(open) });
+
 /** The checks. `cases` are keys and hashes of hashlib, as cases.py makes them; `wide` is the module with a 64-bit memory. */
 export function checks(cases, wide) {
   const named = (of, list) => Object.fromEntries(Object.entries(list).map(([name, check]) => [`${of}: ${name}`, check]));
@@ -307,7 +280,7 @@ export function checks(cases, wide) {
     ...named('in workers', workerChecks()),
     ...named('endings', endingChecks()),
     ...named('given', givenChecks()),
-    ...named('32-bit memory', ownChecks(async () => opened(await compile()), cases)),
-    ...(WebAssembly.validate(wide) ? named('64-bit memory', ownChecks(() => WebAssembly.compile(wide).then(opened), cases)) : {}),
+    ...named('32-bit memory', ofModule(async () => opened(await compile()), cases)),
+    ...(WebAssembly.validate(wide) ? named('64-bit memory', ofModule(() => WebAssembly.compile(wide).then(opened), cases)) : {}),
   };
 }

@@ -1,13 +1,13 @@
-// How calls in workers end, with workers that do as the check says. Each check has its own copy of workers.js, with workers of its own.
+// How calls end otherwise than by an answer.
 import { load } from '../load.js';
-import { equal, instead, refused } from './support.js';
+import { equal, instead, refused, works } from './support.js';
 
 const later = (ms = 0) => new Promise((resolve) => { setTimeout(resolve, ms); });
 
 const KEY = Uint8Array.of(1);
 const args = () => [new Uint8Array(1), new Uint8Array(1), {}];
 
-// Runs a check with workers that answer by `answer`, which are listed as they are made.
+// Runs a check with workers that answer by `answer`, which are listed as they are made, and with a copy of workers.js that has no others.
 async function withWorkers(name, answer, check) {
   const made = [];
   class Acting {
@@ -31,18 +31,21 @@ async function until(made, count) {
   while (made.filter((it) => it.message).length < count) await later(1);
 }
 
-/** The checks. */
+/** The checks of calls in workers. */
 export function endingChecks() {
   const list = {};
-  list['an answer that comes after an abort'] = () => withWorkers('late', answers, async (call, made) => {
+  list['an answer that comes after an abort'] = () => withWorkers('late', () => {}, async (call, made) => {
     const abort = new AbortController();
     const refusal = refused('AbortError', () => call('scrypt', args(), abort.signal));
     await until(made, 1);
     abort.abort();
     await refusal;
-    await later(10);
-    equal(await Promise.race([call('scrypt', args()), later(500)]), KEY, 'the next call');
+    made[0].onmessage({ data: { value: KEY } });
+    const next = call('scrypt', args());
+    for (let i = 0; i < 50 && made.length < 2; i++) await later(1);
     equal(made.length, 2, 'workers');
+    answers(made[1]);
+    equal(await next, KEY, 'the next call');
   });
   list['a worker that fails in the midst of a call'] = async () => {
     for (const event of ['onerror', 'onmessageerror']) {
@@ -76,5 +79,53 @@ export function endingChecks() {
     for (const worker of made) worker.answer();
     equal((await Promise.all(calls.slice(0, most))).every((it) => it === KEY), true, 'the others');
   });
+  return list;
+}
+
+function thrown(work) {
+  try {
+    return work();
+  } catch (error) {
+    return error;
+  }
+}
+
+// Runs `work` at each depth of the stack, from `room` calls before its end on, until it throws.
+function toStackEnd(room, work) {
+  let depth = 0;
+  const descend = (free) => {
+    depth += 1;
+    if (depth > free) work();
+    return descend(free);
+  };
+  try {
+    descend(Infinity);
+  } catch {
+    const free = depth - room;
+    depth = 0;
+    descend(free);
+  }
+}
+
+/** The checks of calls in the caller's own thread, on one module. */
+export function ownEndingChecks(open) {
+  const list = {};
+  list['the end of the stack'] = async () => {
+    const it = await open();
+    const of = { N: 2, r: 1, p: 1, dkLen: 8 };
+    const key = `${it.own.scrypt('password', 'salt', of)}`;
+    let answered = 0;
+    // From afar the first call that is refused ends inside of the module, and from near at any place before that.
+    for (const room of [2000, 1000, ...Array.from({ length: 40 }, (_, i) => 20 * i)]) {
+      const error = thrown(() => toStackEnd(room, () => {
+        equal(`${it.own.scrypt('password', 'salt', of)}`, key, `with ${room} calls before the end`);
+        answered += 1;
+      }));
+      equal(['OUT_OF_MEMORY', 'RangeError', 'InternalError'].includes(error.code ?? error.name), true, `${error}`);
+      await works(it.own);
+      it.isWiped();
+    }
+    equal(answered > 100 && it.made > 2, true, `${answered} answers of ${it.made} instances`);
+  };
   return list;
 }

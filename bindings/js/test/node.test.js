@@ -1,8 +1,11 @@
 // usage: node --test node.test.js    with CASES, a file that cases.py made, and MODULE64, the module with a 64-bit memory
-import { deepStrictEqual } from 'node:assert';
+import { deepStrictEqual, throws } from 'node:assert';
 import { spawnSync } from 'node:child_process';
 import { readFileSync } from 'node:fs';
 import { test } from 'node:test';
+import { setFlagsFromString } from 'node:v8';
+import { runInNewContext } from 'node:vm';
+import { hash, load } from '../index.js';
 import { checks } from './checks.js';
 
 const list = checks(JSON.parse(readFileSync(process.env.CASES)), readFileSync(process.env.MODULE64));
@@ -35,3 +38,26 @@ for (const [name, program, wanted] of PROGRAMS) {
     deepStrictEqual([stderr, stdout], ['', wanted]);
   });
 }
+
+test('a call that a timeout of node:vm ends', async () => {
+  setFlagsFromString('--expose-gc');
+  const collect = runInNewContext('gc');
+  const { instantiate } = WebAssembly;
+  const memories = [];
+  WebAssembly.instantiate = async (module) => {
+    const instance = await instantiate(module);
+    memories.push(new WeakRef(instance.exports.memory));
+    return instance;
+  };
+  const own = await load();
+  WebAssembly.instantiate = instantiate;
+  const text = await hash('password', { N: 2 });
+  for (const call of ["own.scrypt('password', 'salt', { N: 2 ** 18, r: 8, p: 8 })", "own.verify('password', text, { N: 2 ** 18, p: 8 })"]) {
+    const costly = text.replace('ln=1,r=8,p=1', 'ln=18,r=8,p=8');
+    throws(() => runInNewContext(call, { own, text: costly }, { timeout: 50 }), { code: 'ERR_SCRIPT_EXECUTION_TIMEOUT' });
+    deepStrictEqual(own.verify('password', text), true);
+  }
+  await new Promise((resolve) => { setTimeout(resolve, 10); });
+  collect();
+  deepStrictEqual(memories.map((it) => it.deref()), [undefined], 'the memory is gone');
+});

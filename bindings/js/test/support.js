@@ -1,4 +1,5 @@
 // What checks share.
+import { Scrypt } from '../core.js';
 import { ScryptError } from '../errors.js';
 
 export const hex = (bytes) => Array.from(bytes, (it) => it.toString(16).padStart(2, '0')).join('');
@@ -31,4 +32,35 @@ export async function instead(object, name, value, work) {
     if (own) Object.defineProperty(object, name, own);
     else delete object[name];
   }
+}
+
+// The calls on a module, whose memory can be read, and can be kept from growing above `most` bytes.
+export async function opened(module) {
+  const it = { most: Infinity, made: 0 };
+  const exported = ({ exports }) => {
+    const { memory } = exports;
+    [it.memory, it.base, it.made] = [memory, Number(exports.__heap_base.value), it.made + 1];
+    const grow = (pages) => {
+      if (memory.buffer.byteLength + pages * 65536 > it.most) throw new RangeError('no memory');
+      return it.wide ? memory.grow(BigInt(pages)) : memory.grow(pages);
+    };
+    return { ...exports, memory: { get buffer() { return memory.buffer; }, grow } };
+  };
+  it.own = new Scrypt(exported(await WebAssembly.instantiate(module)), () => exported(new WebAssembly.Instance(module)));
+  const data = new Uint8Array(it.memory.buffer).slice(2 ** 20, it.base);
+  try {
+    it.memory.grow(0);
+  } catch {
+    it.wide = true; // engines in which the size of a 64-bit memory is a BigInt
+  }
+  // Whether all but the module's own data, which are above its stack, is zeros.
+  it.isWiped = () => {
+    const { memory: { buffer }, base } = it;
+    equal(hex(new Uint8Array(buffer).subarray(2 ** 20, base)), hex(data), 'data');
+    const words = new Uint32Array(buffer);
+    for (let at = 0; at < words.length; at++) {
+      if (words[at] !== 0 && (at < 2 ** 18 || at > base / 4)) throw new Error(`${words[at]} is at ${4 * at}`);
+    }
+  };
+  return it;
 }

@@ -1,0 +1,134 @@
+// An instance of the module: what is placed in its memory, and what is called there.
+import { NO, OK, errorOf, outOfMemory } from './errors.js';
+
+const PAGE = 65536;
+const STACK = 2 ** 20; // of the module, at the bottom of its memory
+const AT_ONCE = 2; // chunks that are mixed at a time
+
+/** An instance whose memory is empty. What is taken of it is zeros, until it is wiped. */
+export class Instance {
+  #calls;
+  #memory;
+  #base;
+  #top;
+  #isInside = false;
+
+  constructor(exports) {
+    this.#calls = exports;
+    this.#memory = exports.memory;
+    this.#base = Number(exports.__heap_base.value);
+    this.#top = this.#base;
+  }
+
+  /** How many bytes of memory it has, which is never less than before. */
+  get size() {
+    return this.#memory.buffer.byteLength;
+  }
+
+  /** Whether a call has not returned. The module takes no other one then. */
+  get isInside() {
+    return this.#isInside;
+  }
+
+  /** Wipes what was taken, and the stack. */
+  wipe() {
+    this.#clear(0, STACK);
+    this.#clear(this.#base, this.#top);
+    this.#top = this.#base;
+  }
+
+  // A slice is a pointer and a length to the module.
+  #status(name, args) {
+    const given = args.flatMap((it) => (it.at === undefined ? it : [it.at, BigInt(it.length)]));
+    this.#isInside = true;
+    const status = this.#calls[name](...given);
+    this.#isInside = false;
+    return status;
+  }
+
+  /** Calls the module, with numbers and with what was taken. */
+  call(name, ...args) {
+    const status = this.#status(name, args);
+    if (status !== OK) throw errorOf(status);
+  }
+
+  /** Of a call that also answers no. */
+  isOk(name, ...args) {
+    const status = this.#status(name, args);
+    if (status !== OK && status !== NO) throw errorOf(status);
+    return status === OK;
+  }
+
+  /** Takes zeros above what is taken. */
+  take(length, size = 1) {
+    const at = Math.ceil(this.#top / 64) * 64;
+    const top = at + length * size;
+    const missing = Math.ceil((top - this.#memory.buffer.byteLength) / PAGE);
+    if (missing > 0) {
+      try {
+        this.#memory.grow(missing);
+      } catch (cause) {
+        throw outOfMemory(cause);
+      }
+    }
+    this.#top = top;
+    return { at: BigInt(at), length, size };
+  }
+
+  /** Words that the module writes to, each with as many low bytes as its type has. */
+  words(count) {
+    return Array.from({ length: count }, () => this.take(8));
+  }
+
+  /** Takes as much as these bytes, and copies them there. */
+  put(bytes) {
+    const taken = this.take(bytes.length);
+    this.view(taken).set(bytes);
+    return taken;
+  }
+
+  /** The bytes of what was taken. */
+  view({ at, length }) {
+    return new Uint8Array(this.#memory.buffer, Number(at), length);
+  }
+
+  big({ at }) {
+    return new DataView(this.#memory.buffer).getBigUint64(Number(at), true);
+  }
+
+  number(taken) {
+    return Number(this.big(taken));
+  }
+
+  /** The buffers of a derivation within limits. */
+  buffersFor(params, mostBytes, mostWork) {
+    const sizes = this.words(6);
+    this.call('scrypt_params_need', ...params, mostBytes, mostWork, ...places(sizes));
+    return this.buffers(sizes);
+  }
+
+  /** The chunks, the table and the scratch of these sizes: for as many chunks at a time as the memory allows. */
+  buffers(sizes) {
+    const [tables, chunks, table, scratch] = sizes.map((it) => this.number(it));
+    const top = this.#top;
+    for (let atOnce = Math.min(tables, AT_ONCE); ; atOnce -= 1) {
+      try {
+        const [first, last] = [this.take(chunks), this.take(atOnce * scratch, 4)];
+        return [first, this.take(atOnce * table, 4), last];
+      } catch (error) {
+        if (atOnce <= 1) throw error;
+        this.#top = top;
+      }
+    }
+  }
+
+  #clear(from, to) {
+    // One view has at most 2^32 bytes in some engines.
+    for (let at = from; at < to; at += 2 ** 30) {
+      new Uint8Array(this.#memory.buffer, at, Math.min(2 ** 30, to - at)).fill(0);
+    }
+  }
+}
+
+/** Where words are. */
+export const places = (words) => words.map((it) => it.at);
