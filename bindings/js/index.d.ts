@@ -127,6 +127,6 @@ export interface Scrypt {
 
 /**
  * Loads the module for calls in the caller's own thread. `source` is where it is, if not beside this package's files: a URL, its
- * bytes, or a compiled module. All later calls use that one too.
+ * bytes, or a compiled module. All later calls use that one too, in workers and here; if it cannot be loaded, nothing changes.
  */
 export function load(source?: URL | string | ArrayBuffer | ArrayBufferView | WebAssembly.Module): Promise<Scrypt>;

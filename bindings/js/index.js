@@ -1,7 +1,8 @@
 // scrypt (RFC 7914) and its password hashes. What computes is proved; this code around it is tested.
 import { copiesOf, optionsOf } from './arguments.js';
+import { Scrypt } from './core.js';
 import { ScryptError } from './errors.js';
-import { isSupported, load } from './load.js';
+import { compile, isSupported, load } from './load.js';
 import { call } from './workers.js';
 
 export { ScryptError, isSupported, load };
@@ -25,9 +26,14 @@ export async function verify(password, text, given) {
   return call('verify', [...copiesOf({ password, text }), options], signal);
 }
 
-// These take microseconds.
-let reader;
-const read = async () => (reader ??= await load());
+// The calls that read a text take microseconds.
+let reader = {};
+
+async function read() {
+  const module = await compile();
+  if (reader.module !== module) reader = { module, scrypt: await Scrypt.of(module) };
+  return reader.scrypt;
+}
 
 // The text is copied before there is a module, since the caller may change it then.
 async function reading(name, text, ...options) {

@@ -8,49 +8,69 @@ const VECTOR = Uint8Array.of(0, 97, 115, 109, 1, 0, 0, 0, 1, 5, 1, 96, 0, 1, 123
 /** Whether this engine has WebAssembly with vectors. */
 export const isSupported = () => typeof WebAssembly === 'object' && WebAssembly.validate(VECTOR);
 
-let compiled;
+function checkSupported() {
+  if (isSupported()) return;
+  throw new ScryptError('UNSUPPORTED', 'this engine lacks WebAssembly with vectors (SIMD), which Chrome 91, Firefox 89, '
+    + 'Safari 16.4 and Node 20 have');
+}
 
-/** Compiles the module once, or a source that is given. */
-export async function compile(source) {
-  if (!isSupported()) {
-    throw new ScryptError('UNSUPPORTED', 'this engine lacks WebAssembly with vectors (SIMD), which Chrome 91, Firefox 89, '
-      + 'Safari 16.4 and Node 20 have');
-  }
-  if (source !== undefined || compiled === undefined) compiled = compileFrom(source ?? new URL('./scrypt.wasm', import.meta.url));
-  const own = compiled;
+let given = Promise.resolve(); // the module of the last source that was loaded, if there was one
+let own; // that of this package's file
+
+/** The module that calls use: once a source is being loaded, its module if it can be loaded, or else the one before. */
+export async function compile() {
+  checkSupported();
+  return (await given) ?? ownModule();
+}
+
+async function ownModule() {
+  own ??= compileFrom(new URL('./scrypt.wasm', import.meta.url));
+  const found = own;
   try {
-    return await own;
-  } catch (cause) {
-    if (compiled === own) compiled = undefined; // the next call tries again
-    throw new ScryptError('LOAD_FAILED', `scrypt.wasm was not loaded: ${cause.message}`, { cause });
+    return await found;
+  } catch (error) {
+    if (own === found) own = undefined; // the next call tries again
+    throw error;
   }
 }
 
 async function compileFrom(source) {
-  if (source instanceof WebAssembly.Module) return source;
-  if (!(source instanceof URL) && typeof source !== 'string') return WebAssembly.compile(source);
   try {
-    return await WebAssembly.compile(await bytesAt(source));
+    if (source instanceof WebAssembly.Module) return source;
+    if (source instanceof URL || typeof source === 'string') return await compileAt(String(source));
+    return await WebAssembly.compile(source);
   } catch (cause) {
-    throw new Error(`${source}: ${cause.message}`, { cause });
+    throw new ScryptError('LOAD_FAILED', `scrypt.wasm was not loaded: ${cause?.message}`, { cause });
+  }
+}
+
+async function compileAt(address) {
+  try {
+    return await WebAssembly.compile(await bytesAt(address));
+  } catch (cause) {
+    throw new Error(`${address}: ${cause.message}`, { cause });
   }
 }
 
 async function bytesAt(address) {
   const files = globalThis.process?.getBuiltinModule?.('node:fs/promises');
-  if (files && String(address).startsWith('file:')) return files.readFile(new URL(address));
+  if (files && address.startsWith('file:')) return files.readFile(new URL(address));
   const response = await fetch(address);
   if (!response.ok) throw new Error(`status ${response.status}`);
   return response.arrayBuffer();
 }
 
-/** Loads the module for calls in this thread. With a source, all later calls use that module too. */
+async function opened(source) {
+  const module = await compileFrom(source);
+  return { module, scrypt: await Scrypt.of(module) };
+}
+
+/** Loads the module for calls in this thread. With a source, all later calls use that module too, unless it cannot be loaded. */
 export async function load(source) {
-  const module = await compile(source);
-  try {
-    return await Scrypt.of(module);
-  } catch (error) {
-    if (source !== undefined) compiled = undefined;
-    throw error;
-  }
+  checkSupported();
+  if (source === undefined) return Scrypt.of(await compile());
+  const loaded = opened(source);
+  const before = given;
+  given = loaded.then(({ module }) => module, () => before);
+  return (await loaded).scrypt;
 }

@@ -81,8 +81,10 @@ function give(worker, call) {
   worker.call = call;
   call.worker = worker;
   const { module, name, args } = call;
+  const message = worker.module === module ? { name, args } : { module, name, args };
   try {
-    worker.postMessage({ module, name, args }, args.filter(ArrayBuffer.isView).map((it) => it.buffer));
+    worker.postMessage(message, args.filter(ArrayBuffer.isView).map((it) => it.buffer));
+    worker.module = module;
   } catch (cause) {
     rest(worker);
     call.reject(new ScryptError('INVALID_TYPE', 'an option is not a number or a text', { cause }));

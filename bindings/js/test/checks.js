@@ -3,6 +3,7 @@ import * as workers from '../index.js';
 import { compile } from '../load.js';
 import { endingChecks, ownEndingChecks } from './endings.js';
 import { givenChecks } from './given.js';
+import { sourceChecks } from './sources.js';
 import { bytes, equal, hex, instead, opened, refused, works } from './support.js';
 
 const { hash, isSupported, load, needsRehash, params, scrypt, verify } = workers;
@@ -280,6 +281,7 @@ export function checks(cases, wide) {
     ...named('in workers', workerChecks()),
     ...named('endings', endingChecks()),
     ...named('given', givenChecks()),
+    ...named('sources', sourceChecks()),
     ...named('32-bit memory', ofModule(async () => opened(await compile()), cases)),
     ...(WebAssembly.validate(wide) ? named('64-bit memory', ofModule(() => WebAssembly.compile(wide).then(opened), cases)) : {}),
   };
