@@ -69,9 +69,12 @@ export function copiesOf(values) {
     return made;
   } catch (error) {
     for (const it of made) it.fill(0);
-    throw error;
+    throw error instanceof ScryptError ? error : outOfMemory(error);
   }
 }
+
+/** The bytes among the arguments of a call, the last of which may be options with a salt. */
+export const bytesAmong = (args) => [...args, args.at(-1)?.salt].filter(ArrayBuffer.isView);
 
 /** Wipes the bytes of those values that are strings. */
 export function wipeEncoded(bytes, values) {

@@ -1,10 +1,18 @@
 // The proved calls, in memory that is wiped after each of them.
 import { NO_LIMIT, bytesOf, lengthOf, limit, optionsOf, parameters, wipeEncoded, withDefaults } from './arguments.js';
-import { ScryptError, errorFor } from './errors.js';
+import { ScryptError, errorFor, outOfMemory } from './errors.js';
 import { Instance, places } from './instance.js';
 
 const MOST_MEMORY = 2n ** 30n + 2n ** 20n; // N = 2^20 with r = 8
 const TEXT_CAPACITY = 512; // the longest text of a hash, without its salt
+
+function decoded(bytes) {
+  try {
+    return new TextDecoder().decode(bytes);
+  } catch (cause) {
+    throw outOfMemory(cause); // also for a text that is longer than any string of the engine
+  }
+}
 
 /** The calls, which return when they are done. In a page's own thread they are for small N. */
 export class Scrypt {
@@ -55,7 +63,7 @@ export class Scrypt {
       const [textLen] = it.words(1);
       const buffers = it.buffersFor(params, mostBytes, NO_LIMIT);
       it.call(`scrypt_hash_${format}_with_buffers`, ...slices, ...params, keyLen, text, textLen.at, ...buffers);
-      return new TextDecoder().decode(it.view(text).subarray(0, it.number(textLen)));
+      return decoded(it.view(text).subarray(0, it.number(textLen)));
     });
   }
 

@@ -121,7 +121,10 @@ export interface Scrypt {
   verify(password: Bytes, text: Bytes, options?: VerifyOptions): boolean;
   needsRehash(text: Bytes, options?: PartialParams): boolean;
   params(text: Bytes): ReadParams;
-  /** How many bytes of memory the module holds, all zero between calls. They are free once this object is. */
+  /**
+   * How many bytes of memory the module holds, all zero between calls, except for 688 bytes of constants. They are free once this object
+   * is, and after a call that the engine ended.
+   */
   readonly memory: number;
 }
 

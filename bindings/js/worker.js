@@ -1,4 +1,5 @@
 // Answers the calls of workers.js, one at a time.
+import { bytesAmong } from './arguments.js';
 import { Scrypt } from './core.js';
 
 const port = typeof WorkerGlobalScope === 'function' ? globalThis : process.getBuiltinModule('node:worker_threads').parentPort;
@@ -15,6 +16,11 @@ port.onmessage = async ({ data: { module, name, args } }) => {
   } catch ({ code, message }) {
     port.postMessage({ error: { code, message } });
   } finally {
-    for (const it of args) if (ArrayBuffer.isView(it)) it.fill(0);
+    for (const it of bytesAmong(args)) it.fill(0);
   }
+};
+
+// The call that it was is never answered otherwise.
+port.onmessageerror = () => {
+  throw new Error('a call could not be read');
 };

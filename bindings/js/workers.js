@@ -1,5 +1,6 @@
 // Calls in workers, so that the thread of a page or of a server goes on meanwhile.
-import { ScryptError } from './errors.js';
+import { bytesAmong } from './arguments.js';
+import { ScryptError, outOfMemory } from './errors.js';
 import { compile } from './load.js';
 import { onAbort, listenTo } from './signals.js';
 
@@ -83,11 +84,11 @@ function give(worker, call) {
   const { module, name, args } = call;
   const message = worker.module === module ? { name, args } : { module, name, args };
   try {
-    worker.postMessage(message, args.filter(ArrayBuffer.isView).map((it) => it.buffer));
+    worker.postMessage(message, bytesAmong(args).map((it) => it.buffer));
     worker.module = module;
   } catch (cause) {
     rest(worker);
-    call.reject(new ScryptError('INVALID_TYPE', 'an option is not a number or a text', { cause }));
+    call.reject(outOfMemory(cause)); // to copy the message
   }
 }
 
@@ -127,6 +128,6 @@ export async function call(name, args, signal) {
     listenTo(signal);
     return await answer({ name, args }, signal);
   } finally {
-    for (const it of args) if (ArrayBuffer.isView(it) && it.length > 0) it.fill(0); // what no worker was given
+    for (const it of bytesAmong(args)) if (it.length > 0) it.fill(0); // what no worker was given
   }
 }

@@ -3,6 +3,7 @@ import * as workers from '../index.js';
 import { compile } from '../load.js';
 import { endingChecks, ownEndingChecks } from './endings.js';
 import { givenChecks } from './given.js';
+import { memoryChecks } from './memory.js';
 import { sourceChecks } from './sources.js';
 import { bytes, equal, hex, instead, opened, refused, works } from './support.js';
 
@@ -50,6 +51,7 @@ function shrunk() {
 }
 
 const shared = () => new WebAssembly.Memory({ initial: 1, maximum: 1, shared: true }).buffer;
+const tagged = () => new (class extends shared().constructor { get [Symbol.toStringTag]() { return 'ArrayBuffer'; } })(8);
 
 // Calls that are refused, on either kind of calls, with the parameters that they change.
 const OF = { N: 2, r: 1, p: 1 };
@@ -63,6 +65,7 @@ const BYTES = [
   ...[null, undefined, 1, {}, [1], Symbol('x'), () => 1].map((it) => ['INVALID_TYPE', it]),
   ['LONE_SURROGATE', 'a\ud800'], ['LONE_SURROGATE', '\udc00b'], ['DETACHED_BUFFER', detached()], ['DETACHED_BUFFER', detached().buffer],
   ['DETACHED_BUFFER', shrunk()], ['SHARED_BUFFER', shared()], ['SHARED_BUFFER', new Uint8Array(shared())],
+  ['SHARED_BUFFER', tagged()], ['SHARED_BUFFER', new DataView(tagged())],
 ];
 const REFUSED = [
   ...NUMBERS.flatMap(([code, it]) => [
@@ -282,6 +285,7 @@ export function checks(cases, wide) {
     ...named('endings', endingChecks()),
     ...named('given', givenChecks()),
     ...named('sources', sourceChecks()),
+    ...named('memory', memoryChecks()),
     ...named('32-bit memory', ofModule(async () => opened(await compile()), cases)),
     ...(WebAssembly.validate(wide) ? named('64-bit memory', ofModule(() => WebAssembly.compile(wide).then(opened), cases)) : {}),
   };
