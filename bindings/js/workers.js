@@ -9,7 +9,7 @@ const IDLE_MS = 5000; // after which a worker ends, and its memory is free
 
 const workers = new Set(); // those that have not ended
 const idle = [];
-const waiting = []; // calls that no worker has yet
+const waiting = new Set(); // calls that no worker has yet, the first of them first
 
 function start() {
   // Bundlers look for exactly this expression.
@@ -43,7 +43,7 @@ function end(worker, reason) {
   clearTimeout(worker.timer);
   worker.terminate();
   worker.call?.reject(reason);
-  assign();
+  queueMicrotask(assign); // not now: the abort that ends this may be that of calls that wait
 }
 
 // A worker that ended is not idle again: Node delivers what it had posted before.
@@ -66,8 +66,9 @@ function rest(worker) {
 
 // Gives the calls that wait to workers that are idle, and to new ones.
 function assign() {
-  while (waiting.length > 0 && (idle.length > 0 || workers.size < MOST_WORKERS)) {
-    const call = waiting.shift();
+  for (const call of waiting) {
+    if (idle.length === 0 && workers.size >= MOST_WORKERS) return;
+    waiting.delete(call);
     try {
       give(idle.pop() ?? started(), call);
     } catch (cause) {
@@ -107,7 +108,7 @@ function answer(call, signal) {
     Object.assign(call, { resolve: over(resolve), reject: over(reject) });
     compile().then((module) => {
       if (call.isOver) return;
-      waiting.push(Object.assign(call, { module }));
+      waiting.add(Object.assign(call, { module }));
       assign();
     }, call.reject);
   });
@@ -118,7 +119,7 @@ function abort(call, reason) {
     end(call.worker, reason);
     return;
   }
-  if (waiting.includes(call)) waiting.splice(waiting.indexOf(call), 1);
+  waiting.delete(call);
   call.reject(reason);
 }
 

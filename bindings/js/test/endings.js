@@ -79,6 +79,18 @@ export function endingChecks() {
     for (const worker of made) worker.answer();
     equal((await Promise.all(calls.slice(0, most))).every((it) => it === KEY), true, 'the others');
   });
+  list['an abort of many calls starts no worker'] = () => withWorkers('many', () => {}, async (call, made) => {
+    const abort = new AbortController();
+    const calls = Array.from({ length: 50 }, () => refused('AbortError', () => call('scrypt', args(), abort.signal)));
+    await until(made, 1);
+    await later(10);
+    const most = made.length;
+    abort.abort();
+    await Promise.all(calls);
+    await later(10);
+    equal(made.length, most, 'workers');
+    equal(made.every((it) => it.isEnded), true, 'ended');
+  });
   return list;
 }
 
