@@ -92,19 +92,26 @@ const OPTIONS = {
 // What could be taken for options, and has none: the limits that were meant would not hold.
 const OTHERS = [ArrayBuffer, Boolean, Map, Number, Promise, Set, String];
 
-const isOptions = (it) => typeof it === 'object' && !Array.isArray(it) && !ArrayBuffer.isView(it) && !OTHERS.some((Kind) => it instanceof Kind);
-
-// What a getter or a Proxy of the caller's says.
-function asked(work, what) {
+function isOptions(it) {
   try {
-    return work();
+    if (typeof it !== 'object' || Array.isArray(it) || ArrayBuffer.isView(it)) return false;
+    for (const Kind of OTHERS) if (it instanceof Kind) return false;
+    return true;
+  } catch {
+    return false; // a Proxy that refuses to tell
+  }
+}
+
+function read(given, name) {
+  try {
+    return given[name];
   } catch (cause) {
-    throw errorFor(cause, 'INVALID_TYPE', `${what} cannot be read`);
+    throw new ScryptError('INVALID_TYPE', `the option ${name} cannot be read`, { cause });
   }
 }
 
 function option(given, name) {
-  const value = asked(() => given[name], `the option ${name}`);
+  const value = read(given, name);
   if (value === undefined || name === 'salt' || name === 'signal') return value;
   if (name !== 'format') return number(value, name);
   if (value !== 'phc' && value !== 'mcf') throw new ScryptError('INVALID_TYPE', "format must be 'phc' or 'mcf'");
@@ -114,7 +121,7 @@ function option(given, name) {
 /** The options of a call, each read once: also those that the object inherits, or has a getter for. */
 export function optionsOf(given, call, ...more) {
   if (given === undefined || given === null) return {};
-  if (!asked(() => isOptions(given), 'the object of the options')) throw new ScryptError('INVALID_TYPE', 'the options must be an object that has them as properties');
+  if (!isOptions(given)) throw new ScryptError('INVALID_TYPE', 'the options must be an object that has them as properties');
   return Object.fromEntries([...OPTIONS[call], ...more].map((name) => [name, option(given, name)]));
 }
 

@@ -37,7 +37,13 @@ export const outOfMemory = (cause) => errorOf(OUT_OF_MEMORY, { cause });
 
 // Firefox throws an InternalError at the end of the stack, and a text where memory ends.
 const EXHAUSTED = [RangeError, globalThis.InternalError ?? RangeError];
-const isExhausted = (cause) => typeof cause === 'string' || EXHAUSTED.some((Kind) => cause instanceof Kind);
+function isExhausted(cause) {
+  try {
+    return typeof cause === 'string' || EXHAUSTED.some((Kind) => cause instanceof Kind);
+  } catch {
+    return false; // a Proxy that the caller threw
+  }
+}
 
 /** The error for what was thrown: another one if that was for want of memory or stack. */
 export const errorFor = (cause, code, message) => (isExhausted(cause) ? outOfMemory(cause) : new ScryptError(code, message, { cause }));

@@ -134,6 +134,16 @@ export function givenChecks() {
         await refused('INVALID_TYPE', () => api.needsRehash(text, it), `needsRehash ${what}`);
       }
       for (const name of ['maxmem', 'maxwork', 'minKeyLength']) await refused('INVALID_TYPE', () => api.verify('', text, fault(name)), name);
+      // Whatever it is that a getter throws.
+      const hostileValue = new Proxy({}, new Proxy({}, { get: () => () => { throw hostileValue; } }));
+      for (const value of [null, undefined, 'out of memory', new RangeError('mine'), Symbol('mine'), hostileValue]) {
+        await refused('INVALID_TYPE', () => api.scrypt('', '', { get N() { throw value; } }), `a getter that throws ${typeof value}`);
+      }
+      await refused('INVALID_TYPE', () => api.scrypt('', '', hostileValue), 'a proxy that throws itself');
+      if (api === workers) {
+        await refused('INVALID_TYPE', () => api.scrypt('', '', { ...OF, signal: hostileValue }), 'a signal that throws itself');
+        await refused('LOAD_FAILED', () => load(hostileValue), 'a source that throws itself');
+      }
       for (const name of ['salt', 'format']) await refused('INVALID_TYPE', () => api.hash('', fault(name)), name);
       await works(api);
     }
