@@ -91,6 +91,53 @@ export function endingChecks() {
     equal(made.length, most, 'workers');
     equal(made.every((it) => it.isEnded), true, 'ended');
   });
+  list['answers, faults and aborts in any order'] = async () => {
+    let seed = 7914;
+    const draw = (count) => {
+      seed = (Math.imul(seed, 1103515245) + 12345) >>> 0;
+      return (seed >>> 16) % count;
+    };
+    const faults = [];
+    const live = new Set();
+    class Acting {
+      constructor() {
+        if (draw(10) === 0) throw new Error('not now');
+        live.add(this);
+        if (live.size > 4) faults.push(`${live.size} workers`);
+      }
+      postMessage() {
+        if (!live.has(this) || this.isBusy) faults.push('a call to a worker that has ended, or has a call');
+        if (draw(10) === 0) throw new Error('out of memory');
+        this.isBusy = true;
+        setTimeout(() => this.answer(), draw(4));
+      }
+      // Also after it was ended, and twice.
+      answer() {
+        this.isBusy = false;
+        if (draw(8) === 0) this.onerror({ message: 'ended' });
+        else if (draw(8) === 0) this.onmessageerror({});
+        else this.onmessage({ data: draw(8) === 0 ? { error: { code: 'TOO_COSTLY', message: '' } } : { value: KEY } });
+        if (draw(4) === 0) setTimeout(() => this.isBusy || this.onmessage({ data: { value: 'once more' } }), draw(3));
+        if (draw(8) === 0) setTimeout(() => this.isBusy || this.onerror({ message: 'ended while it is idle' }), draw(3));
+      }
+      terminate() { live.delete(this); }
+    }
+    await instead(globalThis, 'Worker', Acting, async () => {
+      const { call } = await import('../workers.js?any');
+      const found = {};
+      const signals = Array.from({ length: 30 }, () => new AbortController());
+      await Promise.all(Array.from({ length: 600 }, async (_, i) => {
+        await later(draw(400));
+        const abort = signals[draw(30)];
+        setTimeout(() => draw(4) === 0 && abort.abort(), draw(40));
+        const signal = i % 2 ? abort.signal : undefined;
+        const answer = await call('scrypt', args(), signal).catch(({ code, name }) => (name === 'AbortError' && signal?.aborted ? name : code));
+        found[answer === KEY ? 'key' : answer] = (found[answer === KEY ? 'key' : answer] ?? 0) + 1;
+      }));
+      equal(`${Object.keys(found).sort()}`, 'AbortError,OUT_OF_MEMORY,TOO_COSTLY,WORKER_FAILED,key', JSON.stringify(found));
+      equal(`${faults}`, '', 'faults');
+    });
+  };
   return list;
 }
 
