@@ -58,13 +58,20 @@ export function bytesOf(value, name) {
   }
 }
 
+/** A copy in a buffer of its own. V8 has a short array without one in its heap, and leaves the bytes there once the buffer is read. */
+export function copyOf(bytes) {
+  const copy = new Uint8Array(new ArrayBuffer(bytes.length));
+  copy.set(bytes);
+  return copy;
+}
+
 /** New bytes of values, which a worker can be given. */
 export function copiesOf(values) {
   const made = [];
   try {
     for (const [name, value] of Object.entries(values)) {
       const bytes = bytesOf(value, name);
-      made.push(typeof value === 'string' ? bytes : bytes.slice());
+      made.push(typeof value === 'string' ? bytes : copyOf(bytes));
     }
     return made;
   } catch (error) {

@@ -1,5 +1,5 @@
 // The proved calls, in memory that is wiped after each of them.
-import { NO_LIMIT, bytesOf, lengthOf, limit, optionsOf, parameters, wipeEncoded, withDefaults } from './arguments.js';
+import { NO_LIMIT, bytesOf, copyOf, lengthOf, limit, optionsOf, parameters, wipeEncoded, withDefaults } from './arguments.js';
 import { ScryptError, errorFor, outOfMemory } from './errors.js';
 import { Instance, places } from './instance.js';
 
@@ -48,7 +48,7 @@ export class Scrypt {
       const key = it.take(lengthOf(options.dkLen));
       const buffers = it.buffersFor(params, mostBytes, mostWork);
       it.call('scrypt_kdf_with_buffers', ...slices, ...params, key, ...buffers);
-      return it.view(key).slice();
+      return copyOf(it.view(key));
     });
   }
 

@@ -1,22 +1,34 @@
 // Answers the calls of workers.js, one at a time.
 import { bytesAmong } from './arguments.js';
 import { Scrypt } from './core.js';
+import { outOfMemory } from './errors.js';
 
 const port = typeof WorkerGlobalScope === 'function' ? globalThis : process.getBuiltinModule('node:worker_threads').parentPort;
 let own; // the module that was given last
 let scrypt;
 
-port.onmessage = async ({ data: { module, name, args } }) => {
+const refusal = ({ code, message }) => ({ error: { code, message } });
+
+// The bytes are wiped before the caller has the answer.
+async function answer({ module, name, args }) {
   try {
     if (module !== undefined) [own, scrypt] = [module, undefined];
     scrypt ??= await Scrypt.of(own);
-    const value = scrypt[name](...args);
-    // A key is given away, so that no copy of it is left here.
-    port.postMessage({ value }, ArrayBuffer.isView(value) ? [value.buffer] : []);
-  } catch ({ code, message }) {
-    port.postMessage({ error: { code, message } });
+    return { value: scrypt[name](...args) };
+  } catch (error) {
+    return refusal(error);
   } finally {
     for (const it of bytesAmong(args)) it.fill(0);
+  }
+}
+
+port.onmessage = async ({ data }) => {
+  const given = await answer(data);
+  try {
+    // A key is given away, so that no copy of it is left here.
+    port.postMessage(given, bytesAmong([given.value]).map((it) => it.buffer));
+  } catch (cause) {
+    port.postMessage(refusal(outOfMemory(cause)));
   }
 };
 

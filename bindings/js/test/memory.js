@@ -74,11 +74,10 @@ export function memoryChecks() {
     const { own, isWiped } = await opened(await compile());
     const text = utf8(own.hash('password', OF));
     for (const [object, name, calls] of [
-      [TYPED, 'slice', [() => workers.scrypt(password, salt, OF), () => workers.hash(password, { ...OF, salt }), () => workers.verify(password, text),
-        () => workers.needsRehash(text), () => workers.params(text), () => own.scrypt(password, salt, OF)]],
+      [TYPED, 'set', [() => workers.scrypt(password, salt, OF), () => workers.hash(password, { ...OF, salt }), () => workers.verify(password, text),
+        () => workers.needsRehash(text), () => workers.params(text), () => own.scrypt(password, salt, OF), () => own.verify('password', text), () => own.params(text)]],
       [TextEncoder.prototype, 'encode', [() => workers.scrypt('password', salt, OF), () => workers.params('$7$'), () => own.scrypt(password, 'NaCl', OF), () => own.params('$7$')]],
       [TextDecoder.prototype, 'decode', [() => own.hash(password, OF)]],
-      [TYPED, 'set', [() => own.scrypt(password, salt, OF), () => own.verify('password', text), () => own.params(text)]],
     ]) {
       for (const call of calls) {
         await instead(object, name, fails, () => refused('OUT_OF_MEMORY', call, `${name} in ${call}`));

@@ -61,3 +61,10 @@ test('a call that a timeout of node:vm ends', async () => {
   collect();
   deepStrictEqual(memories.map((it) => it.deref()), [undefined], 'the memory is gone');
 });
+
+test('no copy is left in memory', { skip: process.platform !== 'linux' && 'for Linux' }, () => {
+  const { stdout, stderr } = spawnSync(process.execPath, [new URL('left_in_memory.js', import.meta.url).pathname], { encoding: 'utf8' });
+  deepStrictEqual(stderr, '');
+  deepStrictEqual(stdout.split('\n').filter((it) => !it.endsWith(' 0 0')), ['the secret itself true', '']);
+  deepStrictEqual(stdout.split('\n').length, 18); // the calls, and two more
+});
