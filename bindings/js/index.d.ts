@@ -59,7 +59,7 @@ export type ErrorCode =
   | 'INVALID_OUTPUT_LEN'
   /** A limit is not a whole number, or is negative. */
   | 'INVALID_LIMIT'
-  /** An argument has another type than it should, or is missing. */
+  /** An argument has another type than it should, or is missing, or an option cannot be read: `cause` is what its getter threw. */
   | 'INVALID_TYPE'
   | 'LONE_SURROGATE'
   | 'DETACHED_BUFFER'

@@ -26,7 +26,8 @@ export async function verify(password, text, given) {
   return call('verify', [...copiesOf({ password, text }), options], signal);
 }
 
-// The calls that read a text take microseconds.
+// The calls that read a text take microseconds. The memory for a long one is not kept.
+const MOST_KEPT = 2 ** 22;
 let reader = {};
 
 async function read() {
@@ -42,6 +43,7 @@ async function reading(name, text, ...options) {
     return (await read())[name](copy, ...options);
   } finally {
     copy.fill(0);
+    if (reader.scrypt?.memory > MOST_KEPT) reader = {};
   }
 }
 

@@ -2,8 +2,9 @@
 import { getterOf } from './arguments.js';
 import { errorFor } from './errors.js';
 
-const abortedOf = getterOf(AbortSignal.prototype, 'aborted');
-const reasonOf = getterOf(AbortSignal.prototype, 'reason');
+const { prototype } = AbortSignal;
+// Environments for tests may have a class of their own, without getters.
+const [abortedOf, reasonOf] = ['aborted', 'reason'].map((name) => (name in prototype ? getterOf(prototype, name) : (it) => it[name]));
 const { addEventListener } = EventTarget.prototype;
 
 const listeners = new WeakMap(); // what a signal ends

@@ -1,6 +1,6 @@
 // What callers may hand in: classes, proxies and options that run code of theirs.
 import * as workers from '../index.js';
-import { equal, hex, refused, works } from './support.js';
+import { equal, hex, instead, refused, works } from './support.js';
 
 const { load } = workers;
 
@@ -194,6 +194,24 @@ export function givenChecks() {
       }
       await works(workers);
     }
+  };
+  list['signals of a class without getters'] = async () => {
+    // As environments for tests have it.
+    class Plain extends EventTarget {
+      aborted = false;
+      reason = undefined;
+    }
+    await instead(globalThis, 'AbortSignal', Plain, async () => {
+      const { listenTo, onAbort } = await import('../signals.js?plain');
+      const signal = new Plain();
+      const found = [];
+      listenTo(signal);
+      onAbort(signal, (reason) => found.push(reason));
+      signal.dispatchEvent(new Event('abort'));
+      Object.assign(signal, { aborted: true, reason: 'enough' }).dispatchEvent(new Event('abort'));
+      equal(`${found}`, 'enough', 'reasons');
+      await refused('INVALID_TYPE', () => listenTo({ aborted: false, addEventListener() {} }));
+    });
   };
   list['signals whose properties are the caller\'s'] = async () => {
     const LONG = { N: 2 ** 18, r: 8, p: 64 };

@@ -105,6 +105,23 @@ export function memoryChecks() {
       }
     });
   };
+  list['the memory that a long text took'] = async () => {
+    const { instantiate } = WebAssembly;
+    const memories = [];
+    await workers.params('$7$').catch(() => {});
+    await instead(WebAssembly, 'instantiate', async (module) => {
+      const instance = await instantiate(module);
+      memories.push(instance.exports.memory);
+      return instance;
+    }, async () => {
+      for (let i = 0; i < 3; i++) {
+        await refused('ENCODING_INVALID', () => workers.params(new Uint8Array(2 ** 23)));
+        await refused('ENCODING_INVALID', () => workers.needsRehash('$'));
+      }
+    });
+    equal(memories.filter(({ buffer }) => buffer.byteLength > 2 ** 23).length, 2, 'memories that were left');
+    equal(memories.length, 3, 'memories');
+  };
   list['the data of a module that is not zero'] = async () => {
     const { exports } = await WebAssembly.instantiate(await compile());
     const words = new Uint8Array(exports.memory.buffer);
