@@ -22,11 +22,13 @@ static void *drop_in;
 #define PARAMS the->log_n, the->r, the->p
 #define BUFFERS chunks, chunks_len, table, table_len, scratch, scratch_len
 
-/* The lengths for as many chunks at a time as there are. */
+/* The lengths for as many chunks at a time as there are, if it isn't fewer. */
+static size_t most_tables = SIZE_MAX;
 static int params_need(void) {
   scrypt_needs needs;
   int status = scrypt_params_need(PARAMS, SIZE_MAX, UINT64_MAX, &needs);
   if (status != SCRYPT_OK) return status;
+  if (needs.tables > most_tables) needs.tables = most_tables;
   chunks_len = needs.chunks_len;
   table_len = needs.tables * needs.table_len;
   scratch_len = needs.tables * needs.scratch_len;

@@ -2,6 +2,7 @@
  * leaves out the key of 1 GiB and the hashes of 128 MiB. */
 #include "check.h"
 #include "scrypt_c.h"
+#include "test_chunks.h"
 #include "test_keys.h"
 
 #include <stdlib.h>
@@ -259,6 +260,7 @@ int main(int argc, char **argv) {
   refusals_of_keys();
   if (argc == 1) new_hash();
   hashes();
+  each_number_of_chunks();
   refusals_of_texts();
   check(strncmp(scrypt_version(), VERSION, sizeof VERSION - 1) == 0, "the version of the header");
   return failed;

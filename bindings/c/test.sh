@@ -295,12 +295,13 @@ fi
 if has gcc gcc; then
   python3 -B -m bindings.c.traces "$lib/libscrypt_c.so" > "$room/secrets"
   "$room/test_traces-$newest" "$room/secrets" "$lib/libscrypt_drop_in.so" > /dev/null
-  head -n 1 "$room/secrets" > "$room/first"
   no_trace() {
     gcc -O2 -Wl,-z,now bindings/c/test_traces.c -o "$room/traces_shared" -I"$lib" "$1" -lpthread
-    "$room/traces_shared" "$room/first" > /dev/null
+    "$room/traces_shared" "$room/secrets" "$lib/libscrypt_drop_in.so" > /dev/null
+    echo "no trace of the password, the blocks or the key on $2: each call, the drop-in names"
   }
   each "$shared" no_trace
+  head -n 1 "$room/secrets" > "$room/first"
   # Another malloc, which the dynamic linker binds at the first call: also with memory that is shared.
   if echo 'int main(void) { return 0; }' | gcc -x c - -o "$room/traces_lazy" -ltcmalloc 2> /dev/null; then
     gcc -O2 -DOTHER_MALLOC -Wl,-z,lazy bindings/c/test_traces.c -o "$room/traces_lazy" -I"$lib" "$lib/libscrypt_c.a" -lpthread \
@@ -312,7 +313,6 @@ if has gcc gcc; then
   else
     echo "tcmalloc is not installed (package libgoogle-perftools-dev): not run"
   fi
-  echo "no trace of the password, the blocks or the key: each call, the drop-in names"
   if command -v rt > /dev/null && [ -e crates/scrypt_c/out/libscrypt_c.a ]; then
     sed -n 's/^PROVED_[A-Z]*(\([a-z_]*\),.*/\1/p' bindings/c/proved_calls.h > "$room/calls"
     sed 's/.*/& cleared_&/' "$room/calls" > "$room/renames"

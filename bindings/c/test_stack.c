@@ -1,6 +1,7 @@
 /* How much of the stack calls use: each call of the header succeeds on a stack of SCRYPT_STACK_BYTES with no memory below
  * it, and on a thread whose stack has 8 KiB more, for what the system has there, or as much as the C library asks for. It leaves
- * what is further below as it was, and zeros where it had its frames, also for random texts.
+ * what is further below as it was, and zeros where it had its frames, also for random texts, and for each number of chunks in
+ * each number of tables.
  *
  * usage: test_stack [DROP_IN]   a library with the names of others */
 #define _GNU_SOURCE
@@ -151,7 +152,25 @@ static void all_calls(const struct traces_case *of) {
   free_buffers();
 }
 
-/* One chunk, and three: two at a time, and the last alone. */
+/* How much a call uses depends on how many chunks are mixed at a time, and on how many are left then. */
+static void each_number_of_chunks(const struct traces_case *one) {
+  static struct traces_case of;
+  size_t i;
+  of = *one;
+  the = &of;
+  for (of.p = 1; of.p <= 12; of.p++)
+    for (most_tables = 1; most_tables <= 4; most_tables++) {
+      char name[100];
+      take_buffers();
+      for (i = 0; i < sizeof CALLS / sizeof *CALLS; i++) {
+        if (CALLS[i].library != NULL || CALLS[i].call == hash_new) continue; /* which choose their own parameters */
+        snprintf(name, sizeof name, "%s of %u chunks in %zu tables", CALLS[i].name, of.p, most_tables);
+        check_stack(name, CALLS[i].call, 1);
+      }
+      free_buffers();
+    }
+}
+
 int main(int argc, char **argv) {
   static const struct traces_case ONE = {4, 8, 1, 40, 32, "a password that has a length of 40 bytes",
                                        "a salt has 32 bytes, as this has"};
@@ -160,6 +179,7 @@ int main(int argc, char **argv) {
   if (argc > 1 && (drop_in = dlopen(argv[1], RTLD_NOW)) == NULL) return 3;
   all_calls(&ONE);
   all_calls(&three);
+  each_number_of_chunks(&ONE);
   printf("%zu bytes of the stack were used at most\n", deepest);
   return failed;
 }

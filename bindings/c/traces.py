@@ -20,6 +20,7 @@ from tools import crypt64, header
 CASES = [
     ("a password of one block, and a table that malloc keeps", 40, (4, 8, 1)),
     ("a password that HMAC hashes, and three chunks", 100, (6, 1, 3)),
+    ("twelve chunks, up to four at a time", 40, (6, 1, 12)),
     ("a table of 16 MiB, which malloc maps and later keeps", 40, (14, 8, 1)),
     ("a table of 32 MiB, which malloc maps", 40, (15, 8, 1)),
 ]
