@@ -12,8 +12,8 @@
  *   FOLLOWS   sleeps; another call's group      finish, of the call that leads it            OVER
  *   LEADS     makes room, gathers, derives      finish; rest, if there is no room            OVER; WAITS
  *
- * 1. If a call is in the line, every turn is taken or rests, and one at least is taken: enter and finish give a free turn to
- *    the first of the line at once. In a closed hasher nobody is given one; each call that ends dismisses the first of the line.
+ * 1. If a call is in the line, no turn is free, and one at least is taken: enter, finish and give_back give a free turn to the
+ *    first of the line at once. In a closed hasher nobody is given one; each call that ends dismisses the first of the line.
  * 2. The line is in the order of places. Only the first is given a turn; only what is like the one that leads passes others.
  * 3. A status is an error until a proved call has returned. Then it is in the stack of the thread that derived, and goes to
  *    the calls of its group with the state OVER.
@@ -44,7 +44,7 @@
 #endif
 
 enum { BEGUN, WAITS, FOLLOWS, LEADS, OVER }; /* of a call */
-enum { FREE, TAKEN, RESTS };                 /* of a turn */
+enum { FREE, TAKEN, RESTS, EMPTIED };        /* of a turn; EMPTIED while a call gives back what it keeps */
 
 /* ---- The states of calls: with the lock ---- */
 
@@ -235,14 +235,16 @@ static void free_kept(scrypt_hasher *hasher, size_t turn) {
   lock(hasher);
 }
 
-/* Frees what a free turn keeps. Returns 0 if none keeps anything. */
-static int give_back(scrypt_hasher *hasher) {
+/* Frees what a free turn keeps, which is given to nobody meanwhile: only one thread writes a note. Returns 0 if none keeps
+ * anything. */
+static int give_back(scrypt_hasher *hasher, const struct call *call) {
+  struct turn *all = hasher->queue->turn;
   size_t turn = 0;
-  while (turn < hasher->turns &&
-         (hasher->queue->turn[turn].state != FREE || hasher->queue->turn[turn].tables.mapping == NULL))
-    turn++;
+  while (turn < hasher->turns && (all[turn].state != FREE || all[turn].tables.mapping == NULL)) turn++;
   if (turn == hasher->turns) return 0;
+  all[turn].state = EMPTIED;
   free_kept(hasher, turn);
+  if (!is_of_parent(hasher, call)) (void)pass_on(hasher, turn);
   return 1;
 }
 
@@ -253,7 +255,7 @@ static size_t make_room(scrypt_hasher *hasher, struct call *call, size_t most) {
     unlock(hasher);
     width = tables_room(&call->tables, &call->needs, most);
     lock(hasher);
-  } while (width == 0 && !is_of_parent(hasher, call) && give_back(hasher));
+  } while (width == 0 && !is_of_parent(hasher, call) && give_back(hasher, call));
   return width;
 }
 

@@ -51,10 +51,16 @@ size_t tables_for_key(uint32_t log_n, uint32_t r, uint32_t p, scrypt_needs *need
 static int has_huge(const scrypt_needs *one) { return 4 * one->table_len >= HUGE_PAGE; }
 
 /* Nobody maps or unmaps while the system copies a process. So what is noted is mapped in a child too, since it is noted after
- * it was mapped, and until it is unmapped. */
+ * it was mapped, and until it is unmapped; and no size is noted with a mapping that has another one. */
 static void set_note(struct note *note, void *at, size_t size) {
-  if (at != NULL) note->size = size;
+  __atomic_store_n(&note->at, NULL, __ATOMIC_SEQ_CST);
+  note->size = size;
   __atomic_store_n(&note->at, at, __ATOMIC_SEQ_CST);
+}
+
+/* Unless it is of another mapping: in a child, of a call that has the turn of one that was interrupted. */
+static void clear_note(struct note *note, void *at) {
+  (void)__atomic_compare_exchange_n(&note->at, &at, NULL, 0, __ATOMIC_SEQ_CST, __ATOMIC_SEQ_CST);
 }
 
 void notes_unmap(struct note *notes, size_t count, int is_child) {
@@ -80,7 +86,7 @@ static void wipe(const struct tables *tables) {
 }
 
 void tables_unmap(struct tables *tables) {
-  if (tables->note != NULL && tables->note->at == tables->mapping) set_note(tables->note, NULL, 0);
+  if (tables->note != NULL && tables->mapping != NULL) clear_note(tables->note, tables->mapping);
   if (tables->mapping != NULL && munmap(tables->mapping, tables->mapped) != 0) wipe(tables);
   tables->mapping = NULL;
   tables->room = tables->used = 0;

@@ -49,10 +49,10 @@ static void *test_mmap(void *at, size_t size, int protection, int flags, int fil
 static int test_munmap(void *at, size_t size);
 static void before_syscall(long number, ...);
 static size_t widest = 4;
-static void (*hook)(int); /* called once, in the middle of a derivation */
-static void call_hook(void) {
-  void (*now)(int) = READ(hook);
-  WRITE(hook, NULL);
+static void (*hook)(int), (*munmap_hook)(int); /* called once, in the middle of a derivation, or before tables are unmapped */
+static void call_hook(void (**which)(int)) {
+  void (*now)(int) = READ(*which);
+  WRITE(*which, NULL);
   if (now != NULL) now(0);
 }
 
@@ -84,7 +84,7 @@ static __thread int group_calls;
 #include "processors.c"
 #include "tables.c"
 #define scrypt_key key_in_tables
-#define key_in_buffers(...) (call_hook(), (key_in_buffers)(__VA_ARGS__))
+#define key_in_buffers(...) (call_hook(&hook), (key_in_buffers)(__VA_ARGS__))
 #pragma weak cleared_scrypt_kdf /* for a key in one table, which the library hides */
 #include "key.c"
 #undef scrypt_key
@@ -102,6 +102,7 @@ static size_t *refused;
 static int test_munmap(void *at, size_t size) {
   size_t words = size / sizeof(size_t);
   if (size != sizeof(struct queue)) read_slowly();
+  if (size != sizeof(struct queue) && size > 1) call_hook(&munmap_hook); /* not where advice is tried */
   if (refuses_munmap) return (void)(refused = (size_t *)at), errno = ENOMEM, -1;
   while (words > 0 && ((size_t *)at)[words - 1] == 0) words--;
   expect(words == 0 || size == sizeof(struct queue) || is_wiped_by_system, "memory is given back that is not wiped");
@@ -147,7 +148,7 @@ void watched(const scrypt_hasher *hasher, struct call **group, size_t count, int
 #endif
   expect(look_at((scrypt_hasher *)hasher).stats.deriving >= count || getpid() != parent, "fewer derive than are in a group");
   expect(ADD(tables_inside, tables) <= (int)hasher->options.at_once, "too many tables at a time");
-  call_hook();
+  call_hook(&hook);
   while (READ(is_stopped) && READ(passed) <= slot) usleep(100);
   group_calls = 0;
   derive(hasher, group, count, statuses, of);
@@ -157,6 +158,12 @@ void watched(const scrypt_hasher *hasher, struct call **group, size_t count, int
 
 /* No handler runs with the lock, in which threads are woken. If it is set, forks just before a call sleeps. */
 static int forks_before_sleep, wakes;
+static __thread int in_handler; /* that may sleep */
+#ifdef __SANITIZE_THREAD__
+#define BLOCKS_IN_HANDLERS 1 /* all signals */
+#else
+#define BLOCKS_IN_HANDLERS 0
+#endif
 static void fork_in_handler(int number);
 static void before_syscall(long number, ...) {
   const struct timespec *time;
@@ -169,7 +176,8 @@ static void before_syscall(long number, ...) {
   operation = va_arg(rest, int), value = va_arg(rest, uint32_t), time = va_arg(rest, const struct timespec *);
   va_end(rest);
   if (operation == FUTEX_WAKE_PRIVATE) (void)ADD(wakes, 1);
-  expect((operation == FUTEX_WAKE_PRIVATE) == is_blocked(SIGTERM), "signals with the lock, or none without");
+  if (!(BLOCKS_IN_HANDLERS && in_handler))
+    expect((operation == FUTEX_WAKE_PRIVATE) == is_blocked(SIGTERM), "signals with the lock, or none without");
   if (time == NULL) return;
   expect(time->tv_sec > 0 || time->tv_nsec > 0, "a thread spins in place of sleeping");
   if (READ(forks_before_sleep)) WRITE(forks_before_sleep, 0), fork_in_handler(0);
@@ -263,8 +271,9 @@ static void reap_all(const char *what) {
     pid_t child = READ(children[READ(forks) - 1]);
     int status = -1, ended_child = 0;
     until((ended_child = waitpid(child, &status, WNOHANG)) == child);
+    expect(ended_child == child, "a child hangs: %s", what);
     if (ended_child != child) kill(child, SIGKILL), waitpid(child, &status, 0);
-    expect(WIFEXITED(status) && WEXITSTATUS(status) == 0, "a child failed or hangs: %s", what);
+    else expect(WIFEXITED(status) && WEXITSTATUS(status) == 0, "a child failed, with %#x: %s", status, what);
   }
 }
 

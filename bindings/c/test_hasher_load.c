@@ -34,8 +34,11 @@ static void *verify_until_closed(void *hasher) {
 /* In a child the handler of the thread that forked in it may have been of the parent. */
 static int handled;
 static void verify_in_handler(int number) {
-  int status = verify(of_signals, texts[0], "wrong", 0);
-  int is_ended = status == SCRYPT_MISMATCH || status == SCRYPT_TIMEOUT || status == SCRYPT_CLOSED;
+  int status, is_ended;
+  in_handler++;
+  status = verify(of_signals, texts[0], "wrong", 0);
+  in_handler--;
+  is_ended = status == SCRYPT_MISMATCH || status == SCRYPT_TIMEOUT || status == SCRYPT_CLOSED;
   expect(is_ended || getpid() != parent, "signal %d: %d", number, status);
   (void)ADD(handled, 1);
 }
@@ -51,8 +54,8 @@ static void at_any_time(void) {
     handle(SIGUSR2, verify_in_handler);
     for (int i = 0; i < 16; i++) pthread_create(&all[i], NULL, verify_until_closed, hasher);
     until(READ(running) == 16); /* a checker's locks may be taken while a thread begins */
-    expect(READ(running) == 16, "cancelled in a call");
-    if (failed) return;
+    expect(READ(running) == 16, "cancelled in a call, or not begun");
+    if (READ(running) != 16) _exit(1); /* its threads would go on in the next test */
     for (int i = 0; i < 16; i++) usleep((useconds_t)(rand() % 500)), pthread_kill(all[i], SIGUSR2);
     for (int i = 0; i < 16; i += 4) {
       int before = READ(forks);
@@ -100,6 +103,37 @@ static void short_of_memory(void) {
   WRITE(most_in_all, READ(mapped) + table_bytes(&hasher->needs) + sizeof(uint32_t));
   for (int i = 0; i < 24; i++) pthread_create(&all[i], NULL, verify_one, hasher);
   for (int i = 0; i < 24; i++) pthread_join(all[i], NULL);
+  WRITE(most_in_all, SIZE_MAX);
+  scrypt_hasher_free(hasher);
+}
+
+/* While a call gives back what a free turn keeps, no other call is given this turn: both would write its note, by which a child
+ * finds the tables of its parent. */
+static pthread_t another;
+static void verify_another(int number) {
+  (void)number;
+  pthread_create(&another, NULL, verify_one, of_signals);
+  until(look_at(of_signals).stats.waiting == 1 || READ(begun) == 1);
+  expect(READ(begun) == 0, "a turn is given whose tables are being unmapped");
+}
+static void given_back(void) {
+  char text[SCRYPT_PHC_CAPACITY];
+  pthread_t both[2];
+  scrypt_hasher *hasher = of_signals = made(2, 2, 4);
+  make_text(text, "right", 5, 8, 1); /* with a table twice as large, for which the other turn's has to be given back */
+  WRITE(is_stopped, 1);
+  for (int i = 0; i < 2; i++) pthread_create(&both[i], NULL, verify_one, hasher);
+  until(READ(inside) == 2);
+  WRITE(is_stopped, 0);
+  for (int i = 0; i < 2; i++) pthread_join(both[i], NULL);
+  tables_free(&hasher->queue->turn[0].tables);
+  begun = 0;
+  WRITE(most_in_all, READ(mapped) + table_bytes(&hasher->needs) + sizeof(uint32_t));
+  WRITE(munmap_hook, verify_another);
+  IS(verify(hasher, text, "right", -1), SCRYPT_OK);
+  expect(READ(munmap_hook) == NULL, "nothing was given back");
+  pthread_join(another, NULL);
+  for (int i = 0; i < 2; i++) expect(hasher->notes[i].at == hasher->queue->turn[i].tables.mapping, "the note of turn %d", i);
   WRITE(most_in_all, SIZE_MAX);
   scrypt_hasher_free(hasher);
 }
@@ -168,6 +202,7 @@ int main(void) {
   RUN(freed_at_any_time);
   RUN(freed_while_read);
   RUN(short_of_memory);
+  RUN(given_back);
   RUN(memory_again);
   return failed;
 }
