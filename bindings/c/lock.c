@@ -1,9 +1,11 @@
-/* The lock of a hasher, in threads whose signals are blocked while they have it, and sleeping. Not proved. */
+/* The lock of a hasher, in threads whose signals are blocked while they have it, sleeping, and priorities. Not proved. */
 #define _GNU_SOURCE
 #include "queue.h"
 
 #include <errno.h>
 #include <linux/futex.h>
+#include <sched.h>
+#include <sys/resource.h>
 #include <sys/syscall.h>
 #include <time.h>
 #include <unistd.h>
@@ -50,3 +52,15 @@ int sleep_while(scrypt_hasher *hasher, uint32_t *word, uint32_t is, int64_t ns) 
 }
 
 void wake(uint32_t *word) { (void)syscall(SYS_futex, word, FUTEX_WAKE_PRIVATE, 1, NULL, NULL, 0); }
+
+/* Not by the functions of <sched.h>, which always fail in musl. */
+int priority_of_thread(void) {
+  struct sched_param of = {0};
+  switch (syscall(SYS_sched_getscheduler, 0) & ~(long)SCHED_RESET_ON_FORK) {
+    case SCHED_IDLE: return -100;
+    case SCHED_FIFO:
+    case SCHED_RR: (void)syscall(SYS_sched_getparam, 0, &of); return 100 + of.sched_priority;
+    case SCHED_DEADLINE: return 1000;
+    default: return -getpriority(PRIO_PROCESS, 0);
+  }
+}

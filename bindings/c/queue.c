@@ -14,7 +14,8 @@
  *
  * 1. If a call is in the line, no turn is free, and one at least is taken: enter, finish and give_back give a free turn to the
  *    first of the line at once. In a closed hasher nobody is given one; each call that ends dismisses the first of the line.
- * 2. The line is in the order of places. Only the first is given a turn; only what is like the one that leads passes others.
+ * 2. The line is in the order of places. Only the first is given a turn; only what is like the one that leads passes others, and
+ *    nobody follows a thread of lower priority, whose derivation other programs may hold up for as long as they run.
  * 3. A status is an error until a proved call has returned. Then it is in the stack of the thread that derived, and goes to
  *    the calls of its group with the state OVER.
  * 4. No signal handler runs in a thread that has the lock. So a handler may fork, and call all but scrypt_hasher_free.
@@ -119,7 +120,8 @@ static size_t find_alike(scrypt_hasher *hasher, struct call **group, size_t most
   size_t count = 1, looked_at = 0, share = (hasher->queue->calls + hasher->turns - 1) / hasher->turns;
   if (most > share) most = share;
   for (; it != NULL && count < most && looked_at < MOST_LOOKED_AT; it = it->next[0], looked_at++)
-    if (it->login.text != NULL && are_alike(&it->needs, &group[0]->needs)) group[count++] = it;
+    if (it->login.text != NULL && are_alike(&it->needs, &group[0]->needs) && it->priority <= group[0]->priority)
+      group[count++] = it;
   return count;
 }
 
@@ -280,12 +282,13 @@ static void derive_in_room(scrypt_hasher *hasher, struct call **group, size_t co
 static void lead(scrypt_hasher *hasher, struct call *call) {
   struct call *group[SCRYPT_MOST_LOGINS] = {call};
   int statuses[SCRYPT_MOST_LOGINS] = {SCRYPT_OUT_OF_MEMORY, SCRYPT_CANCELLED, SCRYPT_CANCELLED, SCRYPT_CANCELLED};
-  int64_t moment = moment_of(&call->needs);
+  int64_t moment = 0;
   size_t p = call->needs.p, width = width_of(hasher, call->turn), most = call->login.text != NULL ? width / p : 1, count;
   hasher->notes[call->turn].user = (uintptr_t)pthread_self();
   if (most > 1) { /* for threads that are ready to run: it serves short derivations too */
     unlock(hasher);
     (void)sched_yield();
+    moment = moment_of(&call->needs);
     lock(hasher);
   }
   count = find_alike(hasher, group, most);
@@ -319,6 +322,7 @@ static void leave_hasher(scrypt_hasher *hasher, int status, int is_sliced) {
 int queue_end(scrypt_hasher *hasher, struct call *call, int status, int64_t most_ms, uint64_t *place) {
   int64_t begun = now_ms();
   int before = errno;
+  if (call->login.text != NULL && hasher->options.at_once > hasher->turns) call->priority = priority_of_thread();
   lock(hasher);
   call->status = status == SCRYPT_OK ? SCRYPT_CANCELLED : status;
   if (status == SCRYPT_OK && !is_of_parent(hasher, call)) {

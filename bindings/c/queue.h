@@ -17,6 +17,7 @@ struct call {
   int status;
   uint64_t epoch, place;
   struct call *next[LEVELS]; /* in the line */
+  int priority;              /* of its thread, if groups are possible */
   size_t turn;               /* of a call that leads: its turn, and the memory of that turn */
   struct tables tables;
 
@@ -78,6 +79,9 @@ int is_of_parent(const scrypt_hasher *hasher, const struct call *call);
  * whether a signal came. */
 int sleep_while(scrypt_hasher *hasher, uint32_t *word, uint32_t is, int64_t ns);
 void wake(uint32_t *word);
+
+/* The priority of this thread: the greater, the sooner the system runs it. */
+int priority_of_thread(void);
 
 /* Completes a hasher whose options are all set: SCRYPT_OK, SCRYPT_OUT_OF_MEMORY or SCRYPT_UNSUPPORTED. */
 int queue_new(scrypt_hasher *hasher);

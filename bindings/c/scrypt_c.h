@@ -322,9 +322,12 @@ const scrypt_options *scrypt_hasher_options(const scrypt_hasher *hasher);
 
 /* Verifies a password against the text of a hash, like scrypt_verify, within the bounds of the hasher. Any thread may call
  * this and the next two calls, and a signal handler.
- * They wait for at most most_ms milliseconds, without a bound if that is negative, and then return SCRYPT_TIMEOUT; time that
- * a derivation takes does not count. While a thread derives for others too, its signals are blocked, except those of faults, so
- * that nobody waits for a signal handler.
+ * They wait for a processor of the hasher for at most most_ms milliseconds, without a bound if that is negative, and then
+ * return SCRYPT_TIMEOUT; time that a derivation takes does not count. A call is derived by its own thread or by that of another
+ * call, never by one that has a lower priority (niceness, SCHED_IDLE), which might get no processor of the machine for long. A
+ * thread with a low priority does keep a processor of the hasher that long: let all threads of a hasher have the same one.
+ * While a thread derives for others too, its signals are blocked, except those of faults, so that nobody waits for a signal
+ * handler.
  * If place is not NULL, a signal that the thread handles while it sleeps ends the wait too, also one that the C library sends
  * itself, as when another thread calls setresuid. A signal that is handled just before the thread sleeps does not: who waits
  * for signals needs a small most_ms. *place, which is 0 at first, is the place in the line with SCRYPT_TIMEOUT, and otherwise

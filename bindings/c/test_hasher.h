@@ -6,11 +6,14 @@
 #include <errno.h>
 #include <linux/futex.h>
 #include <pthread.h>
+#include <sched.h>
 #include <signal.h>
 #include <stdarg.h>
 #include <stdio.h>
 #include <stdlib.h>
 #include <sys/mman.h>
+#include <sys/prctl.h>
+#include <sys/resource.h>
 #include <sys/syscall.h>
 #include <sys/time.h>
 #include <sys/wait.h>
@@ -47,7 +50,7 @@ static void *test_mmap(void *at, size_t size, int protection, int flags, int fil
 }
 
 static int test_munmap(void *at, size_t size);
-static void before_syscall(long number, ...);
+static void before_syscall(long number, ...), without_lock(void);
 static size_t widest = 4;
 static void (*hook)(int), (*munmap_hook)(int); /* called once, in the middle of a derivation, or before tables are unmapped */
 static void call_hook(void (**which)(int)) {
@@ -68,6 +71,7 @@ static __thread int group_calls;
 #define mmap test_mmap
 #define munmap test_munmap
 #define syscall(...) (before_syscall(__VA_ARGS__), syscall(__VA_ARGS__))
+#define prctl(...) (without_lock(), prctl(__VA_ARGS__))
 #define most_at_once() READ(widest)
 #define derive watched
 #include "line.c"
@@ -94,6 +98,7 @@ static __thread int group_calls;
 #undef mmap
 #undef munmap
 #undef syscall
+#undef prctl
 #undef most_at_once
 
 /* What is given back is zeros, except for the queue, and the tables of scrypt_key, which the system wipes. */
@@ -156,7 +161,8 @@ void watched(const scrypt_hasher *hasher, struct call **group, size_t count, int
   (void)ADD(inside, -1), (void)ADD(tables_inside, -tables), (void)ADD(ended, 1);
 }
 
-/* No handler runs with the lock, in which threads are woken. If it is set, forks just before a call sleeps. */
+/* No handler runs with the lock, in which threads are woken, and with it nothing is asked of the system that can be asked before.
+ * If it is set, forks just before a call sleeps. */
 static int forks_before_sleep, wakes;
 static __thread int in_handler; /* that may sleep */
 #ifdef __SANITIZE_THREAD__
@@ -164,13 +170,16 @@ static __thread int in_handler; /* that may sleep */
 #else
 #define BLOCKS_IN_HANDLERS 0
 #endif
+static void without_lock(void) {
+  expect(!is_blocked(SIGTERM) || (BLOCKS_IN_HANDLERS && in_handler), "a system call with the lock");
+}
 static void fork_in_handler(int number);
 static void before_syscall(long number, ...) {
   const struct timespec *time;
   uint32_t value;
   int operation;
   va_list rest;
-  if (number != SYS_futex) return;
+  if (number != SYS_futex) return number == SYS_sched_getscheduler ? without_lock() : (void)0;
   va_start(rest, number);
   (void)va_arg(rest, uint32_t *);
   operation = va_arg(rest, int), value = va_arg(rest, uint32_t), time = va_arg(rest, const struct timespec *);
