@@ -14,6 +14,7 @@ void lock(scrypt_hasher *hasher) {
   struct queue *queue = hasher->queue;
   sigset_t all, unblocked;
   (void)sigfillset(&all);
+  (void)sigdelset(&all, SIGSYS); /* by which a sandbox answers system calls; if it is blocked then, Linux ends the process */
   (void)sigprocmask(SIG_SETMASK, &all, &unblocked); /* of this thread alone, on Linux */
   (void)pthread_mutex_lock(&queue->lock);
   queue->unblocked = unblocked;

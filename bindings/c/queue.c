@@ -18,7 +18,8 @@
  *    nobody follows a thread of lower priority, whose derivation other programs may hold up for as long as they run.
  * 3. A status is an error until a proved call has returned. Then it is in the stack of the thread that derived, and goes to
  *    the calls of its group with the state OVER.
- * 4. No signal handler runs in a thread that has the lock. So a handler may fork, and call all but scrypt_hasher_free.
+ * 4. No signal handler runs in a thread that has the lock, except that of SIGSYS, by which a sandbox answers system calls. So any
+ *    other handler may fork, and call all but scrypt_hasher_free.
  * 5. A thread that is woken takes the lock before it goes on. So a call stays where it is while another one, with the
  *    lock, touches it. After its last unlock a call doesn't touch the hasher, so that it may be freed.
  * 6. In a child the kernel has filled the queue with zeros: the lock is free, so is each turn, no turn has tables, and nobody

@@ -65,7 +65,7 @@ struct scrypt_hasher {
   struct note *notes; /* for each turn, of its memory */
 };
 
-/* No signal handler runs in a thread that has the lock. */
+/* No signal handler runs in a thread that has the lock, except that of SIGSYS. */
 void lock(scrypt_hasher *hasher);
 void unlock(scrypt_hasher *hasher);
 

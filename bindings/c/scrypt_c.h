@@ -321,7 +321,7 @@ scrypt_hasher *scrypt_hasher_new(const scrypt_options *options, int *status);
 const scrypt_options *scrypt_hasher_options(const scrypt_hasher *hasher);
 
 /* Verifies a password against the text of a hash, like scrypt_verify, within the bounds of the hasher. Any thread may call
- * this and the next two calls, and a signal handler.
+ * this and the next two calls, and a signal handler, except that of SIGSYS, which may answer the system calls of a hasher.
  * They wait for a processor of the hasher for at most most_ms milliseconds, without a bound if that is negative, and then
  * return SCRYPT_TIMEOUT; time that a derivation takes does not count. A call is derived by its own thread or by that of another
  * call, never by one that has a lower priority (niceness, SCHED_IDLE), which might get no processor of the machine for long. A

@@ -243,6 +243,9 @@ if has gcc gcc; then
   gcc -O2 -Wall -Wextra -Wl,-z,now -I"$lib" bindings/c/test_out_of_memory.c -o "$room/out_of_memory" "$lib/libscrypt_c.a"
   "$room/out_of_memory"
   echo "a table that is refused: little memory is touched before"
+  gcc -std=gnu99 -O2 -Wall -Wextra -Werror -I"$lib" bindings/c/test_sandbox.c -o "$room/sandbox" "$lib/libscrypt_c.a" -lpthread
+  "$room/sandbox"
+  echo "a hasher in a sandbox that answers system calls in a signal handler"
 fi
 if has gcc gcc && has valgrind valgrind; then each "$built" emulated; fi
 
