@@ -26,8 +26,10 @@ void clear_registers(void) {
 
 #include <cpuid.h>
 
-/* Whether there are the registers zmm16 to zmm31, in which a copy of the C library's memcpy leaves what it copied. */
-static int has_zmm = 0;
+/* Whether there are the registers zmm16 to zmm31, in which a copy of the C library's memcpy leaves what it copied, and whether
+ * instructions on their lowest 128 bits are there, which write zeros above them. An instruction on 512 bits lowers the clock of
+ * its core, also for what runs there after it. */
+static int has_zmm = 0, has_xmm = 0;
 
 /* The processor has them, and the system saves them. */
 __attribute__((constructor)) static void look_for_zmm(void) {
@@ -36,7 +38,14 @@ __attribute__((constructor)) static void look_for_zmm(void) {
   if (!__get_cpuid_count(7, 0, &eax, &ebx, &ecx, &edx) || !(ebx & bit_AVX512F)) return;
   __asm__ volatile("xgetbv" : "=a"(low), "=d"(high) : "c"(0));
   has_zmm = (low & 0xe6) == 0xe6;
+  has_xmm = has_zmm && (ebx & bit_AVX512VL);
 }
+
+#define CLEAR(kind, n) "vpxord %" kind #n ", %" kind #n ", %" kind #n "\n"
+#define CLEAR_16_TO_31(kind)                                                                                         \
+  CLEAR(kind, 16) CLEAR(kind, 17) CLEAR(kind, 18) CLEAR(kind, 19) CLEAR(kind, 20) CLEAR(kind, 21) CLEAR(kind, 22)    \
+  CLEAR(kind, 23) CLEAR(kind, 24) CLEAR(kind, 25) CLEAR(kind, 26) CLEAR(kind, 27) CLEAR(kind, 28) CLEAR(kind, 29)    \
+  CLEAR(kind, 30) CLEAR(kind, 31)
 
 void clear_registers(void) {
 #if X86_64_LEVEL == 3
@@ -52,14 +61,8 @@ void clear_registers(void) {
       "xor %%r10d, %%r10d\n xor %%r11d, %%r11d\n" ::
           : "xmm0", "xmm1", "xmm2", "xmm3", "xmm4", "xmm5", "xmm6", "xmm7", "xmm8", "xmm9", "xmm10", "xmm11", "xmm12",
             "xmm13", "xmm14", "xmm15", "rcx", "rsi", "rdi", "r8", "r9", "r10", "r11", "cc");
-  if (!has_zmm) return;
-  __asm__ volatile(
-      "vpxord %zmm16, %zmm16, %zmm16\n vpxord %zmm17, %zmm17, %zmm17\n vpxord %zmm18, %zmm18, %zmm18\n"
-      "vpxord %zmm19, %zmm19, %zmm19\n vpxord %zmm20, %zmm20, %zmm20\n vpxord %zmm21, %zmm21, %zmm21\n"
-      "vpxord %zmm22, %zmm22, %zmm22\n vpxord %zmm23, %zmm23, %zmm23\n vpxord %zmm24, %zmm24, %zmm24\n"
-      "vpxord %zmm25, %zmm25, %zmm25\n vpxord %zmm26, %zmm26, %zmm26\n vpxord %zmm27, %zmm27, %zmm27\n"
-      "vpxord %zmm28, %zmm28, %zmm28\n vpxord %zmm29, %zmm29, %zmm29\n vpxord %zmm30, %zmm30, %zmm30\n"
-      "vpxord %zmm31, %zmm31, %zmm31\n");
+  if (has_xmm) __asm__ volatile(CLEAR_16_TO_31("xmm"));
+  else if (has_zmm) __asm__ volatile(CLEAR_16_TO_31("zmm"));
 }
 
 #endif

@@ -284,6 +284,17 @@ for compiler in gcc clang; do
   fi
 done
 
+# What x86-64 has in its registers of vectors.
+if has gcc gcc; then
+  registers() {
+    gcc -std=gnu99 -O2 -Wall -Wextra -Werror -Wl,-z,now -I"$lib" -DX86_64_LEVEL="${2##*-v}" bindings/c/test_registers.c \
+      -o "$room/registers" "$1" -ldl -lpthread
+    "$room/registers"
+    echo "registers of vectors: cleared, and nowhere used with 512 bits: $2"
+  }
+  each "$lib/libscrypt_c.a $shared" registers
+fi
+
 # A program with a malloc of its own, whose memory is shared, and with functions of its own.
 own() { gcc -std=gnu99 -O2 -Wall -Wextra -Werror -I"$lib" bindings/c/test_own.c -o "$room/own" "$@" && "$room/own"; }
 if has gcc gcc; then
