@@ -10,7 +10,7 @@ enum { KEY_LEN = 64 };
 
 /* What the call of this turn uses, all of it left out of the searches where it may hold a secret. */
 static const struct traces_case *the;
-static uint8_t key[KEY_LEN];
+static uint8_t key[128]; /* KEY_LEN, or a password */
 static char phc[SCRYPT_PHC_CAPACITY], mcf[SCRYPT_MCF_CAPACITY(64)];
 static uint8_t *chunks;
 static uint32_t *table, *scratch;
@@ -146,6 +146,13 @@ static int derive_by(const char *name) {
   return derive(PASSWORD, SALT, UINT64_C(1) << the->log_n, the->r, the->p, key, KEY_LEN);
 }
 
+/* The output begins in the password. */
+static int into_its_password(void) {
+  by_costs *derive = (by_costs *)named(drop_in, "crypto_scrypt");
+  memcpy(key, the->password, the->password_len);
+  return derive(key, the->password_len, SALT, UINT64_C(1) << the->log_n, the->r, the->p, key + 1, KEY_LEN);
+}
+
 #define SODIUM "crypto_pwhash_scryptsalsa208sha256"
 static int of_libscrypt_kdf(void) { return derive_by("crypto_scrypt"); }
 static int of_libscrypt(void) { return derive_by("libscrypt_scrypt"); }
@@ -196,6 +203,7 @@ static const struct {
     {"scrypt_hasher_hash", hasher_hash, NULL},
     {"scrypt_hasher_verify", hasher_verify, NULL},
     {"crypto_scrypt", of_libscrypt_kdf, &drop_in},
+    {"crypto_scrypt, into its password", into_its_password, &drop_in},
     {"libscrypt_scrypt", of_libscrypt, &drop_in},
     {SODIUM "_ll", of_libsodium, &drop_in},
     {SODIUM, of_libsodium_by_limits, &drop_in},

@@ -1,5 +1,5 @@
-/* What calls leave in memory: after each call of the header on a thread, and each of the drop-in names, the stack and all
- * writable memory are searched for the password, what HMAC makes of it, the blocks before and after they are mixed, rows
+/* What calls leave in memory: after each call of the header on a thread, and each of the drop-in names, the stack, all writable
+ * memory and the registers of vectors are searched for the password, what HMAC makes of it, the blocks before and after they are mixed, rows
  * of the table and the key. Nothing is found but what the caller has.
  *
  * usage: test_traces SECRETS [DROP_IN]   what traces.py printed, and the library with the names of others
@@ -8,6 +8,7 @@
 #include "check.h"
 #include "every_call.c"
 #include "traces.c"
+#include "vectors.h"
 
 #include <pthread.h>
 #include <sched.h>
@@ -16,7 +17,7 @@
 
 enum { STACK_LEN = 1 << 18, PAINT = 0xa5, FRAMES = 2048 };
 
-/* What the search has to find: the password in a block that was freed, and in a part of the stack that was used. */
+/* What the search has to find: the password in a block that was freed, in a part of the stack that was used, and in registers. */
 static int leaves_a_block(void) {
   volatile uint8_t *block = malloc(2000);
   size_t i;
@@ -29,6 +30,15 @@ __attribute__((noinline)) static int leaves_a_frame(void) {
   size_t i;
   for (i = 0; i < the->password_len; i++) frame[1000 + i] = the->password[i];
   return frame[1000] == the->password[0] ? SCRYPT_OK : -1;
+}
+
+static int leaves_vectors(void) {
+#ifdef __aarch64__
+  __asm__ volatile("ldr q16, [%0]" ::"r"(the->password) : "v16");
+#else
+  __asm__ volatile("movdqu (%0), %%xmm5" ::"r"(the->password) : "xmm5");
+#endif
+  return SCRYPT_OK;
 }
 
 /* A call on a thread, which then waits without calling anything, so that its stack stays as the call left it. */
@@ -44,6 +54,7 @@ static void *take_turn(void *argument) {
   uint8_t here;
   turn->frame = &here;
   turn->status = turn->call();
+  look_at_vectors();
   __atomic_store_n(&turn->is_done, 1, __ATOMIC_RELEASE);
   while (!__atomic_load_n(&turn->may_end, __ATOMIC_ACQUIRE)) {
   }
@@ -111,6 +122,7 @@ int main(int argc, char **argv) {
     check(!leaves_nothing("a block", leaves_a_block, 1), "what is left in a block is found");
     memset(key, 0, sizeof key);
     check(!leaves_nothing("a frame", leaves_a_frame, 1), "what is left on the stack is found");
+    check(!leaves_nothing("vectors", leaves_vectors, 1), "what is left in registers is found");
   }
   check(number > 0, "there are cases");
   return failed;

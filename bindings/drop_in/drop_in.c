@@ -72,6 +72,11 @@ static int derive_in_memory(const uint8_t *password, size_t password_len, const 
   return end(&it, status);
 }
 
+/* memcpy would leave a part of the key in registers of vectors. */
+static void copy(volatile uint8_t *to, const uint8_t *from, size_t len) {
+  while (len-- > 0) *to++ = *from++;
+}
+
 /* The key, if the parameters are within the limits of these libraries, which take an output of 0 bytes, and one that
  * overlaps the password or the salt. */
 static int derive_key(const uint8_t *password, size_t password_len, const uint8_t *salt, size_t salt_len,
@@ -82,7 +87,7 @@ static int derive_key(const uint8_t *password, size_t password_len, const uint8_
     uint8_t *apart = malloc(output_len);
     if (apart == NULL) return SCRYPT_OUT_OF_MEMORY;
     status = derive_in_memory(password, password_len, salt, salt_len, log_n, r, p, apart, output_len);
-    if (status == SCRYPT_OK) memcpy(output, apart, output_len);
+    if (status == SCRYPT_OK) copy(output, apart, output_len);
     explicit_bzero(apart, output_len);
     free(apart);
     return status;
