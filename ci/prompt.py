@@ -47,6 +47,17 @@ ROWS = [
     (f"--raw {KEY}", [], 2, ["--raw does not write to a terminal"], "nor the bytes of a key, which would change the terminal"),
 ]
 
+# How the terminal is, what makes it so before the program runs, and what is typed.
+TERMINALS = [
+    ("does not block", "os.set_blocking(0, False)", b"password\n"),
+    (
+        "gives keys and not lines",
+        "it = termios.tcgetattr(0); it[0] = it[0] & ~termios.ICRNL | termios.INLCR | termios.IGNCR; "
+        "it[3] &= ~termios.ICANON; termios.tcsetattr(0, termios.TCSANOW, it)",
+        b"password\r",
+    ),
+]
+
 
 def non_blocking(words, parts):
     """How a run ends whose input is a pipe that does not block, which gets each part after some time."""
@@ -68,9 +79,10 @@ def cases(program):
         subprocess.run([f"{TOP}/release/hardened.sh", f"{folder}/scrypt_tool"], check=True)
         words = [f"{folder}/scrypt_tool", *VERIFY.split(" ")]
         yield "a pipe that does not block", non_blocking(words, [b"pass", b"word"]), OK
-        run = "import os, sys; os.set_blocking(0, False); os.execv(sys.argv[1], sys.argv[1:])"
-        status, shown, _ = session([sys.executable, "-c", run, *words], [b"password\n"])
-        yield "a terminal that does not block", (status, shown), (0, b"Password: \r\nok\r\n")
+        for how, first, typed in TERMINALS:
+            run = f"import os, sys, termios; {first}; os.execv(sys.argv[1], sys.argv[1:])"
+            ended = session([sys.executable, "-c", run, *words], [typed])
+            yield f"a terminal that {how}", ended, (0, b"Password: \r\nok\r\n", [False, True])
         for words, typed, status, lines, reason in ROWS:
             answers = [it if isinstance(it, int) else it.encode() for it in typed]
             ended, shown, echo = session([f"{folder}/scrypt_tool", *words.split(" ")], answers)

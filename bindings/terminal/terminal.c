@@ -93,12 +93,16 @@ static ssize_t password_of(char *line) {
   return same ? len : -1;
 }
 
-/* The same without echo. In the background echo can't be turned off: the terminal's settings are those of the shell. */
+/* The same without echo, and in lines that end with Enter: otherwise a read returns the first key, and the terminal shows what is
+   typed next. In the background echo can't be turned off: the terminal's settings are those of the shell. */
 static ssize_t without_echo(char *line) {
   struct termios with_echo, silent;
   if (tcgetattr(STDIN_FILENO, &with_echo) != 0) return -1;
   silent = with_echo;
   silent.c_lflag &= ~(tcflag_t)(ECHO | ECHOE | ECHOK | ECHONL);
+  silent.c_lflag |= ICANON;
+  silent.c_iflag &= ~(tcflag_t)(IGNCR | INLCR);
+  silent.c_iflag |= ICRNL;
   if (tcsetattr(STDIN_FILENO, TCSAFLUSH, &silent) != 0) return -1;
   ssize_t len = password_of(line);
   tcsetattr(STDIN_FILENO, TCSAFLUSH, &with_echo);
