@@ -4,8 +4,8 @@
 #include <string.h>
 
 #ifdef __x86_64__
-/* x86-64-v2 has 16 registers of four words, which four blocks at once don't fit into. */
-size_t most_at_once(void) { return strstr(scrypt_version(), "x86-64-v3") != NULL ? 4 : 3; }
+/* x86-64-v2 has 16 registers of four words, which four blocks at once don't fit into. The levels after it have longer ones. */
+size_t most_at_once(void) { return strstr(scrypt_version(), "x86-64-v2") != NULL ? 3 : 4; }
 #else
 size_t most_at_once(void) { return 4; }
 #endif

@@ -222,6 +222,18 @@ static void tables_of_keys(void) {
     expect(tables_for_key(KEYS[i].log_n, 8, KEYS[i].p, &needs) == KEYS[i].count, "tables for (%d, 8, %u)", KEYS[i].log_n, KEYS[i].p);
 }
 
+/* Three pay on x86-64-v2 alone: a later level has the registers of x86-64-v3. */
+static void widths(void) {
+#ifdef __x86_64__
+  static const struct { const char *version; size_t most; } VERSIONS[] = {
+      {"0.12.0 x86-64-v2", 3}, {"0.12.0+proved.1 x86-64-v3", 4}, {"0.12.0+proved.1 x86-64-v4", 4}};
+  for (size_t i = 0; i < sizeof VERSIONS / sizeof VERSIONS[0]; i++) {
+    version = VERSIONS[i].version;
+    expect(most_at_once() == VERSIONS[i].most, "%s", version);
+  }
+#endif
+}
+
 /* 1/256 of the derivation, at most a millisecond, and none below 50 microseconds. */
 static void moments(void) {
   static const struct { uint8_t log_n; uint32_t p; int64_t ns; } MOMENTS[] = {
@@ -375,6 +387,7 @@ int main(void) {
   RUN(statuses_in_mid_call);
 #endif
   RUN(tables_of_keys);
+  RUN(widths);
   RUN(moments);
   RUN(many_waits);
   RUN(processors);
