@@ -6,10 +6,10 @@
 /* ---- One row: calls, what happens meanwhile, and what comes of them ----
  * A to F start a call that verifies the right password, a to f one with a wrong password, K one for a key; the hasher is
  * settled after each. Before a letter: - the call waits for 200 ms; + it has a place; * it comes back to its place every
- * 100 ms; > its thread is one step nicer; < it is of SCHED_IDLE. Then: . the group that began first ends; $ close; | fork; m no more than one table of A can be mapped at a time;
- * M no more in all than there is, or than one table of A; ^ the next call forks just before it sleeps; ~ 300 ms pass, and _
- * half of it; % moments in which others may join last until the comma. By a
- * signal to the thread of call N: !N nothing, &N fork, #N close, in its handler, and @N nothing before its group ends. */
+ * 100 ms; > its thread is one step nicer; < it is of SCHED_IDLE. Then: . the group that began first ends; $ close; | fork; m no
+ * more than one table of A can be mapped at a time; M no more in all than there is, or than one table of A; ^ the next call forks
+ * just before it sleeps; ~ 300 ms pass, and _ half of it; % moments in which others may join last until the comma. By a signal to
+ * the thread of call N: !N nothing, &N fork, #N close, in its handler, and @N nothing before its group ends. */
 static const struct class { uint8_t log_n; uint32_t r, p; } CLASSES[] = {
     {4, 8, 1}, {5, 8, 1}, {4, 8, 2}, {4, 8, 16}, {4, 16, 1}, {4, 8, 4}, {13, 8, 1}};
 static const struct row {

@@ -1,6 +1,6 @@
 /* What calls leave in memory: after each call of the header on a thread, and each of the drop-in names, the stack, all writable
- * memory and the registers of vectors are searched for the password, what HMAC makes of it, the blocks before and after they are mixed, rows
- * of the table and the key. Nothing is found but what the caller has.
+ * memory and the registers of vectors are searched for the password, what HMAC makes of it, the blocks before and after they
+ * are mixed, rows of the table and the key. Nothing is found but what the caller has.
  *
  * usage: test_traces SECRETS [DROP_IN]   what traces.py printed, and the library with the names of others
  *        test_traces [small]             makes the calls without a search, for checkers */
