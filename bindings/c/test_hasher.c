@@ -6,7 +6,7 @@
 /* ---- One row: calls, what happens meanwhile, and what comes of them ----
  * A to F start a call that verifies the right password, a to f one with a wrong password, K one for a key; the hasher is
  * settled after each. Before a letter: - the call waits for 200 ms; + it has a place; * it comes back to its place every
- * 100 ms; > its thread is one step nicer; < it is of SCHED_IDLE. Then: . the group that began first ends; $ close; | fork; m no
+ * 100 ms; > its thread is one step nicer. Then: . the group that began first ends; $ close; | fork; m no
  * more than one table of A can be mapped at a time; M no more in all than there is, or than one table of A; ^ the next call forks
  * just before it sleeps; ~ 300 ms pass, and _ half of it; % moments in which others may join last until the comma. By a signal to
  * the thread of call N: !N nothing, &N fork, #N close, in its handler, and @N nothing before its group ends. */
@@ -41,7 +41,6 @@ static const struct row {
     {"but those that are as nice", 1, 4, 4, ">B>A>a>A.", "0 123", "==x="},
     {"and is a partner of those that are less nice", 1, 4, 4, "BA>aA.", "0 123", "==x="},
     {"those behind who isn't as nice too", 1, 4, 4, "B>Aa>A.", "0 13 2", "==x="},
-    {"SCHED_IDLE comes after each niceness", 1, 4, 4, "B<A>a<A.", "0 13 2", "==x="},
     {"a wait ends in time, and is nobody's partner", 1, 4, 4, "A-aA~.", "0 2", "=t="},
     {"a wait that ends behind one that goes on", 1, 1, 4, "AB-a-b~-A~.", "0 1", "==ttt"},
     {"time is no bound for who has a turn, or is a partner", 1, 2, 4, "-Aa-A.~", "0 12", "=x="},
@@ -87,10 +86,8 @@ static void *run(void *of) {
   uint64_t place = 0, *its_place = it->how == '*' || it->how == '+' ? &place : NULL;
   int64_t most_ms = it->how == '-' ? 200 : it->how == '*' ? 100 : -1;
   uint8_t key[4] = {1, 1, 1, 1}, zeros[4] = {0, 0, 0, 0};
-  const struct sched_param none = {0};
   int status;
   if (it->how == '>') IS(setpriority(PRIO_PROCESS, 0, getpriority(PRIO_PROCESS, 0) + 1), 0); /* of this thread alone, on Linux */
-  if (it->how == '<') IS(sched_setscheduler(0, SCHED_IDLE, &none), 0);
   errno = EDOM;
   do
     status = it->kind == 'K' ? scrypt_hasher_key(it->hasher, it->password, 1, "", 0, key, 4, most_ms, its_place)
@@ -192,7 +189,7 @@ static void run_row(const struct row *row) {
   WRITE(over, 0);
   WRITE(is_stopped, 1);
   for (at = row->script; *at != '\0'; at++) {
-    if (strchr("-+*><", *at) != NULL) how = *at;
+    if (strchr("-+*>", *at) != NULL) how = *at;
     else if (strchr("!&#@", *at) != NULL) interrupt(*at, &all[at[1] - '0']), at++;
     else if (strchr(".$|mM~_^%,", *at) != NULL) act(*at, hasher);
     else start(&all[started], started, how, *at, hasher), started++, how = ' ';
@@ -214,13 +211,43 @@ static void run_row(const struct row *row) {
   WRITE(refusals, 0);
 }
 
+/* If this process is the nicest, no thread can be nicer. */
+static int is_nicest(void) { return priority_of_thread() <= -19; }
+
 static void rows(void) {
-  int is_lowest = priority_of_thread() <= -19; /* then no thread can be nicer */
   for (size_t i = 0; i < sizeof ROWS / sizeof ROWS[0]; i++)
-    if (!is_lowest || strpbrk(ROWS[i].script, "><") == NULL) run_row(&ROWS[i]);
+    if (!is_nicest() || strchr(ROWS[i].script, '>') == NULL) run_row(&ROWS[i]);
+}
+
+/* Each policy of the system, from the lowest priority to the highest; real time only if it is allowed. */
+static void *set_priorities(void *unused) {
+  static const struct { const char *why; int policy, level, step; } POLICIES[] = {
+      {"nicer than usual", SCHED_OTHER, 1, -1}, {"a batch that is as nice", SCHED_BATCH, 1, 0},
+      {"the nicest", SCHED_OTHER, 19, -1},      {"SCHED_IDLE, however nice", SCHED_IDLE, 0, -1},
+      {"real time", SCHED_FIFO, 1, 1},          {"the other policy of it", SCHED_RR, 1, 0},
+      {"a higher priority in it", SCHED_RR, 2, 1}};
+  int before = priority_of_thread();
+  for (size_t i = 0; i < sizeof POLICIES / sizeof POLICIES[0]; i++) {
+    int is_real_time = POLICIES[i].policy == SCHED_FIFO || POLICIES[i].policy == SCHED_RR, now;
+    const struct sched_param level = {.sched_priority = is_real_time ? POLICIES[i].level : 0};
+    if (sched_setscheduler(0, POLICIES[i].policy | SCHED_RESET_ON_FORK, &level) != 0) break;
+    if (!is_real_time && POLICIES[i].level > 0) IS(setpriority(PRIO_PROCESS, 0, POLICIES[i].level), 0);
+    now = priority_of_thread();
+    expect((now > before) - (now < before) == POLICIES[i].step, "%s: %d after %d", POLICIES[i].why, now, before);
+    before = now;
+  }
+  return unused;
+}
+
+static void priorities(void) {
+  pthread_t thread;
+  if (getpriority(PRIO_PROCESS, 0) > 0 || is_nicest()) return; /* not usual */
+  pthread_create(&thread, NULL, set_priorities, NULL);
+  pthread_join(thread, NULL);
 }
 
 int main(void) {
   RUN(rows);
+  RUN(priorities);
   return failed;
 }
