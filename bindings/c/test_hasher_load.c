@@ -34,11 +34,8 @@ static void *verify_until_closed(void *hasher) {
 /* In a child the handler of the thread that forked in it may have been of the parent. */
 static int handled;
 static void verify_in_handler(int number) {
-  int status, is_ended;
-  in_handler++;
-  status = verify(of_signals, texts[0], "wrong", 0);
-  in_handler--;
-  is_ended = status == SCRYPT_MISMATCH || status == SCRYPT_TIMEOUT || status == SCRYPT_CLOSED;
+  int status = verify(of_signals, texts[0], "wrong", 0);
+  int is_ended = status == SCRYPT_MISMATCH || status == SCRYPT_TIMEOUT || status == SCRYPT_CLOSED;
   expect(is_ended || getpid() != parent, "signal %d: %d", number, status);
   (void)ADD(handled, 1);
 }
@@ -64,8 +61,12 @@ static void at_any_time(void) {
     }
     fork_here(hasher);
     handle(SIGUSR2, close_in_handler);
-    if (round % 2 == 0) pthread_kill(all[0], SIGUSR2);
-    else scrypt_hasher_close(hasher);
+    if (round % 2 == 0) {
+      pthread_kill(all[0], SIGUSR2);
+      until(look_at(hasher).is_closed);
+      expect(BLOCKS_SIGNALS || look_at(hasher).is_closed, "not closed by a handler");
+    }
+    scrypt_hasher_close(hasher);
     for (int i = 0; i < 16; i++) pthread_join(all[i], NULL);
     reap_all("forked at any time");
     expect(look_at(hasher).is_idle, "idle after load");
@@ -187,6 +188,7 @@ static void freed_while_read(void) {
     pthread_create(&both[0], NULL, CALLS[i], hasher);
     until(READ(reading) == 1);
     pthread_create(&both[1], NULL, free_it, hasher);
+    until(look_at(hasher).is_closed && look_at(hasher).calls == 1);
     usleep(50000);
     expect(!READ(is_freed), "freed while call %d reads", i);
     WRITE(is_reading_stopped, 0);
