@@ -96,7 +96,7 @@ const OPTIONS = {
   needsRehash: PARAMS,
 };
 
-// What could be taken for options, and has none: the limits that were meant would not hold.
+// Objects without options, which are a mistake: the limits that were meant would not hold.
 const OTHERS = [ArrayBuffer, Boolean, Map, Number, Promise, Set, String];
 
 function isOptions(it) {
@@ -105,7 +105,7 @@ function isOptions(it) {
     for (const Kind of OTHERS) if (it instanceof Kind) return false;
     return true;
   } catch {
-    return false; // a Proxy that refuses to tell
+    return false; // a Proxy whose trap throws
   }
 }
 

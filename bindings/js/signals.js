@@ -1,4 +1,4 @@
-// A caller's AbortSignal, by the engine's own getters: what only looks like one may throw, or never tell of an abort.
+// A caller's AbortSignal, by the engine's own getters: an object that only looks like one may throw, or ignore a listener.
 import { getterOf } from './arguments.js';
 import { errorFor } from './errors.js';
 

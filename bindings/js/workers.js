@@ -2,7 +2,7 @@
 import { bytesAmong } from './arguments.js';
 import { ScryptError, outOfMemory } from './errors.js';
 import { compile } from './load.js';
-import { onAbort, listenTo } from './signals.js';
+import { listenTo, onAbort } from './signals.js';
 
 const MOST_WORKERS = Math.max(1, Math.min(globalThis.navigator?.hardwareConcurrency ?? 4, 4));
 const IDLE_MS = 5000; // after which a worker ends, and its memory is free
@@ -43,7 +43,7 @@ function end(worker, reason) {
   clearTimeout(worker.timer);
   worker.terminate();
   worker.call?.reject(reason);
-  queueMicrotask(assign); // not now: the abort that ends this may be that of calls that wait
+  queueMicrotask(assign); // not now, since the same abort may end calls that wait
 }
 
 // A worker that ended is not idle again: Node delivers what it had posted before.
@@ -96,7 +96,7 @@ function give(worker, call) {
 // Browsers give no reason if the page's policy forbids workers, or the script is not there.
 const failed = (cause) => new ScryptError('WORKER_FAILED', `worker.js did not start, or ended: ${cause.message || 'is it allowed here?'}`, { cause });
 
-// Until the call is answered, refused or aborted. An abort is heard at each moment: before there is a module, in the line, and in a worker.
+// Until the call is answered, refused or aborted: also while the module is fetched, and while the call waits for a worker.
 function answer(call, signal) {
   return new Promise((resolve, reject) => {
     const over = (finish) => (value) => {

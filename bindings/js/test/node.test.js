@@ -1,7 +1,9 @@
 // usage: node --test node.test.js    with CASES, a file that cases.py made, and MODULE64, the module with a 64-bit memory
 import { deepStrictEqual, throws } from 'node:assert';
 import { spawnSync } from 'node:child_process';
-import { readFileSync } from 'node:fs';
+import { copyFileSync, mkdtempSync, readFileSync, rmSync } from 'node:fs';
+import { tmpdir } from 'node:os';
+import { join } from 'node:path';
 import { test } from 'node:test';
 import { setFlagsFromString } from 'node:v8';
 import { runInNewContext } from 'node:vm';
@@ -38,6 +40,19 @@ for (const [name, program, wanted] of PROGRAMS) {
     deepStrictEqual([stderr, stdout], ['', wanted]);
   });
 }
+
+test('the files that are packed', () => {
+  const room = mkdtempSync(join(tmpdir(), 'packed-'));
+  try {
+    const { files } = JSON.parse(readFileSync(new URL('../package.json', import.meta.url)));
+    for (const file of ['package.json', ...files.filter((it) => it !== 'NOTICES' && it !== 'PROVED.txt')]) copyFileSync(new URL(`../${file}`, import.meta.url), join(room, file));
+    const program = `import { hash, verify } from '${room}/index.js'; console.log(await verify('a', await hash('a', { N: 2 })))`;
+    const { stdout, stderr } = spawnSync(process.execPath, ['--input-type=module', '-e', program], { encoding: 'utf8' });
+    deepStrictEqual([stderr, stdout], ['', 'true\n']);
+  } finally {
+    rmSync(room, { recursive: true });
+  }
+});
 
 test('a call that a timeout of node:vm ends', async () => {
   setFlagsFromString('--expose-gc');
