@@ -80,8 +80,8 @@ export function copiesOf(values) {
   }
 }
 
-/** The bytes among the arguments of a call, the last of which may be options with a salt. */
-export const bytesAmong = (args) => [...args, args.at(-1)?.salt].filter(ArrayBuffer.isView);
+/** The bytes among the arguments of a call, and among its options. */
+export const bytesAmong = (args) => args.flatMap((it) => (ArrayBuffer.isView(it) ? [it] : Object.values(it).filter(ArrayBuffer.isView)));
 
 /** Wipes the bytes of those values that are strings. */
 export function wipeEncoded(bytes, values) {
@@ -109,9 +109,15 @@ function isOptions(it) {
   }
 }
 
+// Whether an object has a property, or inherits it from another one than Object.prototype, whose properties all objects have.
+function has(given, name) {
+  for (let it = given; it !== null && it !== Object.prototype; it = Object.getPrototypeOf(it)) if (Object.hasOwn(it, name)) return true;
+  return false;
+}
+
 function read(given, name) {
   try {
-    return given[name];
+    return name in Object.prototype && !has(given, name) ? undefined : given[name];
   } catch (cause) {
     throw new ScryptError('INVALID_TYPE', `the option ${name} cannot be read`, { cause });
   }
@@ -127,9 +133,9 @@ function option(given, name) {
 
 /** The options of a call, each read once: also those that the object inherits, or has a getter for. */
 export function optionsOf(given, call, ...more) {
-  if (given === undefined || given === null) return {};
-  if (!isOptions(given)) throw new ScryptError('INVALID_TYPE', 'the options must be an object that has them as properties');
-  return Object.fromEntries([...OPTIONS[call], ...more].map((name) => [name, option(given, name)]));
+  const all = given ?? {};
+  if (!isOptions(all)) throw new ScryptError('INVALID_TYPE', 'the options must be an object that has them as properties');
+  return Object.fromEntries([...OPTIONS[call], ...more].map((name) => [name, option(all, name)]));
 }
 
 /** The limit that admits all. */

@@ -39,7 +39,7 @@ export class Instance {
 
   // A slice is a pointer and a length to the module.
   #status(name, args) {
-    const given = args.flatMap((it) => (it.at === undefined ? it : [it.at, BigInt(it.length)]));
+    const given = args.flatMap((it) => (typeof it === 'object' ? [it.at, BigInt(it.length)] : it));
     this.#isInside = true;
     const status = this.#calls[name](...given);
     this.#isInside = false;

@@ -7,14 +7,14 @@ const port = typeof WorkerGlobalScope === 'function' ? globalThis : process.getB
 let own; // the module that was given last
 let scrypt;
 
-const refusal = ({ code, message }) => ({ error: { code, message } });
+const refusal = ({ code, message }) => ({ value: undefined, error: { code, message } });
 
 // The bytes are wiped before the caller has the answer.
 async function answer({ module, name, args }) {
   try {
     if (module !== undefined) [own, scrypt] = [module, undefined];
     scrypt ??= await Scrypt.of(own);
-    return { value: scrypt[name](...args) };
+    return { value: scrypt[name](...args), error: undefined };
   } catch (error) {
     return refusal(error);
   } finally {
@@ -24,9 +24,10 @@ async function answer({ module, name, args }) {
 
 port.onmessage = async ({ data }) => {
   const given = await answer(data);
+  const { value } = given;
   try {
     // A key is given away, so that no copy of it is left here.
-    port.postMessage(given, bytesAmong([given.value]).map((it) => it.buffer));
+    port.postMessage(given, ArrayBuffer.isView(value) ? [value.buffer] : []);
   } catch (cause) {
     port.postMessage(refusal(outOfMemory(cause)));
   }

@@ -33,6 +33,8 @@ function started() {
   worker.onmessage = ({ data }) => answered(worker, data);
   worker.onerror = (event) => end(worker, failed(event));
   worker.onmessageerror = worker.onerror;
+  // Of its own, whatever Object.prototype may have.
+  Object.assign(worker, { call: undefined, module: undefined, timer: undefined });
   workers.add(worker);
   return worker;
 }
@@ -127,7 +129,7 @@ function abort(call, reason) {
 export async function call(name, args, signal) {
   try {
     listenTo(signal);
-    return await answer({ name, args }, signal);
+    return await answer({ name, args, isOver: false, worker: undefined }, signal);
   } finally {
     for (const it of bytesAmong(args)) if (it.length > 0) it.fill(0); // what no worker was given
   }

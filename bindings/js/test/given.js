@@ -118,6 +118,29 @@ export function givenChecks() {
     }
     for (const way of ways) await refused('AbortError', () => workers.hash('', way({ N: 2, signal: AbortSignal.abort() })), `signal ${way}`);
   };
+  list['what Object.prototype has'] = async () => {
+    const short = await workers.hash('', { N: 2, dkLen: 10 });
+    const text = await workers.hash('', { N: 2 });
+    const salt = new Uint8Array(8);
+    for (const [name, value] of [
+      ['maxmem', 0], ['maxmem', Infinity], ['maxwork', 0], ['minKeyLength', 0], ['salt', salt], ['format', 'mcf'], ['signal', AbortSignal.abort()], ['N', 4], ['r', 1], ['p', 2], ['dkLen', 10],
+      ...['error', 'module', 'call', 'timer', 'worker', 'isOver', 'at', 'code', 'name', 'args', 'then', 'cause', 'length', 'salt', 'scrypt', 'memory', 'resolve', 'buffer', 'isView'].map((it) => [it, 'polluted']),
+    ]) {
+      for (const api of await apis()) {
+        await instead(Object.prototype, name, value, async () => {
+          await works(api);
+          for (const options of [undefined, null, {}]) {
+            equal(await api.verify('', text, options), true, `verify with ${name}`);
+            equal((await api.hash('', { N: 2, ...options })).slice(0, 21), '$scrypt$ln=1,r=8,p=1$', `hash with ${name}`);
+            await refused('KEY_TOO_SHORT', () => api.verify('', short, options), `verify a short key with ${name}`);
+          }
+          equal(await api.verify('', short, new (class { get minKeyLength() { return 10; } })()), true, `an option with ${name}`);
+          equal(await api.needsRehash(text, { N: 2 }), false, `needsRehash with ${name}`);
+        });
+      }
+    }
+    equal(salt.length, 8, 'bytes of the caller');
+  };
   list['options that are none'] = async () => {
     const { proxy, revoke } = Proxy.revocable({}, {});
     revoke();
