@@ -45,8 +45,10 @@ export class Scrypt {
     const params = parameters(options);
     const [mostBytes, mostWork] = [limit(options.maxmem, 'maxmem', MOST_MEMORY), limit(options.maxwork, 'maxwork', NO_LIMIT)];
     return this.#run({ password, salt }, (it, ...slices) => {
-      const key = it.take(lengthOf(options.dkLen));
+      const length = lengthOf(options.dkLen);
+      // Before the key, which is not within the limits.
       const buffers = it.buffersFor(params, mostBytes, mostWork);
+      const key = it.take(length);
       it.call('scrypt_kdf_with_buffers', ...slices, ...params, key, ...buffers);
       return copyOf(it.view(key));
     });

@@ -130,6 +130,9 @@ function ownChecks(open, cases) {
     await refused('TOO_COSTLY', () => own.verify('', costly));
     equal(own.verify('', costly, { N: 16, p: 11000, dkLen: 32 }), false, 'the parameters of new hashes');
     await refused('TOO_COSTLY', () => own.verify('', costly, { maxwork: 4 * (16 + 32) * 8 * 11000 - 1 }));
+    const { memory } = own;
+    await refused('TOO_COSTLY', () => own.scrypt('', '', { N: 2 ** 17, r: 8, p: 1, maxmem: 2 ** 20, dkLen: 2 ** 31 }));
+    equal(own.memory, memory, 'memory, of which a long key takes none before');
     const little = own.hash('', { N: 16 });
     equal(own.verify('', little, { maxwork: 4 * (16 + 32) * 8 }), true, 'as much work');
     await refused('TOO_COSTLY', () => own.verify('', little, { maxwork: 4 * (16 + 32) * 8 - 1 }));
