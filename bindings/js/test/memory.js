@@ -88,6 +88,26 @@ export function memoryChecks() {
     }
     await instead(TextDecoder.prototype, 'decode', () => { throw new Error('longer than a string'); }, () => refused('OUT_OF_MEMORY', () => own.hash('', OF)));
   };
+  list['the bytes of strings'] = async () => {
+    const own = await workers.load();
+    const { encode } = TextEncoder.prototype;
+    const text = own.hash('password', OF);
+    for (const [code, call] of [
+      ['', () => own.scrypt('password', 'NaCl', OF)], ['', () => own.hash('password', { ...OF, salt: 'NaCl' })], ['', () => own.verify('password', text)],
+      ['', () => own.params(text)], ['ENCODING_INVALID', () => own.verify('password', 'text')], ['INVALID_TYPE', () => own.scrypt('password', 5, OF)],
+      ['', () => workers.scrypt('password', 'NaCl', OF)], ['', () => workers.hash('password', { ...OF, salt: 'NaCl' })], ['', () => workers.params(text)],
+      ['INVALID_TYPE', () => workers.scrypt('password', 5, OF)], ['AbortError', () => workers.scrypt('password', 'NaCl', { ...OF, signal: AbortSignal.abort() })],
+    ]) {
+      const made = [];
+      const keep = function (it) {
+        made.push(Reflect.apply(encode, this, [it]));
+        return made.at(-1);
+      };
+      await instead(TextEncoder.prototype, 'encode', keep, () => (code ? refused(code, call) : call()));
+      // One that a worker was given has no bytes any more.
+      equal(made.length > 0 && made.every((it) => it.length === 0 || isZero(it)), true, `zeros after ${call}`);
+    }
+  };
   list['bytes that no worker was given'] = async () => {
     class Full {
       postMessage(message, transfer) {

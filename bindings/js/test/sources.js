@@ -65,6 +65,13 @@ export function sourceChecks() {
       await load(first);
     }
   };
+  list['a file that is there again'] = async () => {
+    const { compile: compileAgain } = await import('../load.js?again');
+    const fails = async () => { throw new Error('not now'); };
+    await instead(WebAssembly, 'compile', fails, () => Promise.all([1, 2].map(() => refused('LOAD_FAILED', compileAgain))));
+    equal(await compileAgain() instanceof WebAssembly.Module, true, 'a module');
+    equal(await compileAgain(), await compileAgain(), 'the same one');
+  };
   list['calls that are made while a source is loaded'] = async () => {
     const first = await compile();
     try {
