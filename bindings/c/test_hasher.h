@@ -147,7 +147,7 @@ static int moments_last, in_moments; /* whether moments are made to last, and ho
 static __thread int had_moment;
 
 void watched(const scrypt_hasher *hasher, struct call **group, size_t count, int *statuses, const struct buffers *of) {
-  int slot = ADD(begun, 1) - 1, tables = (int)(of->table_len / group[0]->needs.table_len);
+  int slot = ADD(begun, 1) - 1, tables = (int)(of->table_len / group[0]->needs.table_len), calls_before = group_calls;
   char letters[16] = "";
   for (size_t i = 0; i < count; i++) {
     letters[i] = (char)*bytes_of(group[i]->login.password);
@@ -168,6 +168,7 @@ void watched(const scrypt_hasher *hasher, struct call **group, size_t count, int
   group_calls = 0;
   derive(hasher, group, count, statuses, of);
   expect(group_calls == (group[0]->login.text != NULL), "a group of %zu is derived by %d calls", count, group_calls);
+  group_calls = calls_before; /* of a derivation that this one has interrupted, in a handler */
   (void)ADD(inside, -1), (void)ADD(tables_inside, -tables), (void)ADD(ended, 1);
 }
 
