@@ -323,11 +323,11 @@ const scrypt_options *scrypt_hasher_options(const scrypt_hasher *hasher);
 /* Verifies a password against the text of a hash, like scrypt_verify, within the bounds of the hasher. Any thread may call
  * this and the next two calls, and a signal handler, except that of SIGSYS, which may answer the system calls of a hasher.
  * They wait for a processor of the hasher for at most most_ms milliseconds, without a bound if that is negative, and then
- * return SCRYPT_TIMEOUT; time that a derivation takes does not count. A verification is derived by its own thread or by that of
- * another one, which then reads its password and its text: they must not be in memory that only their own thread may read (by
- * protection keys). That thread never has a lower priority (niceness, SCHED_IDLE), by which it might get no processor of the
- * machine for long. A thread with a low priority does keep a processor of the hasher that long: let all threads of a hasher have
- * the same one.
+ * return SCRYPT_TIMEOUT; time that a derivation takes does not count. A verification is derived by its own thread, or by the
+ * thread of another verification if that has the same or a higher priority: one of lower priority (niceness, SCHED_IDLE) might be
+ * kept from running for long. It would still hold its processor of the hasher while it derives, so give all threads of a hasher
+ * the same priority. The thread that derives reads the password and the text, which therefore must not be in memory that only one
+ * thread may read (protection keys).
  * While a thread derives for others too, its signals are blocked, except those of faults, so that nobody waits for a signal
  * handler.
  * If place is not NULL, a signal that the thread handles while it sleeps ends the wait too, also one that the C library sends
