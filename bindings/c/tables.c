@@ -106,7 +106,8 @@ static int map(struct tables *tables, size_t bytes, int is_huge) {
   tables->mapping = map_zeros_in_child(bytes + more);
   if (tables->mapping == NULL) return 0;
   tables->mapped = bytes + more;
-  if (tables->note != NULL) set_note(tables->note, tables->mapping, tables->mapped);
+  /* Not if another call has the turn: in a child, where this one was interrupted when it forked. */
+  if (tables->note != NULL && tables->note->user == (uintptr_t)pthread_self()) set_note(tables->note, tables->mapping, tables->mapped);
   before = is_huge ? (HUGE_PAGE - (uintptr_t)tables->mapping % HUGE_PAGE) % HUGE_PAGE : 0;
   tables->front = (uint8_t *)tables->mapping + before;
   tables->room = bytes;
