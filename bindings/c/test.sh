@@ -269,6 +269,13 @@ if has gcc gcc; then
   fi
 fi
 
+# The hasher's queue in every order of its threads, which are coroutines there: not with a checker. It takes 16 seconds.
+if has gcc gcc; then
+  gcc -std=gnu99 -O2 -Wall -Wextra -Werror -Wno-missing-field-initializers bindings/c/orders/test_orders.c -o "$room/orders"
+  "$room/orders" > "$room/log"
+  tail -n 1 "$room/log"
+fi
+
 # The stack that calls use. With the static library the test binds functions at their first call, with the shared one
 # before: to bind a call of the library itself uses the stack that is looked at.
 for compiler in gcc clang; do
