@@ -1,7 +1,7 @@
 // The workspace of a derivation: the lengths of its buffers, the caller's, allocated ones, and what is used of either.
 
 ghost use Rattle.std.specs.Prelude.{◌≡◌, ◌⊎◌, ◌↔◌, ◌+◌, ◌-◌, ◌*◌, ◌<◌, ◌≤◌, length, IfOk, IfSome, IsSome, IsTrue};
-ghost use Rattle.std.specs.Vec.{vec_capacity};
+ghost use Rattle.scrypt_kernel.specs.Memory.{allocated_room};
 ghost use Rattle.scrypt.specs.Cost.{chunks_bytes, scratch_words, table_words, thin_scratch_words};
 ghost use Rattle.scrypt.specs.InBuffers.{are_enough};
 ghost use Rattle.scrypt.specs.Limits.{tables_within};
@@ -9,6 +9,7 @@ ghost use Rattle.scrypt.specs.Mixing.{HasTables, IsWidth};
 ghost use Rattle.scrypt.specs.Workspace.{AreUsed, chunks_at_once};
 
 use crate::{CoreCount, Params};
+use scrypt_kernel::memory::Allocated;
 use std::alloc::{AllocError, Global};
 
 /// The lengths of the buffers that a derivation works on.
@@ -204,7 +205,7 @@ impl<'a, M> InUse<'a, M> {
 #[derive(Drop)]
 pub(crate) struct Buffers {
     pub(crate) chunks: Vec<u8>,
-    pub(crate) table: Vec<u32>,
+    pub(crate) table: Allocated,
     pub(crate) scratch: Vec<u32>,
 }
 
@@ -213,11 +214,11 @@ impl Buffers {
     /// within its capacity.
     pub(crate) fn allocate(alloc: Global, lens: &BufferLens) -> Result<Buffers, AllocError>
         ensures chunks { IfOk result (λ own. length own.chunks.items ≡ lens.now.chunks) }
-        ensures table { IfOk result (λ own. vec_capacity own.table ≡ lens.now.table) }
+        ensures table { IfOk result (λ own. allocated_room own.table ≡ lens.now.table) }
         ensures scratch { IfOk result (λ own. length own.scratch.items ≡ lens.now.scratch) }
     {
         let mut chunks = Vec::with_capacity(alloc, lens.chunks)?;
-        let table = Vec::with_capacity(alloc, lens.table)?;
+        let table = Allocated::new(Vec::with_capacity(alloc, lens.table)?);
         let scratch = vec![in alloc; 0u32; lens.scratch]?;
         // All three are allocated: now the chunks are written.
         let Ok(()) = chunks.resize_with(lens.chunks, || 0u8) else {
@@ -240,12 +241,12 @@ impl Buffers {
     ) -> Result<(usize, Buffers), AllocError>
         ensures chunks { IfOk result (λ got. length got.1.chunks.items ≡ chunks_bytes params.now.r params.now.p) }
         ensures memory { IfOk result (λ got. HasTables params.now.log_n 0 params.now.r got.0
-            (vec_capacity got.1.table) (length got.1.scratch.items)) }
+            (allocated_room got.1.table) (length got.1.scratch.items)) }
         ensures width { IfOk result (λ got. (got.0 ≡ tables_within most_bytes params.now) ⊎ (got.0 ≡ 1)) }
-        ensures table { IfOk result (λ got. vec_capacity got.1.table ≡ got.0 * table_words params.now.log_n params.now.r) }
+        ensures table { IfOk result (λ got. allocated_room got.1.table ≡ got.0 * table_words params.now.log_n params.now.r) }
         ensures scratch { IfOk result (λ got. length got.1.scratch.items ≡ got.0 * scratch_words params.now.r) }
         ensures used { IfOk result (λ got. got.0 ≡ chunks_at_once params.now.log_n params.now.r params.now.p
-            (vec_capacity got.1.table) (length got.1.scratch.items)) }
+            (allocated_room got.1.table) (length got.1.scratch.items)) }
     {
         params.expose_invariant();
         let width = BufferLens::tables_within(params, most_bytes);

@@ -14,7 +14,7 @@ pub(crate) mod mixing;
 use crate::buffers::{Buffers, InUse, chunks_at_once};
 use crate::derivation::mixing::mix_all;
 use crate::{CoreCount, DeriveError, InvalidOutputLen, Mixer, Params, Vectors};
-use scrypt_kernel::memory::{Buffer, TableMemory};
+use scrypt_kernel::memory::{Allocated, Buffer, TableMemory};
 use scrypt_kernel::pbkdf2::pbkdf2_one;
 use std::alloc::Global;
 
@@ -131,7 +131,7 @@ pub fn scrypt_in_groups<W: Mixer>(
         &mut own.scratch,
         cores,
     );
-    derive_in::<Vec<u32>, W>(password, salt, params, 0, &mut used, output);
+    derive_in::<Allocated, W>(password, salt, params, 0, &mut used, output);
     Ok(())
 }
 

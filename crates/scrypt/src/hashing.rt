@@ -14,7 +14,7 @@ use crate::derivation::derive_in;
 use crate::{CoreCount, Mixer, Params};
 use password_hash::phc::Output;
 use password_hash::{Error, Result, Version};
-use scrypt_kernel::memory::TableMemory;
+use scrypt_kernel::memory::{Allocated, TableMemory};
 use std::alloc::Global;
 
 /// Checks the algorithm and version arguments.
@@ -69,7 +69,7 @@ pub(crate) fn key_allocating<W: Mixer>(
         &mut own.scratch,
         &mut cores,
     );
-    Ok(stored_key::<Vec<u32>, W>(password, salt, params, &mut used))
+    Ok(stored_key::<Allocated, W>(password, salt, params, &mut used))
 }
 
 /// Derives the same key in any memory. Afterwards the chunks and the scratch are zeros.

@@ -17,7 +17,7 @@ use crate::derivation::mixing::mix_all;
 use crate::stored_parts::StoredParts;
 use crate::{BufferLens, CoreCount, Mixer};
 use password_hash::{Error, Result};
-use scrypt_kernel::memory::{Buffer, TableMemory};
+use scrypt_kernel::memory::{Allocated, Buffer, TableMemory};
 use std::alloc::Global;
 
 /// Returns the verdict, given whether the derived key is the stored one.
@@ -76,7 +76,7 @@ pub(crate) fn verify_allocating<W: Mixer>(
         &mut own.scratch,
         cores,
     );
-    verdict(is_key_of::<Vec<u32>, W>(password, parts, &mut used))
+    verdict(is_key_of::<Allocated, W>(password, parts, &mut used))
 }
 
 /// Verifies with the parts of a hash, in the caller's buffers. Does not allocate.

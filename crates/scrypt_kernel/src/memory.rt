@@ -1,7 +1,7 @@
 //! Memory in which the rows of a table are added one after another.
 
-ghost use Rattle.std.specs.Prelude.{◌≡◌, ℕ, ◌+◌, ◌*◌, ◌/◌, ◌%◌, ◌<◌, ◌≤◌, List, [], ◌++◌, length};
-ghost use Rattle.std.specs.Vec.{vec_capacity, vec_len};
+ghost use Rattle.std.specs.Prelude.{◌≡◌, ℕ, ◌+◌, ◌*◌, ◌/◌, ◌%◌, ◌<◌, ◌≤◌, List, [], ◌++◌, length, take};
+ghost use Rattle.std.specs.Vec.{vec_capacity};
 ghost use Rattle.scrypt_kernel.specs.Count.{AreCountedAs};
 ghost use Rattle.scrypt_kernel.specs.KeptRows.{AddsRow, IsRowLen, mixed_in};
 
@@ -107,34 +107,96 @@ impl<'a> TableMemory for Buffer<'a> {
         next: &mut [u32],
         cores: &mut CoreCount,
     ) {
-        let row_len = next.len();
-        let memory = &mut *self.memory;
-        let (rows, rest) = memory.split_at_mut(self.len);
-        let last = Parts::of(part(row_len, rows, i), len, O::count());
-        mix::<O, Parts<'_>>(&last, &mut rest[..row_len], len, cores);
-        self.len += row_len;
+        mix_next::<O>(self.memory, self.len, next.len(), i, len, cores);
+        self.len += next.len();
     }
 }
 
-/// A vector that grows within its capacity, so that its memory is not filled with zeros first.
-impl TableMemory for Vec<u32> {
-    ghost words = { λ rows. rows.items };
+// Mixes row `i`, which ends at `end`, into the `row_len` words after it, as row `i + 1`, and counts its cores.
+#[inline(always)]
+fn mix_next<O: OrderedBlocks>(
+    memory: &mut [u32],
+    end: usize,
+    row_len: usize,
+    i: usize,
+    len: usize,
+    cores: &mut CoreCount,
+)
+    requires row { IsRowLen len }
+    requires chunks { row_len ≡ O.count * len }
+    requires last { end ≡ (i + 1) * (O.count * len) }
+    requires room { end + row_len ≤ length memory.old }
+    ensures words { AddsRow (mixed_in O.pivot O.inverse_pivot 1) O.count len i (take end memory.old) (take (end + row_len) memory.new) }
+    ensures len { length memory.new ≡ length memory.old }
+    ensures counted { AreCountedAs O.simd (O.count * (2 * (len / 32))) cores.old cores.new }
+{
+    let (rows, rest) = memory.split_at_mut(end);
+    let last = Parts::of(part(row_len, rows, i), len, O::count());
+    mix::<O, Parts<'_>>(&last, &mut rest[..row_len], len, cores);
+}
 
-    ghost room = { λ rows. vec_capacity rows };
+/// Allocated memory, which is not filled with zeros first: a table takes as much of its capacity as it needs, and uses again
+/// what an earlier one took.
+#[derive(Drop)]
+pub struct Allocated {
+    memory: Vec<u32>,
+    len: usize,
+    ghost inside: { len ≤ length memory.items },
+}
+
+impl Allocated {
+    ghost use Rattle.scrypt_kernel.specs.Memory.{allocated_room, allocated_words};
+
+    /// Takes `memory`, with no rows in it.
+    pub fn new(memory: Vec<u32>) -> Allocated
+        ensures empty { allocated_words result ≡ [] }
+        ensures room { allocated_room result ≡ vec_capacity memory }
+    {
+        Allocated { memory, len: 0 }
+    }
+
+    // Makes the memory long enough for one more row. What is in it there is unspecified.
+    //
+    // So the memory of a row is fetched while it is mixed, and it is there when the next row is mixed of it.
+    #[inline(always)]
+    fn make_room(&mut self, row: &[u32])
+        requires room { self.old.len + length row.now ≤ vec_capacity self.old.memory }
+        ensures long { self.old.len + length row.now ≤ length self.new.memory.items }
+        ensures words { allocated_words self.new ≡ allocated_words self.old }
+        ensures len { self.new.len ≡ self.old.len }
+        ensures room { allocated_room self.old ≤ allocated_room self.new }
+    {
+        let end = self.len + row.len();
+        if self.memory.len() < end {
+            let missing = end - self.memory.len();
+            self.memory.extend_from_slice(&row[..missing]).unwrap();
+        }
+    }
+}
+
+impl TableMemory for Allocated {
+    ghost use Rattle.scrypt_kernel.specs.Memory.{allocated_room, allocated_words};
+
+    ghost words = { allocated_words };
+
+    ghost room = { allocated_room };
 
     #[inline(always)]
     fn words(&self) -> &[u32] {
-        self.as_slice()
+        &self.memory[..self.len]
     }
 
     #[inline(always)]
     fn clear(&mut self) {
-        self.clear();
+        self.len = 0;
     }
 
     #[inline(always)]
     fn append(&mut self, row: &[u32]) {
-        self.extend_from_slice(row).unwrap();
+        self.make_room(row);
+        let end = self.len + row.len();
+        self.memory[self.len..end].copy_from_slice(row);
+        self.len = end;
     }
 
     #[inline(always)]
@@ -145,8 +207,9 @@ impl TableMemory for Vec<u32> {
         next: &mut [u32],
         cores: &mut CoreCount,
     ) {
-        let last = Parts::of(part(next.len(), self.as_slice(), i), len, O::count());
-        mix::<O, Parts<'_>>(&last, next, len, cores);
-        self.extend_from_slice(next).unwrap();
+        self.make_room(next);
+        let memory = self.memory.as_mut_slice();
+        mix_next::<O>(memory, self.len, next.len(), i, len, cores);
+        self.len += next.len();
     }
 }
