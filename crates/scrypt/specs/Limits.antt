@@ -24,11 +24,14 @@ unfoldable pub tables_within : ℕ → Parameters → ℕ
 tables_within most_bytes c = max 1
     (min (min 4 c.p) ((most_bytes - chunks_bytes c.r c.p) / (4 * table_words c.log_n c.r + 4 * scratch_words c.r)))
 
--- the limits of a hasher that makes hashes with these parameters and keys of n bytes: those limits, except that they admit
--- such hashes, if 64 bits can say what these need
-abbrev pub limits_for_new : Limits → Parameters → ℕ → Limits
-limits_for_new usual c n = record {
-  most_bytes = min (max usual.most_bytes (buffers_bytes c.log_n c.r c.p)) (2 ^ 64 - 1);
-  most_work = min (max usual.most_work (work c.log_n c.r c.p)) (2 ^ 64 - 1);
-  least_key_len = min usual.least_key_len n;
+-- these limits, except that they admit a derivation with these parameters, if 64 bits can say what it needs
+abbrev pub admitting : Limits → Parameters → Limits
+admitting it c = record it {
+  most_bytes = min (max it.most_bytes (buffers_bytes c.log_n c.r c.p)) (2 ^ 64 - 1);
+  most_work = min (max it.most_work (work c.log_n c.r c.p)) (2 ^ 64 - 1);
 }
+
+-- the limits of a hasher that makes hashes with these parameters and keys of n bytes: those limits, except that they admit
+-- such hashes
+abbrev pub limits_for_new : Limits → Parameters → ℕ → Limits
+limits_for_new usual c n = record (admitting usual c) { least_key_len = min usual.least_key_len n }

@@ -1,7 +1,7 @@
 // What a derivation may need.
 
 ghost use Rattle.std.specs.Prelude.{◌≡◌};
-ghost use Rattle.scrypt.specs.Limits.{are_within, limits_for_new};
+ghost use Rattle.scrypt.specs.Limits.{admitting, are_within, limits_for_new};
 
 use crate::{BufferLens, Params};
 
@@ -36,17 +36,27 @@ impl Limits {
     pub fn for_new(params: &Params, key_len: usize) -> Limits
         ensures value { result ≡ limits_for_new Limits.USUAL params.now key_len }
     {
-        let usual = Limits::USUAL;
+        let admitting = Limits::USUAL.admitting(params);
+        Limits {
+            least_key_len: admitting.least_key_len.min(key_len),
+            ..admitting
+        }
+    }
+
+    /// Returns these limits, except that they admit a derivation with these parameters, if 64 bits can say what it needs.
+    pub fn admitting(self, params: &Params) -> Limits
+        ensures value { result ≡ admitting self params.now }
+    {
         let bytes = BufferLens::of(params).bytes();
         let work = params.work();
         Limits {
-            most_bytes: (usual.most_bytes as u128)
+            most_bytes: (self.most_bytes as u128)
                 .max(bytes)
                 .min(u128::from(u64::MAX)) as usize,
-            most_work: u128::from(usual.most_work)
+            most_work: u128::from(self.most_work)
                 .max(work)
                 .min(u128::from(u64::MAX)) as u64,
-            least_key_len: usual.least_key_len.min(key_len),
+            ..self
         }
     }
 

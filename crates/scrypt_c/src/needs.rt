@@ -65,7 +65,7 @@ pub extern "C" fn scrypt_hash_needs(
         most_work,
         least_key_len,
     };
-    let status = match hash.params_and_key_len_within(&limits) {
+    let status = match hash.within(&limits) {
         Ok(_) => OK,
         Err(LimitedError::Hash(error)) => return status_of(error),
         Err(error) => limited_status_of(error),

@@ -1,9 +1,9 @@
 -- What a stored hash may need, and how short its key may be.
-use Rattle.std.specs.Prelude.{ℕ, ◌-◌, ◌^◌, bytes_eq, codes, if◌then◌else◌, max, min}
+use Rattle.std.specs.Prelude.{ℕ, ◌^◌, bytes_eq, codes, if◌then◌else◌}
 use Rattle.std.specs.Prelude.{List, Option, None, Some, option_map, unwrap_or}
 use Rattle.password_hash.specs.Decimal.{decimal_below}
 use Rattle.scrypt.specs.Accepted.{Parameters}
-use Rattle.scrypt.specs.Limits.{buffers_bytes, work}
+use Rattle.scrypt.specs.Limits.{admitting}
 use Rattle.scrypt.specs.declared.limits.Limits.{Limits}
 use Rattle.scrypt.specs.declared.limits.TheConstants.Limits.{USUAL}
 use Rattle.scrypt_commands.specs.declared.limit_options.LimitOptions.{LimitOptions}
@@ -25,8 +25,6 @@ with_number b name value =
 abbrev pub limits_of : LimitOptions → Option Parameters → Limits
 limits_of b None =
     record { most_bytes = b.most_bytes; most_work = b.most_work; least_key_len = unwrap_or b.least_key_len USUAL.least_key_len }
-limits_of b (Some wanted) = record {
-  most_bytes = max b.most_bytes (min (buffers_bytes wanted.log_n wanted.r wanted.p) (2 ^ 64 - 1));
-  most_work = max b.most_work (min (work wanted.log_n wanted.r wanted.p) (2 ^ 64 - 1));
+limits_of b (Some wanted) = record (admitting (record { most_bytes = b.most_bytes; most_work = b.most_work; least_key_len = 0 }) wanted) {
   least_key_len = unwrap_or b.least_key_len 0;
 }

@@ -132,9 +132,7 @@ fn verify_within<M: Mixer>(
         cores.old cores.new }
 {
     if let Some(limits) = limits {
-        if let Err(refused) = hash.buffer_lens_within(&limits) {
-            return Err(refused);
-        }
+        hash.within(&limits)?;
     }
     match hash.verify_counted::<M>(alloc, password, cores) {
         Ok(()) => Ok(()),

@@ -4,7 +4,7 @@ ghost use Rattle.std.specs.Prelude.{◌≡◌};
 ghost use Rattle.scrypt_commands.specs.LimitOptions.{limits_of, usual, with_number};
 
 use crate::decimals::parse_len;
-use scrypt::{BufferLens, Limits, Params};
+use scrypt::{Limits, Params};
 
 /// What a stored hash may need.
 #[derive(Clone, Copy)]
@@ -58,21 +58,20 @@ impl LimitOptions {
     pub fn limits(self, wanted: Option<Params>) -> Limits
         ensures value { result ≡ limits_of self wanted }
     {
-        let Some(params) = wanted else {
-            return Limits {
-                most_bytes: self.most_bytes,
-                most_work: self.most_work,
-                least_key_len: self.least_key_len.unwrap_or(Limits::USUAL.least_key_len),
-            };
+        let named = Limits {
+            most_bytes: self.most_bytes,
+            most_work: self.most_work,
+            least_key_len: 0,
         };
-        let bytes = BufferLens::of(&params).bytes();
-        let work = params.work();
-        Limits {
-            most_bytes: self
-                .most_bytes
-                .max(bytes.min(u128::from(u64::MAX)) as usize),
-            most_work: self.most_work.max(work.min(u128::from(u64::MAX)) as u64),
-            least_key_len: self.least_key_len.unwrap_or(0),
+        match wanted {
+            Some(params) => Limits {
+                least_key_len: self.least_key_len.unwrap_or(0),
+                ..named.admitting(&params)
+            },
+            None => Limits {
+                least_key_len: self.least_key_len.unwrap_or(Limits::USUAL.least_key_len),
+                ..named
+            },
         }
     }
 }

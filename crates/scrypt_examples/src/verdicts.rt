@@ -108,8 +108,10 @@ fn lens_for_both(one: BufferLens, other: BufferLens) -> BufferLens
 fn lens_within(hash: &password_hash::Result<StoredHash<'_>>, limits: &Limits) -> BufferLens
     ensures { AreEnoughFor result (within limits.now (with_refusal hash.now and_then reading)) }
 {
+    parameters_are_those_of_the_reading();
     if let Ok(hash) = hash
-        && let Ok(lens) = hash.buffer_lens_within(limits)
+        && let Ok(hash) = hash.within(limits)
+        && let Ok(lens) = hash.buffer_lens()
     {
         return lens;
     }

@@ -1,9 +1,8 @@
-// Verifying with stored hashes of either format within limits.
+// Limits on stored hashes of either format.
 
-ghost use Rattle.std.specs.Prelude.{◌≡◌, length};
+ghost use Rattle.std.specs.Prelude.{◌≡◌, Err, IfErr, IfOk};
 ghost use Rattle.password_hash.specs.Refusal.{TooCostly};
 ghost use Rattle.scrypt.specs.Limits.{buffers_bytes, work};
-ghost use Rattle.scrypt.specs.Cost.{chunks_bytes, scratch_words, table_words};
 ghost use Rattle.scrypt.specs.Reading.{mapped, with_refusal};
 ghost use Rattle.scrypt.specs.StoredHash.{reading};
 ghost use Rattle.scrypt.specs.StoredParts.{stored};
@@ -13,34 +12,32 @@ ghost use Rattle.scrypt.specs.Workspace.{IsLeft, verdict_in, workspace_of};
 use super::StoredHash;
 use crate::errors::LimitedError;
 use crate::stored_parts::StoredParts;
-use crate::verifying::verify_in_buffers;
 use crate::{BufferLens, CoreCount, Limits, Mixer, Params};
 
 impl<'a> StoredHash<'a> {
-    /// Returns the lengths of the buffers for [`StoredHash::verify_within`]: what verifying needs,
-    /// before anything is allocated for it. Does not allocate.
+    /// Returns this hash if no call on it needs more memory or work than `limits` allow and its key is long enough. Does
+    /// not allocate.
     ///
     /// Returns the first of these errors: those of [`StoredHash::verify`] for a hash that cannot be
     /// read, `PasswordInvalid` for one without a salt or a key among them; `TooCostly` if its
     /// parameters exceed the limit on memory or the limit on work; and `KeyTooShort` if its key is shorter than
     /// the limits allow.
-    pub fn buffer_lens_within(&self, limits: &Limits) -> Result<BufferLens, LimitedError>
-        ensures value { with_limited_refusal result ≡ mapped (λ s. record {
-          chunks = chunks_bytes s.params.r s.params.p;
-          table = table_words s.params.log_n s.params.r;
-          scratch = scratch_words s.params.r;
-        }) (within limits.now (reading self.now)) }
+    pub fn within(&self, limits: &Limits) -> Result<&StoredHash<'a>, LimitedError>
+        ensures value { mapped (λ hash. hash.now) (with_limited_refusal result)
+            ≡ mapped (λ _. self.now) (within limits.now (reading self.now)) }
+        ensures same { IfOk result (λ _. within limits.now (reading self.now) ≡ reading self.now) }
+        ensures err { IfErr result (λ e. within limits.now (reading self.now) ≡ Err (limited_refusal e)) }
     {
-        match self.params_and_key_len_within(limits) {
-            Ok((params, _)) => Ok(BufferLens::of(&params)),
+        match self.parts_within(limits) {
+            Ok(_) => Ok(self),
             Err(error) => Err(error),
         }
     }
 
-    /// Verifies `password` as [`StoredHash::verify_with_buffers`] does, if the parameters of the
-    /// hash need no more than `limits` allow and its key is long enough. Does not allocate.
+    /// Verifies `password` as [`StoredHash::verify_with_buffers`] does, if the hash is within the limits. Does not
+    /// allocate.
     ///
-    /// Returns the errors of [`StoredHash::buffer_lens_within`], in the same order and however long
+    /// Returns the errors of [`StoredHash::within`], in the same order and however long
     /// the buffers are, and then those of [`StoredHash::verify_with_buffers`]. On an error of the
     /// first kind no core is run, and the buffers and the count are unchanged.
     pub fn verify_within<W: Mixer>(
@@ -57,27 +54,10 @@ impl<'a> StoredHash<'a> {
         ensures left { IsLeft (within limits.now (reading self.now))
             (workspace_of chunks.old table.old scratch.old cores.old) (workspace_of chunks.new table.new scratch.new cores.new) }
     {
-        match self.parts_within(limits) {
-            Ok(parts) => limited(verify_in_buffers::<W>(
-                password, parts, chunks, table, scratch, cores,
+        match self.within(limits) {
+            Ok(hash) => limited(hash.verify_with_buffers::<W>(
+                password, chunks, table, scratch, cores,
             )),
-            Err(error) => Err(error),
-        }
-    }
-
-    /// Returns `log_n`, `r` and `p` of a hash that is within the limits, with no length, and the length of
-    /// its key in bytes. Does not allocate.
-    ///
-    /// Returns the same errors as [`StoredHash::buffer_lens_within`].
-    pub fn params_and_key_len_within(
-        &self,
-        limits: &Limits,
-    ) -> Result<(Params, usize), LimitedError>
-        ensures value { with_limited_refusal result
-            ≡ mapped (λ s. (s.params, length s.key)) (within limits.now (reading self.now)) }
-    {
-        match self.parts_within(limits) {
-            Ok(parts) => Ok((parts.params, parts.key_len)),
             Err(error) => Err(error),
         }
     }
