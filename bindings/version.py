@@ -18,8 +18,7 @@ PLACES = [
     ("bindings/python/scrypt_c/__init__.py", r'(^__version__ = ")([^"]*)(")'),
     ("bindings/js/package.json", r'(^  "version": ")([^"]*)(")'),
     ("bindings/rust/Cargo.toml", r'(^version = ")([^"]*)(")'),
-    ("crates/scrypt_commands/src/usage.rt", r'(^const VERSION: &str = "scrypt_tool )([^"\\]*)(\\n")'),
-    ("crates/scrypt_commands/specs/Information.antt", r'(^version_text = codes "scrypt_tool )([^"\\]*)(\\n")'),
+    ("crates/scrypt_commands/src/usage.rt", r'(^pub const VERSION: &str = "scrypt_tool )([^"\\]*)(\\n")'),
 ]
 
 

@@ -33,7 +33,7 @@ FACTS = [
         examples/login_service/README.md"""),
     ("the default limit on work", "crates/scrypt/src/limits.rt", r"Limits::USUAL\.most_work == (\d+)", ("{}",), """
         bindings/c/scrypt_c.h bindings/js/index.d.ts bindings/python/tests/test_refused.py bindings/rust/src/bounds.rs
-        ci/program.py crates/scrypt_commands/specs/Information.antt crates/scrypt_commands/src/usage.rt docs/scrypt_tool.1"""),
+        ci/program.py crates/scrypt_commands/src/usage.rt docs/scrypt_tool.1"""),
     ("the greatest length of a key", "bindings/c/scrypt_c.h", r"SCRYPT_MAX_OUTPUT_LEN UINT64_C\((\d+)\)", ("{}",), """
         README.md bindings/c/test_words.c bindings/go/key_test.go bindings/python/scrypt_c/errors.py bindings/python/tests/test_refused.py
         bindings/rust/src/errors.rs bindings/rust/src/hasher.rs bindings/rust/src/lib.rs bindings/rust/tests/keys.rs ci/program.py

@@ -4,7 +4,6 @@
 -- what a stored hash may need, and how short its key may be
 pub mod LimitOptions
 -- what the program prints about itself
-pub mod Information
 -- the options before a command
 pub mod Options
 -- why a run ends without an answer: statuses and lines

@@ -5,8 +5,8 @@ use Rattle.std.specs.Global.{Global}
 use Rattle.std.specs.List.{after_first, before_first, ends_with, position_or_len}
 use Rattle.std.specs.Option.{option_map_or}
 use Rattle.scrypt_commands.specs.LimitOptions.{usual, with_number}
-use Rattle.scrypt_commands.specs.Information.{help_text, version_text}
 use Rattle.scrypt_commands.specs.declared.limit_options.LimitOptions.{LimitOptions}
+use Rattle.scrypt_commands.specs.declared.usage.TheConstants.{HELP, VERSION}
 
 -- the texts of words
 abbrev pub texts_of : List (String Global) → List (List ℕ)
@@ -55,9 +55,9 @@ with_option o word =
     else if bytes_eq word (codes "--recommended") then Some (record o { is_recommended = true; draws_salt = true })
     else if bytes_eq word (codes "--strip-newline") then Some (record o { strips_newline = true })
     else if bytes_eq word (codes "--raw") then Some (record o { is_raw = true })
-    else if bytes_eq word (codes "--help") then Some (record o { information = Some help_text })
-    else if bytes_eq word (codes "-h") then Some (record o { information = Some help_text })
-    else if bytes_eq word (codes "--version") then Some (record o { information = Some version_text })
+    else if bytes_eq word (codes "--help") then Some (record o { information = Some HELP.now })
+    else if bytes_eq word (codes "-h") then Some (record o { information = Some HELP.now })
+    else if bytes_eq word (codes "--version") then Some (record o { information = Some VERSION.now })
     else with_value o word
 
 -- the options that come first, and the words after them

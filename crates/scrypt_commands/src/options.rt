@@ -8,7 +8,7 @@ ghost use Rattle.scrypt_commands.specs.Options.{options_of, password_of, texts_o
 use crate::command_name::Name;
 use crate::error::CliError;
 use crate::limit_options::LimitOptions;
-use crate::usage::{help, version};
+use crate::usage::{HELP, VERSION};
 
 /// The options before a command.
 #[derive(Clone, Copy)]
@@ -74,8 +74,8 @@ impl<'a> Options<'a> {
             }
             "--strip-newline" => options.strips_newline = true,
             "--raw" => options.is_raw = true,
-            "--help" | "-h" => options.information = Some(help()),
-            "--version" => options.information = Some(version()),
+            "--help" | "-h" => options.information = Some(HELP),
+            "--version" => options.information = Some(VERSION),
             _ => return self.with_value(word),
         }
         Some(options)

@@ -1,31 +1,14 @@
 // What the program prints about itself.
 
-ghost use Rattle.std.specs.Prelude.{◌≡◌};
-ghost use Rattle.scrypt_commands.specs.Information.{help_text, version_text};
-
 /// The line for words that are no command.
 pub const USAGE: &[u8] =
     b"usage: key LOG_N R P LEN SALT_HEX | hash phc|mcf LOG_N R P SALT_HEX [LEN] | verify HASH | rehash phc|mcf LOG_N R P LEN SALT_HEX HASH\n";
 
 /// What `--version` prints.
-#[tactic(auto, unfolding(crate::specs::Information::version_text))]
-pub fn version() -> &'static str
-    ensures value { result.now ≡ version_text }
-{
-    VERSION
-}
+pub const VERSION: &str = "scrypt_tool 0.12.0+proved.1\n";
 
 /// What `--help` prints.
-#[tactic(auto, unfolding(crate::specs::Information::help_text))]
-pub fn help() -> &'static str
-    ensures value { result.now ≡ help_text }
-{
-    HELP
-}
-
-const VERSION: &str = "scrypt_tool 0.12.0+proved.1\n";
-
-const HELP: &str = "\
+pub const HELP: &str = "\
 scrypt_tool: scrypt keys (RFC 7914) and password hashes\n\
 \n\
 usage: scrypt_tool [OPTION..] COMMAND ..\n\
