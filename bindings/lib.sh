@@ -20,7 +20,7 @@ soname=libscrypt_c.so.0
 shared=libscrypt_c.so.${version%%+*}
 newer=glibc-hwcaps/$newest/$soname
 # What is written in C over the proved calls.
-over="calls key salt hasher queue line lock tables groups processors calibrate"
+over="calls salt hasher queue line lock tables groups processors calibrate"
 
 if [ "${1:-}" != built ]; then
   if [ -n "$is_kits" ]; then

@@ -1,5 +1,5 @@
 /* The functions of the C library that the proved calls use, under the names that lib.sh gives them: not proved. Memory
- * that they allocated is overwritten before it is freed.
+ * that they allocated is overwritten before it is freed, or given back to the system, which wipes it.
  *
  * This file is compiled with -fno-plt, so that these functions are bound when a program is loaded. Otherwise a program
  * that is linked with the static library may bind one at its first call, and the dynamic linker then saves registers to
@@ -12,18 +12,30 @@
 #include <stdlib.h>
 #include <string.h>
 
-/* From this size on the pages of a block are given back to the system, which is faster than to overwrite them. The
- * usual malloc has such a block mapped, and free unmaps it. */
-#define LARGE ((size_t)32 << 20)
+#define MOST_POPULATED ((size_t)129 << 20) /* the tables of scrypt_key, if there are several */
 #define CACHE_LINE ((size_t)64)
 
-/* Before a block, in malloc's: where malloc's begins, and how long the block is. malloc_usable_size isn't asked: a program
- * may have a malloc of its own, of whose blocks it knows nothing. */
+/* Before a block, in malloc's or in the mapping: where that begins, and how long the block is. malloc_usable_size isn't asked:
+ * a program may have a malloc of its own, of whose blocks it knows nothing. */
 struct head {
   void *start;
   size_t len;
 };
 static struct head *head_of(void *block) { return (struct head *)block - 1; }
+
+/* After a mapped block: 1, or 0 in a child that was forked meanwhile. */
+static uint64_t *mark_of(void *block, size_t len) {
+  return (uint64_t *)block + (len + sizeof(uint64_t) - 1) / sizeof(uint64_t);
+}
+
+/* What is mapped beside the block: a page for the head, which a child has too, what is left out before a huge page, and the mark. */
+#define BESIDE (LARGEST_PAGE + HUGE_PAGE + 2 * sizeof(uint64_t))
+
+static size_t lost;
+size_t lost_blocks(void) { return __atomic_load_n(&lost, __ATOMIC_RELAXED); }
+
+static int calls_with_long_text;
+void long_text(int more) { (void)__atomic_add_fetch(&calls_with_long_text, more, __ATOMIC_RELAXED); }
 
 /* Writes zeros, in a way that the compiler may not optimize away. Whole cache lines are written through the cache, where the
  * next call finds them: memset takes a third longer for the table of (14, 8, 1). */
@@ -43,36 +55,6 @@ static void overwrite(uint8_t *block, size_t len) {
   __asm__ volatile("" ::"r"(block) : "memory");
 }
 
-static int is_zero(const uint8_t *line) {
-  const volatile uint8_t *it;
-  for (it = line; it < line + CACHE_LINE; it++)
-    if (*it != 0) return 0;
-  return 1;
-}
-
-/* Whether pages were dropped: those of shared memory, which some mallocs hand out, are not. Looks at a line of each 2 MiB and
- * at the last one, because a look at each page takes as long as to overwrite it. No line of a table is zero. */
-static int are_dropped(const uint8_t *pages, size_t len) {
-  size_t at;
-  for (at = 0; at < len; at += HUGE_PAGE)
-    if (!is_zero(pages + at)) return 0;
-  return is_zero(pages + len - CACHE_LINE);
-}
-
-/* Returns whole pages to the system, and overwrites the rest; or overwrites all. */
-static void clear_block(uint8_t *block, size_t len) {
-  size_t front = (LARGEST_PAGE - (uintptr_t)block % LARGEST_PAGE) % LARGEST_PAGE;
-  if (len >= LARGE) {
-    size_t pages = (len - front) / LARGEST_PAGE * LARGEST_PAGE;
-    if (madvise(block + front, pages, MADV_DONTNEED) == 0 && are_dropped(block + front, pages)) {
-      overwrite(block, front);
-      block += front + pages;
-      len -= front + pages;
-    }
-  }
-  overwrite(block, len);
-}
-
 void clearing_free(void *block);
 void *clearing_malloc(size_t len);
 void *clearing_realloc(void *block, size_t len);
@@ -81,26 +63,66 @@ void *clearing_memmove(void *to, const void *from, size_t len);
 void *clearing_memset(void *to, int byte, size_t len);
 
 void clearing_free(void *block) {
+  struct head is;
   if (block == NULL) return;
-  clear_block(block, head_of(block)->len);
-  clear_registers(); /* those that the dynamic linker would save, if it binds what free calls */
-  free(head_of(block)->start);
+  is = *head_of(block);
+  clear_registers(); /* those that the dynamic linker would save, if it binds what is called here */
+  if (is.len >= LARGE) {
+    if (*mark_of(block, is.len) == 0) (void)__atomic_add_fetch(&lost, 1, __ATOMIC_RELAXED);
+    if (munmap(is.start, is.len + BESIDE) != 0) overwrite((uint8_t *)block, is.len);
+    return;
+  }
+  overwrite((uint8_t *)block, is.len);
+  clear_registers();
+  free(is.start);
 }
 
-/* A block begins at a cache line, and a large one at a huge page, for which it asks: rows are read in random order. Its
- * memory is malloc's, which reuses it; to map it for each call takes longer if the system has no huge pages. Nothing is
- * touched before it is used. */
-void *clearing_malloc(size_t len) {
-  size_t unit = len < 2 * HUGE_PAGE ? CACHE_LINE : HUGE_PAGE, more = sizeof(struct head) + unit - 1;
-  uint8_t *start, *block;
-  clear_registers();
-  start = len > SIZE_MAX - more ? NULL : malloc(len + more);
-  if (start == NULL) return NULL;
-  block = start + more - ((uintptr_t)start + more) % unit;
+static uint8_t *with_head(uint8_t *block, uint8_t *start, size_t len) {
   head_of(block)->start = start;
   head_of(block)->len = len;
-  if (unit == HUGE_PAGE) ask_for_huge_pages(block, len / HUGE_PAGE * HUGE_PAGE);
+  if (len >= 2 * HUGE_PAGE) ask_for_huge_pages(block, len / HUGE_PAGE * HUGE_PAGE);
   return block;
+}
+
+/* Whether the first page, to which this writes, is a huge one: then its end is in memory too. */
+static int is_huge(uint8_t *block) {
+  unsigned char is_there = 0;
+  *(volatile uint8_t *)block = 0;
+  return mincore(block + HUGE_PAGE - LARGEST_PAGE, 1, &is_there) == 0 && (is_there & 1) != 0;
+}
+
+static void *map_block(size_t len) {
+  uint8_t *start, *block;
+  if (len > SIZE_MAX - BESIDE) return NULL;
+  start = (uint8_t *)mmap(NULL, len + BESIDE, PROT_READ | PROT_WRITE, MAP_PRIVATE | MAP_ANONYMOUS, -1, 0);
+  if (start == MAP_FAILED) return NULL;
+  block = start + LARGEST_PAGE;
+  block += (HUGE_PAGE - (uintptr_t)block % HUGE_PAGE) % HUGE_PAGE;
+#ifdef MADV_WIPEONFORK
+  /* Refused by Linux before 4.14: there the child has a copy. */
+  if (__atomic_load_n(&calls_with_long_text, __ATOMIC_RELAXED) == 0)
+    (void)madvise(block, (size_t)((uint8_t *)(mark_of(block, len) + 1) - block), MADV_WIPEONFORK);
+#endif
+  *mark_of(block, len) = 1;
+  with_head(block, start, len);
+#ifdef MADV_POPULATE_WRITE
+  /* All at once, which saves time if pages are small, and takes more if they are huge. */
+  if (len <= MOST_POPULATED && !is_huge(block)) (void)madvise(block, len, MADV_POPULATE_WRITE);
+#endif
+  return block;
+}
+
+/* A block begins at a cache line, and a large one at a huge page, for which it asks: rows are read in random order. The
+ * memory of one below 32 MiB is malloc's, which reuses it; to map it for each call takes longer if the system has no huge
+ * pages. Nothing of a block above 129 MiB is touched before it is used: the next one may be refused. */
+void *clearing_malloc(size_t len) {
+  size_t unit = len < 2 * HUGE_PAGE ? CACHE_LINE : HUGE_PAGE, more = sizeof(struct head) + unit - 1;
+  uint8_t *start;
+  clear_registers();
+  if (len >= LARGE) return map_block(len);
+  start = (uint8_t *)malloc(len + more);
+  if (start == NULL) return NULL;
+  return with_head(start + more - ((uintptr_t)start + more) % unit, start, len);
 }
 
 /* Never has to grow a table, which is allocated at its full size. */

@@ -34,6 +34,21 @@ int scrypt_buffer_lens(uint32_t log_n, uint32_t r, uint32_t p, uint8_t s, size_t
   return cleared_scrypt_buffer_lens(in_8_bits(log_n), r, p, s, chunks, table, scratch);
 }
 
+/* For several tables: what four of 32 MiB take, with scratch and chunks. */
+#define MOST_OF_SEVERAL ((size_t)129 << 20)
+
+int scrypt_key(INPUTS, OUTPUT) {
+  TAKE_OUTPUT;
+  TAKE_INPUTS;
+  return cleared_scrypt_kdf(THE_INPUTS, most_at_once(), MOST_OF_SEVERAL, THE_OUTPUT);
+}
+
+int scrypt_key_within(INPUTS, size_t most_bytes, uint64_t most_work, OUTPUT) {
+  TAKE_OUTPUT;
+  TAKE_INPUTS;
+  return cleared_scrypt_kdf_within(THE_INPUTS, most_at_once(), most_bytes, most_work, THE_OUTPUT);
+}
+
 int scrypt_key_with_buffers(INPUTS, OUTPUT, BUFFERS) {
   TAKE_OUTPUT;
   TAKE_INPUTS;
@@ -73,6 +88,12 @@ int scrypt_verify(STORED) {
   TAKE(password);
   TAKE(text);
   return cleared_scrypt_verify(THE_STORED);
+}
+
+int scrypt_verify_within(STORED, size_t most_bytes, uint64_t most_work, size_t least_key_len) {
+  TAKE(password);
+  TAKE(text);
+  return cleared_scrypt_verify_within(THE_STORED, most_bytes, most_work, least_key_len);
 }
 
 int scrypt_verify_with_buffers(STORED, BUFFERS) {

@@ -36,6 +36,7 @@ static int params_need(void) {
 }
 
 static int of_key(void) { return scrypt_key(PASSWORD, SALT, PARAMS, key, KEY_LEN); }
+static int key_within(void) { return scrypt_key_within(PASSWORD, SALT, PARAMS, SIZE_MAX, UINT64_MAX, key, KEY_LEN); }
 
 static int key_with_buffers(void) {
   int status = scrypt_key_with_buffers(PASSWORD, SALT, PARAMS, key, KEY_LEN, BUFFERS);
@@ -57,8 +58,25 @@ static int hash_new(void) {
   return scrypt_hash_new(PASSWORD, text, sizeof text);
 }
 
-static int hash_phc(void) { return scrypt_hash_phc(PASSWORD, SALT, PARAMS, KEY_LEN, phc, sizeof phc); }
-static int hash_mcf(void) { return scrypt_hash_mcf(PASSWORD, SALT, PARAMS, KEY_LEN, mcf, sizeof mcf); }
+/* A register that no call has to keep, just after the calls that make a hash. */
+static uint64_t rcx_after;
+#ifdef __x86_64__
+#define KEEP_RCX __asm__ volatile("mov %%rcx, %0" : "=m"(rcx_after))
+#else
+#define KEEP_RCX (void)rcx_after
+#endif
+
+static int hash_phc(void) {
+  int status = scrypt_hash_phc(PASSWORD, SALT, PARAMS, KEY_LEN, phc, sizeof phc);
+  KEEP_RCX;
+  return status;
+}
+
+static int hash_mcf(void) {
+  int status = scrypt_hash_mcf(PASSWORD, SALT, PARAMS, KEY_LEN, mcf, sizeof mcf);
+  KEEP_RCX;
+  return status;
+}
 
 static int hash_that_does_not_fit(void) {
   char letters[2];
@@ -67,6 +85,7 @@ static int hash_that_does_not_fit(void) {
 
 static int verify_phc(void) { return scrypt_verify(PASSWORD, phc, strlen(phc)); }
 static int verify_mcf(void) { return scrypt_verify(PASSWORD, mcf, strlen(mcf)); }
+static int verify_within(void) { return scrypt_verify_within(PASSWORD, phc, strlen(phc), SIZE_MAX, UINT64_MAX, 0); }
 
 static int verify_another_password(void) {
   return scrypt_verify(the->password, the->password_len - 1, phc, strlen(phc)) == SCRYPT_MISMATCH ? SCRYPT_OK : -1;
@@ -182,6 +201,7 @@ static const struct {
 } CALLS[] = {
     {"scrypt_key", of_key, NULL},
     {"scrypt_key again, in memory that malloc kept", of_key, NULL},
+    {"scrypt_key_within", key_within, NULL},
     {"scrypt_key_with_buffers", key_with_buffers, NULL},
     {"scrypt_key_thin", key_thin, NULL},
     {"scrypt_hash_new", hash_new, NULL},
@@ -193,6 +213,7 @@ static const struct {
     {"scrypt_verify of a PHC text", verify_phc, NULL},
     {"scrypt_verify of a $7$ text", verify_mcf, NULL},
     {"scrypt_verify of another password", verify_another_password, NULL},
+    {"scrypt_verify_within", verify_within, NULL},
     {"scrypt_verify_with_buffers", verify_with_buffers, NULL},
     {"scrypt_verify_group_with_buffers", verify_group_with_buffers, NULL},
     {"scrypt_needs_rehash", needs_rehash, NULL},

@@ -39,7 +39,8 @@ def paragraphs(part):
 
 
 def page(name, version, *sections):
-    parts = [f'.TH {name.upper()} 3 "" "scrypt_c {version}"']
+    # Without hyphens in words: a name that is broken is not found.
+    parts = [f'.TH {name.upper()} 3 "" "scrypt_c {version}"\n.nh']
     parts += [f".SH {heading}\n{text}" for heading, text in sections]
     return "\n".join(parts) + "\n"
 

@@ -1,6 +1,9 @@
 /* The proved calls, each as PROVED_CALL(name, parameters, arguments) if it returns a status, and else as PROVED_PROCEDURE,
  * which whoever includes this list defines: clearing.c calls them and clears after them, stack_lens.c measures them, and
- * dispatch.c chooses. */
+ * dispatch.c chooses. PROVED_TEXT_CALL is a call that allocates a text, which is longer than the caller's salt. */
+#ifndef PROVED_TEXT_CALL
+#define PROVED_TEXT_CALL PROVED_CALL
+#endif
 
 #define INPUTS                                                                                                         \
   const uint8_t *password, size_t password_len, const uint8_t *salt, size_t salt_len, uint8_t log_n, uint32_t r, uint32_t p
@@ -15,14 +18,18 @@
   uint8_t *chunks, size_t chunks_len, uint32_t *table, size_t table_len, uint32_t *scratch, size_t scratch_len
 #define THE_BUFFERS chunks, chunks_len, table, table_len, scratch, scratch_len
 
-PROVED_CALL(scrypt_kdf, (INPUTS, OUTPUT), (THE_INPUTS, THE_OUTPUT))
+PROVED_CALL(scrypt_kdf, (INPUTS, size_t most_tables, size_t most_bytes, OUTPUT), (THE_INPUTS, most_tables, most_bytes, THE_OUTPUT))
+PROVED_CALL(scrypt_kdf_within, (INPUTS, size_t most_tables, size_t most_bytes, uint64_t most_work, OUTPUT),
+            (THE_INPUTS, most_tables, most_bytes, most_work, THE_OUTPUT))
 PROVED_CALL(scrypt_kdf_with_buffers, (INPUTS, OUTPUT, BUFFERS), (THE_INPUTS, THE_OUTPUT, THE_BUFFERS))
 PROVED_CALL(scrypt_kdf_thin, (INPUTS, uint8_t s, OUTPUT, BUFFERS), (THE_INPUTS, s, THE_OUTPUT, THE_BUFFERS))
 PROVED_CALL(scrypt_hash_phc, (INPUTS, NEW_TEXT), (THE_INPUTS, THE_NEW_TEXT))
-PROVED_CALL(scrypt_hash_mcf, (INPUTS, NEW_TEXT), (THE_INPUTS, THE_NEW_TEXT))
+PROVED_TEXT_CALL(scrypt_hash_mcf, (INPUTS, NEW_TEXT), (THE_INPUTS, THE_NEW_TEXT))
 PROVED_CALL(scrypt_hash_phc_with_buffers, (INPUTS, NEW_TEXT, BUFFERS), (THE_INPUTS, THE_NEW_TEXT, THE_BUFFERS))
 PROVED_CALL(scrypt_hash_mcf_with_buffers, (INPUTS, NEW_TEXT, BUFFERS), (THE_INPUTS, THE_NEW_TEXT, THE_BUFFERS))
 PROVED_CALL(scrypt_verify, (STORED), (THE_STORED))
+PROVED_CALL(scrypt_verify_within, (STORED, size_t most_bytes, uint64_t most_work, size_t least_key_len),
+            (THE_STORED, most_bytes, most_work, least_key_len))
 PROVED_CALL(scrypt_verify_with_buffers, (STORED, BUFFERS), (THE_STORED, THE_BUFFERS))
 #define ANOTHER(n) const uint8_t *password_##n, size_t password_##n##_len, const char *text_##n, size_t text_##n##_len
 #define THE_OTHER(n) password_##n, password_##n##_len, text_##n, text_##n##_len

@@ -2,13 +2,14 @@
  *
  *   what you need                                    call                                     proved
  *   ----------------------------------------------   --------------------------------------   ------
- *   a key                                            scrypt_key                               no
+ *   a key; the same within bounds                    scrypt_key; scrypt_key_within            yes
  *   a key with no allocation, in your own buffers    scrypt_key_with_buffers                  yes
  *   a key on a small device, with a smaller table    scrypt_key_thin                          yes
  *   the lengths of buffers; wiping them              scrypt_buffer_lens; scrypt_wipe          yes
  *   a password hash to store                         scrypt_hash_new                          no
  *   the same with other parameters, or your salt     scrypt_hash_phc; scrypt_hash_mcf: $7$    yes
  *   to verify a password against a stored hash       scrypt_verify                            yes
+ *   the same within bounds, for a hash not your own  scrypt_verify_within                     yes
  *   to verify with no allocation, in your buffers    scrypt_verify_with_buffers               yes
  *   up to four verifications at once                 scrypt_verify_group_with_buffers         yes
  *   whether a stored hash is too weak now            scrypt_needs_rehash                      yes
@@ -18,8 +19,9 @@
  *   a salt for a new key or hash                     scrypt_draw_salt                         no
  *   the version of the library                       scrypt_version                           no
  *
- * A call that is marked yes is a proved function, and a few lines of C that check for NULL and for N in place of log_n, and
- * terminate the text. The others are written in C over them. All C is tested. Parameters are accepted if r > 0, p > 0,
+ * A call that is marked yes is a proved function, and a few lines of C that check for NULL and for N in place of log_n,
+ * terminate the text, clear what the function leaves in memory, and call it again where a fork in the middle has lost that
+ * memory. The others are written in C over them. All C is tested. Parameters are accepted if r > 0, p > 0,
  * 128 * r * 2^log_n < 2^64 and r * p < 2^30. log_n is the logarithm of N: N in its place is refused from 64 on.
  *
  * Lengths are in bytes unless words are named; a word has 4 bytes. A password, a salt, a text or an output may be NULL with
@@ -109,11 +111,19 @@ enum scrypt_status {
 /* ---- Keys ---- */
 
 /* Writes the scrypt key of password and salt, output_len bytes long, to output. With p of 2 or more several chunks are mixed
- * at a time, in up to four tables of together at most 128 MiB; if the system refuses that much memory, in fewer.
+ * at a time, in up to four tables, if all buffers have at most 129 MiB together; if the system refuses that, in one.
  * SCRYPT_NULL_POINTER, SCRYPT_INVALID_PARAMS, SCRYPT_INVALID_OUTPUT_LEN, SCRYPT_OUT_OF_MEMORY. */
 SCRYPT_CHECKED
 int scrypt_key(const void *password, size_t password_len, const void *salt, size_t salt_len, uint32_t log_n, uint32_t r,
                uint32_t p, uint8_t *output, size_t output_len);
+
+/* The same, if the parameters are within the bounds: SCRYPT_TOO_COSTLY if the buffers with one table have more than most_bytes
+ * bytes together, or if the work, 4 * (2^log_n + 32) * r * p, is above most_work. With p of 2 or more there are up to four
+ * tables, if all buffers have at most most_bytes bytes together.
+ * SCRYPT_NULL_POINTER, SCRYPT_INVALID_PARAMS, SCRYPT_TOO_COSTLY, SCRYPT_INVALID_OUTPUT_LEN, SCRYPT_OUT_OF_MEMORY. */
+SCRYPT_CHECKED
+int scrypt_key_within(const void *password, size_t password_len, const void *salt, size_t salt_len, uint32_t log_n, uint32_t r,
+                      uint32_t p, size_t most_bytes, uint64_t most_work, uint8_t *output, size_t output_len);
 
 /* Writes the lengths of the buffers: of chunks in bytes, of table and scratch in words. With s = 0 they are the least
  * that scrypt_key_with_buffers accepts; with any s up to log_n they are exactly those of scrypt_key_thin with this s.
@@ -195,8 +205,8 @@ int scrypt_hash_mcf_with_buffers(const void *password, size_t password_len, cons
 /* Verifies a password against the text of a hash: SCRYPT_OK if its key is that of the hash, SCRYPT_MISMATCH if it is not,
  * or if the hash has no salt or no key.
  * A text that is $7 or begins with $7$ is read as a $7$ text, and any other as a PHC text.
- * The hash sets the parameters, and may need much memory and time: if it is not your own, call scrypt_hash_needs first,
- * or scrypt_hasher_verify instead.
+ * The hash sets the parameters, and may need much memory and time: if it is not your own, call scrypt_verify_within or
+ * scrypt_hasher_verify instead.
  * For a PHC text: SCRYPT_ENCODING_INVALID, SCRYPT_ALGORITHM, SCRYPT_VERSION; SCRYPT_HASH_PARAM_INVALID or
  * SCRYPT_HASH_PARAMS_INVALID, for the first parameter that is refused; SCRYPT_HASH_PARAMS_INVALID if the parameters are
  * not accepted; SCRYPT_MISMATCH without a salt or a key. For a $7$ text: SCRYPT_ENCODING_INVALID if its first field
@@ -205,8 +215,15 @@ int scrypt_hash_mcf_with_buffers(const void *password, size_t password_len, cons
 SCRYPT_CHECKED
 int scrypt_verify(const void *password, size_t password_len, const char *text, size_t text_len);
 
-/* The same, in the caller's buffers, each at least as long as scrypt_buffer_lens returns for s = 0 and the parameters of
- * the hash. What they hold before the call does not matter. If the keys were compared, the used parts of chunks and
+/* The same, if what scrypt_hash_needs returns for these bounds is SCRYPT_OK, and otherwise that: of a hash that is read,
+ * SCRYPT_TOO_COSTLY and then SCRYPT_KEY_TOO_SHORT, before anything is allocated. The default bounds of a hasher are
+ * SCRYPT_MOST_BYTES, SCRYPT_MOST_WORK and SCRYPT_LEAST_KEY_LEN. */
+SCRYPT_CHECKED
+int scrypt_verify_within(const void *password, size_t password_len, const char *text, size_t text_len, size_t most_bytes,
+                         uint64_t most_work, size_t least_key_len);
+
+/* Does what scrypt_verify does, in the caller's buffers, each at least as long as scrypt_buffer_lens returns for s = 0 and the
+ * parameters of the hash. What they hold before the call does not matter. If the keys were compared, the used parts of chunks and
  * scratch are zeros afterwards, that of the table is unspecified, and the rest is unchanged; otherwise all are unchanged.
  * If the table and the scratch are w times as long, up to w chunks are mixed at a time, and at most four. Nothing is
  * allocated: in place of SCRYPT_OUT_OF_MEMORY, SCRYPT_BUFFER_SIZE is returned if a buffer is too short. */

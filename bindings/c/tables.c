@@ -37,17 +37,6 @@ void *map_zeros_in_child(size_t size) {
 
 size_t table_bytes(const scrypt_needs *one) { return 4 * (one->table_len + one->scratch_len) + one->chunks_len; }
 
-#define MOST_OF_SEVERAL ((size_t)128 << 20)
-#define LEAST_OF_SEVERAL ((size_t)64 << 10)
-
-size_t tables_for_key(uint32_t log_n, uint32_t r, uint32_t p, scrypt_needs *needs) {
-  size_t most = p < most_at_once() ? p : most_at_once(), fit;
-  if (scrypt_params_need(log_n, r, p, SIZE_MAX, UINT64_MAX, needs) != SCRYPT_OK) return 1;
-  if (4 * needs->table_len < LEAST_OF_SEVERAL) return 1;
-  fit = MOST_OF_SEVERAL / 4 / needs->table_len;
-  return fit == 0 ? 1 : fit < most ? fit : most;
-}
-
 static int has_huge(const scrypt_needs *one) { return 4 * one->table_len >= HUGE_PAGE; }
 
 /* Nobody maps or unmaps while the system copies a process. So what is noted is mapped in a child too, since it is noted after

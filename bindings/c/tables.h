@@ -26,10 +26,6 @@ struct tables {
 /* The bytes of one derivation's buffers. They are within a bound, so that the sum doesn't overflow. */
 size_t table_bytes(const scrypt_needs *one);
 
-/* How many tables pay for one key with these parameters, and what each needs: as many as p, if they are not tiny and take at
- * most 128 MiB together; otherwise 1. Then the needs are not written if there are no such buffers. */
-size_t tables_for_key(uint32_t log_n, uint32_t r, uint32_t p, scrypt_needs *needs);
-
 /* Makes room for `most` tables with scratch and chunks, or for as many as the system allows, and returns how many: 0 if not
  * even one. What they held is lost. */
 size_t tables_room(struct tables *tables, const scrypt_needs *one, size_t most);

@@ -16,7 +16,9 @@
 #endif
 
 static int verify(const char *password, const char *text) {
-  return scrypt_verify(password, strlen(password), text, strlen(text));
+  int status = scrypt_verify(password, strlen(password), text, strlen(text));
+  check(scrypt_verify_within(password, strlen(password), text, strlen(text), SIZE_MAX, UINT64_MAX, 0) == status, "no bounds");
+  return status;
 }
 
 static int rehash(const char *text, uint32_t log_n) {

@@ -312,6 +312,16 @@ if has gcc gcc; then
   echo "called by a program with a malloc and functions of its own"
 fi
 
+# What calls allocate, and forks in the middle of calls.
+in_blocks() {
+  for test in test_blocks test_forked; do
+    gcc -std=gnu99 -O2 -Wall -Wextra -Werror -I"$lib" bindings/c/$test.c -o "$room/$test" "$1" -lpthread
+    "$room/$test"
+  done
+  echo "as many tables as pay, overwritten if they are not taken back; the same in a child of a signal handler: on $2"
+}
+if has gcc gcc; then each "$built" in_blocks; fi
+
 # What calls leave in memory. If what the kit built is here, each call without clearing.c has to leave something.
 if has gcc gcc; then
   python3 -B -m bindings.c.traces "$lib/libscrypt_c.so" > "$room/secrets"
@@ -335,7 +345,7 @@ if has gcc gcc; then
     echo "tcmalloc is not installed (package libgoogle-perftools-dev): not run"
   fi
   if command -v rt > /dev/null && [ -e crates/scrypt_c/out/libscrypt_c.a ]; then
-    sed -n 's/^PROVED_[A-Z]*(\([a-z_]*\),.*/\1/p' bindings/c/proved_calls.h > "$room/calls"
+    sed -n 's/^PROVED_[A-Z_]*(\([a-z_]*\),.*/\1/p' bindings/c/proved_calls.h > "$room/calls"
     sed 's/.*/& cleared_&/' "$room/calls" > "$room/renames"
     objcopy --redefine-syms="$room/renames" crates/scrypt_c/out/libscrypt_c.a "$room/proved.a"
     over=$(sed -n 's/^over="\(.*\)"/\1/p' bindings/lib.sh | sed 's|[a-z]\{1,\}|bindings/c/&.c|g')

@@ -92,11 +92,6 @@ static __thread int group_calls;
 #undef scrypt_verify_group_with_buffers
 #include "processors.c"
 #include "tables.c"
-#define scrypt_key key_in_tables
-#define key_in_buffers(...) (call_hook(&hook), (key_in_buffers)(__VA_ARGS__))
-#pragma weak cleared_scrypt_kdf /* for a key in one table, which the library hides */
-#include "key.c"
-#undef scrypt_key
 #define now now_seconds
 #include "calibrate.c"
 #undef now
@@ -106,16 +101,13 @@ static __thread int group_calls;
 #undef prctl
 #undef most_at_once
 
-/* What is given back is zeros, except for the queue, and the tables of scrypt_key, which the system wipes. */
-static int is_wiped_by_system, refuses_munmap;
-static size_t *refused;
+/* What is given back is zeros, except for the queue. */
 static int test_munmap(void *at, size_t size) {
   size_t words = size / sizeof(size_t);
   if (size != sizeof(struct queue)) read_slowly();
   if (size != sizeof(struct queue) && size > 1) call_hook(&munmap_hook); /* not where advice is tried */
-  if (refuses_munmap) return (void)(refused = (size_t *)at), errno = ENOMEM, -1;
   while (words > 0 && ((size_t *)at)[words - 1] == 0) words--;
-  expect(words == 0 || size == sizeof(struct queue) || is_wiped_by_system, "memory is given back that is not wiped");
+  expect(words == 0 || size == sizeof(struct queue), "memory is given back that is not wiped");
   (void)ADD(mapped, -size);
   return munmap(at, size);
 }

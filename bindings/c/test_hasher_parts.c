@@ -213,15 +213,6 @@ static void statuses_in_mid_call(void) {
   tables_free(&tables);
 }
 
-/* Several tables pay for one key if they are not tiny, and take at most 128 MiB. */
-static void tables_of_keys(void) {
-  static const struct { uint8_t log_n; uint32_t p; size_t count; } KEYS[] = {
-      {5, 4, 1}, {6, 4, 4}, {14, 1, 1}, {14, 3, 3}, {14, 9, 4}, {15, 4, 4}, {16, 4, 2}, {17, 4, 1}, {18, 1, 1}, {20, 4, 1}, {60, 4, 1}};
-  scrypt_needs needs;
-  for (size_t i = 0; i < sizeof KEYS / sizeof KEYS[0]; i++)
-    expect(tables_for_key(KEYS[i].log_n, 8, KEYS[i].p, &needs) == KEYS[i].count, "tables for (%d, 8, %u)", KEYS[i].log_n, KEYS[i].p);
-}
-
 /* Three pay on x86-64-v2 alone: a later level has the registers of x86-64-v3. */
 static void widths(void) {
 #ifdef __x86_64__
@@ -342,28 +333,6 @@ static void memory(void) {
   }
 }
 
-/* A key is derived again in a child that is forked meanwhile, where its tables are zeros. */
-static void key_forked(void) {
-  uint8_t key[32], right[32];
-  IS(scrypt_key("pw", 2, "salt", 4, 10, 8, 4, right, 32), SCRYPT_OK);
-  is_wiped_by_system = 1;
-  WRITE(hook, fork_in_handler);
-  IS(key_in_tables("pw", 2, "salt", 4, 10, 8, 4, key, 32), SCRYPT_OK);
-  expect(memcmp(key, right, 32) == 0 && READ(hook) == NULL, "another key");
-  is_wiped_by_system = 0;
-}
-
-/* The tables of a key that the system doesn't take back. */
-static void key_not_unmapped(void) {
-  uint8_t key[32];
-  size_t before = READ(mapped), size;
-  refuses_munmap = 1;
-  IS(key_in_tables("pw", 2, "salt", 4, 10, 8, 4, key, 32), SCRYPT_OK);
-  refuses_munmap = 0;
-  size = READ(mapped) - before;
-  IS(test_munmap(refused, size), 0);
-}
-
 static void calibrated(void) {
   uint32_t log_n = 0, r = 0, p = 0;
   IS(scrypt_calibrate(0.02, (size_t)64 << 20, NULL, &r, &p), SCRYPT_NULL_POINTER);
@@ -386,14 +355,11 @@ int main(void) {
 #ifndef __SANITIZE_THREAD__ /* which calls handlers later, also when the statuses are written */
   RUN(statuses_in_mid_call);
 #endif
-  RUN(tables_of_keys);
   RUN(widths);
   RUN(moments);
   RUN(many_waits);
   RUN(processors);
   RUN(memory);
-  RUN(key_forked);
-  RUN(key_not_unmapped);
   RUN(calibrated);
   return failed;
 }

@@ -29,6 +29,7 @@ static scrypt_hasher *hasher;
 #define OF(known) known, sizeof known - 1
 
 static int of_key(void) { return scrypt_key(SECRETS, PARAMS, key, 20); }
+static int key_within(void) { return scrypt_key_within(SECRETS, PARAMS, 5376, 1152, key, 20); }
 static int key_with_buffers(void) { return scrypt_key_with_buffers(SECRETS, PARAMS, key, 20, BUFFERS); }
 static int key_thin(void) {
   return scrypt_key_thin(SECRETS, PARAMS, 1, key, 20, chunks, 768, table, 512, scratch, 192);
@@ -38,6 +39,7 @@ static int phc_with_buffers(void) { return scrypt_hash_phc_with_buffers(SECRETS,
 static int mcf(void) { return scrypt_hash_mcf(SECRETS, PARAMS, 20, TEXT); }
 static int mcf_with_buffers(void) { return scrypt_hash_mcf_with_buffers(SECRETS, PARAMS, 20, TEXT, BUFFERS); }
 static int verify(void) { return scrypt_verify("pw", 2, OF(PHC)); }
+static int verify_within(void) { return scrypt_verify_within("pw", 2, OF(PHC), 5376, 1152, 20); }
 static int verify_with_buffers(void) { return scrypt_verify_with_buffers("pw", 2, OF(PHC), BUFFERS); }
 static int hasher_key(void) { return scrypt_hasher_key(hasher, SECRETS, key, 20, -1, NULL); }
 static int hasher_hash(void) { return scrypt_hasher_hash(hasher, SECRETS, text, sizeof text, -1, NULL); }
@@ -93,6 +95,7 @@ static const struct {
   enum known known;
 } CALLS[] = {
     {"scrypt_key", of_key, A_KEY},
+    {"scrypt_key_within", key_within, A_KEY},
     {"scrypt_hasher_key", hasher_key, A_KEY},
     {"scrypt_key_with_buffers", key_with_buffers, A_KEY},
     {"scrypt_key_thin", key_thin, A_KEY},
@@ -102,6 +105,7 @@ static const struct {
     {"scrypt_hash_mcf", mcf, AN_MCF},
     {"scrypt_hash_mcf_with_buffers", mcf_with_buffers, AN_MCF},
     {"scrypt_verify", verify, STATUS},
+    {"scrypt_verify_within", verify_within, STATUS},
     {"scrypt_hasher_verify, and the bounds of its options", hasher_verify, STATUS},
     {"scrypt_verify_with_buffers", verify_with_buffers, STATUS},
     {"scrypt_verify_group_with_buffers", verify_group_with_buffers, STATUS},
@@ -147,6 +151,11 @@ static void meets(const char *faults, int status, int wanted) {
 static void keys_with_two_faults(void) {
   meets("key: r, output", scrypt_key(SECRETS, 4, 0, 1, key, 0), SCRYPT_INVALID_PARAMS);
   meets("key: output, memory", scrypt_key(SECRETS, HUGE, 1, 1, key, 0), SCRYPT_INVALID_OUTPUT_LEN);
+  meets("key_within: r, bytes, output", scrypt_key_within(SECRETS, 4, 0, 1, 0, 0, key, 0), SCRYPT_INVALID_PARAMS);
+  meets("key_within: bytes, output", scrypt_key_within(SECRETS, PARAMS, 5375, 1152, key, 0), SCRYPT_TOO_COSTLY);
+  meets("key_within: work, output", scrypt_key_within(SECRETS, PARAMS, 5376, 1151, key, 0), SCRYPT_TOO_COSTLY);
+  meets("key_within: output, memory", scrypt_key_within(SECRETS, HUGE, 1, 1, SIZE_MAX, UINT64_MAX, key, 0),
+        SCRYPT_INVALID_OUTPUT_LEN);
   meets("key_with_buffers: r, output, buffers", scrypt_key_with_buffers(SECRETS, 4, 0, 1, key, 0, NO_BUFFERS),
         SCRYPT_INVALID_PARAMS);
   meets("key_with_buffers: output, buffers", scrypt_key_with_buffers(SECRETS, PARAMS, key, 0, NO_BUFFERS),
@@ -207,6 +216,11 @@ static void texts_with_two_faults(void) {
     size_t len = strlen(of);
     int status = TEXTS[i].status, is_read = status == SCRYPT_OUT_OF_MEMORY;
     meets(TEXTS[i].reason, scrypt_verify("pw", 2, of, len), status);
+    meets(TEXTS[i].reason, scrypt_verify_within("pw", 2, of, len, SIZE_MAX, UINT64_MAX, 15), status);
+    meets(TEXTS[i].reason, scrypt_verify_within("pw", 2, of, len, SIZE_MAX, UINT64_MAX, 16),
+          is_read ? SCRYPT_KEY_TOO_SHORT : status);
+    meets(TEXTS[i].reason, scrypt_verify_within("pw", 2, of, len, 5375, UINT64_MAX, 16), is_read ? SCRYPT_TOO_COSTLY : status);
+    meets(TEXTS[i].reason, scrypt_verify_within("pw", 2, of, len, SIZE_MAX, 1151, 16), is_read ? SCRYPT_TOO_COSTLY : status);
     meets(TEXTS[i].reason, scrypt_verify_with_buffers("pw", 2, of, len, NO_BUFFERS),
           is_read ? SCRYPT_BUFFER_SIZE : status);
     meets(TEXTS[i].reason, scrypt_needs_rehash(of, len, 57, 1, 1, 20), SCRYPT_INVALID_PARAMS);

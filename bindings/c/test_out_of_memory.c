@@ -26,10 +26,12 @@ static scrypt_hasher *hasher;
 
 static int of_key(void) { return scrypt_key(SECRETS, PARAMS, key, 32); }
 static int key_in_bounds(void) { return scrypt_key(SECRETS, IN_BOUNDS, key, 32); }
+static int key_within(void) { return scrypt_key_within(SECRETS, IN_BOUNDS, SIZE_MAX, UINT64_MAX, key, 32); }
 static int phc(void) { return scrypt_hash_phc(SECRETS, PARAMS, 32, text, sizeof text); }
 static int mcf(void) { return scrypt_hash_mcf(SECRETS, PARAMS, 32, text, sizeof text); }
 static int verify_phc(void) { return scrypt_verify("pw", 2, OF(PHC)); }
 static int verify_mcf(void) { return scrypt_verify("pw", 2, OF(MCF)); }
+static int verify_within(void) { return scrypt_verify_within("pw", 2, OF(PHC_IN_BOUNDS), SIZE_MAX, UINT64_MAX, 16); }
 static int hasher_key(void) { return scrypt_hasher_key(hasher, SECRETS, key, 32, -1, NULL); }
 static int hasher_hash(void) { return scrypt_hasher_hash(hasher, SECRETS, text, sizeof text, -1, NULL); }
 static int hasher_verify(void) { return scrypt_hasher_verify(hasher, "pw", 2, OF(PHC_IN_BOUNDS), -1, NULL); }
@@ -41,10 +43,12 @@ static const struct {
 } CALLS[] = {
     {"scrypt_key", of_key},
     {"scrypt_key, a table of 8 TiB", key_in_bounds},
+    {"scrypt_key_within", key_within},
     {"scrypt_hash_phc", phc},
     {"scrypt_hash_mcf", mcf},
     {"scrypt_verify of a PHC text", verify_phc},
     {"scrypt_verify of a $7$ text", verify_mcf},
+    {"scrypt_verify_within", verify_within},
     {"scrypt_hasher_key", hasher_key},
     {"scrypt_hasher_hash", hasher_hash},
     {"scrypt_hasher_verify", hasher_verify},

@@ -125,17 +125,8 @@ static void drawn_texts(void) {
   scrypt_hasher_free(hasher);
 }
 
-/* A register that no call has to keep: no letter of a hash is in it. */
-static void check_register(const char *name, int (*call)(void)) {
-#ifdef __x86_64__
-  uint64_t rcx = 0;
-  check(call() == SCRYPT_OK, name);
-  __asm__ volatile("mov %%rcx, %0" : "=m"(rcx));
-  check(rcx == 0, name);
-#else
-  (void)name, (void)call;
-#endif
-}
+/* No letter of a hash is in that register. */
+static void check_register(const char *name, int (*call)(void)) { check(call() == SCRYPT_OK && rcx_after == 0, name); }
 
 static void all_calls(const struct traces_case *of) {
   size_t i;

@@ -29,8 +29,8 @@ from django.utils.translation import gettext_noop as _
 from .arguments import raw_password
 from .errors import InvalidHashError, VerifyMismatchError
 from .hasher import PasswordHasher
-from .key import scrypt
-from .params import MOST_BYTES, MOST_WORK, Params, check_within
+from .key import derive_within, log_of
+from .params import MOST_BYTES, MOST_WORK, Params
 
 
 class ScryptPasswordHasher(BasePasswordHasher):
@@ -51,9 +51,8 @@ class ScryptPasswordHasher(BasePasswordHasher):
         n = self.work_factor if n is None else n  # a 0 is not the default: it is refused
         r = self.block_size if r is None else r
         p = self.parallelism if p is None else p
-        if n > 0 and not n & (n - 1):  # scrypt refuses another n
-            check_within(Params(n.bit_length() - 1, r, p), self.most_bytes, self.most_work)
-        key = scrypt(raw_password(password), salt=salt.encode(), n=n, r=r, p=p, maxmem=self.most_bytes, dklen=64)
+        params = Params(log_of(n), r, p)
+        key = derive_within(raw_password(password), salt.encode(), params, self.most_bytes, self.most_work, 64)
         return f"{self.algorithm}${n}${salt}${r}${p}${base64.b64encode(key).decode()}"
 
     def decode(self, encoded: str) -> dict[str, Any]:

@@ -116,6 +116,7 @@ limits_for_new = _declared(
     "scrypt_limits_for_new", [*_params, ctypes.c_size_t, _size_out, ctypes.POINTER(ctypes.c_uint64), _size_out]
 )
 key = _declared("scrypt_key", [*_bytes, *_bytes, *_params, *_bytes])
+key_within = _declared("scrypt_key_within", [*_bytes, *_bytes, *_params, *_bounds, *_bytes])
 hash_params = _declared("scrypt_hash_params", [*_bytes, *_params_out, _size_out])
 calibrate = _declared("scrypt_calibrate", [ctypes.c_double, ctypes.c_size_t, *_params_out])
 _declared("scrypt_hasher_free", [Hasher], None)

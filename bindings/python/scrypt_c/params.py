@@ -6,7 +6,7 @@ import ctypes
 from typing import NamedTuple, Optional, Union
 
 from . import library
-from .arguments import in_64_bits, number, raw_text
+from .arguments import number, raw_text
 from .errors import INVALID_PARAMS, TOO_COSTLY, check
 
 # No bound.
@@ -74,12 +74,6 @@ def check_costs(status: int, needs: library.Needs, most_bytes: Optional[int], mo
     """Raises the error of a status of a derivation that needs this, for bounds of which None is a default."""
     about = f"{needs}, with most_bytes={most_bytes} and most_work={most_work}" if status == TOO_COSTLY else str(needs)
     check(status, about)
-
-
-def check_within(params: Params, most_bytes: int, most_work: int) -> None:
-    """Raises TooCostlyError if a derivation with these parameters needs more, and InvalidParamsError."""
-    status, needs = needs_of(params, in_64_bits(most_bytes, "most_bytes"), in_64_bits(most_work, "most_work"))
-    check_costs(status, needs, most_bytes, most_work)
 
 
 def params_of(text: Union[str, bytes]) -> Params:

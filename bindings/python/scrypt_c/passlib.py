@@ -14,8 +14,8 @@ from __future__ import annotations
 import passlib.hash
 
 from .arguments import raw_password
-from .key import scrypt as _derive
-from .params import MOST_BYTES, MOST_WORK, Params, check_within
+from .key import derive_within
+from .params import MOST_BYTES, MOST_WORK, Params
 
 
 class scrypt(passlib.hash.scrypt):  # passlib names handlers as their scheme
@@ -26,9 +26,8 @@ class scrypt(passlib.hash.scrypt):  # passlib names handlers as their scheme
     most_work = MOST_WORK
 
     def _calc_checksum(self, secret: str | bytes) -> bytes:
-        check_within(Params(self.rounds, self.block_size, self.parallelism), self.most_bytes, self.most_work)
-        derived = {"n": 1 << self.rounds, "r": self.block_size, "p": self.parallelism, "dklen": self.checksum_size}
-        return _derive(raw_password(secret), salt=self.salt, maxmem=self.most_bytes, **derived)
+        params, bounds = Params(self.rounds, self.block_size, self.parallelism), (self.most_bytes, self.most_work)
+        return derive_within(raw_password(secret), self.salt, params, *bounds, self.checksum_size)
 
     def _calc_needs_update(self, **kwds: object) -> bool:
         # With vary_rounds new hashes may have fewer than default_rounds too.

@@ -65,9 +65,10 @@ class Keys(unittest.TestCase):
     def test_maxmem_is_kept(self):
         """Of several tables as many are used as it has room for."""
         costs, one = {"salt": b"salt", "n": 1 << 15, "r": 8, "p": 4}, scrypt_c.Params(15, 8, 4).memory
-        keys = {scrypt_c.scrypt(b"pw", maxmem=bound, **costs) for bound in (0, one, 2 * one - 1, 2 * one, 1 << 70)}
+        two = 2 * one - 128 * 8 * 4  # the chunks are there once
+        keys = {scrypt_c.scrypt(b"pw", maxmem=bound, **costs) for bound in (0, one, two - 1, two, 1 << 70)}
         self.assertEqual(keys, {hashlib.scrypt(b"pw", maxmem=4 * one, **costs)})
-        for bound, tables in [(one, 1), (2 * one - 1, 1), (2 * one, 2)]:
+        for bound, tables in [(one, 1), (two - 1, 1), (two, 2)]:
             before = peak()
             scrypt_c.scrypt(b"pw", maxmem=bound, **costs)
             self.assertLess(abs(peak(of_now=False) - before - tables * one), one // 4)

@@ -1,10 +1,12 @@
 //! scrypt as a value, with the traits of this crate.
 
+use crate::calls::*;
+use crate::hasher::text_by;
 use crate::kdf::{Kdf, Pbkdf};
 use crate::password_hash::{
     CustomizedPasswordHasher, PasswordHasher, PasswordVerifier, Result, Version,
 };
-use crate::{mcf, phc, scrypt, Error, Format, Hasher, Options, Params};
+use crate::{mcf, phc, scrypt, Error, Format, Params};
 
 /// scrypt with the parameters of new keys and hashes, with the names of the crate `scrypt`: `use scrypt_c::Scrypt` replaces
 /// `use scrypt::Scrypt`.
@@ -22,8 +24,8 @@ use crate::{mcf, phc, scrypt, Error, Format, Hasher, Options, Params};
 /// # }
 /// ```
 ///
-/// It maps memory for each derivation. A [`Hasher`] keeps its memory, limits how many derivations run at the same time,
-/// and has bounds that the caller sets.
+/// It allocates memory for each derivation. A [`Hasher`](crate::Hasher) keeps its memory, limits how many derivations run at
+/// the same time, and has bounds that the caller sets.
 #[derive(Clone, Copy, Debug, Default, PartialEq, Eq)]
 pub struct Scrypt {
     pub(crate) params: Params,
@@ -61,14 +63,18 @@ impl Scrypt {
         Scrypt { params }
     }
 
+    // Within the default bounds of a hasher that makes hashes with these parameters.
     fn verify(&self, password: &[u8], text: &str) -> Result<()> {
-        once(self.params, Format::Phc)?.verify(text, password)
+        let (Params { log_n, r, p, .. }, key_len) = (self.params, self.params.key_len());
+        let (mut bytes, mut work, mut least) = (0, 0, 0);
+        // SAFETY: the three places are this function's own, and each pointer is that of a slice of the length after it.
+        #[rustfmt::skip]
+        let status = unsafe {
+            Error::check(scrypt_limits_for_new(log_n.into(), r, p, key_len, &mut bytes, &mut work, &mut least))?;
+            scrypt_verify_within(password.as_ptr().cast(), password.len(), text.as_ptr().cast(), text.len(), bytes, work, least)
+        };
+        Error::check(status)
     }
-}
-
-// A hasher for one call.
-fn once(params: Params, format: Format) -> Result<Hasher> {
-    Hasher::new(Options { params, format, at_once: 1, processors: 1, ..Options::default() })
 }
 
 impl From<Params> for Scrypt {
@@ -143,7 +149,18 @@ impl<H: Made> CustomizedPasswordHasher<H> for Scrypt {
         if version.is_some() {
             return Err(Error::Version);
         }
-        once(params, H::FORMAT)?.hash_with_salt(password, salt).map(H::made)
+        let call = match H::FORMAT {
+            Format::Phc => scrypt_hash_phc,
+            Format::Mcf => scrypt_hash_mcf,
+        };
+        let (Params { log_n, r, p, .. }, key_len) = (params, params.key_len());
+        // SAFETY: each pointer is that of a slice of the length after it.
+        #[rustfmt::skip]
+        let write = |text: &mut [u8]| unsafe {
+            call(password.as_ptr().cast(), password.len(), salt.as_ptr().cast(), salt.len(), log_n.into(), r, p, key_len,
+                text.as_mut_ptr().cast(), text.len())
+        };
+        text_by(write, salt.len()).map(H::made)
     }
 }
 

@@ -81,6 +81,14 @@ pub struct RawNeeds {
 extern "C" {
     pub fn scrypt_key(password: *const c_void, password_len: usize, salt: *const c_void, salt_len: usize, log_n: u32,
         r: u32, p: u32, output: *mut u8, output_len: usize) -> c_int;
+    pub fn scrypt_hash_phc(password: *const c_void, password_len: usize, salt: *const c_void, salt_len: usize, log_n: u32,
+        r: u32, p: u32, key_len: usize, text: *mut c_char, capacity: usize) -> c_int;
+    pub fn scrypt_hash_mcf(password: *const c_void, password_len: usize, salt: *const c_void, salt_len: usize, log_n: u32,
+        r: u32, p: u32, key_len: usize, text: *mut c_char, capacity: usize) -> c_int;
+    pub fn scrypt_verify_within(password: *const c_void, password_len: usize, text: *const c_char, text_len: usize,
+        most_bytes: usize, most_work: u64, least_key_len: usize) -> c_int;
+    pub fn scrypt_limits_for_new(log_n: u32, r: u32, p: u32, key_len: usize, most_bytes: *mut usize, most_work: *mut u64,
+        least_key_len: *mut usize) -> c_int;
     pub fn scrypt_params_need(log_n: u32, r: u32, p: u32, most_bytes: usize, most_work: u64, needs: *mut RawNeeds) -> c_int;
     pub fn scrypt_hash_params(text: *const c_char, text_len: usize, log_n: *mut u32, r: *mut u32, p: *mut u32,
         key_len: *mut usize) -> c_int;

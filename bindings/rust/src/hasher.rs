@@ -190,20 +190,13 @@ impl Hasher {
     fn text(&self, password: &[u8], salt: Option<&[u8]>) -> Result<String, Error> {
         // NULL asks for a random salt, of at most 64 bytes. The pointer of a slice is never NULL.
         let (salt, salt_len) = salt.map_or((null(), 0), |it| (it.as_ptr(), it.len()));
-        let capacity = text_capacity(salt_len.max(64));
-        let mut text = Vec::new();
-        text.try_reserve_exact(capacity).map_err(|_| Error::OutOfMemory)?;
-        text.resize(capacity, 0);
         // SAFETY: the hasher is there until this returns, and each pointer is that of a slice of the length after it.
         #[rustfmt::skip]
-        let status = unsafe {
+        let write = |text: &mut [u8]| unsafe {
             scrypt_hasher_hash(self.raw(), password.as_ptr().cast(), password.len(), salt.cast(), salt_len,
-                text.as_mut_ptr().cast(), capacity, self.most_ms(), null_mut())
+                text.as_mut_ptr().cast(), text.len(), self.most_ms(), null_mut())
         };
-        Error::check(status)?;
-        text.truncate(text.iter().position(|it| *it == 0).unwrap_or(0));
-        text.shrink_to_fit();
-        String::from_utf8(text).map_err(|_| Error::EncodingInvalid)
+        text_by(write, salt_len.max(64))
     }
 
     /// Writes the key of a password and a salt, with the parameters of new hashes, to `output`.
@@ -267,4 +260,19 @@ impl Hasher {
         // SAFETY: the hasher is there until this returns.
         unsafe { scrypt_hasher_close(self.raw()) }
     }
+}
+
+// The text of a hash with a salt of so many bytes at most, which the library writes.
+pub(crate) fn text_by(
+    write: impl FnOnce(&mut [u8]) -> i32,
+    salt_len: usize,
+) -> Result<String, Error> {
+    let capacity = text_capacity(salt_len);
+    let mut text = Vec::new();
+    text.try_reserve_exact(capacity).map_err(|_| Error::OutOfMemory)?;
+    text.resize(capacity, 0);
+    Error::check(write(&mut text))?;
+    text.truncate(text.iter().position(|it| *it == 0).unwrap_or(0));
+    text.shrink_to_fit();
+    String::from_utf8(text).map_err(|_| Error::EncodingInvalid)
 }

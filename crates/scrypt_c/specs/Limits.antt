@@ -1,7 +1,8 @@
 -- The status of what parameters need within limits.
-use Rattle.std.specs.Prelude.{◌≡◌, ◌⊎◌, ◌↔◌, ℕ, ℤ, ◌-◌, ◌^◌, min, pos, length, IsTrue, None}
+use Rattle.std.specs.Prelude.{◌≡◌, ◌⊎◌, ◌↔◌, ℕ, ℤ, ◌+◌, ◌-◌, ◌*◌, ◌^◌, if◌then◌else◌, min, nat_lt, pos, length, IsTrue, None}
 use Rattle.scrypt.specs.Accepted.{are_accepted, Parameters}
-use Rattle.scrypt.specs.Limits.{are_within, buffers_bytes, work}
+use Rattle.scrypt.specs.Cost.{chunks_bytes, scratch_words, table_words}
+use Rattle.scrypt.specs.Limits.{are_within, buffers_bytes, tables_within, work}
 use Rattle.scrypt.specs.Reading.{Stored}
 use Rattle.scrypt.specs.declared.limits.Limits.{Limits}
 
@@ -21,6 +22,14 @@ bytes_needed c = min (buffers_bytes c.log_n c.r c.p) (2 ^ 64 - 1)
 -- its work, if 64 bits can say it
 abbrev pub work_needed : Parameters → ℕ
 work_needed c = min (work c.log_n c.r c.p) (2 ^ 64 - 1)
+
+-- The bytes that the buffers of a key may have together: those with as many tables as fit into `most_bytes`, at most
+-- `most_tables`. A table of fewer than 2 ^ 14 words is mixed faster alone: then 0, which is one table.
+unfoldable pub bytes_that_pay : ℕ → ℕ → Parameters → ℕ
+bytes_that_pay most_tables most_bytes c =
+    let tables = min (tables_within most_bytes c) most_tables in
+    if nat_lt (table_words c.log_n c.r) (2 ^ 14) then 0
+    else min (chunks_bytes c.r c.p + 4 * (tables * table_words c.log_n c.r) + 4 * (tables * scratch_words c.r)) most_bytes
 
 -- the status of what parameters need: 0, or that they aren't accepted, or not within limits
 pub record IsNeedStatus (most_bytes most_work log_n r p : ℕ) (status : ℤ) : Type 0 where

@@ -5,18 +5,21 @@ ghost use Rattle.password_hash.specs.Refusal.{with_refusal};
 ghost use Rattle.scrypt.specs.McfHash.{IsMadeHash as IsMadeMcf};
 ghost use Rattle.scrypt.specs.PhcHash.{IsMadeText, IsSaltLen};
 ghost use Rattle.scrypt.specs.Reading.{weaker};
+ghost use Rattle.scrypt.specs.WithinLimits.{within};
+ghost use Rattle.scrypt_c.specs.Limits.{limits_of};
 ghost use Rattle.scrypt_c.specs.Made.{AreHashParams, IsTooLong, IsWrittenTo, wanted};
 ghost use Rattle.scrypt_c.specs.Statuses.{IsVerifyStatus, ReadsParams, rehash_status, result_status};
 ghost use Rattle.scrypt_c.specs.Texts.{bytes_reading};
 
 use crate::statuses::{
-    BUFFER_SIZE, INVALID_PARAMS, MISMATCH, NEEDS_REHASH, OK, OUT_OF_MEMORY, SALT_INVALID, status_of,
+    BUFFER_SIZE, INVALID_PARAMS, MISMATCH, NEEDS_REHASH, OK, OUT_OF_MEMORY, SALT_INVALID,
+    limited_status_of, status_of,
 };
 use crate::target::Target;
 use crate::texts::{copy_to, stored_hash};
 use password_hash::Result;
 use scrypt::laws::reading_names_no_password;
-use scrypt::{Params, mcf, phc};
+use scrypt::{Limits, Params, mcf, phc};
 use std::alloc::Global;
 
 /// Writes the PHC text of the hash of `password` and `salt` to the front of `text`, and its length to
@@ -154,6 +157,39 @@ pub extern "C" fn scrypt_verify(alloc: Global, password: &[u8], text: &[u8]) -> 
     match stored_hash(text) {
         Ok(hash) => verify_status(hash.verify_by::<Target>(alloc, password)),
         Err(error) => status_of(error),
+    }
+}
+
+/// Does what `scrypt_verify` does, if the hash is within the limits: a hash that is not the caller's own chooses its cost.
+///
+/// Returns the errors of `scrypt_verify` for a hash that cannot be read, `MISMATCH` for one without a salt or a key among
+/// them; then `TOO_COSTLY` if the buffers with one table have more than `most_bytes` bytes together, or if the work,
+/// `4 * (2^log_n + 32) * r * p`, is above `most_work`; `KEY_TOO_SHORT` if the key has fewer than `least_key_len` bytes;
+/// `OUT_OF_MEMORY`; and `MISMATCH` if it is another key.
+#[unsafe(no_mangle)]
+pub extern "C" fn scrypt_verify_within(
+    alloc: Global,
+    password: &[u8],
+    text: &[u8],
+    most_bytes: usize,
+    most_work: u64,
+    least_key_len: usize,
+) -> i32
+    ensures status { IsVerifyStatus password.now
+        (within (limits_of most_bytes most_work least_key_len) (bytes_reading text.now)) result }
+{
+    let hash = match stored_hash(text) {
+        Ok(hash) => hash,
+        Err(error) => return status_of(error),
+    };
+    let limits = Limits {
+        most_bytes,
+        most_work,
+        least_key_len,
+    };
+    match hash.within(&limits) {
+        Ok(hash) => verify_status(hash.verify_by::<Target>(alloc, password)),
+        Err(error) => limited_status_of(error),
     }
 }
 

@@ -1,28 +1,34 @@
 //! Keys, in memory that is allocated, and in the caller's buffers.
 
-ghost use Rattle.std.specs.Prelude.{◌≡◌, ◌≢◌, ◌⊎◌, ◌↔◌, length, None, IsSome, IfSome, IsTrue};
+ghost use Rattle.std.specs.Prelude.{◌≡◌, ◌≢◌, ◌⊎◌, ◌↔◌, ◌≤◌, length, None, IsSome, IfSome, IsTrue};
 ghost use Rattle.scrypt.specs.Accepted.{are_accepted, is_output_len};
 ghost use Rattle.scrypt.specs.InBuffers.{are_enough};
 ghost use Rattle.scrypt.specs.Key.{derived_key};
+ghost use Rattle.scrypt.specs.Limits.{are_within};
 ghost use Rattle.scrypt.specs.Workspace.{AreUsed};
 ghost use Rattle.scrypt_c.specs.Buffers.{AreBuffers, IsSpacing};
 ghost use Rattle.scrypt_c.specs.InBuffers.{IsRestKept, buffers};
-ghost use Rattle.scrypt_c.specs.Limits.{params_of};
+ghost use Rattle.scrypt_c.specs.Limits.{bytes_that_pay, limits_of, params_of};
 ghost use Rattle.scrypt_c.specs.Statuses.{IsKeyStatus};
 
-use crate::statuses::{BUFFER_SIZE, INVALID_OUTPUT_LEN, INVALID_PARAMS, OK, OUT_OF_MEMORY};
+use crate::statuses::{
+    BUFFER_SIZE, INVALID_OUTPUT_LEN, INVALID_PARAMS, OK, OUT_OF_MEMORY, TOO_COSTLY,
+};
 use crate::target::Target;
 use scrypt::{
-    BufferLens, CoreCount, DeriveError, Params, output_len_ok, scrypt_by, scrypt_thin_by,
+    BufferLens, CoreCount, DeriveError, Limits, Params, output_len_ok, scrypt_by, scrypt_thin_by,
     scrypt_with_buffers_by, used_lens,
 };
 use std::alloc::Global;
 
-/// Writes the scrypt key of `password` and `salt` to `output` (RFC 7914, section 6).
+/// Writes the scrypt key of `password` and `salt` to `output` (RFC 7914, section 6), in memory that is allocated.
+///
+/// Takes as many tables as pay: at most `most_tables`, four and `p`, and several only if they are not tiny, and if all
+/// buffers together have at most `most_bytes` bytes. If the system refuses them, it takes one.
 ///
 /// Returns `OK`, or the first of these: `INVALID_PARAMS` unless `log_n`, `r` and `p` are accepted,
 /// `INVALID_OUTPUT_LEN` unless the output has 1 to 137438953440 bytes, and `OUT_OF_MEMORY` if an
-/// allocation fails. On an error the output is unchanged.
+/// allocation for one table fails. On an error the output is unchanged.
 #[unsafe(no_mangle)]
 pub extern "C" fn scrypt_kdf(
     alloc: Global,
@@ -31,6 +37,8 @@ pub extern "C" fn scrypt_kdf(
     log_n: u8,
     r: u32,
     p: u32,
+    most_tables: usize,
+    most_bytes: usize,
     output: &mut [u8],
 ) -> i32
     ensures value { result ≡ OK → output.new
@@ -45,12 +53,81 @@ pub extern "C" fn scrypt_kdf(
     let Ok(params) = Params::new(log_n, r, p) else {
         return INVALID_PARAMS;
     };
-    // In no bytes a derivation takes one table.
-    match scrypt_by::<Target>(alloc, password, salt, &params, 0, output) {
+    let most_bytes = bytes_that_pay(&params, most_tables, most_bytes);
+    match scrypt_by::<Target>(alloc, password, salt, &params, most_bytes, output) {
         Ok(()) => OK,
         Err(DeriveError::InvalidOutputLen) => INVALID_OUTPUT_LEN,
         Err(DeriveError::OutOfMemory) => OUT_OF_MEMORY,
     }
+}
+
+/// Does what `scrypt_kdf` does, if the parameters are within the limits.
+///
+/// Returns `OK`, or the first of these: `INVALID_PARAMS`; `TOO_COSTLY` if the buffers with one table have more than
+/// `most_bytes` bytes together, or if the work, `4 * (2^log_n + 32) * r * p`, is above `most_work`; `INVALID_OUTPUT_LEN`;
+/// and `OUT_OF_MEMORY`. On an error the output is unchanged.
+#[unsafe(no_mangle)]
+pub extern "C" fn scrypt_kdf_within(
+    alloc: Global,
+    password: &[u8],
+    salt: &[u8],
+    log_n: u8,
+    r: u32,
+    p: u32,
+    most_tables: usize,
+    most_bytes: usize,
+    most_work: u64,
+    output: &mut [u8],
+) -> i32
+    ensures value { result ≡ OK → output.new
+        ≡ derived_key password.now salt.now log_n r p (length output.old) }
+    ensures params { (result ≡ INVALID_PARAMS) ↔ (¬ IsTrue (are_accepted log_n r p)) }
+    ensures costly { (result ≡ TOO_COSTLY) ↔ (IsTrue (are_accepted log_n r p)
+        × (¬ IsTrue (are_within (limits_of most_bytes most_work 0) (params_of log_n r p)))) }
+    ensures length { (result ≡ INVALID_OUTPUT_LEN) ↔ (IsTrue (are_accepted log_n r p)
+        × IsTrue (are_within (limits_of most_bytes most_work 0) (params_of log_n r p)) × ¬ IsTrue (is_output_len (length output.old))) }
+    ensures status { (result ≡ OK) ⊎ (result ≡ INVALID_PARAMS) ⊎ (result ≡ TOO_COSTLY) ⊎ (result ≡ INVALID_OUTPUT_LEN)
+        ⊎ (result ≡ OUT_OF_MEMORY) }
+    ensures refused { result ≢ OK → output.new ≡ output.old }
+{
+    let Ok(params) = Params::new(log_n, r, p) else {
+        return INVALID_PARAMS;
+    };
+    let limits = Limits {
+        most_bytes,
+        most_work,
+        least_key_len: 0,
+    };
+    if !limits.allow(&params) {
+        return TOO_COSTLY;
+    }
+    scrypt_kdf(
+        alloc,
+        password,
+        salt,
+        log_n,
+        r,
+        p,
+        most_tables,
+        most_bytes,
+        output,
+    )
+}
+
+// A table of fewer words is mixed faster alone.
+const LEAST_OF_SEVERAL: usize = 1 << 14;
+
+// Returns the bytes of the buffers with as many tables as pay, or 0 if that is one.
+#[tactic(auto, unfolding(crate::specs::Limits::bytes_that_pay))]
+fn bytes_that_pay(params: &Params, most_tables: usize, most_bytes: usize) -> usize
+    ensures exact { result ≡ bytes_that_pay most_tables most_bytes params.now }
+{
+    if BufferLens::of(params).table < LEAST_OF_SEVERAL {
+        return 0;
+    }
+    let tables = BufferLens::tables_within(params, most_bytes).min(most_tables);
+    let bytes = BufferLens::for_tables(params, tables).bytes();
+    bytes.min(most_bytes as u128) as usize
 }
 
 /// Writes the lengths of the buffers that a derivation with these parameters works on: those of

@@ -1,0 +1,134 @@
+/* How much memory the calls ask for, and what they give back: in a program whose malloc, mmap and munmap write that down, and
+ * refuse what they are told to refuse. */
+#define _GNU_SOURCE
+#include "check.h"
+#include "scrypt_c.h"
+
+#include <errno.h>
+#include <string.h>
+#include <sys/mman.h>
+#include <sys/syscall.h>
+#include <unistd.h>
+
+enum { R = 8, BESIDE = 3 << 20 }; /* what a mapping has beside its block, at most */
+
+static size_t least_refused = SIZE_MAX, most_asked;
+static int is_granted(size_t len) {
+  if (len > most_asked) most_asked = len;
+  return len < least_refused;
+}
+
+void *__libc_malloc(size_t len);
+void *malloc(size_t len) { return is_granted(len) ? __libc_malloc(len) : NULL; }
+
+void *mmap(void *at, size_t len, int protection, int flags, int file, off_t offset) {
+  return is_granted(len) ? (void *)syscall(SYS_mmap, at, len, protection, flags, file, offset) : MAP_FAILED;
+}
+
+static int keeps;
+static uint8_t *kept;
+static size_t kept_len;
+int munmap(void *at, size_t len) {
+  if (!keeps) return (int)syscall(SYS_munmap, at, len);
+  kept = at, kept_len = len, errno = ENOMEM;
+  return -1;
+}
+
+#define SECRETS "password", 8, "saltsalt", 8
+static uint8_t key[32];
+static char text[SCRYPT_PHC_CAPACITY];
+
+/* Of one table; or more than there is, of one that no system has. */
+static size_t table_bytes(uint32_t log_n) { return log_n < 50 ? (size_t)128 * R << log_n : SIZE_MAX; }
+
+/* How many tables a call asks for, which gets none. So nothing is derived. */
+#define tables_of(log_n, call) (least_refused = table_bytes(log_n), most_asked = 0, status = (call), least_refused = SIZE_MAX, \
+                                most_asked / table_bytes(log_n))
+
+static size_t fewer(size_t one, size_t other) { return one < other ? one : other; }
+
+static scrypt_needs needs_of(uint32_t log_n, uint32_t p) {
+  scrypt_needs needs;
+  memset(&needs, 0, sizeof needs);
+  check(scrypt_params_need(log_n, R, p, SIZE_MAX, UINT64_MAX, &needs) == SCRYPT_OK, "what is needed");
+  return needs;
+}
+
+static void tables_of_keys(size_t at_once) {
+  static const struct {
+    const char *why;
+    uint32_t log_n, p;
+    size_t tables;
+  } KEYS[] = {{"tables of 32 KiB are mixed faster alone", 5, 4, 1},
+              {"tables of 64 KiB are not", 6, 4, 4},
+              {"p of 1", 14, 1, 1},
+              {"as many as p", 14, 3, 3},
+              {"at most four", 14, 9, 4},
+              {"128 MiB", 15, 4, 4},
+              {"129 MiB with the chunks", 15, 1016, 4},
+              {"above 129 MiB with the chunks", 15, 1017, 3},
+              {"two of 64 MiB", 16, 4, 2},
+              {"one of 128 MiB", 17, 4, 1},
+              {"one above 129 MiB", 18, 1, 1},
+              {"the same with p of 4", 20, 4, 1},
+              {"no key with log_n of 60", 60, 4, 0}};
+  size_t i;
+  int status;
+  for (i = 0; i < sizeof KEYS / sizeof KEYS[0]; i++) {
+    size_t tables = tables_of(KEYS[i].log_n, scrypt_key(SECRETS, KEYS[i].log_n, R, KEYS[i].p, key, sizeof key));
+    check(tables == fewer(KEYS[i].tables, at_once), KEYS[i].why);
+    check(status == (KEYS[i].tables > 0 ? SCRYPT_OUT_OF_MEMORY : SCRYPT_INVALID_PARAMS), KEYS[i].why);
+  }
+}
+
+/* All buffers together are within the bound. */
+static void tables_of_keys_within(size_t at_once) {
+  const scrypt_needs needs = needs_of(14, 4);
+  const size_t each = 4 * (needs.table_len + needs.scratch_len), chunks = needs.chunks_len;
+  const struct {
+    const char *why;
+    size_t most_bytes, tables;
+  } BOUNDS[] = {{"one less than one table needs", chunks + each - 1, 0}, {"one table", chunks + each, 1},
+                {"one less than two need", chunks + 2 * each - 1, 1},    {"two tables", chunks + 2 * each, 2},
+                {"three tables", chunks + 4 * each - 1, 3},              {"no bound", SIZE_MAX, 4}};
+  size_t i;
+  int status;
+  for (i = 0; i < sizeof BOUNDS / sizeof BOUNDS[0]; i++) {
+    size_t most = BOUNDS[i].most_bytes;
+    size_t tables = tables_of(14, scrypt_key_within(SECRETS, 14, R, 4, most, UINT64_MAX, key, sizeof key));
+    check(tables == fewer(BOUNDS[i].tables, at_once), BOUNDS[i].why);
+    check(status == (BOUNDS[i].tables > 0 ? SCRYPT_OUT_OF_MEMORY : SCRYPT_TOO_COSTLY), BOUNDS[i].why);
+  }
+}
+
+static void one_table_of_hashes(void) {
+  static const char PHC[] = "$scrypt$ln=14,r=8,p=4$c2FsdHNhbHQ$AAAAAAAAAAAAAAAAAAAAAA";
+  const size_t len = sizeof PHC - 1;
+  int status;
+  check(tables_of(14, scrypt_hash_phc(SECRETS, 14, R, 4, 32, text, sizeof text)) == 1, "scrypt_hash_phc");
+  check(tables_of(14, scrypt_hash_mcf(SECRETS, 14, R, 4, 32, text, sizeof text)) == 1, "scrypt_hash_mcf");
+  check(tables_of(14, scrypt_verify("password", 8, PHC, len)) == 1, "scrypt_verify");
+  check(tables_of(14, scrypt_verify_within("password", 8, PHC, len, SIZE_MAX, UINT64_MAX, 0)) == 1, "scrypt_verify_within");
+  check(status == SCRYPT_OUT_OF_MEMORY && text[0] == '\0', "a refusal");
+}
+
+/* A table that the system does not take back is overwritten: what is left are where it begins, its length and a mark. */
+static void not_unmapped(void) {
+  size_t at, left = 0;
+  keeps = 1;
+  check(scrypt_key(SECRETS, 15, R, 1, key, sizeof key) == SCRYPT_OK, "a key of 32 MiB");
+  keeps = 0;
+  check(kept_len >= table_bytes(15) && kept_len <= table_bytes(15) + BESIDE, "what is not unmapped");
+  for (at = 0; at < kept_len; at++) left += kept[at] != 0;
+  check(left <= 3 * sizeof(size_t), "bytes of a table that is not unmapped");
+  check(munmap(kept, kept_len) == 0, "unmapped");
+}
+
+int main(void) {
+  const size_t at_once = strstr(scrypt_version(), "x86-64-v2") != NULL ? 3 : 4;
+  tables_of_keys(at_once);
+  tables_of_keys_within(at_once);
+  one_table_of_hashes();
+  not_unmapped();
+  return failed;
+}
