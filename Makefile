@@ -31,10 +31,11 @@ help:
 	@sed -n '/^#/!q; s/^# \{0,1\}//p' Makefile
 
 run: kit
-	$(MAKE) -j$(SIDE_BY_SIDE) $(LIBRARIES)
-	cd crates/scrypt_tool && rt run -- key 4 1 1 64 "" < /dev/null
-	@if command -v $${CC:-cc} > /dev/null && command -v objcopy > /dev/null; then $(TERMINAL); else \
-	  echo "No C compiler is here (packages gcc and binutils): build/bin/scrypt_tool was not linked." >&2; fi
+	@begun=$$(date +%s); $(MAKE) -j$(SIDE_BY_SIDE) $(LIBRARIES) && \
+	(cd crates/scrypt_tool && rt run -- key 4 1 1 64 "" < /dev/null) && \
+	if command -v $${CC:-cc} > /dev/null && command -v objcopy > /dev/null; then $(TERMINAL); else \
+	  echo "No C compiler is here (packages gcc and binutils): build/bin/scrypt_tool was not linked." >&2; fi && \
+	took=$$(($$(date +%s) - begun)) && echo "proved, built and run in $$((took / 60)):$$(printf %02d $$((took % 60))) minutes" >&2
 
 # The program that is installed asks for a password at a terminal, which the proved one reads as any input.
 TERMINAL = bindings/terminal/build.sh
