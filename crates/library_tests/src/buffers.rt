@@ -18,28 +18,21 @@ const SECOND: [u8; 64] = [
 fn keys_in_used_buffers() -> Result<(), Fail> {
     let (params, mut cores) = (Params::new(4, 1, 1)?, CoreCount::new());
     let (mut chunks, mut table, mut scratch) = ([0xff; 128], [u32::MAX; 512], [u32::MAX; 64]);
-    let (mut key, mut again) = ([0; 64], [0; 64]);
-    scrypt_with_buffers(
-        b"",
-        b"",
-        &params,
-        &mut chunks,
-        &mut table,
-        &mut scratch,
-        &mut key,
-        &mut cores,
-    )?;
-    scrypt_with_buffers(
-        b"",
-        b"",
-        &params,
-        &mut chunks,
-        &mut table,
-        &mut scratch,
-        &mut again,
-        &mut cores,
-    )?;
-    holds(key == KEY && again == KEY, "both times")
+    for _ in 0..2 {
+        let mut key = [0; 64];
+        scrypt_with_buffers(
+            b"",
+            b"",
+            &params,
+            &mut chunks,
+            &mut table,
+            &mut scratch,
+            &mut key,
+            &mut cores,
+        )?;
+        holds(key == KEY, "both times")?;
+    }
+    Ok(())
 }
 
 #[tactic(auto, using(std::proofs::lemmas::Bool::Decides::nat_tests), unfolding(scrypt::specs::Accepted::is_output_len))]

@@ -218,6 +218,17 @@ pub fn followed(alloc: Global, text: &str, letter: &str, count: usize) -> Result
     Ok(format!(in alloc; "{text}{}", letters.as_str())?)
 }
 
+// Tries each call on this text, these bytes and their letters.
+fn try_each(alloc: Global, text: &str, bytes: &[u8], field: &mcf::Field<'_>) -> Result<(), Fail> {
+    for &(call, sizes, reason) in &MAKING {
+        let allocations = failing_allocations(alloc, sizes, || {
+            end_of_making(&call, alloc, text, bytes, field)
+        })?;
+        holds(allocations == sizes.len(), reason)?;
+    }
+    Ok(())
+}
+
 #[test]
 fn texts_letters_and_bytes(rt: HostRuntime) -> Result<(), Fail> {
     let alloc = rt.alloc();
@@ -226,11 +237,5 @@ fn texts_letters_and_bytes(rt: HostRuntime) -> Result<(), Fail> {
     let letters = followed(alloc, "$7$", "z", LETTERS)?;
     let hash = mcf::PasswordHashRef::new(letters.as_str())?;
     let field = hash.fields().next().ok_or("no field")?;
-    for &(call, sizes, reason) in &MAKING {
-        let allocations = failing_allocations(alloc, sizes, || {
-            end_of_making(&call, alloc, text.as_str(), &bytes, &field)
-        })?;
-        holds(allocations == sizes.len(), reason)?;
-    }
-    Ok(())
+    try_each(alloc, text.as_str(), &bytes, &field)
 }
