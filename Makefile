@@ -3,7 +3,7 @@
 #   make test      is the gate: proves everything from nothing, checks that wrong code is rejected, runs every test, and
 #                  calls the library from C and Python
 # To use it:
-#   make lib       proves and builds the libraries for C into build/lib, for x86-64-v2 and for x86-64-v3
+#   make lib       proves and builds the libraries for C into build/lib, with code for x86-64-v2 and for x86-64-v3
 #                  with ARCH=aarch64-linux-gnu those for arm64, and the program, into build/aarch64-linux-gnu
 #   make install   installs what is built below prefix=/usr/local, and honours DESTDIR
 #   make uninstall removes it, with the same variables
@@ -161,8 +161,7 @@ dist:
 callers: lib
 	bindings/callers.sh
 
-# What is measured is the library that the dynamic linker takes on this machine.
-MEASURED = $(or $(wildcard build/lib/glibc-hwcaps/x86-64-v3/libscrypt_c.so.0),build/lib/libscrypt_c.so)
+MEASURED = build/lib/libscrypt_c.so
 bench: lib
 	python3 -m bench.bench $(MEASURED) $(WORKERS)
 	GLIBC_TUNABLES=glibc.malloc.hugetlb=1 python3 -m bench.bench $(MEASURED) $(WORKERS)

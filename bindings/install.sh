@@ -1,7 +1,7 @@
 #!/bin/sh
 # Installs what is built, or removes it: the libraries of build/lib with the header, its pages of the manual and the
-# files for pkg-config and CMake, the Python package, the documents, the licence, and if they are built the library for
-# x86-64-v3, and the program with scrypt_calibrate, their man page and its completions.
+# files for pkg-config and CMake, the Python package, the documents, the licence, and if it is built the program with
+# scrypt_calibrate, their man page and its completions.
 # usage: install.sh install|uninstall, by the Makefile, which hands the places in the environment. DESTDIR goes before
 # each place where files are written, and into none of the files. release/install.sh writes and removes them, by a list in
 # docdir.
@@ -57,11 +57,9 @@ put() { install -D -m "$1" "$2" "$room/files${3#"$root"}"; }
 link() { ln -s "$1" "$room/files${2#"$root"}"; }
 
 libraries() {
-  shared=libscrypt_c.so.$(sed 's/+.*//' VERSION)
   bindings/c/found.sh "$libdir" "$includedir" "$libdir/pkgconfig" "$libdir/cmake/scrypt_c" "$room"
   put 644 "$build/lib/libscrypt_c.a" "$libdir/libscrypt_c.a"
-  put 755 "$build/lib/$shared" "$libdir/$shared"
-  link "$shared" "$libdir/libscrypt_c.so.0"
+  put 755 "$build/lib/libscrypt_c.so.0" "$libdir/libscrypt_c.so.0"
   link libscrypt_c.so.0 "$libdir/libscrypt_c.so"
   put 755 "$build/lib/libscrypt_drop_in.so" "$libdir/libscrypt_drop_in.so"
   put 644 "$build/lib/scrypt_c.h" "$includedir/scrypt_c.h"
@@ -99,13 +97,11 @@ if [ ! -e "$build/lib/libscrypt_c.a" ]; then
 fi
 libraries
 python_package
-newer=glibc-hwcaps/x86-64-v3/libscrypt_c.so.0
-if [ -e "$build/lib/$newer" ]; then put 755 "$build/lib/$newer" "$libdir/$newer"; fi
 if [ -e "$program" ]; then
   programs
 else
   echo "the program is not built (make run), and is left out"
 fi
 release/install.sh --tree "$room/files" "$list" "$DESTDIR$root"
-# Without a list, one that another version installed: the dynamic linker would take it before the other.
-if [ ! -e "$build/lib/$newer" ]; then rm -f "$DESTDIR$libdir/$newer"; fi
+# An earlier version without a list installed one there, which the dynamic linker would take before this one.
+rm -f "$DESTDIR$libdir/glibc-hwcaps/x86-64-v3/libscrypt_c.so.0"

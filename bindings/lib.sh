@@ -1,9 +1,9 @@
 #!/bin/sh
-# Builds the libraries for C into build/lib, of the crate scrypt_c, which the kit proves for x86-64-v2 and for x86-64-v3:
-# the static one, which has both and chooses when a program starts; the shared one for x86-64-v2 under its three names; the
-# shared one for x86-64-v3 in the folder where the dynamic linker of glibc 2.33 and later looks first on such a
-# processor; the header, and files for pkg-config and CMake. Builds the program scrypt_calibrate into build/bin.
-# With ARCH=aarch64-linux-gnu it builds into build/aarch64-linux-gnu, for that processor alone, and links the program too.
+# Builds the libraries for C into build/lib, of the crate scrypt_c: the static one, and the shared one under the name that
+# programs are linked by and the one that they load it by; the header, and files for pkg-config and CMake. For x86-64 the kit
+# proves the crate for two levels, and both libraries have code for both, of which dispatch.c chooses when a program starts.
+# For tests, build/tests has a shared library that never chooses the newer one. Builds the program scrypt_calibrate into build/bin.
+# With ARCH, which arch.sh describes, it builds for another processor into build/ARCH, and links the program too.
 # Needs the kit and a C compiler with its binutils. With the word built, the crate's own libraries are there already.
 set -eu
 unset CDPATH
@@ -17,8 +17,6 @@ hardened="-fstack-protector-strong -U_FORTIFY_SOURCE -D_FORTIFY_SOURCE=2"
 linked="-shared -Wl,-z,defs -Wl,-z,relro -Wl,-z,now -Wl,-Bsymbolic"
 version=$(cat VERSION)
 soname=libscrypt_c.so.0
-shared=libscrypt_c.so.${version%%+*}
-newer=glibc-hwcaps/$newest/$soname
 # What is written in C over the proved calls.
 over="calls salt hasher queue line lock tables groups processors calibrate"
 
@@ -30,8 +28,8 @@ if [ "${1:-}" != built ]; then
     python3 -m bindings.arm64 scrypt_c scrypt_tool
   fi
 fi
-rm -rf "$out"
-mkdir -p "$common"
+rm -rf "$out" "$build/tests"
+mkdir -p "$common/over"
 # One object, of which only the names of the list are seen from outside.
 awk '/^scrypt_/ { print $1 }' bindings/c/abi > "$common/symbols"
 {
@@ -43,17 +41,21 @@ awk '/^scrypt_/ { print $1 }' bindings/c/abi > "$common/symbols"
 } > "$common/versions"
 for name in malloc realloc free memcpy memmove memset; do echo "$name clearing_$name"; done > "$common/clearing"
 
-# Makes the objects of the library for a processor, of what the kit built for it, and sets their names.
+# compiled OPTIONS.. compiles a part of the library.
+compiled() { $CC -std=c99 -pedantic -O2 -Wall -Wextra $hardened -fPIC -fno-plt -Ibindings/c "$@"; }
+# The test of the processor is among the calls, so that each program that calls anything has it.
+for part in $over cpu; do compiled -c -o "$common/over/$part.o" bindings/c/$part.c; done
+
+# Makes an object of what the kit built for a processor, with what clears memory after it, and sets the names of its calls.
 make_objects() {
   level=${1##*-} archive=$2 parts=$common/$level
   mkdir "$parts" "$parts/libscrypt_c" "$parts/liblibc_c"
   (cd "$parts/libscrypt_c" && "${tools}ar" x "$archive")
-  flags="-O2 -Wall -Wextra $hardened -fPIC -fno-plt -Ibindings/c -I$parts"
+  flags="-I$parts -DPROCESSOR=\"$1\" -DLIBRARY_VERSION=\"$version\""
   case $1 in x86-64-v*) flags="$flags -DX86_64_LEVEL=${1##*-v}" ;; esac
-  flags="$flags -DPROCESSOR=\"$1\" -DLIBRARY_VERSION=\"$version\""
   # The kit's few lines that call malloc and free are in an archive of their own, which it has for its own processor.
   if [ -n "$is_kits" ]; then (cd "$parts/liblibc_c" && ar x "$kit/c/liblibc_c.a"); else
-    $CC -std=c99 -pedantic $flags -c -o "$parts/liblibc_c/heap.o" bindings/c/kit_heap.c
+    compiled $flags -c -o "$parts/liblibc_c/heap.o" bindings/c/kit_heap.c
   fi
   # A proved call that sees a password or a key is called by the one in clearing.c, and that by calls.c.
   "${tools}nm" -g --defined-only "$parts"/libscrypt_c/*.o |
@@ -62,23 +64,17 @@ make_objects() {
   "${tools}objcopy" --redefine-syms="$parts/proved" "$parts"/libscrypt_c/*.o
   for object in "$parts"/*/*.o; do "${tools}objcopy" --redefine-syms="$common/clearing" "$object"; done
   # Functions of the C library are bound when a program is loaded, also with the static library, as blocks.c explains.
-  for part in blocks registers cpu version stack_lens; do
-    $CC -std=c99 -pedantic $flags -c -o "$parts/$part.o" bindings/c/$part.c
-  done
-  mkdir "$parts/over"
-  for part in $over; do
-    $CC -std=c99 -pedantic $flags -c -o "$parts/over/$part.o" bindings/c/$part.c
-  done
+  for part in blocks registers version; do compiled $flags -c -o "$parts/$part.o" bindings/c/$part.c; done
   # How much of the stack each proved call uses is measured, and cleared by what is compiled then.
-  $CC -std=c99 $flags -Wl,-z,now -o "$parts/stack_lens" bindings/c/test.c "$parts"/*/*.o "$parts/stack_lens.o" \
-    "$parts/blocks.o" "$parts/registers.o" "$parts/version.o" -lpthread
+  compiled $flags -c -o "$parts/stack_lens.o" bindings/c/stack_lens.c
+  compiled $flags -Wl,-z,now -o "$parts/stack_lens" bindings/c/test.c "$parts"/*/*.o "$parts"/*.o "$common"/over/*.o -lpthread
   $emulator "$parts/stack_lens" small > "$parts/stack_lens.h"
-  $CC -std=c99 -pedantic $flags -c -o "$parts/clearing.o" bindings/c/clearing.c
+  rm "$parts/stack_lens.o"
+  compiled $flags -c -o "$parts/clearing.o" bindings/c/clearing.c
   # The calls that are called by those over them.
   sed 's/.*/cleared_&/' "$parts/proved.names" > "$parts/names"
   printf '%s\n' scrypt_wipe scrypt_version >> "$parts/names"
-  join "$parts/calls.o" "$parts/names" "$parts"/libscrypt_c/*.o "$parts"/liblibc_c/*.o "$parts"/clearing.o \
-    "$parts"/blocks.o "$parts"/registers.o "$parts"/version.o
+  join "$parts/calls.o" "$parts/names" "$parts"/*/*.o "$parts"/*.o
 }
 # join OBJECT NAMES OBJECTS.. makes one object of several, of which only the names of a list are seen from outside.
 join() {
@@ -87,36 +83,35 @@ join() {
   "${tools}ld" -r -o "$joined" "$@"
   "${tools}objcopy" --keep-global-symbols="$names" "$joined"
 }
+# link_shared LIBRARY OBJECTS..
 link_shared() {
-  $CC $linked -Wl,-soname,$soname -Wl,--version-script="$common/versions" -o "$1" \
-    "$parts/calls.o" "$parts/cpu.o" "$parts"/over/*.o -lpthread
+  library=$1
+  shift
+  $CC $linked -Wl,-soname,$soname -Wl,--version-script="$common/versions" -o "$library" "$@" -lpthread
 }
-# Gives the calls that are read from a list the names that dispatch.c calls.
+# Gives the calls of a level, except those that are left out, the names that dispatch.c calls.
 rename_calls() {
-  sed "s/.*/& ${level}_&/" > "$parts/renames"
+  grep -vxF "${1:-}" "$parts/names" | sed "s/.*/& ${level}_&/" > "$parts/renames"
   objcopy --redefine-syms="$parts/renames" "$parts/calls.o"
 }
 make_objects "$oldest" "$PWD/crates/scrypt_c/$proved/libscrypt_c.a"
-link_shared "$out/$shared"
-# Copies, because the kit refuses a link below the top of the repository.
-for name in $soname libscrypt_c.so; do cp "$out/$shared" "$out/$name"; done
 calls=$parts/calls.o
-oldest_parts=$parts
 # Its stack can be measured only where it runs.
 if [ -n "$newest" ] && /lib64/ld-linux-x86-64.so.2 --help | grep -q "$newest (supported"; then
-  # Those that see no password or key are of x86-64-v2 alone.
-  { sed 's/.*/cleared_&/' "$parts/proved.names"; echo scrypt_version; } | rename_calls
+  rename_calls scrypt_wipe # which sees no password or key: that of the oldest processor is called
   make_objects "$newest" "$PWD/crates/scrypt_c/$proved/$newest/libscrypt_c.a"
-  mkdir -p "$out/${newer%/*}"
-  link_shared "$out/$newer"
-  rename_calls < "$parts/names"
-  $CC -std=c99 -pedantic $flags -c -o "$parts/dispatch.o" bindings/c/dispatch.c
-  calls="$calls $parts/calls.o $parts/dispatch.o"
+  rename_calls
+  calls="$calls $parts/calls.o"
+  mkdir -p "$build/tests/$oldest"
+  compiled -DIS_ALWAYS_V2 -c -o "$common/oldest.o" bindings/c/dispatch.c
+  link_shared "$build/tests/$oldest/$soname" $calls "$common/oldest.o" "$common"/over/*.o
+  compiled -c -o "$common/dispatch.o" bindings/c/dispatch.c
+  calls="$calls $common/dispatch.o"
 fi
-# The test of the processor is among the calls, so that each program that calls anything has it.
-parts=$oldest_parts
-join "$common/scrypt_c.o" "$common/symbols" $calls "$parts/cpu.o" "$parts"/over/*.o
+join "$common/scrypt_c.o" "$common/symbols" $calls "$common"/over/*.o
 "${tools}ar" rcs "$out/libscrypt_c.a" "$common/scrypt_c.o"
+link_shared "$out/$soname" "$common/scrypt_c.o"
+cp "$out/$soname" "$out/libscrypt_c.so" # not a link, which the kit refuses below the top of the repository
 cp bindings/c/scrypt_c.h "$out/"
 # The names of other libraries, in a library of their own. It isn't unloaded while threads have memory of it.
 $CC -O2 -Wall -Wextra $hardened -fPIC -fvisibility=hidden $linked -Wl,-soname,libscrypt_drop_in.so -Wl,--exclude-libs,ALL \
@@ -136,10 +131,12 @@ if [ -n "$is_kits" ]; then
   (cd bindings/rust && sha256sum libscrypt_c.a scrypt_c.h > SHA256SUMS)
 fi
 rm -r "$common"
-echo "$out: $shared for $oldest"
-if [ -z "$is_kits" ]; then exec bindings/terminal/build.sh; fi # that one is not run here, so it is linked now
-if [ -e "$out/$newer" ]; then
-  echo "$out: $newer for $newest; libscrypt_c.a and libscrypt_drop_in.so for both"
+if [ -z "$is_kits" ]; then
+  echo "$out: for $oldest"
+  exec bindings/terminal/build.sh # that one is not run here, so it is linked now
+fi
+if [ -e "$build/tests/$oldest" ]; then
+  echo "$out: for $oldest and for $newest"
 else
-  echo "This processor is older than $newest, so the library for that one was not built."
+  echo "$out: for $oldest. This processor is older than $newest, so the code for that one was not built."
 fi

@@ -18,7 +18,7 @@ command -v cargo > /dev/null || needed cargo cargo
 command -v aarch64-linux-gnu-strip > /dev/null || needed aarch64-linux-gnu-strip binutils-aarch64-linux-gnu
 $python -c 'import hatchling' 2> /dev/null || needed hatchling python3-hatchling
 ls -d /usr/share/cargo/registry/password-hash-0.4* > /dev/null 2>&1 || needed password-hash librust-password-hash-dev
-for built in build/bin/scrypt_tool build/lib/glibc-hwcaps build/aarch64-linux-gnu/bin/scrypt_tool bindings/js/scrypt.wasm; do
+for built in build/bin/scrypt_tool build/tests/x86-64-v2 build/aarch64-linux-gnu/bin/scrypt_tool bindings/js/scrypt.wasm; do
   [ -e $built ] || { echo "not built: $built. \`make test\` builds all, with the kit" >&2; exit 1; }
 done
 python3 -B release/proved.py check

@@ -122,10 +122,11 @@ quietly inside sh -c 'apt-get update -qq && apt-get install -qq -y --no-install-
 compile='cc /tmp/check.c -o ~/check $(pkg-config --cflags --libs scrypt_c)'
 inside sh -c "$compile"
 expect "$(inside /root/check)" "$key $newest" "a C program by pkg-config prints it, with the package"
-masked="/lib64/ld-linux-x86-64.so.2 --glibc-hwcaps-mask $oldest"
-expect "$(inside $masked /root/check)" "$key $oldest" "and by the library for $oldest, if the other is masked"
+if command -v qemu-x86_64-static > /dev/null; then
+  expect "$(qemu-x86_64-static -cpu Nehalem -L "$root" "$root/root/check")" "$key $oldest" "and by the code for $oldest on one of these"
+fi
 inside sh -c 'cc -static /tmp/check.c -o ~/check $(pkg-config --static --cflags --libs scrypt_c)'
-expect "$(inside /root/check)" "$key $newest" "and by the static library, which chooses itself"
+expect "$(inside /root/check)" "$key $newest" "and by the static library"
 unpack_archive
 libraries=/home/user/prefix/lib
 compile="$compile && ldd ~/check | grep -q $libraries && ~/check"

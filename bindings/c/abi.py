@@ -77,13 +77,12 @@ def complaints(folder, wanted):
     yield from (f"the list has it, and not the header: {it}" for it in wanted if it not in listed)
     yield from (f"the header has it, and not the list: {it}" for it in listed if it not in wanted)
     names = {it.split()[0] for it in wanted if it.startswith("scrypt_")}
-    static, newer = os.path.join(folder, "libscrypt_c.a"), os.path.join(folder, "glibc-hwcaps/x86-64-v3", SONAME)
-    for shared in [os.path.join(folder, "libscrypt_c.so"), *([newer] if os.path.exists(newer) else [])]:
-        exported = {line.split()[-1] for line in output("nm", "-D", "--defined-only", shared).splitlines()}
-        if exported != {f"{name}@@{VERSION}" for name in names} | {VERSION}:
-            yield f"exported by {shared}: {sorted(exported)}"
-        if f"[{SONAME}]" not in output("readelf", "-d", shared):
-            yield f"the soname of {shared} is not {SONAME}"
+    static, shared = os.path.join(folder, "libscrypt_c.a"), os.path.join(folder, SONAME)
+    exported = {line.split()[-1] for line in output("nm", "-D", "--defined-only", shared).splitlines()}
+    if exported != {f"{name}@@{VERSION}" for name in names} | {VERSION}:
+        yield f"exported by the shared library: {sorted(exported)}"
+    if f"[{SONAME}]" not in output("readelf", "-d", shared):
+        yield f"its soname is not {SONAME}"
     exported = {line.split()[-1] for line in output("nm", "-g", "--defined-only", static).splitlines() if " T " in line}
     if exported != names:
         yield f"exported by the static library: {sorted(exported)}"

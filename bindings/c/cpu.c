@@ -1,6 +1,5 @@
-/* What runs when the library is loaded, before main: not proved. The proved code is for PROCESSOR, which is x86-64-v2, or
- * x86-64-v3 if X86_64_LEVEL is 3, and would die by an illegal instruction elsewhere. This file is for every x86-64.
- * For arm64 the code is for every processor. */
+/* What runs when the library is loaded, before main: not proved. The proved code is for x86-64-v2 or later, and would die by an
+ * illegal instruction elsewhere. This file is for every x86-64. For arm64 the code is for every processor. */
 #include "cpu.h"
 
 #ifdef __x86_64__
@@ -37,8 +36,8 @@ static int saves_avx(void) {
 int has_v3(void) { return has(&V2) && has(&V3) && saves_avx(); }
 
 __attribute__((constructor)) static void refuse_older_processors(void) {
-  if (X86_64_LEVEL == 3 ? has_v3() : has(&V2)) return;
-  fputs("libscrypt_c: this processor lacks a feature of " PROCESSOR ", which the library was built for\n", stderr);
+  if (has(&V2)) return;
+  fputs("libscrypt_c: this processor lacks a feature of x86-64-v2, which the library was built for\n", stderr);
   abort();
 }
 

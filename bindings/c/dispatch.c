@@ -1,12 +1,14 @@
-/* The calls of the static library, which has the proved ones for x86-64-v2 and for x86-64-v3: not proved. lib.sh gives
- * those the names v2_.. and v3_... Both return the same. */
+/* The calls of a library that has the proved ones for x86-64-v2 and for x86-64-v3: not proved. lib.sh gives those the names
+ * v2_.. and v3_... Both return the same. */
 #include "cpu.h"
 #include "scrypt_c.h"
 
 static int is_v3 = 0;
 
-/* Before this, calls are those for x86-64-v2. */
+/* Before this, calls are those for x86-64-v2. They stay so in a library that lib.sh makes for tests. */
+#ifndef IS_ALWAYS_V2
 __attribute__((constructor)) static void choose(void) { is_v3 = has_v3(); }
+#endif
 
 #define PROVED_CALL(name, parameters, arguments) \
   int v2_cleared_##name parameters;              \

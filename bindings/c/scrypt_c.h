@@ -418,7 +418,7 @@ SCRYPT_CHECKED
 int scrypt_draw_salt(uint8_t *salt, size_t len);
 
 /* The version of the linked library, and the processor that its proved code was built for, as in "0.12.0 x86-64-v2" or
- * "0.12.0 arm64". The static library for x86-64 has code for two, and chooses the newer one that the processor can run. The
+ * "0.12.0 arm64". The library for x86-64 has code for two, and chooses the newer one that the processor can run. The
  * version of this header is SCRYPT_VERSION_STRING. */
 const char *scrypt_version(void);
 

@@ -1,20 +1,17 @@
 #!/bin/sh
 # Tests the libraries of build/lib from C and C++: what they export, the header's warnings, every call, AddressSanitizer,
-# valgrind, the stack, and what is installed; all calls of the library for x86-64-v3 too, if it is built. With the word
-# short: the exports, the version and one run of each. With ARCH=aarch64-linux-gnu it tests the library for arm64 in Debian's
-# emulator, with random keys in place of the checkers, the compilers and what is installed.
+# valgrind, the stack, and what is installed; of x86-64 the code of both levels. With the word short: the exports, the version
+# and one run of each. With the ARCH of another processor it tests the library for that in Debian's emulator, with random keys in
+# place of the checkers, the compilers and what is installed.
 unset CDPATH
 cd "$(dirname "$0")/../.."
 . bindings/common.sh
-newer=$lib/glibc-hwcaps/$newest
-if [ ! -e "$newer/libscrypt_c.so.0" ]; then
-  test -z "$newest" || echo "no library for $newest, which an older processor does not build: only that for $oldest is tested"
-  newer= newest=$oldest
+# The library that runs the code for the oldest processor on each.
+older=$PWD/$build/tests/$oldest/libscrypt_c.so.0
+if [ ! -e "$older" ]; then
+  test -z "$newest" || echo "no code for $newest, which an older processor does not build: only that for $oldest is tested"
+  older= newest=$oldest
 fi
-# The shared library for the oldest processor in a folder that has no other.
-older=$room/$oldest
-mkdir "$older"
-cp -P "$lib"/libscrypt_c.so.0* "$older"
 # each NAMES COMMAND.. runs a command with each of these libraries, and the processor whose code it calls.
 each() {
   libraries=$1
@@ -24,8 +21,8 @@ each() {
     LD_LIBRARY_PATH=${library%/*} "$@" "$library" $processor
   done
 }
-built="$lib/libscrypt_c.a $older/libscrypt_c.so.0"
-shared="$older/libscrypt_c.so.0 ${newer:+"$newer/libscrypt_c.so.0"}"
+built="$lib/libscrypt_c.a ${older:-"$lib/libscrypt_c.so.0"}"
+shared="$lib/libscrypt_c.so.0 $older"
 # Builds and runs tests with a library that is for a processor. Its calls are bound before: that uses the stack too.
 short_tests() {
   for test in test test_stack; do
@@ -35,20 +32,6 @@ short_tests() {
   $emulator "$room/test" small
   $emulator "$room/test_stack" > /dev/null
   echo "called from C, also on a small stack: $2"
-}
-# The dynamic linker chooses by the processor, which its own option and a tunable of the C library can make an older one.
-is_chosen() {
-  [ -n "$newer" ] || return 0
-  echo '#include <scrypt_c.h>' > "$room/version.c"
-  echo 'int puts(const char *); int main(void) { return puts(scrypt_version()) < 0; }' >> "$room/version.c"
-  $CC -I"$lib" "$room/version.c" -o "$room/version" "$lib/libscrypt_c.so"
-  expect() {
-    loaded=$(shift; env LD_LIBRARY_PATH="$lib" "$@" "$room/version")
-    case $loaded in *" $1") echo "chosen by the dynamic linker: $1" ;; *) echo "$2 takes that for $loaded" >&2; exit 1 ;; esac
-  }
-  expect x86-64-v3
-  expect x86-64-v2 /lib64/ld-linux-x86-64.so.2 --glibc-hwcaps-mask x86-64-v2
-  expect x86-64-v2 GLIBC_TUNABLES=glibc.cpu.hwcaps=-AVX2,-AVX2_Usable
 }
 
 if [ -n "$emulator" ]; then
@@ -62,8 +45,7 @@ release/hardened.sh "$lib/libscrypt_drop_in.so" $shared
 if "${tools}objdump" -d "$lib/libscrypt_c.so.0" | grep -E '[[:space:]](jmp|b)[[:space:]].*<clear_stack>'; then exit 1; fi
 echo "bound to themselves, when they are loaded, and read-only then, with stack protection: the shared libraries"
 python3 bindings/version.py --check
-each "$built" short_tests
-is_chosen
+each "$lib/libscrypt_c.a $shared" short_tests
 # The program that chooses parameters prints those that scrypt_tool takes, or says what it takes itself.
 $emulator "$build/bin/scrypt_calibrate" ${emulator:+1}0.1 16 | grep -xE '1[0-4] 8 [1-9][0-9]*' > "$room/log"
 while read -r words; do
@@ -191,32 +173,38 @@ if has musl-gcc musl-tools; then
   echo "called by: musl-gcc, with musl"
 fi
 
-# on CPU PROCESSOR OPTIONS.. builds the test for the code of a processor, and runs it on one that Debian's emulator has.
+# emulated CPU PROGRAM.. runs it on a processor that Debian's emulator has. The C library, whose code for AVX2 needs more than
+# that, is told to leave it out.
+emulated() {
+  cpu=$1
+  shift
+  qemu-x86_64-static -cpu $cpu -E LD_LIBRARY_PATH="$lib" -E GLIBC_TUNABLES=glibc.cpu.hwcaps=-AVX2 "$@"
+}
+# on CPU PROCESSOR OPTIONS.. builds the test for the code of a processor, and runs it on another one.
 on() {
   cpu=$1 processor=$2
   shift 2
   gcc -O2 -I"$lib" -DPROCESSOR="\"$processor\"" bindings/c/test.c -o "$room/on" "$@"
-  qemu-x86_64-static -cpu $cpu -E LD_LIBRARY_PATH="$newer" "$room/on" small
+  emulated $cpu "$room/on" small
 }
-refused() {
-  if on "$@" 2> "$room/refused"; then
-    echo "$1 was not refused" >&2
-    exit 1
-  fi
-  grep "lacks a feature of $2" "$room/refused"
-}
-# The static library chooses when a program starts, however it is linked, and none is refused that can run it.
+# The library chooses when a program starts, however it is linked, and none is refused that can run it.
 if has gcc gcc && has qemu-x86_64-static qemu-user-static; then
   for linked in -static -static-pie -pie -no-pie; do
     on Nehalem x86-64-v2 $linked "$lib/libscrypt_c.a"
     on max $newest $linked "$lib/libscrypt_c.a"
   done
-  echo "chosen by the static library, on emulated processors: x86-64-v2, and $newest"
-  refused qemu64 x86-64-v2 "$lib/libscrypt_c.a"
-  if [ -n "$newer" ]; then
-    on max x86-64-v3 "$newer/libscrypt_c.so.0"
-    refused Nehalem x86-64-v3 "$newer/libscrypt_c.so.0"
-  fi
+  on Nehalem x86-64-v2 "$lib/libscrypt_c.so.0"
+  on max $newest "$lib/libscrypt_c.so.0"
+  gcc -I"$lib" release/check.c -o "$room/key_and_processor" "$lib/libscrypt_c.so.0"
+  for missing in avx avx2 bmi1 bmi2 f16c fma abm movbe xsave; do
+    emulated max,-$missing "$room/key_and_processor" > "$room/chosen"
+    grep -q "^77d6576238.* x86-64-v2$" "$room/chosen" || { echo "chosen without $missing: $(cat "$room/chosen")" >&2; exit 1; }
+  done
+  echo "chosen by the library, on emulated processors: $newest, and x86-64-v2 where a feature of x86-64-v3 is missing"
+  for library in "$lib/libscrypt_c.a" "$lib/libscrypt_c.so.0"; do
+    if on qemu64 x86-64-v2 "$library" 2> "$room/refused"; then echo "not refused: qemu64" >&2; exit 1; fi
+    grep "lacks a feature of x86-64-v2" "$room/refused"
+  done
 fi
 
 tests="test test_words test_order test_null test_salt test_traces threads"
@@ -233,7 +221,7 @@ sanitized() {
   done
   echo "no report by AddressSanitizer: the tests, and four threads at once, on $2"
 }
-emulated() {
+with_memcheck() {
   for test in $tests; do memcheck "$room/$test-$2" small; done
   echo "no report by valgrind memcheck: the same on $2, except for the key of 1 GiB"
 }
@@ -247,7 +235,7 @@ if has gcc gcc; then
   "$room/sandbox"
   echo "a hasher in a sandbox that answers system calls in a signal handler"
 fi
-if has gcc gcc && has valgrind valgrind; then each "$built" emulated; fi
+if has gcc gcc && has valgrind valgrind; then each "$built" with_memcheck; fi
 
 # The hasher, with its sources in the test.
 hasher_test() {

@@ -10,18 +10,15 @@ cd "$(dirname "$0")/../.."
 mkdir "$room/client"
 cp -r bindings/c/test.c bindings/c/test_chunks.h bindings/c/test_keys.h bindings/c/check.h bindings/c/cmake_client "$room/client"
 
-# Builds and runs the client by what is installed below a prefix, with the shared libraries, of which the dynamic linker takes
-# the one for x86-64-v3 if it was built here and is not masked, and with the static one, which takes that if it was.
-newest=x86-64-v2
-if [ -d "$lib/glibc-hwcaps" ]; then newest=x86-64-v3; fi
+# Builds and runs the client by what is installed below a prefix, with the shared library and with the static one, which choose
+# the code for the newest processor if it was built here.
+if [ ! -e "$build/tests/$oldest" ]; then newest=$oldest; fi
 by_pkg_config() {
   flags() { PKG_CONFIG_PATH="$1/lib/pkgconfig" pkg-config $2 --cflags --libs scrypt_c; }
-  built() { eval gcc "'-DPROCESSOR=\"$2\"' $3" "$room/client/test.c" -o "$room/by_pkg_config" "$(flags "$1" "$4")"; }
-  built "$1" $newest "" ""
+  built() { eval gcc "'-DPROCESSOR=\"$newest\"' $2" "$room/client/test.c" -o "$room/by_pkg_config" "$(flags "$1" "$3")"; }
+  built "$1" "" ""
   LD_LIBRARY_PATH=$1/lib "$room/by_pkg_config" small
-  built "$1" x86-64-v2 "" ""
-  /lib64/ld-linux-x86-64.so.2 --glibc-hwcaps-mask x86-64-v2 --library-path "$1/lib" "$room/by_pkg_config" small
-  built "$1" $newest -static --static
+  built "$1" -static --static
   "$room/by_pkg_config" small
 }
 by_cmake() {
@@ -107,8 +104,8 @@ is_found "$room/R&D kit/usr"
 is_gone "$room/R&D kit/usr"
 echo "installed, found and removed: by the install.sh of the archive"
 
-# Both are installed below a prefix, again without the library for x86-64-v3, and removed. Before there were folders of the
-# same names, with nothing in them. The user's umask and CDPATH change nothing.
+# Both are installed below a prefix, with a file that only the old version has, again without that, and removed. Before there were
+# folders of the same names, with nothing in them. The user's umask and CDPATH change nothing.
 mkdir -p "$room/sources/build"
 cp -r Makefile VERSION LICENSE README.md SECURITY.md bindings docs release "$room/sources"
 cp -r "$lib" "$room/sources/build"
@@ -119,18 +116,25 @@ by_archive() {
     uninstall) "$room/archive/install.sh" --remove "$room/had" ;;
   esac
 }
-without_a_part() {
-  for place in "$room/sources/build/lib" "$room/archive/files/lib"; do mv "$place/glibc-hwcaps" "$place.kept"; done
+parts="$room/sources/bindings/python/scrypt_c/old $room/archive/files/lib/python3/dist-packages/scrypt_c/old"
+old=$room/had/lib/python3/dist-packages/scrypt_c/old
+with_a_part() {
+  for part in $parts; do mkdir "$part" && touch "$part/old.py"; done
   $1 install
-  for place in "$room/sources/build/lib" "$room/archive/files/lib"; do mv "$place.kept" "$place/glibc-hwcaps"; done
-  if [ -e "$room/had/lib/glibc-hwcaps" ]; then echo "$1: a part of the old version is left" >&2; exit 1; fi
+  test -e "$old/old.py"
+  rm -r $parts
+}
+without_a_part() {
+  $1 install
+  if [ -e "$old" ]; then echo "$1: a part of the old version is left" >&2; exit 1; fi
 }
 mkdir -p "$room/had/lib/pkgconfig" "$room/had/share/man/man3" "$room/decoy/bindings/c" "$room/decoy/crates/scrypt_tool"
 find "$room/had" | sort > "$room/before"
 for by in by_make by_archive; do
   (umask 077 && CDPATH=$room/decoy && export CDPATH && $by install)
   test -z "$(find "$room/had" -type f ! -perm -go=r -o -type d ! -perm -go=rx)" || { echo "$by: not for everybody" >&2; exit 1; }
-  if [ -d "$lib/glibc-hwcaps" ]; then without_a_part $by; fi
+  with_a_part $by
+  without_a_part $by
   $by uninstall
   find "$room/had" | sort | diff "$room/before" -
   mkdir -p "$room/had/include/scrypt_c.h"
@@ -154,6 +158,13 @@ if [ "$(id -u)" = 0 ]; then
   chown 0 "$room/had/share/doc/scrypt_c/installed"
 fi
 by_archive uninstall
+find "$room/had" | sort | diff "$room/before" -
+newer=$room/had/lib/glibc-hwcaps/x86-64-v3/libscrypt_c.so.0
+install -D "$lib/libscrypt_c.so.0" "$newer" # as a version without a list left it
+by_make install
+if [ -e "$newer" ]; then echo "the dynamic linker takes an old library" >&2; exit 1; fi
+rmdir -p --ignore-fail-on-non-empty "${newer%/*}"
+by_make uninstall
 find "$room/had" | sort | diff "$room/before" -
 echo "installed, upgraded and removed: what was there before is left, and nothing else, also after an error"
 
@@ -195,21 +206,20 @@ killed_at_each "upgraded" fewer "$room/killed/new" --tree "$room/few"
 killed_at_each "removed" few "$room/killed/new" --remove --tree ""
 killed_at_each "removed from a folder" few "$room/killed" --remove --tree ""
 
-# A program that has both libraries loaded, and one that loads them for each key, go on while they are installed again.
+# A program that has the library loaded, and one that loads it for each key, go on while it is installed again.
 use() {
   python3 -B - "$room/had/lib" "$room/end" "$1" << 'END'
-import _ctypes, ctypes, glob, os, sys
+import _ctypes, ctypes, os, sys
 
 libraries, end, how = sys.argv[1:]
-paths = [f"{libraries}/libscrypt_c.so.0", *glob.glob(f"{libraries}/glibc-hwcaps/*/libscrypt_c.so.0")]
 one, many = ctypes.c_uint32, ctypes.c_size_t
 while not os.path.exists(end):
-    for library in map(ctypes.CDLL, paths):
-        key = ctypes.create_string_buffer(32)
-        arguments = [b"password", many(8), b"salt", many(4), 4, one(8), one(1), key, many(32)]
-        assert library.scrypt_key(*arguments) == 0 and key.raw[:4].hex() == "f876178f"
-        if how == "loading":
-            _ctypes.dlclose(library._handle)
+    library = ctypes.CDLL(f"{libraries}/libscrypt_c.so.0")
+    key = ctypes.create_string_buffer(32)
+    arguments = [b"password", many(8), b"salt", many(4), 4, one(8), one(1), key, many(32)]
+    assert library.scrypt_key(*arguments) == 0 and key.raw[:4].hex() == "f876178f"
+    if how == "loading":
+        _ctypes.dlclose(library._handle)
 END
 }
 if has python3 python3; then

@@ -1,4 +1,4 @@
-"""Puts the library into the package, for x86-64-v2 and, if it is there, for x86-64-v3, or for arm64, with the licences.
+"""Puts the library into the package, with the licences.
 
 It is the file that SCRYPT_C_LIBRARY names, or that of this name in the folder that it names, or else the one that
 `make lib` put into build/lib of the repository; a source archive has it in the package already, and takes no file from
@@ -12,7 +12,6 @@ import pathlib
 from hatchling.builders.hooks.plugin.interface import BuildHookInterface
 
 SONAME = "libscrypt_c.so.0"
-NEWER = f"glibc-hwcaps/x86-64-v3/{SONAME}"
 
 # What a library says of its processor, in the header of the file, and what Python calls that.
 MACHINES = {62: "x86_64", 183: "aarch64"}
@@ -24,9 +23,12 @@ class Library(BuildHookInterface):
         top = root if (root / "PKG-INFO").exists() else root / "../.."  # which each source archive has
         named = pathlib.Path(os.environ.get("SCRYPT_C_LIBRARY") or top / "build/lib")
         files = build_data["force_include"]
-        found = {SONAME: named} if named.is_file() else {it: named / it for it in (SONAME, NEWER)}
-        files |= {str(place.resolve()): f"scrypt_c/{it}" for it, place in found.items() if place.exists()}
-        if not files and not (root / "scrypt_c" / SONAME).exists():
+        library, inside = named if named.is_file() else named / SONAME, root / "scrypt_c" / SONAME
+        if library.exists():
+            files[str(library.resolve())] = f"scrypt_c/{SONAME}"
+        elif inside.exists():
+            library = inside
+        else:
             raise SystemExit(f"no {SONAME} in {named}: build it by `make lib`, or name its folder in SCRYPT_C_LIBRARY")
         is_wheel = self.target_name == "wheel"
         folder = f"{self.build_config.builder.artifact_project_id}.dist-info/" if is_wheel else ""
@@ -36,6 +38,5 @@ class Library(BuildHookInterface):
         files |= {str(it): f"{folder}{it.name}" for it in texts if it.exists()}
         if is_wheel:
             # The newest name that the library takes from glibc is of 2.14, or of 2.17 for arm64, and this tag asks for 2.17.
-            library = next((it for it in found.values() if it.exists()), root / "scrypt_c" / SONAME)
             machine = MACHINES[int.from_bytes(library.read_bytes()[18:20], "little")]
             build_data |= {"pure_python": False, "tag": f"py3-none-manylinux_2_17_{machine}.manylinux2014_{machine}"}

@@ -8,29 +8,13 @@ import sys
 from typing import Any, Optional
 
 SONAME = "libscrypt_c.so.0"
-# Where a folder has the library for x86-64-v3, and what Linux calls the features of that processor beside x86-64-v2.
-NEWER = os.path.join("glibc-hwcaps", "x86-64-v3", SONAME)
-_V3 = {"abm", "avx", "avx2", "bmi1", "bmi2", "f16c", "fma", "movbe", "xsave"}
-
-
-def _is_v3(cpuinfo: str = "/proc/cpuinfo") -> bool:
-    try:
-        with open(cpuinfo, encoding="utf-8") as file:
-            return _V3 <= set(next((line for line in file if line.startswith("flags")), "").split())
-    except OSError:
-        return False
-
-
-def _in(folder: str) -> str:
-    newer = os.path.join(folder, NEWER)
-    return newer if os.path.exists(newer) and _is_v3() else os.path.join(folder, SONAME)
 
 
 def _place() -> str:
     named = os.environ.get("SCRYPT_C_LIBRARY")
     if named:
-        return _in(named) if os.path.isdir(named) else named
-    inside = _in(os.path.dirname(os.path.abspath(__file__)))
+        return os.path.join(named, SONAME) if os.path.isdir(named) else named
+    inside = os.path.join(os.path.dirname(os.path.abspath(__file__)), SONAME)
     return inside if os.path.exists(inside) else SONAME
 
 

@@ -4,7 +4,6 @@ import os
 import re
 import subprocess
 import sys
-import tempfile
 import typing
 import unittest
 
@@ -21,32 +20,11 @@ def tried(place):
 
 class Library(unittest.TestCase):
     def test_a_file_and_its_folder(self):
-        named = os.environ["SCRYPT_C_LIBRARY"]
-        older, newer = os.path.join(named, "libscrypt_c.so.0"), os.path.join(named, library.NEWER)
-        chosen = newer if library._is_v3() and os.path.exists(newer) else older
-        for place, found in ((named, chosen), (older, older), (newer, newer)):
-            if os.path.exists(found):
-                run = tried(place)
-                self.assertEqual(run.stdout.strip(), found, run.stderr)
-
-    def test_processors(self):
-        """The library for x86-64-v3 is taken only where Linux lists all that it needs."""
-        flags = "fpu sse4_2 ssse3 abm avx avx2 bmi1 bmi2 f16c fma movbe xsave"
-        rows = [
-            ("all of them", f"processor : 0\nflags\t\t: {flags}\n", True),
-            ("one is missing", f"flags\t\t: {flags.replace('bmi1', '')}\n", False),
-            ("one that only begins so", f"flags\t\t: {flags.replace('movbe', 'movbe2')}\n", False),
-            ("listed elsewhere", f"flags\t\t: fpu\nvmx flags\t: {flags}\n", False),
-            ("no list", "processor : 0\n", False),
-        ]
-        with tempfile.NamedTemporaryFile("w", encoding="utf-8") as file:
-            for why, text, wanted in rows:
-                file.seek(0)
-                file.truncate()
-                file.write(text)
-                file.flush()
-                self.assertEqual(library._is_v3(file.name), wanted, why)
-        self.assertFalse(library._is_v3("/nowhere"))
+        folder = os.environ["SCRYPT_C_LIBRARY"]
+        file = os.path.join(folder, library.SONAME)
+        for place in (folder, file):
+            run = tried(place)
+            self.assertEqual(run.stdout.strip(), file, run.stderr)
 
     def test_names(self):
         """What the package exports is there, with its version, and the types that callers annotate with."""
