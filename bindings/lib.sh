@@ -64,7 +64,7 @@ make_objects() {
   "${tools}objcopy" --redefine-syms="$parts/proved" "$parts"/libscrypt_c/*.o
   for object in "$parts"/*/*.o; do "${tools}objcopy" --redefine-syms="$common/clearing" "$object"; done
   # Functions of the C library are bound when a program is loaded, also with the static library, as blocks.c explains.
-  for part in blocks registers version; do compiled $flags -c -o "$parts/$part.o" bindings/c/$part.c; done
+  for part in blocks registers version at_once; do compiled $flags -c -o "$parts/$part.o" bindings/c/$part.c; done
   # How much of the stack each proved call uses is measured, and cleared by what is compiled then.
   compiled $flags -c -o "$parts/stack_lens.o" bindings/c/stack_lens.c
   compiled $flags -Wl,-z,now -o "$parts/stack_lens" bindings/c/test.c "$parts"/*/*.o "$parts"/*.o "$common"/over/*.o -lpthread
@@ -73,7 +73,7 @@ make_objects() {
   compiled $flags -c -o "$parts/clearing.o" bindings/c/clearing.c
   # The calls that are called by those over them.
   sed 's/.*/cleared_&/' "$parts/proved.names" > "$parts/names"
-  printf '%s\n' scrypt_wipe scrypt_version >> "$parts/names"
+  printf '%s\n' scrypt_wipe scrypt_version most_at_once >> "$parts/names"
   join "$parts/calls.o" "$parts/names" "$parts"/*/*.o "$parts"/*.o
 }
 # join OBJECT NAMES OBJECTS.. makes one object of several, of which only the names of a list are seen from outside.

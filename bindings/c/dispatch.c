@@ -1,7 +1,7 @@
 /* The calls of a library that has the proved ones for x86-64-v2 and for x86-64-v3: not proved. lib.sh gives those the names
  * v2_.. and v3_... Both return the same. */
 #include "cpu.h"
-#include "scrypt_c.h"
+#include "groups.h"
 
 static int is_v3 = 0;
 
@@ -28,3 +28,7 @@ __attribute__((constructor)) static void choose(void) { is_v3 = has_v3(); }
 const char *v2_scrypt_version(void);
 const char *v3_scrypt_version(void);
 const char *scrypt_version(void) { return is_v3 ? v3_scrypt_version() : v2_scrypt_version(); }
+
+size_t v2_most_at_once(void);
+size_t v3_most_at_once(void);
+size_t most_at_once(void) { return is_v3 ? v3_most_at_once() : v2_most_at_once(); }

@@ -1,15 +1,6 @@
 /* What the calls that are written in C share. Not proved. */
 #include "groups.h"
 
-#include <string.h>
-
-#ifdef __x86_64__
-/* x86-64-v2 has 16 registers of four words, which four blocks at once don't fit into. The levels after it have longer ones. */
-size_t most_at_once(void) { return strstr(scrypt_version(), "x86-64-v2") != NULL ? 3 : 4; }
-#else
-size_t most_at_once(void) { return 4; }
-#endif
-
 int key_in_buffers(const void *password, size_t password_len, const void *salt, size_t salt_len, uint32_t log_n, uint32_t r,
                    uint32_t p, uint8_t *output, size_t output_len, const struct buffers *of) {
   int status = scrypt_key_with_buffers(password, password_len, salt, salt_len, log_n, r, p, output, output_len, of->chunks,

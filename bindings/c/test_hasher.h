@@ -1,9 +1,7 @@
 /* The hasher with derivations that can be stopped: its sources are included, and call functions of this file in place of
- * derive, most_at_once, mmap, munmap and syscall. most_at_once reads the version of this file. */
+ * derive, most_at_once, mmap, munmap and syscall. */
 #define _GNU_SOURCE
-#define scrypt_version test_version
 #include "groups.c"
-#undef scrypt_version
 
 #include <errno.h>
 #include <linux/futex.h>
@@ -39,9 +37,6 @@ static int failed;
 #define IS(call, wanted) expect((call) == (wanted), #call)
 /* Waits until it holds, or for ten seconds. */
 #define until(holds) for (int tries_ = 0; !(holds) && tries_ < 50000; tries_++) usleep(200)
-
-static const char *version = "";
-const char *test_version(void) { return version; }
 
 static size_t most_mapped = SIZE_MAX, most_in_all = SIZE_MAX, mapped; /* how much one mapping and all may be, and are */
 static int refusals;

@@ -213,18 +213,6 @@ static void statuses_in_mid_call(void) {
   tables_free(&tables);
 }
 
-/* Three pay on x86-64-v2 alone: a later level has the registers of x86-64-v3. */
-static void widths(void) {
-#ifdef __x86_64__
-  static const struct { const char *version; size_t most; } VERSIONS[] = {
-      {"0.12.0 x86-64-v2", 3}, {"0.12.0+proved.1 x86-64-v3", 4}, {"0.12.0+proved.1 x86-64-v4", 4}};
-  for (size_t i = 0; i < sizeof VERSIONS / sizeof VERSIONS[0]; i++) {
-    version = VERSIONS[i].version;
-    expect(most_at_once() == VERSIONS[i].most, "%s", version);
-  }
-#endif
-}
-
 /* 1/256 of the derivation, at most a millisecond, and none below 50 microseconds. */
 static void moments(void) {
   static const struct { uint8_t log_n; uint32_t p; int64_t ns; } MOMENTS[] = {
@@ -355,7 +343,6 @@ int main(void) {
 #ifndef __SANITIZE_THREAD__ /* which calls handlers later, also when the statuses are written */
   RUN(statuses_in_mid_call);
 #endif
-  RUN(widths);
   RUN(moments);
   RUN(many_waits);
   RUN(processors);
