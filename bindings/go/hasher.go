@@ -1,5 +1,3 @@
-//go:build cgo && linux && (amd64 || arm64)
-
 package scrypt
 
 // #include "library.h"

@@ -4,7 +4,9 @@
 #else
 #define LIBRARY "libscrypt_c.a"
 #endif
-#if defined SCRYPT_BUNDLED && !(__has_include("scrypt_c.h") && __has_include(LIBRARY))
+#if !defined __linux__ || !(defined __x86_64__ || defined __aarch64__)
+#error "the package needs Linux on amd64 or arm64"
+#elif defined SCRYPT_BUNDLED && !(__has_include("scrypt_c.h") && __has_include(LIBRARY))
 #error "scrypt_c.h and libscrypt_c.a, or libscrypt_c_arm64.a, are not in the package's folder: make lib, or make install and -tags scrypt_system"
 #else
 #include <scrypt_c.h>

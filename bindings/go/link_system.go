@@ -1,4 +1,4 @@
-//go:build cgo && linux && (amd64 || arm64) && scrypt_system
+//go:build scrypt_system
 
 package scrypt
 

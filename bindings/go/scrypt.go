@@ -1,5 +1,3 @@
-//go:build cgo && linux && (amd64 || arm64)
-
 // Package scrypt derives keys with scrypt (RFC 7914), and makes and verifies scrypt password hashes, on top of the library
 // libscrypt_c over proved code. The package calls it through cgo, and is tested, not proved.
 //

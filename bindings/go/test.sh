@@ -39,7 +39,9 @@ cp "$lib/libscrypt_c.a" "$room/bare"
 (cd "$room/bare" && go build .)
 refused 'undefined: scrypt_needs_cgo' env CGO_ENABLED=0 go build .
 refused 'undefined: scrypt_needs_cgo.*linux_amd64_or_arm64' env GOARCH=riscv64 go build .
-echo "a build without the library, without cgo, or for another processor says what is missing"
+refused 'error.*the package needs Linux on amd64 or arm64' env CGO_CFLAGS=-U__linux__ go build .
+refused 'error.*the package needs Linux on amd64 or arm64' gcc -U__x86_64__ -fsyntax-only library.h
+echo "a build without the library, without cgo, or for another system or processor says what is missing"
 
 # A program in a module of its own, which prints true.
 mkdir "$room/program"
