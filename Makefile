@@ -4,7 +4,7 @@
 #                  calls the library from C and Python
 # To use it:
 #   make lib       proves and builds the libraries for C into build/lib, with code for x86-64-v2 and for x86-64-v3
-#                  with ARCH=aarch64-linux-gnu those for arm64, and the program, into build/aarch64-linux-gnu
+#                  with ARCH=aarch64-linux-gnu those for arm64, and the program, into build/aarch64-linux-gnu (bindings/arch.sh)
 #   make install   installs what is built below prefix=/usr/local, and honours DESTDIR
 #   make uninstall removes it, with the same variables
 #   make js        proves and builds the module for JavaScript into bindings/js, and tests it in Node and in Chromium
@@ -122,9 +122,9 @@ oracle: lib
 	python3 -m compare.hostile build/lib/libscrypt_c.so
 	python3 -m compare.groups build/lib/libscrypt_c.so
 
-# For arm64 the program is built too.
+# For another processor the program is built too.
 lib: kit
-	$(MAKE) -j$(SIDE_BY_SIDE) proved-scrypt$(if $(filter aarch64-%,$(ARCH)),_commands)
+	$(MAKE) -j$(SIDE_BY_SIDE) proved-scrypt$(if $(filter-out x86_64-%,$(ARCH)),_commands)
 	bindings/lib.sh
 
 js: kit
@@ -189,7 +189,7 @@ dist-test:
 	python3 -B release/test_proved.py
 	release/reproducible.sh
 	release/test.sh
-	release/test_arm64.sh
+	release/test_emulated.sh
 	release/container.sh
 	release/arm64_machine.sh
 

@@ -2,8 +2,8 @@
 # Calls the libraries of build/lib from each language of bindings/ whose compiler is here, and from programs that know
 # only the names of other libraries. Prints what is not installed, by its Debian package, and fails if a caller fails.
 # With the word short, which the gate uses: the tests from C, from Python and of the drop-in names that take seconds, once.
-# Before all that it checks that the libraries keep blocks in registers, and tries the program's completions. With
-# ARCH=aarch64-linux-gnu: the tests from C, and the answers of the program, in Debian's emulator.
+# Before all that it checks that the libraries keep blocks in registers, and tries the program's completions. With the ARCH of
+# another processor: the tests from C, and the answers of the program, in Debian's emulator.
 set -eu
 unset CDPATH
 cd "$(dirname "$0")"
@@ -13,7 +13,8 @@ if [ -n "$emulator" ]; then
   c/test.sh "$@"
   room=$(mktemp -d)
   trap 'rm -rf "$room"' EXIT
-  cc -O2 -static -DPROGRAM="\"$PWD/../$build/bin/scrypt_tool\"" terminal/emulated.c -o "$room/scrypt_tool"
+  cc -O2 -static -DPROGRAM="\"$PWD/../$build/bin/scrypt_tool\"" -DEMULATOR="\"${emulator%% *}\"" \
+    -DLIBRARIES="\"${emulator##* }\"" terminal/emulated.c -o "$room/scrypt_tool"
   (cd .. && CC=$CC python3 -B -m ci.program "$room/scrypt_tool")
   exit
 fi

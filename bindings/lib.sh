@@ -97,7 +97,7 @@ rename_calls() {
 make_objects "$oldest" "$PWD/crates/scrypt_c/$proved/libscrypt_c.a"
 calls=$parts/calls.o
 # Its stack can be measured only where it runs.
-if [ -n "$newest" ] && /lib64/ld-linux-x86-64.so.2 --help | grep -q "$newest (supported"; then
+if [ -n "$newest" ] && $loader --help | grep -q "$newest (supported"; then
   rename_calls scrypt_wipe # which sees no password or key: that of the oldest processor is called
   make_objects "$newest" "$PWD/crates/scrypt_c/$proved/$newest/libscrypt_c.a"
   rename_calls

@@ -9,18 +9,21 @@ SOURCE_DATE_EPOCH=$(git log -1 --format=%ct)
 export SOURCE_DATE_EPOCH LC_ALL=C TZ=UTC
 dist=$PWD/build/dist parts=$PWD/build/dist-parts version=$(cat VERSION)
 name=scrypt-proved-$version
-archs="x86_64-linux-gnu aarch64-linux-gnu"
+. bindings/arch.sh
 python=/usr/bin/python3 # Debian's, which has hatchling
 
 needed() { echo "$1 is not here (Debian's package $2), and make dist needs it" >&2; exit 1; }
 command -v dh > /dev/null || needed dh debhelper
 command -v cargo > /dev/null || needed cargo cargo
-command -v aarch64-linux-gnu-strip > /dev/null || needed aarch64-linux-gnu-strip binutils-aarch64-linux-gnu
 $python -c 'import hatchling' 2> /dev/null || needed hatchling python3-hatchling
 ls -d /usr/share/cargo/registry/password-hash-0.4* > /dev/null 2>&1 || needed password-hash librust-password-hash-dev
-for built in build/bin/scrypt_tool build/tests/x86-64-v2 build/aarch64-linux-gnu/bin/scrypt_tool bindings/js/scrypt.wasm; do
-  [ -e $built ] || { echo "not built: $built. \`make test\` builds all, with the kit" >&2; exit 1; }
+is_built() { [ -e "$1" ] || { echo "not built: $1. \`make test\` builds all, with the kit" >&2; exit 1; }; }
+for ARCH in $archs; do
+  . bindings/arch.sh
+  command -v "${tools}strip" > /dev/null || needed "${tools}strip" "binutils${tools:+-$ARCH}"
+  for built in bin/scrypt_tool lib/libscrypt_c.so.0 ${newest:+tests/$oldest}; do is_built "$build/$built"; done
 done
+is_built bindings/js/scrypt.wasm
 python3 -B release/proved.py check
 python3 bindings/version.py --check
 rm -rf "$dist" "$parts"
@@ -37,8 +40,8 @@ python3 -B -m doc.promises clauses > "$parts/doc/docs/CLAUSES.md"
 python3 -B release/proved.py text "$parts/files" > "$parts/PROVED.txt"
 # The newest glibc whose names a binary may take: the wheel's tag promises 2.17 for its libraries.
 glibc() {
-  newest=$("${tools}objdump" -T "$2" | grep -o 'GLIBC_[0-9.]*' | sort -Vu | tail -n 1)
-  printf '%s\n' "$newest" "GLIBC_$1" | sort -V -C || { echo "$2 takes names of $newest, newer than $1" >&2; exit 1; }
+  latest=$("${tools}objdump" -T "$2" | grep -o 'GLIBC_[0-9.]*' | sort -Vu | tail -n 1)
+  printf '%s\n' "$latest" "GLIBC_$1" | sort -V -C || { echo "$2 takes names of $latest, newer than $1" >&2; exit 1; }
 }
 for ARCH in $archs; do
   . bindings/arch.sh
@@ -84,7 +87,7 @@ mv "$dist/package.tar.gz" "$dist/$name.tgz"
 mkdir "$parts/cargo"
 cp release/cargo.toml "$parts/cargo/config.toml"
 export CARGO_HOME="$parts/cargo" CARGO_TARGET_DIR="$parts/cargo"
-cp release/NOTICES "$parts/PROVED.txt" "$parts/files/x86_64-linux-gnu/lib/libscrypt_c.a" build/lib/scrypt_c.h bindings/rust
+cp release/NOTICES "$parts/PROVED.txt" "$parts/files/${archs%% *}/lib/libscrypt_c.a" build/lib/scrypt_c.h bindings/rust
 (cd bindings/rust && sha256sum libscrypt_c.a scrypt_c.h > SHA256SUMS)
 (cd bindings/rust && cargo package --quiet --offline --no-verify --allow-dirty)
 cp "$parts"/cargo/package/*.crate "$dist"

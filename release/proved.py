@@ -20,15 +20,15 @@ from pathlib import Path
 KEPT = Path("build/proved.json")
 # What the kit built, and what was linked of it.
 PACKED = [
-    *["crates/scrypt_c/out/**/libscrypt_c.a", "crates/scrypt_tool/out/scrypt_tool*", "crates/scrypt_tool/out/arm64/scrypt_tool.o"],
-    *["build/lib/**/*", "build/bin/*", "build/aarch64-linux-gnu/**/*", "build/wasm/*", "bindings/js/scrypt.wasm"],
+    *["crates/scrypt_c/out/**/libscrypt_c.a", "crates/scrypt_tool/out/scrypt_tool*", "crates/scrypt_tool/out/*/scrypt_tool.o"],
+    *["build/lib/**/*", "build/bin/*", "build/*-linux-gnu/**/*", "build/wasm/*", "bindings/js/scrypt.wasm"],
 ]
 UNPROVED = "There is no verdict here: `make dist UNPROVED=1` packed what was built, proved or not."
 GATE = """\
 The gate proved each crate from nothing, in this commit's own clone, and what is packed was linked there. The library for C
 is proved once for both levels of x86-64, in a folder that was empty before, and the module for JavaScript begins with its
-proofs of what both have, so their lines have `incremental=trusted`, and so have those for arm64, whose copies of crates are
-in folders of their own."""
+proofs of what both have, so their lines have `incremental=trusted`, and so have those for other processors, whose copies of
+crates are in folders of their own."""
 
 
 def output(*command):

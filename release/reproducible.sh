@@ -6,6 +6,7 @@
 set -eu
 unset CDPATH
 cd "$(dirname "$0")/.."
+. bindings/arch.sh
 room=$(mktemp -d)
 trap 'rm -rf "$room"' EXIT
 
@@ -14,13 +15,18 @@ mkdir "$room/source/build"
 if [ -e build/proved.json ]; then cp build/proved.json "$room/source/build/"; fi
 command="make test dist"
 if [ "${1:-}" != proofs ]; then
-  for file in crates/scrypt_c/out/libscrypt_c.a crates/scrypt_c/out/x86-64-v3/libscrypt_c.a \
-    crates/scrypt_tool/out/scrypt_tool.o crates/scrypt_tool/out/scrypt_tool crates/scrypt_c/out/arm64/libscrypt_c.a \
-    crates/scrypt_tool/out/arm64/scrypt_tool.o build/wasm/scrypt64.wasm bindings/js/scrypt.wasm; do
+  files="crates/scrypt_c/out/$newest/libscrypt_c.a crates/scrypt_tool/out/scrypt_tool build/wasm/scrypt64.wasm bindings/js/scrypt.wasm"
+  command="bindings/lib.sh built && bindings/terminal/build.sh"
+  for ARCH in $archs; do
+    . bindings/arch.sh
+    files="$files crates/scrypt_c/$proved/libscrypt_c.a crates/scrypt_tool/$proved/scrypt_tool.o"
+    if [ -z "$is_kits" ]; then command="$command && ARCH=$ARCH bindings/lib.sh built"; fi
+  done
+  for file in $files; do
     mkdir -p "$room/source/${file%/*}"
     cp -p $file "$room/source/$file"
   done
-  command="bindings/lib.sh built && bindings/terminal/build.sh && ARCH=aarch64-linux-gnu bindings/lib.sh built && release/dist.sh"
+  command="$command && release/dist.sh"
 fi
 # What is left out needs a file system or a clock of its own, or another user. rustup finds its cargo below the home.
 export RUSTUP_HOME="${RUSTUP_HOME:-$HOME/.rustup}"

@@ -1,7 +1,7 @@
 #!/bin/bash
 # Tests build/dist as a user meets it, in a fresh root made from Debian packages, without the kit: installs, uses and
 # removes the packages, does the same with the archive without root, builds programs in C, Go and Rust, and runs one in Node.
-# Needs root, mmdebstrap, lintian and a network for Debian's packages. test_arm64.sh tests what is for arm64.
+# Needs root, mmdebstrap, lintian and a network for Debian's packages. test_emulated.sh tests what is for other processors.
 set -euo pipefail
 unset CDPATH
 cd "$(dirname "$0")/.."
@@ -60,8 +60,8 @@ listed > "$room/before"
 install_packages
 echo "apt-get install ./*.deb"
 # Each packed binary is in a file of the packages, and the other way round.
-sed -n '/^SHA-256 of the binaries/,/^SHA-256 of what/s/^\([0-9a-f]\{64\}\) .*/\1/p' \
-  <(grep -v " aarch64-linux-gnu/" "$root/usr/share/doc/libscrypt-c0/PROVED.txt") | sort > "$room/packed"
+sed -n '/^SHA-256 of the binaries/,/^SHA-256 of what/s/^\([0-9a-f]\{64\}\) .* x86_64-linux-gnu\/.*/\1/p' \
+  "$root/usr/share/doc/libscrypt-c0/PROVED.txt" | sort > "$room/packed"
 inside sh -c "dpkg -L $packages"' | grep -E "\.so|\.a$|/bin/." | sort -u |
   while read -r it; do [ -h "$it" ] || sha256sum "$it"; done' | cut -c -64 | sort | diff - "$room/packed"
 echo "each installed binary has its hash in PROVED.txt: $(wc -l < "$room/packed")"

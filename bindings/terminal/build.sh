@@ -2,7 +2,7 @@
 # Links the program that is installed: the proved one, whose reads of the standard input go by terminal.c.
 # usage: build.sh                   links build/bin/scrypt_tool
 #        build.sh PROGRAM OUTPUT    PROGRAM is crates/scrypt_tool/out/scrypt_tool, which has its object beside it
-# With ARCH=aarch64-linux-gnu it links what arm64.py made, into build/aarch64-linux-gnu/bin.
+# With the ARCH of another processor it links what was proved for that, into build/ARCH/bin.
 set -eu
 unset CDPATH
 folder=$(cd "$(dirname "$0")" && pwd)

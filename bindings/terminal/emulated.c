@@ -1,12 +1,12 @@
-/* Runs PROGRAM in Debian's emulator of arm64, with the words that it is given. It is linked statically, so that what tests preload
- * is preloaded into PROGRAM alone. */
+/* Runs PROGRAM in EMULATOR, which finds libraries below LIBRARIES, with the words that it is given. It is linked statically, so
+ * that what tests preload is preloaded into PROGRAM alone. */
 #include <stdio.h>
 #include <stdlib.h>
 #include <string.h>
 #include <unistd.h>
 
 int main(int argc, char **argv) {
-  char *first[] = {"qemu-aarch64-static", "-L", "/usr/aarch64-linux-gnu", "-0", argv[0], PROGRAM};
+  char *first[] = {EMULATOR, "-L", LIBRARIES, "-0", argv[0], PROGRAM};
   enum { FIRST = sizeof first / sizeof *first };
   char **words = (char **)malloc((FIRST + (size_t)argc) * sizeof *words);
   if (words == NULL || argc == 0) return 127;

@@ -1,11 +1,17 @@
 #!/bin/bash
-# Tests what is for arm64 in build/dist, in a root of Debian's packages for arm64, of which nothing is configured: Debian's emulator
-# runs each program with the root's libraries, so that the kernel needs no binfmt_misc. dpkg, pip, the compiler and Go are those of
-# this machine. Needs mmdebstrap, python3-pip, golang-go, pkg-config, what the build for arm64 needs, and a network.
+# Tests what is for other processors in build/dist, each in a root of Debian's packages for it, of which nothing is configured:
+# Debian's emulator runs each program with the root's libraries, so that the kernel needs no binfmt_misc. dpkg, pip, the compiler
+# and Go are those of this machine. Needs mmdebstrap, python3-pip, golang-go, pkg-config, what the builds need, and a network.
+# usage: test_emulated.sh [ARCH]    without it, all that bindings/arch.sh has but the first
 set -euo pipefail
 unset CDPATH
 cd "$(dirname "$0")/.."
-export ARCH=aarch64-linux-gnu
+if [ $# = 0 ]; then
+  . bindings/arch.sh
+  for it in ${archs#* }; do release/test_emulated.sh "$it"; done
+  exit
+fi
+export ARCH=$1
 . bindings/common.sh
 dist=$PWD/build/dist root=$room/root private=usr/lib/$ARCH/scrypt_c
 key=77d6576238657b203b19ca42c18a0497f16b4844e3074ae8dfdffa3fede21442
@@ -27,14 +33,14 @@ dpkg_there() { dpkg --root="$root" --force-architecture --force-depends --force-
 listed() { (cd "$root" && find . -path ./var -prune -o -path ./tmp -prune -o -print | sort); }
 
 (cd "$dist" && sha256sum --quiet -c SHA256SUMS)
-mmdebstrap --quiet --arch=arm64 --variant=extract --skip=cleanup/apt/lists --include=libc6,libcrypt1,python3 bookworm "$root"
+mmdebstrap --quiet --arch=$debian --variant=extract --skip=cleanup/apt/lists --include=libc6,libcrypt1,python3 bookworm "$root"
 listed > "$room/before"
 # Debian's packages are those of the root, none of which apt takes for installed.
-own="-o Dir=$root -o APT::Architecture=arm64 -o APT::Architectures=arm64"
-apt-get $own --simulate install "$dist"/*_arm64.deb | sed -n 's/^Inst \(scrypt\|libscrypt\)/\1/p' | wc -l > "$room/count"
+own="-o Dir=$root -o APT::Architecture=$debian -o APT::Architectures=$debian"
+apt-get $own --simulate install "$dist"/*_$debian.deb | sed -n 's/^Inst \(scrypt\|libscrypt\)/\1/p' | wc -l > "$room/count"
 expect "$(cat "$room/count")" 4 "apt-get would install the packages, with those of Debian that they depend on"
-quietly dpkg_there --install "$dist"/*_arm64.deb
-sed -n '/^SHA-256 of the binaries/,/^SHA-256 of what/s/^\([0-9a-f]\{64\}\) .* aarch64-linux-gnu\/.*/\1/p' \
+quietly dpkg_there --install "$dist"/*_$debian.deb
+sed -n "/^SHA-256 of the binaries/,/^SHA-256 of what/s/^\\([0-9a-f]\\{64\\}\\) .* $ARCH\\/.*/\\1/p" \
   "$root/usr/share/doc/libscrypt-c0/PROVED.txt" | sort > "$room/packed"
 (cd "$root" && find usr/bin/scrypt* usr/lib/$ARCH -type f \( -path '*/bin/*' -o -name '*scrypt*.so*' -o -name '*scrypt*.a' \) \
   -exec sha256sum {} +) | cut -c -64 | sort | diff - "$room/packed"
@@ -48,20 +54,20 @@ expect "$(python "$by_crypt")" "True False" "crypt(3) verifies a hash of the pro
 preloaded=$root/$private/libscrypt_drop_in.so python 'import ctypes; ctypes.CDLL(None).crypto_scrypt'
 echo "the drop-in library gives crypto_scrypt by LD_PRELOAD"
 
-quietly python3 -m pip install --no-index --no-deps --platform manylinux_2_17_aarch64 --target "$room/wheel" "$dist"/*_aarch64.whl
+quietly python3 -m pip install --no-index --no-deps --platform manylinux_2_17_$machine --target "$room/wheel" "$dist"/*_$machine.whl
 hashes='from scrypt_c import PasswordHasher; h = PasswordHasher(log_n=10); h.verify(h.hash("a"), "a"); print("verified")'
-expect "$(python "$hashes")" verified "pip takes the wheel for manylinux_2_17_aarch64, and it hashes"
+expect "$(python "$hashes")" verified "pip takes the wheel for manylinux_2_17_$machine, and it hashes"
 
 # What the libraries are called by: built by the cross compiler, with the root's libraries and header.
 export PKG_CONFIG_SYSROOT_DIR=$root PKG_CONFIG_LIBDIR=$root/usr/lib/$ARCH/pkgconfig
 $CC release/check.c -o "$root/tmp/check" $(pkg-config --cflags --libs scrypt_c)
-expect "$(run tmp/check)" "$key arm64" "a C program by pkg-config prints it, with the package"
+expect "$(run tmp/check)" "$key $oldest" "a C program by pkg-config prints it, with the package"
 $CC -static release/check.c -o "$root/tmp/check" $(pkg-config --static --cflags --libs scrypt_c)
-expect "$(run tmp/check)" "$key arm64" "and by the static library"
+expect "$(run tmp/check)" "$key $oldest" "and by the static library"
 mkdir "$room/go" "$room/go/client"
 (
   cd "$room/go/client"
-  export GOPROXY=off GOFLAGS=-mod=mod GOCACHE=$room/cache GOARCH=arm64 CGO_ENABLED=1 CC
+  export GOPROXY=off GOFLAGS=-mod=mod GOCACHE=$room/cache GOARCH=$debian CGO_ENABLED=1 CC
   cp "$dist"/scrypt-go-*.tar.gz "$OLDPWD/release/check.go" .
   go mod init example.com/client 2> /dev/null
   eval "$(sed -n '/^Go,/,/^JavaScript,/s/^    //p' "$OLDPWD/release/README.md")"
@@ -70,7 +76,7 @@ mkdir "$room/go" "$room/go/client"
 expect "$(run tmp/check)" "$key" "a Go program prints it, with the module of the release"
 
 # The archive, and what is left when all is removed.
-tar xzf "$dist"/*-linux-aarch64.tar.gz -C "$room"
+tar xzf "$dist"/*-linux-$machine.tar.gz -C "$room"
 quietly "$room"/scrypt-proved-*/install.sh "$room/prefix"
 expect "$(LD_LIBRARY_PATH= run ../prefix/bin/scrypt_tool $command "" < /dev/null)" $key "the archive's program prints it"
 "$room"/scrypt-proved-*/install.sh --remove "$room/prefix"
@@ -78,4 +84,4 @@ test ! -e "$room/prefix"
 quietly dpkg_there --purge $packages
 listed | diff "$room/before" -
 echo "the archive and dpkg remove all that they installed"
-echo "build/dist: tested for arm64, in an emulator"
+echo "build/dist: tested for $oldest, in an emulator"
