@@ -4,7 +4,7 @@
 #                  calls the library from C and Python
 # To use it:
 #   make lib       proves and builds the libraries for C into build/lib, with code for x86-64-v2 and for x86-64-v3
-#                  with ARCH=aarch64-linux-gnu those for arm64, and the program, into build/aarch64-linux-gnu (bindings/arch.sh)
+#                  with ARCH, which bindings/arch.sh explains, those for another processor, and the program, into build/ARCH
 #   make install   installs what is built below prefix=/usr/local, and honours DESTDIR
 #   make uninstall removes it, with the same variables
 #   make js        proves and builds the module for JavaScript into bindings/js, and tests it in Node and in Chromium

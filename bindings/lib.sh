@@ -25,7 +25,7 @@ if [ "${1:-}" != built ]; then
     # rt lib leaves both under one name, so the newer one is moved.
     (cd crates/scrypt_c && rt lib --cpu $newest && mkdir -p out/$newest && mv out/libscrypt_c.a out/$newest/ && rt lib)
   else
-    python3 -m bindings.arm64 scrypt_c scrypt_tool
+    python3 -m bindings.cross "$ARCH" "$proved" scrypt_c scrypt_tool
   fi
 fi
 rm -rf "$out" "$build/tests"

@@ -234,7 +234,7 @@ def missing_for_arm64():
 
 def prove_for_arm64(tasks, *names):
     """Proves these crates for arm64."""
-    return tasks.run(sys.executable, "-m", "bindings.arm64", *names, nice=0)
+    return tasks.run(sys.executable, "-m", "bindings.cross", "aarch64-linux-gnu", "out/arm64", *names, nice=0)
 
 
 def test_arm64(tasks):

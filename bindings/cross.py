@@ -1,0 +1,57 @@
+#!/usr/bin/env python3
+"""Proves and compiles the crate scrypt_c and the program scrypt_tool for another processor than the kit's own, with the mixer for
+that (tools/copies.py). What it makes is in crates/NAME/PROVED.
+
+usage: python3 -m bindings.cross ARCH PROVED NAME[=KEPT] ..
+
+ARCH and PROVED are as in bindings/arch.sh. NAME is scrypt_c or scrypt_tool, and KEPT a folder of proofs of the crate that are kept.
+
+It needs the kit, and the libraries below, which `make lib` and `make run` prove: they are the same for each processor. Without KEPT it
+begins with what it kept itself, or a check of the crate did.
+"""
+
+import os
+import shutil
+import sys
+import tempfile
+from pathlib import Path
+
+from tools import copies, kit
+
+MADE = {"scrypt_c": "libscrypt_c.a", "scrypt_tool": "scrypt_tool.o"}
+
+# The gate proves from nothing.
+IS_GATE = "PROVED_LIBRARIES" in os.environ
+
+
+def begin(name, proved, given):
+    """The folder of kept proofs to begin with, or none."""
+    own = [] if IS_GATE else [f"crates/{name}/{proved}/kept", f"crates/{name}/out/incremental"]
+    return next((it for it in [given, *own] if os.path.isdir(it)), None)
+
+
+def build(room, target, proved, name, given):
+    """Proves and builds a copy of a crate."""
+    out = Path(f"crates/{name}/{proved}").resolve()
+    out.mkdir(parents=True, exist_ok=True)
+    copies.copy_crate(name, room / name, target)
+    options = ["--toolchain", f"{kit.located()}/toolchain", "--backend", "llvm", "--target", target]
+    verdict = copies.build(name, room / name, out / MADE[name], *options, kept=begin(name, proved, given))
+    shutil.rmtree(out / "kept", ignore_errors=True)
+    shutil.move(room / name / "kept", out / "kept")
+    print(f"== {name}-{out.name}\n{verdict}", flush=True)
+
+
+def main(arch, proved, *words):
+    target = arch.replace("-linux-", "-unknown-linux-")
+    # Not in the repository, in which rt refuses sources that are of no crate.
+    with tempfile.TemporaryDirectory() as room:
+        for name, _, given in (it.partition("=") for it in words):
+            build(Path(room), target, proved, name, given)
+
+
+if __name__ == "__main__":
+    os.chdir(copies.TOP)
+    if not sys.argv[3:] or not {it.partition("=")[0] for it in sys.argv[3:]} <= MADE.keys():
+        sys.exit(__doc__)
+    main(*sys.argv[1:])
