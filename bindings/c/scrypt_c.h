@@ -246,8 +246,8 @@ typedef struct scrypt_login {
  * scrypt_verify_with_buffers returns for that one alone in these buffers, whatever the others are. All keys are derived at
  * once if log_n and r of all hashes that are not refused are those of the first, and each buffer is long enough for one
  * derivation with as many chunks as all have: as many at a time as table and scratch are times as long as those of one by
- * scrypt_buffer_lens with s = 0, at most four. Two at a time take 0.56 of the time for each, and four 0.41, on x86-64; on
- * arm64 two are mixed one after the other, in the time of each alone. If not, the first is verified alone, and then the
+ * scrypt_buffer_lens with s = 0, at most four. Two at a time take 0.56 of the time for each, and four 0.41, on x86-64; on some
+ * processors two are mixed one after the other, in the time of each alone. If not, the first is verified alone, and then the
  * others, likewise. Afterwards the used parts of chunks and scratch are zeros.
  * SCRYPT_BUFFER_SIZE for a greater count; then no status is written. */
 SCRYPT_CHECKED
@@ -299,7 +299,7 @@ int scrypt_limits_for_new(uint32_t log_n, uint32_t r, uint32_t p, size_t key_len
 
 /* Makes and verifies password hashes for any number of threads, within bounds. At most one call for each processor derives
  * at a time; the others wait in line, first come, first served. Of the first 1000 that wait, up to four verifications with the
- * same log_n, r and p are derived at once, on x86-64 in less time than one after another: one in each table of a processor, and
+ * same log_n, r and p are derived at once, on some processors in less time than one after another: one in each table of a processor, and
  * at most its share of all calls. While all processors are taken, a derivation waits for others to join it for about 1/256 of
  * its time, and at most 1 ms. An error of one affects no other. A hasher keeps its memory for later calls: at most at_once
  * tables of most_bytes, whatever p is. It maps them when they are needed. A call for which the system has no memory while
@@ -418,7 +418,7 @@ SCRYPT_CHECKED
 int scrypt_draw_salt(uint8_t *salt, size_t len);
 
 /* The version of the linked library, and the processor that its proved code was built for, as in "0.12.0 x86-64-v2" or
- * "0.12.0 arm64". The library for x86-64 has code for two, and chooses the newer one that the processor can run. The
+ * "0.12.0 arm64". If the library has code for two, it chooses the newer one that the processor can run. The
  * version of this header is SCRYPT_VERSION_STRING. */
 const char *scrypt_version(void);
 

@@ -39,8 +39,8 @@ type Options struct {
 
 // A Hasher makes password hashes, and verifies passwords against hashes of either format. Any number of goroutines may
 // use it; at most one for each processor derives at a time, and the others wait, first come, first served. Of those that
-// wait, verifications with the same LogN, R and P are derived together if there are tables for them, which on x86-64
-// takes less time than one after another. While all processors are taken, a derivation waits for others to join it for about 1/256 of its
+// wait, verifications with the same LogN, R and P are derived together if there are tables for them, which on some
+// processors takes less time than one after another. While all processors are taken, a derivation waits for others to join it for about 1/256 of its
 // time, and at most 1 ms. No error or context of one affects another.
 //
 // A Hasher holds at most AtOnce tables, whatever P is, and keeps their memory for later calls until Close. A call for which

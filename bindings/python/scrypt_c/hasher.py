@@ -54,7 +54,7 @@ class PasswordHasher:
 
     `mcf` makes `$7$` hashes of crypt(3) instead of PHC hashes. Any number of threads may use a hasher. At most one for
     each processor derives at a time; the others wait in line, and raise TimeoutError after `timeout` seconds. Of those
-    that wait, verifications with the same N, r and p are done together, on x86-64 in less time than one after another. While
+    that wait, verifications with the same N, r and p are done together, on some processors in less time than one after another. While
     all processors are taken, a derivation waits for others to join it for about 1/256 of its time, and at most 1 ms. No
     error, timeout or exception of one affects another.
 

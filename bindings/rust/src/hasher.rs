@@ -67,7 +67,7 @@ pub struct Stats {
 ///
 /// Any number of threads may use it, and its clones are the same hasher. At most one thread for each processor derives at
 /// a time, and the others wait, first come, first served, at most for [`Options::timeout`]. Of those that wait, verifications with the same N, r and p are
-/// derived together if there are tables for them, which on x86-64 takes less time than one after another. While all processors are
+/// derived together if there are tables for them, which on some processors takes less time than one after another. While all processors are
 /// taken, a derivation waits for others to join it for about 1/256 of its time, and at most 1 ms. No error of one affects
 /// another.
 ///
