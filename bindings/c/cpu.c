@@ -1,5 +1,5 @@
 /* What runs when the library is loaded, before main: not proved. The proved code is for x86-64-v2 or later, and would die by an
- * illegal instruction elsewhere. This file is for every x86-64. For arm64 the code is for every processor. */
+ * illegal instruction elsewhere. This file is for every x86-64. On other processors the code is for all of them. */
 #include "cpu.h"
 
 #ifdef __x86_64__

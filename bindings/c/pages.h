@@ -7,11 +7,11 @@
 
 #define HUGE_PAGE ((size_t)2 << 20)
 
-/* Pages of arm64 have 4, 16 or 64 KiB, as the kernel was built. */
-#ifdef __aarch64__
-#define LARGEST_PAGE ((size_t)64 << 10)
-#else
+/* On other processors than x86-64 pages can have 16 or 64 KiB, as the kernel was built. */
+#ifdef __x86_64__
 #define LARGEST_PAGE ((size_t)4 << 10)
+#else
+#define LARGEST_PAGE ((size_t)64 << 10)
 #endif
 
 /* May be refused. */

@@ -48,7 +48,7 @@ __attribute__((constructor)) static void look_for_zmm(void) {
   CLEAR(kind, 30) CLEAR(kind, 31)
 
 void clear_registers(void) {
-#if X86_64_LEVEL == 3
+#if X86_64_LEVEL >= 3
   /* All of ymm0 to ymm15, of which the code below clears the lower halves. */
   __asm__ volatile("vzeroall" ::: "memory");
 #endif

@@ -1,19 +1,19 @@
 /* How many tables scrypt_key has at once, by the most memory that the process had: as many as pay on PROCESSOR, which the code of
  * the library is for. */
 #include "check.h"
+#include "machine.h"
 #include "scrypt_c.h"
 
 #include <stdio.h>
 #include <string.h>
 
-/* By the measurements in docs/DECISIONS.md. */
 static const struct {
   const char *processor;
   long tables;
-} ROWS[] = {{"x86-64-v2", 3}, {"x86-64-v3", 4}, {"arm64", 4}};
+} ROWS[] = TABLES_AT_ONCE;
 
-#define PARAMS 14, 8, 4 /* chunks, each in a table of 16 MiB */
-enum { TABLE_KIB = 16384, KEY_LEN = 32 };
+#define PARAMS 13, 8, 6 /* chunks, each in a table of 8 MiB: four and two, or three and three */
+enum { TABLE_KIB = 8192, KEY_LEN = 32 };
 
 static long most_kib(void) {
   FILE *file = fopen("/proc/self/status", "r");

@@ -8,7 +8,8 @@ cd "$(dirname "$0")/../.."
 
 # The client is in a folder that has no header but the installed one.
 mkdir "$room/client"
-cp -r bindings/c/test.c bindings/c/test_chunks.h bindings/c/test_keys.h bindings/c/check.h bindings/c/cmake_client "$room/client"
+cp -r bindings/c/test.c bindings/c/test_chunks.h bindings/c/test_keys.h bindings/c/machine.h bindings/c/check.h bindings/c/cmake_client \
+  "$room/client"
 
 # Builds and runs the client by what is installed below a prefix, with the shared library and with the static one, which choose
 # the code for the newest processor if it was built here.

@@ -3,6 +3,7 @@
 #define TEST_KEYS_H
 
 #include "check.h"
+#include "machine.h"
 #include "scrypt_c.h"
 
 #include <stdio.h>
@@ -85,13 +86,6 @@ static void keys_in_buffers(size_t i, uint8_t s) {
   free(table);
   free(scratch);
 }
-
-/* How many of two tables are used: on arm64 two chunks are mixed one after the other, in the first. */
-#ifdef __aarch64__
-#define USED_OF_TWO 1
-#else
-#define USED_OF_TWO 2
-#endif
 
 /* The key of vector 1, which has 16 chunks, in buffers that are longer than needed: how many tables are used of them, and
  * nothing after those is written. */

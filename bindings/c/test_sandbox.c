@@ -3,6 +3,7 @@
 #define _GNU_SOURCE
 #include "check.h"
 #include "child.h"
+#include "machine.h"
 #include "scrypt_c.h"
 
 #include <errno.h>
@@ -17,15 +18,6 @@
 #include <ucontext.h>
 
 enum { THREADS = 4, CALLS = 20, ANSWERED = 0x5c5c }; /* the last argument of what the handler calls, which no other call has */
-
-#ifdef __aarch64__
-#define ARGUMENT(context, number) (context)->uc_mcontext.regs[number]
-#define RESULT(context) (context)->uc_mcontext.regs[0]
-#else
-static const int REGISTERS[] = {REG_RDI, REG_RSI, REG_RDX, REG_R10, REG_R8};
-#define ARGUMENT(context, number) (context)->uc_mcontext.gregs[REGISTERS[number]]
-#define RESULT(context) (context)->uc_mcontext.gregs[REG_RAX]
-#endif
 
 static int answered, with_lock;
 static void answer(int number, siginfo_t *info, void *of) {

@@ -33,11 +33,7 @@ __attribute__((noinline)) static int leaves_a_frame(void) {
 }
 
 static int leaves_vectors(void) {
-#ifdef __aarch64__
-  __asm__ volatile("ldr q16, [%0]" ::"r"(the->password) : "v16");
-#else
-  __asm__ volatile("movdqu (%0), %%xmm5" ::"r"(the->password) : "xmm5");
-#endif
+  READ_VECTOR(the->password);
   return SCRYPT_OK;
 }
 
