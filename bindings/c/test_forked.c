@@ -11,7 +11,7 @@
 #include <time.h>
 #include <unistd.h>
 
-enum { FORKS = 5, SALT_LEN = 40 << 20 }; /* the text of a hash with this salt is one of the blocks, too */
+enum { FORKS = 4, SALT_LEN = 40 << 20 }; /* the text of a hash with this salt is one of the blocks, too */
 
 static const char PASSWORD[] = "pleaseletmein";
 #define THE_PASSWORD PASSWORD, sizeof PASSWORD - 1
@@ -23,6 +23,7 @@ static char phc[SCRYPT_PHC_CAPACITY], text[SCRYPT_MCF_CAPACITY(SALT_LEN)], right
 
 static int of_key(void) { return scrypt_key(SECRETS, 15, 8, 1, key, 32); }
 static int chunks_at_once(void) { return scrypt_key(SECRETS, 14, 8, 4, key, 32); }
+static int many_chunks(void) { return scrypt_key(SECRETS, 1, 8, 1 << 15, key, 32); }
 static int key_within(void) { return scrypt_key_within(SECRETS, 14, 8, 4, WITHIN, key, 32); }
 static int hash(void) { return scrypt_hash_phc(SECRETS, 15, 8, 1, 32, text, sizeof text); }
 static int long_hash(void) { return scrypt_hash_mcf(THE_PASSWORD, long_salt, SALT_LEN, 1, 1, 1, 32, text, sizeof text); }
@@ -33,9 +34,15 @@ static int verify_within(void) { return scrypt_verify_within(THE_PASSWORD, phc, 
 static const struct {
   const char *name;
   int (*call)(void);
-} CALLS[] = {{"scrypt_key", of_key}, {"scrypt_key, in several tables", chunks_at_once}, {"scrypt_key_within", key_within},
-             {"scrypt_hash_phc", hash}, {"scrypt_hash_mcf with a salt of 40 MiB", long_hash}, {"scrypt_verify", verify},
-             {"another password", verify_another}, {"scrypt_verify_within", verify_within}};
+} CALLS[] = {{"scrypt_key", of_key},
+             {"scrypt_key, in several tables", chunks_at_once},
+             {"scrypt_key, with chunks of 32 MiB", many_chunks},
+             {"scrypt_key_within", key_within},
+             {"scrypt_hash_phc", hash},
+             {"scrypt_hash_mcf, with a salt of 40 MiB", long_hash},
+             {"scrypt_verify", verify},
+             {"scrypt_verify of another password", verify_another},
+             {"scrypt_verify_within", verify_within}};
 
 static volatile sig_atomic_t is_child, good, forks;
 
