@@ -14,7 +14,8 @@ if [ $# = 0 ]; then set -- bookworm:linux-image-arm64 trixie:linux-image-arm64-1
 root=$room/root static=$lib/libscrypt_c.a shared=$lib/libscrypt_c.so.0
 
 # Each test with its library, how it is compiled, and the words that it is run with.
-printf '%s|static||\n' test test_words test_order test_null test_salt test_advice threads test_out_of_memory test_sandbox > "$room/tests"
+printf '%s|static||\n' test test_words test_order test_null test_salt test_advice threads test_out_of_memory test_sandbox \
+  test_blocks test_forked > "$room/tests"
 printf '%s|shared||\n' test_hasher test_hasher_parts test_hasher_load >> "$room/tests"
 cat >> "$room/tests" << 'END'
 test_stack|static|-Wl,-z,lazy|

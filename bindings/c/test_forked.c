@@ -58,8 +58,8 @@ static void fork_and_wait(int number) {
 
 /* Each time that so much processor time has passed, or never if it is 0. */
 static void fork_every(clock_t time) {
-  struct itimerval often = {{0, 0}, {0, 0}};
-  often.it_interval.tv_usec = often.it_value.tv_usec = (suseconds_t)(time * 1000000 / CLOCKS_PER_SEC);
+  const struct timeval each = {time / CLOCKS_PER_SEC, time % CLOCKS_PER_SEC}; /* which are microseconds, by POSIX */
+  const struct itimerval often = {each, each};
   (void)setitimer(ITIMER_PROF, &often, NULL);
 }
 
