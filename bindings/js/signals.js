@@ -5,17 +5,28 @@ import { errorFor } from './errors.js';
 const { prototype } = AbortSignal;
 // Environments for tests may have a class of their own, without getters.
 const [abortedOf, reasonOf] = ['aborted', 'reason'].map((name) => (name in prototype ? getterOf(prototype, name) : (it) => it[name]));
-const { addEventListener } = EventTarget.prototype;
+const { addEventListener, removeEventListener } = EventTarget.prototype;
 
-const listeners = new WeakMap(); // what a signal ends
+const listeners = new WeakMap(); // a signal's listener, and what it ends
 
 function listen(signal) {
   const all = new Set();
   // One listener for all calls: Node warns of more than ten. An event of the caller's own is not an abort.
-  Reflect.apply(addEventListener, signal, ['abort', () => {
+  const listener = () => {
     if (abortedOf(signal)) all.forEach((abort) => abort(reasonOf(signal)));
-  }]);
-  listeners.set(signal, all);
+  };
+  Reflect.apply(addEventListener, signal, ['abort', listener]);
+  listeners.set(signal, { all, listener });
+}
+
+// An engine keeps a signal that has a listener if another one may abort it, as AbortSignal.any and AbortSignal.timeout make them.
+function ignore(signal, listener) {
+  listeners.delete(signal);
+  try {
+    Reflect.apply(removeEventListener, signal, ['abort', listener]);
+  } catch {
+    // A Proxy of the caller's, which keeps the listener. It ends nothing.
+  }
 }
 
 /** Begins to listen to a signal. Throws its reason if it has aborted, and an error for what is not a signal. */
@@ -33,7 +44,10 @@ export function listenTo(signal) {
 
 /** Calls `abort` with the reason if the signal, which has not aborted, does, until the function that this returns is called. */
 export function onAbort(signal, abort) {
-  const all = listeners.get(signal);
-  all?.add(abort);
-  return () => all?.delete(abort);
+  if (signal === undefined) return () => {};
+  const { all, listener } = listeners.get(signal);
+  all.add(abort);
+  return () => {
+    if (all.delete(abort) && all.size === 0) ignore(signal, listener);
+  };
 }

@@ -1,13 +1,14 @@
 // usage: node --test node.test.js    with CASES, a file that cases.py made, and MODULE64, the module with a 64-bit memory
-import { deepStrictEqual, throws } from 'node:assert';
+import { deepStrictEqual, rejects, throws } from 'node:assert';
 import { spawnSync } from 'node:child_process';
+import { getEventListeners } from 'node:events';
 import { copyFileSync, mkdtempSync, readFileSync, rmSync } from 'node:fs';
 import { tmpdir } from 'node:os';
 import { join } from 'node:path';
 import { test } from 'node:test';
 import { setFlagsFromString } from 'node:v8';
 import { runInNewContext } from 'node:vm';
-import { hash, load } from '../index.js';
+import { hash, load, verify } from '../index.js';
 import { checks } from './checks.js';
 
 const list = checks(JSON.parse(readFileSync(process.env.CASES)), readFileSync(process.env.MODULE64));
@@ -40,6 +41,29 @@ for (const [name, program, wanted] of PROGRAMS) {
     deepStrictEqual([stderr, stdout], ['', wanted]);
   });
 }
+
+// An engine keeps a signal of AbortSignal.any for as long as it has a listener, and its sources are kept.
+test('a signal that no call listens to any more', async () => {
+  const of = { N: 2 ** 14 };
+  const listeners = ({ signal }) => getEventListeners(signal, 'abort').length;
+  for (const [how, end] of [
+    ['an answer', (signal) => hash('', { ...of, signal })],
+    ['a refused call', (signal) => rejects(hash('', { N: 3, signal }), { code: 'INVALID_PARAMS' })],
+    ['calls of which some wait', (signal) => Promise.all(Array.from({ length: 9 }, () => hash('', { ...of, signal })))],
+    ['an abort', (signal, abort) => {
+      setTimeout(() => abort.abort(), 5);
+      return rejects(hash('', { N: 2 ** 18, p: 64, maxmem: Infinity, signal }), { name: 'AbortError' });
+    }],
+  ]) {
+    const abort = new AbortController();
+    const ended = end(abort.signal, abort);
+    deepStrictEqual(listeners(abort), 1, `before ${how}`);
+    await ended;
+    deepStrictEqual(listeners(abort), 0, `after ${how}`);
+    if (!abort.signal.aborted) await verify('', '$scrypt', { signal: abort.signal });
+    deepStrictEqual(listeners(abort), 0, `after ${how} and another call`);
+  }
+});
 
 test('the files that are packed', () => {
   const room = mkdtempSync(join(tmpdir(), 'packed-'));
