@@ -2,9 +2,12 @@
 
 /** Why a call was refused: `code` for programs, `message` for people. Neither holds a secret. */
 export class ScryptError extends Error {
+  // Fields, since an assignment fails if Error.prototype is frozen.
+  name = 'ScryptError';
+  code;
+
   constructor(code, message, options) {
     super(message, options);
-    this.name = 'ScryptError';
     this.code = code;
   }
 }

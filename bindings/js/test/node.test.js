@@ -28,6 +28,11 @@ const PROGRAMS = [
       abort.abort();
       console.log((await call).slice(0, 10), (await hash('', { N: 2 })).slice(0, 10));
     }`, 'AbortError $scrypt$ln\n'.repeat(5)],
+  ['frozen prototypes', `for (const { prototype } of [Object, Error, EventTarget, Promise, Uint8Array]) Object.freeze(prototype);
+    const own = await load();
+    for (const call of [() => own.hash('', { N: 3 }), () => hash('', { N: 3 }), () => hash(5), () => load('file:///nothing')]) {
+      try { await call(); } catch (error) { console.log(error.name, error.code); }
+    }`, 'ScryptError INVALID_PARAMS\nScryptError INVALID_PARAMS\nScryptError INVALID_TYPE\nScryptError LOAD_FAILED\n'],
   ['a worker that ends by itself', `const { EventEmitter } = process.getBuiltinModule('node:events');
     process.getBuiltinModule('node:worker_threads').Worker = class extends EventEmitter {
       ref() {} unref() {} terminate() {} postMessage() { setTimeout(() => this.emit('exit', 3)); }
@@ -37,7 +42,7 @@ const PROGRAMS = [
 const PACKAGE = new URL('../index.js', import.meta.url);
 for (const [name, program, wanted] of PROGRAMS) {
   test(name, () => {
-    const { stdout, stderr } = spawnSync(process.execPath, ['--input-type=module', '-e', `import { hash, scrypt } from '${PACKAGE}'; ${program}`], { encoding: 'utf8' });
+    const { stdout, stderr } = spawnSync(process.execPath, ['--input-type=module', '-e', `import { hash, load, scrypt } from '${PACKAGE}'; ${program}`], { encoding: 'utf8' });
     deepStrictEqual([stderr, stdout], ['', wanted]);
   });
 }
