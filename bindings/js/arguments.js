@@ -98,12 +98,14 @@ const OPTIONS = {
 
 // Objects without options, which are a mistake: the limits that were meant would not hold.
 const OTHERS = [ArrayBuffer, Boolean, Map, Number, Promise, Set, String];
+// What they name themselves, since those of another realm, as of a frame or of node:vm, are of other classes; and not every page has all.
+const NAMES = ['AbortSignal', 'ArrayBuffer', 'Map', 'Promise', 'Set', 'SharedArrayBuffer'];
 
 function isOptions(it) {
   try {
     if (typeof it !== 'object' || Array.isArray(it) || ArrayBuffer.isView(it)) return false;
     for (const Kind of OTHERS) if (it instanceof Kind) return false;
-    return true;
+    return !NAMES.includes(it[Symbol.toStringTag]);
   } catch {
     return false; // a Proxy whose trap throws
   }

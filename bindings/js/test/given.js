@@ -146,7 +146,8 @@ export function givenChecks() {
     revoke();
     const fault = (name) => ({ ...OF, get [name]() { throw new Error('a fault of the caller'); } });
     const none = [5, 0, NaN, 'maxmem', '', true, false, 5n, Symbol('x'), () => OF, class {}, [], [OF], new Uint8Array(16), new ArrayBuffer(16),
-      new DataView(new ArrayBuffer(8)), new Map([['maxmem', 1]]), new Set(), Promise.resolve(OF), Object(''), Object(5), proxy, fault('N'), fault('dkLen')];
+      new DataView(new ArrayBuffer(8)), new Map([['maxmem', 1]]), new Set(), Promise.resolve(OF), Object(''), Object(5), new AbortController().signal,
+      new WebAssembly.Memory({ initial: 1, maximum: 1, shared: true }).buffer, proxy, fault('N'), fault('dkLen')];
     const text = await workers.hash('', { N: 2 });
     for (const api of await apis()) {
       for (const it of none) {

@@ -83,6 +83,17 @@ test('the files that are packed', () => {
   }
 });
 
+test('what is of another realm', async () => {
+  const text = await hash('password', { N: 2 });
+  const foreign = (code) => runInNewContext(code);
+  for (const it of ['Promise.resolve({ maxmem: 0 })', 'new ArrayBuffer(16)', 'new SharedArrayBuffer(16)', 'new Map()', 'new Set()', 'new Uint8Array(16)', '[]']) {
+    for (const api of [await load(), { hash, verify }]) {
+      for (const call of [() => api.hash('', foreign(it)), () => api.verify('password', text, foreign(it))]) await rejects(async () => call(), { code: 'INVALID_TYPE' }, it);
+      deepStrictEqual(await api.verify('password', text, foreign('({ maxmem: 2 ** 20 })')), true);
+    }
+  }
+});
+
 test('a call that a timeout of node:vm ends', async () => {
   setFlagsFromString('--expose-gc');
   const collect = runInNewContext('gc');
