@@ -34,9 +34,19 @@ async function ownModule() {
   }
 }
 
+// One of another realm, as of a frame, is of another class.
+function isModule(source) {
+  try {
+    WebAssembly.Module.exports(source);
+    return true;
+  } catch {
+    return false;
+  }
+}
+
 async function compileFrom(source) {
   try {
-    if (source instanceof WebAssembly.Module) return source;
+    if (isModule(source)) return source;
     if (source instanceof URL || typeof source === 'string') return await compileAt(String(source));
     return await WebAssembly.compile(source);
   } catch (cause) {

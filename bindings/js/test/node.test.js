@@ -92,6 +92,9 @@ test('what is of another realm', async () => {
       deepStrictEqual(await api.verify('password', text, foreign('({ maxmem: 2 ** 20 })')), true);
     }
   }
+  const module = runInNewContext('new WebAssembly.Module(bytes)', { bytes: readFileSync(new URL('../scrypt.wasm', import.meta.url)) });
+  deepStrictEqual((await load(module)).verify('password', text), true);
+  deepStrictEqual(await verify('password', text), true);
 });
 
 test('a call that a timeout of node:vm ends', async () => {
