@@ -36,7 +36,7 @@ export interface HashOptions extends PartialParams {
 
 /**
  * An untrusted hash chooses its own cost. The limits that are left out admit hashes that are made with these parameters, and
- * 4 times the work of the defaults. `Infinity` is no limit.
+ * 4 times the work of the defaults. `Infinity` is no limit on memory or work.
  */
 export interface VerifyOptions extends PartialParams {
   /** The most bytes of memory; 257 * 2 ** 20 if left out, or more if the parameters need more. */
@@ -57,7 +57,7 @@ export type ErrorCode =
   | 'INVALID_PARAMS'
   /** The dkLen of `scrypt` is 0. */
   | 'INVALID_OUTPUT_LEN'
-  /** A limit is not a whole number, or is negative. */
+  /** A limit is negative, not a whole number, or above 2 ** 53 - 1, but is not `Infinity`. */
   | 'INVALID_LIMIT'
   /** An argument has another type than it should, or is missing, or an option cannot be read: `cause` is what its getter threw. */
   | 'INVALID_TYPE'
