@@ -140,13 +140,20 @@ static int complete(scrypt_hasher *hasher) {
 
 scrypt_hasher *scrypt_hasher_new(const scrypt_options *options, int *status) {
   static const scrypt_options DEFAULTS = {.size = sizeof DEFAULTS};
-  scrypt_hasher *hasher = (scrypt_hasher *)calloc(1, sizeof *hasher);
-  int result = hasher != NULL ? SCRYPT_OPTIONS_SIZE : SCRYPT_OUT_OF_MEMORY;
+  scrypt_hasher made = {.is_closed = 0}, *hasher = NULL; /* what is wrong with options is found before memory is asked for */
+  int result = SCRYPT_OPTIONS_SIZE;
   if (options == NULL) options = &DEFAULTS;
-  if (hasher != NULL && options->size == sizeof *options) {
-    hasher->options = *options;
-    result = complete(hasher);
-    if (result == SCRYPT_OK) result = queue_new(hasher);
+  if (options->size == sizeof *options) {
+    made.options = *options;
+    result = complete(&made);
+  }
+  if (result == SCRYPT_OK) {
+    hasher = (scrypt_hasher *)calloc(1, sizeof *hasher);
+    result = SCRYPT_OUT_OF_MEMORY;
+  }
+  if (hasher != NULL) {
+    *hasher = made;
+    result = queue_new(hasher);
   }
   if (status != NULL) *status = result;
   if (result == SCRYPT_OK) return hasher;

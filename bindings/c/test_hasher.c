@@ -246,8 +246,26 @@ static void priorities(void) {
   pthread_join(thread, NULL);
 }
 
+/* Without memory for the hasher, what is wrong with its options is found first. */
+static void options_without_memory(void) {
+  static const struct { const char *why; scrypt_options with; int status; } OPTIONS[] = {
+      {"another size", {.size = 1, .key_len = 9}, SCRYPT_OPTIONS_SIZE},
+      {"a key of 9 bytes", {.size = sizeof(scrypt_options), .key_len = 9, .salt_len = 65}, SCRYPT_INVALID_PARAMS},
+      {"a salt of 65", {.size = sizeof(scrypt_options), .salt_len = 65, .most_bytes = 1}, SCRYPT_SALT_INVALID},
+      {"too few bytes", {.size = sizeof(scrypt_options), .most_bytes = 1}, SCRYPT_TOO_COSTLY},
+      {"nothing", {.size = sizeof(scrypt_options)}, SCRYPT_OUT_OF_MEMORY}};
+  is_calloc_refused = 1;
+  for (size_t i = 0; i < sizeof OPTIONS / sizeof OPTIONS[0]; i++) {
+    int status = -1;
+    IS(scrypt_hasher_new(&OPTIONS[i].with, &status), NULL);
+    expect(status == OPTIONS[i].status, "%s: %d", OPTIONS[i].why, status);
+  }
+  is_calloc_refused = 0;
+}
+
 int main(void) {
   RUN(rows);
   RUN(priorities);
+  RUN(options_without_memory);
   return failed;
 }

@@ -1,5 +1,5 @@
 /* The hasher with derivations that can be stopped: its sources are included, and call functions of this file in place of
- * derive, most_at_once, mmap, munmap and syscall. */
+ * derive, most_at_once, calloc, mmap, munmap and syscall. */
 #define _GNU_SOURCE
 #include "groups.c"
 
@@ -49,6 +49,9 @@ static void *test_mmap(void *at, size_t size, int protection, int flags, int fil
   return MAP_FAILED;
 }
 
+static int is_calloc_refused;
+static void *test_calloc(size_t count, size_t size) { return is_calloc_refused ? NULL : calloc(count, size); }
+
 static int test_munmap(void *at, size_t size);
 static void before_syscall(long number, ...), without_lock(void);
 static size_t widest = 4;
@@ -68,6 +71,7 @@ static void read_slowly(void) {
 
 static __thread int group_calls;
 
+#define calloc test_calloc
 #define mmap test_mmap
 #define munmap test_munmap
 #define syscall(...) (before_syscall(__VA_ARGS__), syscall(__VA_ARGS__))
@@ -90,6 +94,7 @@ static __thread int group_calls;
 #define now now_seconds
 #include "calibrate.c"
 #undef now
+#undef calloc
 #undef mmap
 #undef munmap
 #undef syscall
