@@ -128,6 +128,21 @@ FILES = {
     "crates/one/specs/Low.antt": LOW_SPEC,
 }
 
+# A kit whose module passes on a function by its name and a module whole, which has a theorem of that name.
+KIT_FILES = {
+    "KIT-ID": "a kit\n",
+    "rattle/logic/Lib/Low.antt": "mod Pairs\nmod Texts\nunfoldable pub use lib.Low.Texts.{map}\npub use lib.Low.Pairs\n",
+    "rattle/logic/Lib/Low/Texts.antt": "abbrev pub map : ℕ → ℕ\nmap x = x\n",
+    "rattle/logic/Lib/Low/Pairs.antt": "pub map : ℕ\nmap = 1\n\npub of : ℕ\nof = 2\n",
+}
+
+# A module of the kit, a name, the module that declares what it means, if any, and the reason for the row.
+KIT_NAMES = [
+    ("lib.Low", "map", "lib.Low.Texts", "passed on by its name, although a module that is passed on has another"),
+    ("lib.Low.Pairs", "map", "lib.Low.Pairs", "declared there"),
+    ("lib.Low", "of", None, "a module that is passed on is a name itself, and its names are not passed on"),
+]
+
 # A file of the small repository, a text in it and what becomes of it, and what the pages are refused for, if anything.
 CHANGES = [
     ("src/key.rt", "IsKey self.now", "IsLock self.now", "IsLock leads nowhere"),
@@ -145,11 +160,15 @@ CHANGES = [
 ]
 
 
+def write_files(folder, files):
+    for path, text in files.items():
+        Path(folder, path).parent.mkdir(parents=True, exist_ok=True)
+        Path(folder, path).write_text(text, "utf-8")
+
+
 def small_repository(files):
     with tempfile.TemporaryDirectory() as folder:
-        for path, text in files.items():
-            Path(folder, path).parent.mkdir(parents=True, exist_ok=True)
-            Path(folder, path).write_text(text, "utf-8")
+        write_files(folder, files)
         return views.Views(library.Library(folder, kit.Kit(None)))
 
 
@@ -178,6 +197,15 @@ class Readers(unittest.TestCase):
     def test_bound_variables(self):
         text = "λ x (y : List ℕ). (z : ℕ) → IsKey k\n  n ← number text\n  let a = b in record { log_n = c; r = d }"
         self.assertEqual(links.bound_in(text), {"x", "y", "z", "n", "a", "log_n", "r"})
+
+    def test_names_of_the_kit(self):
+        with tempfile.TemporaryDirectory() as folder:
+            write_files(folder, KIT_FILES)
+            own = kit.Kit(folder)
+            for module, name, wanted, reason in KIT_NAMES:
+                with self.subTest(reason):
+                    found = own.find(module, name)
+                    self.assertEqual(found.module if found.text else None, wanted)
 
 
 class Pages(unittest.TestCase):

@@ -106,10 +106,6 @@ class Kit:
             return KitName(module.name, declared.name, declared.text, declared.comment)
         if module.imports.get(name, ("", None))[1]:
             return self.find(*module.imports[name])
-        for whole in module.whole:
-            found = self.in_module(self.module(whole), name) if whole != module.name else None
-            if found:
-                return found
         return None
 
     def text(self, packages, pattern):

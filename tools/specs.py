@@ -10,7 +10,8 @@ HEAD = re.compile(
 )
 NOT_HEADS = {"use", "mod", "infixl", "infixr", "infix", "unfolding", "mutual", "open", "syntax", "let", "module"}
 IMPORT = re.compile(
-    r"^\s*(?P<pub>pub )?(?:ghost )?use (?P<module>[\w.]+?)(?:\.\{(?P<names>[^}]*)\}| as (?P<other>\w+))?;?$", re.M
+    r"^\s*(?:unfoldable )?(?P<pub>pub )?(?:ghost )?use (?P<module>[\w.]+?)"
+    r"(?:\.\{(?P<names>[^}]*)\}| as (?P<other>\w+))?;?$", re.M
 )
 MEMBERS = re.compile(r"^ +(?:pub )?([^\s:→({][^:→({]*?) :(?: |$)", re.M)
 STANDARD = re.compile(
