@@ -1,8 +1,8 @@
 #!/usr/bin/env python3
-"""Runs the examples of README in Python, Go and C over the library of build/lib, and those of Python's own page.
+"""Runs the examples of README, of Python's and Go's own pages, and that in C of bindings/README.md, over build/lib.
 
-Only Go's has code around it. README's example in Rust is a part of the one of Rust's page (ci/docs.py), which `cargo
-test` runs. What is not installed is named by its Debian package. The script fails if an example fails or is missing.
+Only Go's has code around it. The example of Rust's page is run by `cargo test`, and that of JavaScript's by
+release/test.sh. What is not installed is named by its Debian package. The script fails if an example fails or is missing.
 """
 
 import json
@@ -70,7 +70,7 @@ def run_python(room):
 def run_go(room):
     program = os.path.join(room, "go")
     os.mkdir(program)
-    written(program, "main.go", GO.format(example=examples("go")[0]))
+    written(program, "main.go", GO.format(example=examples("go", "bindings/go/README.md")[0]))
     folder = os.path.join(room, "the module")  # as in a folder whose name has a blank
     shutil.copytree(os.path.join(TOP, "bindings", "go"), folder)
     written(program, "go.mod", f"module login\n\nrequire {GO_MODULE} v0.12.0\n\nreplace {GO_MODULE} => {json.dumps(folder)}\n")
@@ -80,7 +80,7 @@ def run_go(room):
 
 
 def run_c(room):
-    source = written(room, "login.c", examples("c")[0])
+    source = written(room, "login.c", examples("c", "bindings/README.md")[0])
     program = os.path.join(room, "login")
     run(["cc", "-std=c99", "-Wall", "-Wextra", "-Werror", f"-I{LIBRARY}", source, f"{LIBRARY}/libscrypt_c.a", "-o", program])
     run([program])
@@ -97,7 +97,7 @@ def main():
             continue
         with tempfile.TemporaryDirectory() as room:
             runs(room)
-        print(f"README's example in {language} runs")
+        print(f"the example in {language} runs")
 
 
 if __name__ == "__main__":

@@ -31,7 +31,7 @@ LIBRARY_PROOF = re.compile(r"Rattle\.(?:scrypt|scrypt_kernel|password_hash)\.pro
 
 def known_names():
     """Every word that the sources and the bindings have, which is what a name may consist of."""
-    names = set(re.findall(r"^([\w-]+):", read("Makefile"), re.M))
+    names = set(re.findall(r"^([\w-]+):", read("Makefile"), re.M)) | set(re.findall(r"\w+", read("doc/axioms.txt")))
     for path in (found for pattern in SOURCES for found in glob.glob(pattern, recursive=True)):
         if "/out/" not in path and (path.startswith("crates/") or "test" not in path):
             names.update(re.findall(r"[A-Za-z_][A-Za-z0-9_']*", read(path)))
@@ -139,8 +139,10 @@ def main():
     for name in CALLERS:
         for path in glob.glob(f"crates/{name}/proofs/**/*.antt", recursive=True):
             found += inner_proofs(path, read(path))
-    if f"`axioms={len(read('doc/axioms.txt').split())}`" not in read("README.md"):
-        found.append("README.md: doc/axioms.txt has another number of axioms")
+    trust, axioms = read("docs/TRUST.md"), [it.split("::")[-1] for it in read("doc/axioms.txt").split()]
+    for wanted in [f"axioms={len(axioms)}", *axioms]:
+        if f"`{wanted}`" not in trust:
+            found.append(f"docs/TRUST.md: {wanted} of doc/axioms.txt is not there")
     found += missing_calls("docs/data_path.dot", [read_crate(name, f"crates/{name}") for name in ("scrypt", "scrypt_kernel")])
     sys.exit("\n".join(found) or 0)
 

@@ -35,7 +35,7 @@ FACTS = [
         bindings/c/scrypt_c.h bindings/js/index.d.ts bindings/python/tests/test_refused.py bindings/rust/src/bounds.rs
         ci/program.py crates/scrypt_commands/src/usage.rt docs/scrypt_tool.1"""),
     ("the greatest length of a key", "bindings/c/scrypt_c.h", r"SCRYPT_MAX_OUTPUT_LEN UINT64_C\((\d+)\)", ("{}",), """
-        README.md bindings/c/test_words.c bindings/go/key_test.go bindings/python/scrypt_c/errors.py bindings/python/tests/test_refused.py
+        bindings/c/test_words.c bindings/go/key_test.go bindings/python/scrypt_c/errors.py bindings/python/tests/test_refused.py
         bindings/rust/src/errors.rs bindings/rust/src/hasher.rs bindings/rust/src/lib.rs bindings/rust/tests/keys.rs ci/program.py
         crates/library_tests/src/parameters.rt crates/scrypt/src/algorithm.rt crates/scrypt/src/derivation.rt crates/scrypt/src/errors.rt
         crates/scrypt/src/mcf/verifying.rt crates/scrypt_c/src/hashes.rt crates/scrypt_c/src/keys.rt crates/scrypt_c/src/statuses.rt

@@ -29,6 +29,6 @@ def plain(text):
     return " ".join(re.sub(r"[`*]", "", text).split())
 
 
-def headline(text, readme):
-    """A complaint if README has another headline."""
-    return [] if plain(text) in plain(readme) else ["headline.json: README has another headline"]
+def headline(text, promises):
+    """A complaint if PROMISES has another headline."""
+    return [] if plain(text) in plain(promises) else ["headline.json: PROMISES has another headline: make promises"]

@@ -2,7 +2,7 @@
 
 It reads the sources, the specs, crates.txt and headline.json, and needs Debian's python3-jinja2 and python3-pygments.
 It fails if a name in a clause or in a definition leads nowhere, if a public function, a clause of it or a definition
-has no words, if a link has no target, if two targets of a page have the same name, or if the headline isn't README's or
+has no words, if a link has no target, if two targets of a page have the same name, or if the headline isn't that of PROMISES or
 names a clause that is gone.
 
 usage: python3 -m doc.make [FOLDER]    the folder of the pages, which is replaced: build/doc
@@ -110,7 +110,7 @@ class Pages:
         return [{"text": text, "clauses": self.views.clauses(names), "note": note} for text, names, note in rows]
 
     def front(self):
-        """The first page, and the definitions that the headline rests on; returns a complaint if README has another."""
+        """The first page, and the definitions that the headline rests on; returns a complaint if PROMISES has another."""
         rows = json.loads(read(f"{HERE}/headline.json"))
         phrases, verifying = self.phrases(rows["headline"]), self.phrases(rows["verifying"])
         found = self.views.reading(clause for it in phrases for clause in it["clauses"])
@@ -130,7 +130,7 @@ class Pages:
                    numbers=numbers, lines=lines, definitions=sum(len(shown) for _, shown in found),
                    about=[(it, first_sentence(self.library.sources[it][""].doc), functions[it], self.library.uses[it])
                           for it in self.views.crates])
-        return checks.headline("".join(it["text"] for it in phrases), read(f"{self.library.folder}/README.md"))
+        return checks.headline("".join(it["text"] for it in phrases), read(f"{self.library.folder}/docs/PROMISES.md"))
 
     def rest(self):
         kit_pages.write(self)

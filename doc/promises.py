@@ -1,18 +1,20 @@
 """Writes docs/PROMISES.md from the sources: the public functions of each file with a checksum of their clauses, and the
-definitions to review for the two promises of README, with a checksum of all definitions of each crate.
+definitions to review for the two promises at its top, with a checksum of all definitions of each crate.
 
 Everything but doc/not_promised.md is generated, without the kit and without packages.
 
 usage: python3 -m doc.promises          writes the page
-       python3 -m doc.promises check    refuses a page that differs from the sources, another number of lines to read in README,
+       python3 -m doc.promises check    refuses a page that differs from the sources, another number of lines to read in TRUST,
                             a name that leads nowhere, and a public function, a clause or a definition without words
        python3 -m doc.promises clauses  prints every public function with the text of its clauses, as the packages have it
 """
 
 import hashlib
+import json
 import os
 import re
 import sys
+import textwrap
 from collections import Counter
 
 from doc import comments
@@ -26,7 +28,7 @@ PAGE = "docs/PROMISES.md"
 # Relations that are not about calls: the shape of a model, and the laws of a derived relation.
 OF_MODELS = {"laws", "view", "invariant", "inverse_ok", "Value", "inverse", "inverse_invariant", "view_ok"}
 
-# The two promises of README, each with the clauses that it is made of.
+# The two promises, each with the clauses that it is made of.
 KEY = ["scrypt::Params::new accepted", *(f"scrypt::scrypt_counted {it}" for it in ("length", "value", "counted"))]
 VERDICT = [f"scrypt::StoredHash::{it}" for it in ("verify_with_buffers verdict", "verify_with_buffers left")]
 VERDICT += ["scrypt::StoredHash::read reading"]
@@ -39,12 +41,18 @@ Every call returns, no index leaves its slice, and nothing panics or overflows. 
 which are proved for every input. A clause is above its function's body; the packages have all of them in one file,
 `CLAUSES.md`, and `make doc` makes pages of them, on which each name is a link.
 
+{headline}
+
+{verifying}
+
+The clauses count cores. That every core is counted, and computed for that count, is checked by reading.
+
 {not_promised}
 
 ## What to review
 
-The definitions that the two promises of [README](../README.md#what-is-proved) rest on, in reading order. Comments are
-not counted.
+The definitions that the promises above rest on, that of the key and that of the verdict, in reading order. Comments
+are not counted.
 
 {reading}
 
@@ -148,8 +156,15 @@ def reading(views, title, clauses):
     return "\n".join([f"- For {title}: {count} definitions of {totals.total()} lines ({by_crate}).", *parts])
 
 
+def filled(text):
+    return textwrap.fill(text, 120, break_long_words=False, break_on_hyphens=False)
+
+
 def page(views):
+    phrases = json.loads(read("doc/headline.json"))
     return TEXT.format(
+        headline=filled("".join(it[0] for it in phrases["headline"])),
+        verifying=filled(", ".join(it[0] for it in phrases["verifying"]) + "."),
         not_promised=read("doc/not_promised.md").strip(),
         reading="\n".join([reading(views, "the key", KEY), reading(views, "the verdict", VERDICT)]),
         functions="\n".join(functions(views.library)).strip(),
@@ -164,8 +179,8 @@ def wrong(views):
         yield f"{PAGE} differs from the sources: make promises"
     key, verdict = (sum(it.lines for _, shown in views.reading(views.clauses(its)) for it in shown) for its in (KEY, VERDICT))
     lines = f"{key} lines for the key, {verdict} for the verdict"
-    if lines not in read("README.md"):
-        yield f"README.md: what to read is {lines}"
+    if lines not in read("docs/TRUST.md"):
+        yield f"docs/TRUST.md: what to read is {lines}"
 
 
 def main():

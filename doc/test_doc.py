@@ -234,6 +234,6 @@ class Pages(unittest.TestCase):
         self.assertEqual(checks.links({"b.html": page + '<p id="x"></p>'}), (1, ["b.html: two targets are named x"]))
 
     def test_the_headline(self):
-        readme = "> For [keys](a.md#b), `scrypt`\n> writes *one*.\n"
-        self.assertEqual(checks.headline("For keys, `scrypt` writes one.", readme), [])
-        self.assertEqual(len(checks.headline("For keys, it writes two.", readme)), 1)
+        promises = "> For [keys](a.md#b), `scrypt`\n> writes *one*.\n"
+        self.assertEqual(checks.headline("For keys, `scrypt` writes one.", promises), [])
+        self.assertEqual(len(checks.headline("For keys, it writes two.", promises)), 1)

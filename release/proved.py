@@ -101,12 +101,10 @@ def check():
         raise SystemExit("\n".join(f"{it} is not the file that the gate left: make test" for it in changed))
 
 
-def claims(readme):
-    """What README says is trusted, tested and not claimed, without the links."""
-    words = ("Trusted", "Tested, not proved", "Not claimed")
-    parts = [re.search(rf"^- (\*\*{word}\*\*.*?)(?=\n\n|\n- )", readme, re.M | re.S) for word in words]
-    text = "\n\n".join(part.group(1).replace("\n  ", "\n") for part in parts)
-    return re.sub(r"\*\*|`", "", re.sub(r"\[([^]]*)\]\([^)]*\)", r"\1", text))
+def without_marks(page):
+    """A page of Markdown below its title, without marks and with the words of its links."""
+    words = re.sub(r"\[([^]]*)\]\([^)]*\)", r"\1", page.partition("\n")[2].strip())
+    return re.sub(r"^#+ |\*\*|`|^\|[-|]+\|\n", "", words, flags=re.M)
 
 
 def text(folder):
@@ -119,7 +117,7 @@ def text(folder):
     sections = [
         ("scrypt, proved", f"version {version}\ncommit  {commit()}\nlinker  {', '.join(tools)}"),
         ("What the gate printed of each crate, and of its tests", said),
-        ("What is trusted", claims(Path("README.md").read_text(encoding="utf-8"))),
+        ("What you trust", without_marks(Path("docs/TRUST.md").read_text(encoding="utf-8"))),
         ("The axioms of the program", Path("doc/axioms.txt").read_text(encoding="utf-8").strip()),
         ("SHA-256 of the binaries, as they are in the packages",
          "\n".join(f"{it}  {path}" for path, it in files.items() if re.search(r"\.so|\.a$|\bbin/", path))),

@@ -145,13 +145,13 @@ chown nobody "$root/home/user/.cargo"
 build="cargo init --quiet --vcs none; $(lines Rust); cp /tmp/check.rs src/main.rs && cargo run --quiet"
 expect "$(in_a_folder rust '*.crate' "$build")" "$key" "a Rust program prints it, with the crate of the release"
 
-# The lines of README.md in JavaScript, with the package unpacked by hand, in the first Debian whose Node is new enough.
+# The lines of bindings/js/README.md, with the package unpacked by hand, in the first Debian whose Node is new enough.
 root=$room/node
 mmdebstrap --quiet --arch=amd64 --variant=apt --include=nodejs trixie "$root"
 install -d -o nobody -g nogroup "$root/home/user" "$root/home/user/node_modules"
 cp $dist/*.tgz "$root/tmp"
 as_user sh -c 'cd ~/node_modules && tar xzf /tmp/*.tgz && mv package scrypt-proved'
-{ sed -n '/^```js$/,/^```$/p' README.md | sed '1d;$d'; echo "console.log(text.slice(0, 22), await verify('another', text));"; } \
+{ sed -n '/^```js$/,/^```$/p' bindings/js/README.md | sed '1d;$d'; echo "console.log(text.slice(0, 22), await verify('another', text));"; } \
   > "$root/home/user/login.mjs"
-expect "$(as_user node /home/user/login.mjs)" '$scrypt$ln=17,r=8,p=1$ false' "Node $(as_user node --version) runs README's lines"
+expect "$(as_user node /home/user/login.mjs)" '$scrypt$ln=17,r=8,p=1$ false' "Node $(as_user node --version) runs its page's lines"
 echo "build/dist: tested in a fresh Debian root"

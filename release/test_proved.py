@@ -21,7 +21,7 @@ PREPARED = r"""
 mkdir -p packed/lib crates/scrypt_c/out/x86-64-v3 crates/scrypt_tool/out build/lib build/bin build/wasm bindings/js
 change packed/lib/libscrypt_c.a $lib build/lib/libscrypt_c.a build/bin/scrypt_tool crates/scrypt_tool/out/scrypt_tool
 change build/wasm/scrypt64.wasm bindings/js/scrypt.wasm
-git init -q && git add VERSION README.md && git commit -qm "The sources"
+git init -q && git add VERSION docs && git commit -qm "The sources"
 """
 
 # why the row is here, what happens, the status, and a part of what is printed
@@ -29,6 +29,7 @@ ROWS = [
     ("nothing changed", "keep; dist", 0, "low\n    logic=proved functions=1"),
     ("the binaries have their hashes", "keep; dist", 0, "  lib/libscrypt_c.a"),
     ("what is assumed of the system calls is named", "keep; dist", 0, "The axioms of the program\n-------------------------\nlibc::chdir\n"),
+    ("what is trusted is said", "keep; dist", 0, "What you trust\n--------------\nA proof shows"),
     ("a crate that an earlier gate proved", "keep 'rt: low is kept: an earlier run'; dist", 0, "low\n    an earlier run"),
     ("no gate", "dist", 1, "make test"),
     ("no gate, which is allowed", "UNPROVED=1; export UNPROVED; dist", 0, "There is no verdict here"),
@@ -57,8 +58,9 @@ def prepare(folder):
     shutil.copytree(ROOT / "release", folder / "release")
     (folder / "doc").mkdir()
     shutil.copy(ROOT / "doc" / "axioms.txt", folder / "doc")
-    for name in ("README.md", "VERSION"):
-        shutil.copy(ROOT / name, folder)
+    (folder / "docs").mkdir()
+    for name in ("docs/TRUST.md", "VERSION"):
+        shutil.copy(ROOT / name, folder / name)
     (folder / "bin").mkdir()
     for tool in ("rt", "cc", "ld"):
         (folder / "bin" / tool).write_text("#!/bin/sh\necho a kit\n")
