@@ -5,17 +5,32 @@ import re
 from doc import comments, lexers
 
 
-def close(library):
-    """Adds to the names of the kit those that their texts cite, and so on."""
-    todo = list(library.names_of_kit.values())
+def closed(kit, names):
+    """These names of the kit, and those that their texts cite, and so on."""
+    found, todo = {}, list(names)
     while todo:
         it = todo.pop()
-        module = library.kit.module(it.module) if it.text and "::" not in it.module else None
-        for style, value in lexers.antt(it.text) if module else ():
-            found = library.kit.meant(module, value) if style == "n" else None
-            if found and (found.module, found.name) not in library.names_of_kit:
-                library.names_of_kit[found.module, found.name] = found
-                todo.append(found)
+        if (it.module, it.name) in found:
+            continue
+        found[it.module, it.name] = it
+        module = kit.module(it.module) if it.text and "::" not in it.module else None
+        meant = (kit.meant(module, value) for style, value in lexers.antt(it.text) if style == "n") if module else ()
+        todo += filter(None, meant)
+    return found
+
+
+def close(library):
+    """Adds to the names of the kit those that they rest on."""
+    library.names_of_kit.update(closed(library.kit, library.names_of_kit.values()))
+
+
+def lines_for(views, clauses):
+    """How many lines of definitions of the kit these clauses rest on."""
+    library = views.library
+    citing = [it["key"] for it in clauses] + [it.key for _, shown in views.reading(clauses) for it in shown]
+    cited = {key[1:] for it in citing for key in views.cites.get(it, ()) if key[0] == "kit"}
+    found = closed(library.kit, (library.names_of_kit[it] for it in cited))
+    return sum(it.text.count("\n") + 1 for it in found.values() if it.text)
 
 
 def shown(pages, it, direct):

@@ -2,8 +2,8 @@
 
 It reads the sources, the specs, crates.txt and headline.json, and needs Debian's python3-jinja2 and python3-pygments.
 It fails if a name in a clause or in a definition leads nowhere, if a public function, a clause of it or a definition
-has no words, if a link has no target, if two targets of a page have the same name, or if the headline isn't that of PROMISES or
-names a clause that is gone.
+has no words, if a link has no target, if two targets of a page have the same name, if the headline isn't that of PROMISES
+or names a clause that is gone, or if TRUST has another number of lines of the kit.
 
 usage: python3 -m doc.make [FOLDER]    the folder of the pages, which is replaced: build/doc
 """
@@ -23,7 +23,7 @@ try:
 except ImportError as missing:
     sys.exit(f"make doc needs Debian's python3-jinja2 and python3-pygments: {missing}")
 
-from doc import checks, comments, kit_pages, lexers
+from doc import checks, comments, kit_pages, lexers, promises
 from doc.library import Library, module_page, page_of, text_page
 from doc.views import Views
 from tools import kit
@@ -109,14 +109,27 @@ class Pages:
         rows = (row + [None, [], ""][len(row) :] for row in rows)
         return [{"text": text, "clauses": self.views.clauses(names), "note": note} for text, names, note in rows]
 
+    def reading(self, page, of, clauses):
+        """A page of the definitions that clauses rest on, in reading order; returns how many these are, and their lines."""
+        found = [(module, list(self.with_facts(shown))) for module, shown in self.views.reading(clauses)]
+        every = [it for _, shown in found for it, _ in shown]
+        lines = sum(it.lines for it in every)
+        self.write(page, "reading.html", title=f"The definitions of {of}", of=of, modules=found, lines=lines)
+        return {"definitions": len(every), "lines": lines}
+
+    def kit_lines(self):
+        """A complaint if TRUST has another number of lines of the kit."""
+        of_key, of_verdict = (kit_pages.lines_for(self.views, self.views.clauses(it)) for it in (promises.KEY, promises.VERDICT))
+        said = f"{of_key} lines for the key, {of_verdict} for the verdict"
+        is_said = self.library.kit.identity is None or said in read(f"{self.library.folder}/docs/TRUST.md")
+        return [] if is_said else [f"docs/TRUST.md: what to read of the kit is {said}"]
+
     def front(self):
         """The first page, and the definitions that the headline rests on; returns a complaint if PROMISES has another."""
         rows = json.loads(read(f"{HERE}/headline.json"))
         phrases, verifying = self.phrases(rows["headline"]), self.phrases(rows["verifying"])
-        found = self.views.reading(clause for it in phrases for clause in it["clauses"])
-        found = [(module, list(self.with_facts(shown))) for module, shown in found]
-        lines = sum(it.lines for _, shown in found for it, _ in shown)
-        self.write("reading.html", "reading.html", title="The definitions of the headline", modules=found, lines=lines)
+        headline = self.reading("reading.html", "the headline", [clause for it in phrases for clause in it["clauses"]])
+        verdict = self.reading("verdict.html", "the verdict", self.views.clauses(promises.VERDICT))
 
         items = {crate: [it for _, shown in those for it in shown] for crate, those in self.views.sources.items()}
         functions = {crate: sum(it.kind == "fn" for it in those) for crate, those in items.items()}
@@ -127,7 +140,7 @@ class Pages:
             "vectors": sum(it.kind == "vector" for those in self.views.vectors.values() if those for it in those[1]),
         }
         self.write("index.html", "index.html", title="scrypt, proved", phrases=phrases, verifying=verifying,
-                   numbers=numbers, lines=lines, definitions=sum(len(shown) for _, shown in found),
+                   numbers=numbers, headline=headline, verdict=verdict,
                    about=[(it, first_sentence(self.library.sources[it][""].doc), functions[it], self.library.uses[it])
                           for it in self.views.crates])
         return checks.headline("".join(it["text"] for it in phrases), read(f"{self.library.folder}/docs/PROMISES.md"))
@@ -166,6 +179,7 @@ def main():
     pages.sources()
     wrong = pages.front()
     pages.rest()
+    wrong += pages.kit_lines()
     wrong += pages.views.wrong()
     links, broken = checks.links(pages.written)
     pages.save(folder)
