@@ -1,7 +1,7 @@
 #!/usr/bin/env python3
 """Writes the documents of a package: README.md, SECURITY.md and docs/, without links to what is only in the sources.
 
-usage: documents.py FOLDER
+usage: documents.py FOLDER    with RELEASED=1, README has the status of a release
 
 A link to another file is replaced by its words and the file's path, and the page's last line names the archive of the
 sources.
@@ -17,6 +17,19 @@ ROOT = os.path.join(os.path.dirname(os.path.abspath(__file__)), "..")
 PAGES = ["README.md", "SECURITY.md", "docs/*.md"]
 BESIDE = ["docs/*.svg", "docs/*.1"]  # what the pages show or link to
 LAST = "\nA path such as `{path}` is one of the sources, `scrypt-proved-{version}-source.tar.gz`.\n"
+
+# What README says of the sources, and in a release.
+STATUS = re.compile(r"^\*\*Status: .*?\*\*$", re.M | re.S)
+RELEASED = """**Status: this is version {version}; `PROVED.txt` has its commit, and what was proved of it. The proof checker is
+not public. Without it you can read the proof, but not run it.**"""
+
+
+def released(readme, version):
+    """README with the status of a release."""
+    text, count = STATUS.subn(RELEASED.format(version=version), readme)
+    if count != 1:
+        sys.exit(f"README.md: {count} lines of the status, in place of which a release has its own")
+    return text
 
 
 def packed(page, text, here):
@@ -48,7 +61,10 @@ def main(folder):
         shutil.copyfile(path, os.path.join(folder, path))
     for path in pages:
         with open(path, encoding="utf-8") as file:
-            text, named = packed(path, file.read(), {*pages, *beside})
+            text = file.read()
+        if path == "README.md" and os.environ.get("RELEASED") == "1":
+            text = released(text, version)
+        text, named = packed(path, text, {*pages, *beside})
         with open(os.path.join(folder, path), "w", encoding="utf-8") as file:
             file.write(text + (LAST.format(path=named[0], version=version) if named else ""))
 

@@ -21,6 +21,7 @@ PREPARED = r"""
 mkdir -p packed/lib crates/scrypt_c/out/x86-64-v3 crates/scrypt_tool/out build/lib build/bin build/wasm bindings/js
 change packed/lib/libscrypt_c.a $lib build/lib/libscrypt_c.a build/bin/scrypt_tool crates/scrypt_tool/out/scrypt_tool
 change build/wasm/scrypt64.wasm bindings/js/scrypt.wasm
+printf '**Status: there is\nno release.**\n' > README.md
 git init -q && git add VERSION docs && git commit -qm "The sources"
 """
 
@@ -45,6 +46,9 @@ ROWS = [
     ("a crate that is not proved", "keep logic=failed", 1, "low is not proved"),
     ("a gate that failed", "keep '' '138 passed, 1 failed'", 1, "the gate did not pass"),
     ("a gate of which ten failed", "keep '' '138 passed, 10 failed'", 1, "the gate did not pass"),
+    ("a package has its own status", "RELEASED=1 python3 release/documents.py out; cat out/README.md", 0, "**Status: this is version"),
+    ("a package has no other status", "echo > README.md; RELEASED=1 python3 release/documents.py out", 1, "README.md: 0 lines of the status"),
+    ("what is built from the sources has theirs", "python3 release/documents.py out; cat out/README.md", 0, "**Status: there is\nno release.**"),
     ("a failed gate leaves no earlier record", "keep; keep logic=failed; dist", 1, "nothing was proved"),
 ]
 
