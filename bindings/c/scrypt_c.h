@@ -100,7 +100,7 @@ enum scrypt_status {
   SCRYPT_TOO_COSTLY = 13,         /* the parameters need more bytes or more work than the bounds allow */
   SCRYPT_NO_RANDOM_BYTES = 14,    /* the system has no random bytes */
   SCRYPT_KEY_TOO_SHORT = 15,      /* the key in the text is shorter than the bounds allow */
-  SCRYPT_NULL_POINTER = 16,       /* NULL where it is not allowed */
+  SCRYPT_NULL_POINTER = 16,       /* a pointer that may not be NULL is NULL */
   SCRYPT_CLOSED = 17,             /* the hasher is closed */
   SCRYPT_TIMEOUT = 18,            /* a hasher did not begin with the call in its time, or before a signal */
   SCRYPT_CANCELLED = 19,          /* this is a child that a signal handler forked during the call */
@@ -444,7 +444,7 @@ SCRYPT_HELPER const char *scrypt_status_text(int status) {
     case SCRYPT_TOO_COSTLY: return "the parameters need more than is allowed";
     case SCRYPT_NO_RANDOM_BYTES: return "the system has no random bytes";
     case SCRYPT_KEY_TOO_SHORT: return "the key in the hash is shorter than is allowed";
-    case SCRYPT_NULL_POINTER: return "NULL is not allowed with a length above 0";
+    case SCRYPT_NULL_POINTER: return "a pointer that may not be NULL is NULL";
     case SCRYPT_CLOSED: return "the hasher is closed";
     case SCRYPT_TIMEOUT: return "the hasher did not begin with it in time";
     case SCRYPT_CANCELLED: return "the process was forked meanwhile";

@@ -16,9 +16,9 @@ use scrypt::{
 use std::alloc::{AllocError, Global};
 use std::marker::Model;
 
-/// The first promise of README. For accepted parameters and every output of 1 to 137438953440 bytes, the output is
-/// exactly RFC 7914's key, after exactly 4*N*r*p Salsa20/8 cores, each of them a SIMD core, or the error is
-/// `OutOfMemory`, with no core run and the output unchanged.
+/// The promise of keys. For accepted parameters and every output of 1 to 137438953440 bytes, the output is exactly
+/// RFC 7914's key, and exactly 4*N*r*p Salsa20/8 cores are counted, each of them as a SIMD core; or the error is
+/// `OutOfMemory`, with no core counted and the output unchanged.
 pub fn key_or_out_of_memory(
     alloc: Global,
     password: &[u8],
