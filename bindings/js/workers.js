@@ -106,7 +106,8 @@ function answer(call, signal) {
       call.isOver = true;
       finish(value);
     };
-    const ignore = onAbort(signal, (reason) => abort(call, reason));
+    // Later, since an abort that the end of the stack cuts short would leave the call unanswered.
+    const ignore = onAbort(signal, (reason) => queueMicrotask(() => abort(call, reason)));
     Object.assign(call, { resolve: over(resolve), reject: over(reject) });
     compile().then((module) => {
       if (call.isOver) return;
@@ -117,6 +118,7 @@ function answer(call, signal) {
 }
 
 function abort(call, reason) {
+  if (call.isOver) return;
   if (call.worker !== undefined) {
     end(call.worker, reason);
     return;

@@ -91,6 +91,18 @@ export function endingChecks() {
     equal(made.length, most, 'workers');
     equal(made.every((it) => it.isEnded), true, 'ended');
   });
+  list['an abort at the end of the stack'] = () => withWorkers('deep', (worker) => setTimeout(answers, 5, worker), async (call) => {
+    const found = {};
+    for (let room = 600; room > 0; room -= 2) {
+      const abort = new AbortController();
+      const ended = call('scrypt', args(), abort.signal).then(() => 'key', (error) => error.name);
+      await later(1);
+      thrown(() => toStackEnd(room, () => abort.abort()));
+      const how = await Promise.race([ended, later(1000).then(() => 'nothing')]);
+      found[how] = (found[how] ?? 0) + 1;
+    }
+    equal(found.AbortError > 0 && !('nothing' in found), true, JSON.stringify(found));
+  });
   list['answers, faults and aborts in any order'] = async () => {
     let seed = 7914;
     const draw = (count) => {
