@@ -1,7 +1,7 @@
 #!/bin/sh
 # Tests the libraries of build/lib from C and C++: what they export, the header's warnings, every call, AddressSanitizer,
-# valgrind, the stack, and what is installed; of x86-64 the code of both levels. With the word short: the exports, the version
-# and one run of each. With the ARCH of another processor it tests the library for that in Debian's emulator, with random keys in
+# valgrind, the stack, and what is installed; of x86-64 the code of both levels. With the word short: the exports, the version,
+# one run of each, and every order of the hasher's queue. With the ARCH of another processor it tests the library for that in Debian's emulator, with random keys in
 # place of the checkers, the compilers and what is installed.
 unset CDPATH
 cd "$(dirname "$0")/../.."
@@ -91,6 +91,12 @@ echo "as their contracts say: the functions in C that the proved code calls"
 if [ -n "$emulator" ]; then
   compiled key_lines bindings/c/key_lines.c "$lib/libscrypt_c.a"
   python3 -B bindings/c/random_keys.py 200 1 $emulator "$room/key_lines"
+fi
+# The hasher's queue in every order of its threads, which are coroutines there: not with a checker. It takes 16 seconds.
+if [ -z "$emulator" ]; then
+  $CC -std=gnu99 -O2 -Wall -Wextra -Werror -Wno-missing-field-initializers bindings/c/orders/test_orders.c -o "$room/orders"
+  "$room/orders" > "$room/log"
+  tail -n 1 "$room/log"
 fi
 if [ "${1:-}" = short ]; then exit; fi
 
@@ -256,13 +262,6 @@ if has gcc gcc; then
     checker="valgrind -q --error-exitcode=1"
     hasher_test -O1
   fi
-fi
-
-# The hasher's queue in every order of its threads, which are coroutines there: not with a checker. It takes 16 seconds.
-if has gcc gcc; then
-  gcc -std=gnu99 -O2 -Wall -Wextra -Werror -Wno-missing-field-initializers bindings/c/orders/test_orders.c -o "$room/orders"
-  "$room/orders" > "$room/log"
-  tail -n 1 "$room/log"
 fi
 
 # The stack that calls use. With the static library the test binds functions at their first call, with the shared one
