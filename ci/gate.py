@@ -16,6 +16,8 @@ and programs of `rt ci`, and each of these tasks.
 
 import concurrent.futures
 import contextlib
+import heapq
+import itertools
 import os
 import re
 import resource
@@ -29,8 +31,8 @@ import time
 
 from tools import edits, kit, prover_command, sources
 
-# How many tasks run beside `rt ci`, and how many after it; and how many may have begun, with those that wait for another.
-BESIDE, AFTERWARDS, MOST = 3, 4, 20
+# How many tasks run at once beside `rt ci`, and how many may have begun, with those that wait.
+LANES, MOST = 4, 20
 
 # What `rt ci` prints of a crate whose library is there.
 PROVED = re.compile(r"rt: (\w+) (?:proved$|is kept: )")
@@ -90,32 +92,56 @@ def clean():
         os.remove(f"{PROGRAM}.o")
 
 
+class Lanes:
+    """Lets so many tasks run at once. Of those that wait, the one that was added first is next."""
+
+    def __init__(self, free):
+        self.free, self.waiting, self.changed = free, [], threading.Condition()
+
+    @contextlib.contextmanager
+    def taken(self, place):
+        """Waits for a lane, which is free again at the end. No two tasks have one place."""
+        with self.changed:
+            heapq.heappush(self.waiting, place)
+            self.changed.wait_for(lambda: self.free and self.waiting[0] == place)
+            heapq.heappop(self.waiting)
+            self.free -= 1
+            self.changed.notify_all()
+        try:
+            yield
+        finally:
+            with self.changed:
+                self.free += 1
+                self.changed.notify_all()
+
+
 class Tasks:
     """Runs tasks beside `rt ci`, each once the libraries that it needs are proved."""
 
     def __init__(self, libraries):
         self.libraries, self.proved, self.waiting, self.begun, self.running = libraries, set(), [], {}, set()
-        self.lanes, self.threads = threading.Semaphore(BESIDE), concurrent.futures.ThreadPoolExecutor(MOST)
+        self.lanes, self.threads = Lanes(LANES), concurrent.futures.ThreadPoolExecutor(MOST)
+        self.added = itertools.count()
         self.prover = self.early = None
         self.spent = threading.local()
 
     def add(self, name, needs, call, *before):
-        self.waiting.append((name, needs, call, before))
+        self.waiting.append((name, needs, call, before, next(self.added)))
 
     def begin(self):
         for task in [task for task in self.waiting if self.proved.issuperset(task[1])]:
             self.waiting.remove(task)
             self.start(*task)
 
-    def start(self, name, needs, call, before=()):
+    def start(self, name, needs, call, before, place):
         """Starts a task that needs these crates, after the tasks `before`, whose results it needs."""
-        self.begun[name] = self.threads.submit(self.run_task, name, call, not needs, [self.begun[it] for it in before])
+        self.begun[name] = self.threads.submit(self.run_task, name, call, not needs, [self.begun[it] for it in before], place)
 
-    def run_task(self, name, call, is_early, before):
+    def run_task(self, name, call, is_early, before, place):
         """Runs a task. If one fails that needs nothing proved, the prover is ended too."""
         if not all([it.result()[0] for it in before]):
             return False, ""
-        with self.lanes:
+        with self.lanes.taken(place):
             begun, self.spent.seconds = clock(), 0
             is_well, text = call()
             text = f"{begun} to {clock()}, {in_minutes(self.spent.seconds)} of a processor: {name}\n{text}"
@@ -257,17 +283,17 @@ def build_module(tasks, kept):
 
 
 def add_all(tasks, made, kept, is_built):
-    """Adds the tasks: those that may end the gate early, and then the longest first. The wrong bodies of scrypt_c are tried over
-    what the build of the libraries kept."""
+    """Adds the tasks: those that may end the gate early, and then the longest first, with those that wait for them. The wrong
+    bodies of scrypt_c are tried over what the build of the libraries kept."""
     tasks.add("the documents", [], lambda: tasks.run("make", "--no-print-directory", "documents"))
     tasks.add("counts of cores", [], lambda: tasks.run(sys.executable, "-m", "ci.must_not_compile", "sources"))
     if is_built:
         tasks.add(LIBRARY, prover_command.below("scrypt_c"), lambda: build(tasks, made, kept))
+        if not missing_for_arm64():
+            add_for_arm64(tasks, kept)
         tasks.add("callers of the library", prover_command.below("scrypt_c"), lambda: link_and_call(tasks, made), LIBRARY)
         tasks.add(MODULE, prover_command.below("scrypt_c"), lambda: build_module(tasks, kept), LIBRARY)
         tasks.add("callers of the module", prover_command.below("scrypt_c"), lambda: tasks.run("bindings/js/test/test.sh"), MODULE)
-    if is_built and not missing_for_arm64():
-        add_for_arm64(tasks, kept)
     for name in edits.crates_with(edits.GATE):
         is_over = name == "scrypt_c" and is_built
         command = [sys.executable, "-m", "ci.wrong_bodies", *(["over", kept] if is_over else []), name]
@@ -301,7 +327,6 @@ def main():
         with Tasks(f"{room}/libraries") as tasks:
             add_all(tasks, f"{room}/made", f"{room}/kept", is_built)
             count = prove(tasks, log)
-            tasks.lanes.release(AFTERWARDS - BESIDE)
             failed = tasks.end(log)
         if failed:
             sys.exit(f"failed: {'; '.join(failed)}")
