@@ -12,6 +12,7 @@
 #   make dist      makes packages for Debian, Python, Go, Rust and npm, an archive, the sources and their hashes in build/dist
 # To change it:
 #   make check     proves and tests what changed since the last check
+#   make mirror    writes what is made of the header of C, of the proved calls and of VERSION
 #   make documents checks the documents and the scripts, and reports every fault
 #   make wrong-bodies  tries all wrong code that a proof has to reject, of all crates or of CRATES="NAME .."
 #   make oracle    compares the program with independent implementations, and fails each of its allocations
@@ -79,7 +80,7 @@ test: kit
 	python3 -m ci.gate
 
 # Each check runs whatever the others find, so that one run reports every fault.
-DOCUMENTS = lint formats names facts cycles fit promises tests-of-ci tests-of-doc tests-of-compare tests-of-release pages
+DOCUMENTS = lint formats names mirror facts cycles fit promises tests-of-ci tests-of-doc tests-of-compare tests-of-release pages
 documents:
 	@$(MAKE) --no-print-directory --keep-going --output-sync -j$$(nproc) $(DOCUMENTS:%=document-%)
 .PHONY: $(DOCUMENTS:%=document-%)
@@ -91,6 +92,8 @@ document-formats:
 	else echo "rattle fmt: SKIPPED: the Rattle kit isn't here"; fi
 document-names:
 	@python3 -m ci.docs
+document-mirror:
+	@python3 -m tools.mirror --check
 document-facts:
 	@python3 -m ci.facts
 document-cycles:
@@ -181,7 +184,10 @@ kit:
 	  echo "The command rt of the Rattle kit isn't here: nothing was proved, built or run." >&2; exit 1; }
 
 # What is done seldom: each calls a script of the folder that it is about.
-.PHONY: refused-by-tests dist-test thin parameters bounds compare-worker promises doc-test axioms
+.PHONY: mirror refused-by-tests dist-test thin parameters bounds compare-worker promises doc-test axioms
+mirror:
+	python3 -m tools.mirror
+
 refused-by-tests: kit
 	python3 -m ci.refused_by_tests
 

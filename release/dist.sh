@@ -25,7 +25,7 @@ for ARCH in $archs; do
 done
 is_built bindings/js/scrypt.wasm
 python3 -B release/proved.py check
-python3 bindings/version.py --check
+python3 -m tools.mirror --check
 rm -rf "$dist" "$parts"
 mkdir -p "$dist" "$parts"
 trap 'debian/rules clean > /dev/null 2>&1; rm -rf "$parts"' EXIT

@@ -7,8 +7,8 @@ import re
 from pathlib import Path
 
 TEXT = (Path(__file__).parents[1] / "bindings/c/scrypt_c.h").read_text("utf-8")
-NUMBERS = {"int": ctypes.c_int, "uint8_t": ctypes.c_uint8, "uint32_t": ctypes.c_uint32, "uint64_t": ctypes.c_uint64,
-           "int64_t": ctypes.c_int64, "size_t": ctypes.c_size_t, "double": ctypes.c_double}
+TYPES = {"int": ctypes.c_int, "uint8_t": ctypes.c_uint8, "uint32_t": ctypes.c_uint32, "uint64_t": ctypes.c_uint64,
+         "int64_t": ctypes.c_int64, "size_t": ctypes.c_size_t, "double": ctypes.c_double}
 
 
 def without_comments(text):
@@ -39,6 +39,18 @@ def statuses_of(text):
     return {name: int(number) for name, number in re.findall(r"^  SCRYPT_(\w+) = (\d+)", text, re.M)}
 
 
+def words_of(text):
+    """What a header returns as the description of each status, by its name."""
+    found = re.findall(r'case SCRYPT_(\w+):\s*return ((?:"[^"]*"\s*)+);', text)
+    return {name: "".join(re.findall(r'"([^"]*)"', words)) for name, words in found}
+
+
+def numbers_of(text):
+    """The numbers that a header defines, by their names without SCRYPT_."""
+    found = re.findall(r"^#define SCRYPT_(\w+) \(?(?:UINT\d+_C\()?(\d+)\)?(?: << (\d+)\))?$", text, re.M)
+    return {name: int(number) << int(shift or 0) for name, number, shift in found}
+
+
 def name_of(declared):
     """The name of an argument or of a field."""
     return re.search(r"\w+$", declared)[0]
@@ -53,7 +65,7 @@ def kind(declared, address=ctypes.c_void_p):
     """The type of an argument, a field or a result, or None for void. Of numbers and bytes C takes the address."""
     word = word_of(declared)
     if "*" not in declared:
-        return NUMBERS.get(word)
+        return TYPES.get(word)
     return ctypes.POINTER(structure(word)) if word in structures_of(TEXT) else address
 
 

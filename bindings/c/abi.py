@@ -1,6 +1,5 @@
 #!/usr/bin/env python3
-"""Compares what the libraries export with the list in the file `abi` beside this script, and the names of the arguments
-that C declares with those of the proved functions, and refuses what differs.
+"""Compares what the libraries export with the list in the file `abi` beside this script, and refuses what differs.
 
 usage: python3 -m bindings.c.abi FOLDER            FOLDER has the libraries and the header, as build/lib has
        python3 -m bindings.c.abi FOLDER --print    prints the list that they have
@@ -10,9 +9,7 @@ of its fields. Another is a status and its number. A program that was linked wit
 """
 
 import ctypes
-import glob
 import os
-import re
 import subprocess
 import sys
 
@@ -21,7 +18,6 @@ from tools import header
 SONAME, VERSION = "libscrypt_c.so.0", "SCRYPT_C_0.12"
 
 HERE = os.path.dirname(os.path.abspath(__file__))
-SOURCES = os.path.join(HERE, "../../crates/scrypt_c/src/*.rt")
 
 
 def sizes(declared):
@@ -37,35 +33,6 @@ def of_header(text):
     return sorted(" ".join(map(str, it)) for it in lines) + statuses
 
 
-def proved():
-    """The names of the arguments of each proved call, in order: a slice has two, and a text that is written a capacity."""
-    for path in glob.glob(SOURCES):
-        with open(path, encoding="utf-8") as file:
-            functions = re.findall(r'^pub extern "C" fn (\w+)\((.*?)\)(?: -> i32)?$', file.read(), re.M | re.S)
-        for name, arguments in functions:
-            names = []
-            for it, kind in re.findall(r"(\w+): ([^,]+)", arguments):
-                length = "capacity" if (it, kind) == ("text", "&mut [u8]") else f"{it}_len"
-                names += [] if kind == "Global" else [it, length] if re.search(r"\[\w+\]", kind) else [it]
-            yield name, names
-
-
-def called():
-    """What C declares of the proved calls: those of the list, and the few that the header declares itself."""
-    macros = [f"-D{name}(name, parameters, arguments)={result} name parameters;"
-              for name, result in (("PROVED_CALL", "int"), ("PROVED_PROCEDURE", "void"))]
-    declared = output("cc", "-E", "-P", *macros, "-xc", os.path.join(HERE, "proved_calls.h"))
-    with open(os.path.join(HERE, "scrypt_c.h"), encoding="utf-8") as file:
-        return [*header.calls_of(file.read()), *header.calls_of(declared.replace(" (", "("))]
-
-
-def misnamed():
-    """A contract is proved whatever the order of the arguments, and C declares its own."""
-    named = {name: [header.name_of(it) for it in arguments] for _, name, arguments in called()}
-    yield from (f"{name} has the arguments {names}, and in C {named.get(name)}"
-                for name, names in proved() if named.get(name) != names)
-
-
 def output(*command):
     return subprocess.run(command, check=True, capture_output=True, text=True).stdout
 
@@ -73,7 +40,6 @@ def output(*command):
 def complaints(folder, wanted):
     with open(os.path.join(folder, "scrypt_c.h"), encoding="utf-8") as file:
         listed = of_header(file.read())
-    yield from misnamed()
     yield from (f"the list has it, and not the header: {it}" for it in wanted if it not in listed)
     yield from (f"the header has it, and not the list: {it}" for it in listed if it not in wanted)
     names = {it.split()[0] for it in wanted if it.startswith("scrypt_")}

@@ -7,14 +7,17 @@
 #define PROVED_PROCEDURE(name, parameters, arguments) void cleared_##name parameters;
 #include "proved_calls.h"
 
-/* The same with any pointers to bytes, and log_n of any size. */
-#undef INPUTS
-#undef THE_INPUTS
-#undef STORED
+/* What several calls have: any pointers to bytes, and log_n of any size. */
 #define INPUTS \
   const void *password, size_t password_len, const void *salt, size_t salt_len, uint32_t log_n, uint32_t r, uint32_t p
 #define THE_INPUTS password, password_len, salt, salt_len, in_8_bits(log_n), r, p
 #define STORED const void *password, size_t password_len, const char *text, size_t text_len
+#define THE_STORED password, password_len, text, text_len
+#define OUTPUT uint8_t *output, size_t output_len
+#define THE_OUTPUT output, output_len
+#define BUFFERS \
+  uint8_t *chunks, size_t chunks_len, uint32_t *table, size_t table_len, uint32_t *scratch, size_t scratch_len
+#define THE_BUFFERS chunks, chunks_len, table, table_len, scratch, scratch_len
 
 #define REFUSE_IF(is_wrong) \
   if (is_wrong) return SCRYPT_NULL_POINTER

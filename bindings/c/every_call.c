@@ -1,64 +1,33 @@
 /* Each call of the header and each drop-in name, on the case `the`: included by test_traces.c and by test_stack.c. */
-#include "scrypt_c.h"
+#include "arguments.h"
 #include "traces.h"
 
 #include <dlfcn.h>
-#include <stdlib.h>
-#include <string.h>
 
 enum { KEY_LEN = 64 };
 
-/* What the call of this turn uses, all of it left out of the searches where it may hold a secret. */
+/* What the call of this turn uses. Keys are left out of the searches. */
 static const struct traces_case *the;
-static uint8_t key[128]; /* KEY_LEN, or a password */
 static char phc[SCRYPT_PHC_CAPACITY], mcf[SCRYPT_MCF_CAPACITY(64)];
-static uint8_t *chunks;
-static uint32_t *table, *scratch;
-static size_t chunks_len, table_len, scratch_len;
 static void *drop_in;
 
 #define PASSWORD the->password, the->password_len
 #define SALT the->salt, the->salt_len
 #define PARAMS the->log_n, the->r, the->p
-#define BUFFERS chunks, chunks_len, table, table_len, scratch, scratch_len
 
-/* The lengths for as many chunks at a time as there are, if it isn't fewer. */
-static size_t most_tables = SIZE_MAX;
-static int params_need(void) {
-  scrypt_needs needs;
-  int status = scrypt_params_need(PARAMS, SIZE_MAX, UINT64_MAX, &needs);
-  if (status != SCRYPT_OK) return status;
-  if (needs.tables > most_tables) needs.tables = most_tables;
-  chunks_len = needs.chunks_len;
-  table_len = needs.tables * needs.table_len;
-  scratch_len = needs.tables * needs.scratch_len;
-  return SCRYPT_OK;
+/* Memory that is kept holds rows of the table until the hasher is closed. */
+static scrypt_hasher *new_hasher(void) {
+  scrypt_options with = {sizeof with, the->log_n, the->r, the->p, 0, KEY_LEN, 0, SIZE_MAX, UINT64_MAX, 0, 2, 1};
+  scrypt_hasher *hasher = scrypt_hasher_new(&with, NULL);
+  if (scrypt_hasher_options(hasher)->r != the->r || scrypt_version()[0] == 0) exit(3);
+  return hasher;
+}
+static void close_hasher(void) {
+  scrypt_hasher_close(given.hasher);
+  scrypt_hasher_free(given.hasher);
 }
 
-static int of_key(void) { return scrypt_key(PASSWORD, SALT, PARAMS, key, KEY_LEN); }
-static int key_within(void) { return scrypt_key_within(PASSWORD, SALT, PARAMS, SIZE_MAX, UINT64_MAX, key, KEY_LEN); }
-
-static int key_with_buffers(void) {
-  int status = scrypt_key_with_buffers(PASSWORD, SALT, PARAMS, key, KEY_LEN, BUFFERS);
-  scrypt_wipe(BUFFERS);
-  return status;
-}
-
-static int key_thin(void) {
-  size_t bytes, words, spare;
-  int status = scrypt_buffer_lens(PARAMS, 1, &bytes, &words, &spare);
-  if (status == SCRYPT_OK)
-    status = scrypt_key_thin(PASSWORD, SALT, PARAMS, 1, key, KEY_LEN, chunks, bytes, table, words, scratch, spare);
-  scrypt_wipe(chunks, chunks_len, table, table_len, scratch, spare);
-  return status;
-}
-
-static int hash_new(void) {
-  static char text[SCRYPT_NEW_CAPACITY];
-  return scrypt_hash_new(PASSWORD, text, sizeof text);
-}
-
-/* A register that no call has to keep, just after the calls that make a hash. */
+/* A register that no call has to keep, just after a call. */
 static uint64_t rcx_after;
 #ifdef __x86_64__
 #define KEEP_RCX __asm__ volatile("mov %%rcx, %0" : "=m"(rcx_after))
@@ -66,15 +35,40 @@ static uint64_t rcx_after;
 #define KEEP_RCX (void)rcx_after
 #endif
 
-static int hash_phc(void) {
-  int status = scrypt_hash_phc(PASSWORD, SALT, PARAMS, KEY_LEN, phc, sizeof phc);
-  KEEP_RCX;
-  return status;
+/* Nobody derives in so little time, and scrypt_key_thin takes one table. */
+static int wanted_of(const char *name) {
+  size_t chunks_len, table_len, scratch_len;
+  if (strcmp(name, "scrypt_calibrate") == 0) return SCRYPT_TOO_COSTLY;
+  if (strcmp(name, "scrypt_key_thin") != 0) return SCRYPT_OK;
+  if (scrypt_buffer_lens(PARAMS, 0, &chunks_len, &table_len, &scratch_len) != SCRYPT_OK) exit(3);
+  return given.table_len == table_len ? SCRYPT_OK : SCRYPT_BUFFER_SIZE;
 }
 
-static int hash_mcf(void) {
-  int status = scrypt_hash_mcf(PASSWORD, SALT, PARAMS, KEY_LEN, mcf, sizeof mcf);
-  KEEP_RCX;
+#define BEFORE_NEITHER
+#define AFTER_NEITHER
+#define BEFORE_BUFFERS
+#define AFTER_BUFFERS scrypt_wipe(BUFFERS_MADE);
+#define BEFORE_HASHER given.hasher = new_hasher();
+#define AFTER_HASHER close_hasher();
+#define CALL(name, memory, pointers, arguments)            \
+  static int each_##name(void) {                           \
+    int status;                                            \
+    BEFORE_##memory                                        \
+    status = name arguments;                               \
+    KEEP_RCX;                                              \
+    AFTER_##memory                                         \
+    return status == wanted_of(#name) ? SCRYPT_OK : status; \
+  }
+#include "each_call.h"
+#undef CALL
+
+static int key_in_half_a_table(void) {
+  static uint32_t scratch[1 << 12];
+  size_t bytes, words, spare;
+  int status = scrypt_buffer_lens(PARAMS, 1, &bytes, &words, &spare);
+  if (status != SCRYPT_OK || spare > sizeof scratch / sizeof *scratch) return -1;
+  status = scrypt_key_thin(PASSWORD, SALT, PARAMS, 1, made.key, KEY_LEN, made.chunks, bytes, made.table, words, scratch, spare);
+  scrypt_wipe(made.chunks, bytes, made.table, words, scratch, spare);
   return status;
 }
 
@@ -83,73 +77,15 @@ static int hash_that_does_not_fit(void) {
   return scrypt_hash_mcf(PASSWORD, SALT, PARAMS, KEY_LEN, letters, 2) == SCRYPT_BUFFER_SIZE ? SCRYPT_OK : -1;
 }
 
-static int verify_phc(void) { return scrypt_verify(PASSWORD, phc, strlen(phc)); }
 static int verify_mcf(void) { return scrypt_verify(PASSWORD, mcf, strlen(mcf)); }
-static int verify_within(void) { return scrypt_verify_within(PASSWORD, phc, strlen(phc), SIZE_MAX, UINT64_MAX, 0); }
 
 static int verify_another_password(void) {
   return scrypt_verify(the->password, the->password_len - 1, phc, strlen(phc)) == SCRYPT_MISMATCH ? SCRYPT_OK : -1;
 }
 
-static int verify_with_buffers(void) {
-  int status = scrypt_verify_with_buffers(PASSWORD, phc, strlen(phc), BUFFERS);
-  scrypt_wipe(BUFFERS);
-  return status;
-}
-
-/* In chunks for one, and so one after the other. */
-static int verify_group_with_buffers(void) {
-  const scrypt_login logins[] = {{PASSWORD, phc, strlen(phc)}, {PASSWORD, mcf, strlen(mcf)}};
-  int statuses[2] = {-1, -1}, status = scrypt_verify_group_with_buffers(logins, 2, statuses, BUFFERS);
-  scrypt_wipe(BUFFERS);
-  return status != SCRYPT_OK ? status : statuses[0] == SCRYPT_OK ? statuses[1] : statuses[0];
-}
-
-static int hash_phc_with_buffers(void) {
-  int status = scrypt_hash_phc_with_buffers(PASSWORD, SALT, PARAMS, KEY_LEN, phc, sizeof phc, BUFFERS);
-  scrypt_wipe(BUFFERS);
-  return status;
-}
-
-static int hash_mcf_with_buffers(void) {
-  int status = scrypt_hash_mcf_with_buffers(PASSWORD, SALT, PARAMS, KEY_LEN, mcf, sizeof mcf, BUFFERS);
-  scrypt_wipe(BUFFERS);
-  return status;
-}
-
-static int needs_rehash(void) { return scrypt_needs_rehash(phc, strlen(phc), 1, 1, 1, KEY_LEN); }
-
-static int hash_params(void) {
-  uint32_t log_n, r, p;
-  size_t len;
-  return scrypt_hash_params(phc, strlen(phc), &log_n, &r, &p, &len);
-}
-
-static int hash_needs(void) {
-  scrypt_needs needs;
-  return scrypt_hash_needs(phc, strlen(phc), SIZE_MAX, UINT64_MAX, 0, &needs);
-}
-
-/* Memory that is kept holds rows of the table until the hasher is closed. */
-static scrypt_hasher *new_hasher(void) {
-  scrypt_options with = {sizeof with, the->log_n, the->r, the->p, 0, KEY_LEN, 0, SIZE_MAX, UINT64_MAX, 0, 2, 1};
-  return scrypt_hasher_new(&with, NULL);
-}
-static int freed(scrypt_hasher *hasher, int status) {
-  scrypt_hasher_free(hasher);
-  return status;
-}
-static int hasher_key(void) {
-  scrypt_hasher *one = new_hasher();
-  return freed(one, scrypt_hasher_key(one, PASSWORD, SALT, key, KEY_LEN, -1, NULL));
-}
-static int hasher_hash(void) {
-  scrypt_hasher *one = new_hasher();
-  return freed(one, scrypt_hasher_hash(one, PASSWORD, SALT, phc, sizeof phc, -1, NULL));
-}
-static int hasher_verify(void) {
-  scrypt_hasher *one = new_hasher();
-  return freed(one, scrypt_hasher_verify(one, PASSWORD, phc, strlen(phc), -1, NULL));
+static int verify_both(void) {
+  int status = each_scrypt_verify_group_with_buffers();
+  return status != SCRYPT_OK ? status : made.statuses[0] == SCRYPT_OK ? made.statuses[1] : made.statuses[0];
 }
 
 /* The function of this name in a library. */
@@ -162,14 +98,15 @@ static void *named(void *library, const char *name) {
 typedef int by_costs(const uint8_t *, size_t, const uint8_t *, size_t, uint64_t, uint32_t, uint32_t, uint8_t *, size_t);
 static int derive_by(const char *name) {
   by_costs *derive = (by_costs *)named(drop_in, name);
-  return derive(PASSWORD, SALT, UINT64_C(1) << the->log_n, the->r, the->p, key, KEY_LEN);
+  return derive(PASSWORD, SALT, UINT64_C(1) << the->log_n, the->r, the->p, made.key, KEY_LEN);
 }
 
 /* The output begins in the password. */
+static uint8_t both[128];
 static int into_its_password(void) {
   by_costs *derive = (by_costs *)named(drop_in, "crypto_scrypt");
-  memcpy(key, the->password, the->password_len);
-  return derive(key, the->password_len, SALT, UINT64_C(1) << the->log_n, the->r, the->p, key + 1, KEY_LEN);
+  memcpy(both, the->password, the->password_len);
+  return derive(both, the->password_len, SALT, UINT64_C(1) << the->log_n, the->r, the->p, both + 1, KEY_LEN);
 }
 
 #define SODIUM "crypto_pwhash_scryptsalsa208sha256"
@@ -180,7 +117,7 @@ static int of_libsodium(void) { return derive_by(SODIUM "_ll"); }
 static int of_libsodium_by_limits(void) {
   int (*derive)(uint8_t *, unsigned long long, const char *, unsigned long long, const uint8_t *, unsigned long long,
                 size_t) = named(drop_in, SODIUM);
-  return derive(key, 32, (const char *)the->password, the->password_len, the->salt, 524288, 16777216);
+  return derive(made.key, 32, (const char *)the->password, the->password_len, the->salt, 524288, 16777216);
 }
 
 static int str_of_libsodium(void) {
@@ -199,30 +136,14 @@ static const struct {
   int (*call)(void);
   void **library; /* NULL, or where the library is that has it */
 } CALLS[] = {
-    {"scrypt_key", of_key, NULL},
-    {"scrypt_key again, in memory that malloc kept", of_key, NULL},
-    {"scrypt_key_within", key_within, NULL},
-    {"scrypt_key_with_buffers", key_with_buffers, NULL},
-    {"scrypt_key_thin", key_thin, NULL},
-    {"scrypt_hash_new", hash_new, NULL},
-    {"scrypt_hash_phc", hash_phc, NULL},
-    {"scrypt_hash_mcf", hash_mcf, NULL},
+#define CALL(name, memory, pointers, arguments) {#name, each_##name, NULL},
+#include "each_call.h"
+    {"scrypt_key again, in memory that malloc kept", each_scrypt_key, NULL},
+    {"scrypt_key_thin, in half a table", key_in_half_a_table, NULL},
     {"scrypt_hash_mcf, whose text does not fit", hash_that_does_not_fit, NULL},
-    {"scrypt_hash_phc_with_buffers", hash_phc_with_buffers, NULL},
-    {"scrypt_hash_mcf_with_buffers", hash_mcf_with_buffers, NULL},
-    {"scrypt_verify of a PHC text", verify_phc, NULL},
     {"scrypt_verify of a $7$ text", verify_mcf, NULL},
     {"scrypt_verify of another password", verify_another_password, NULL},
-    {"scrypt_verify_within", verify_within, NULL},
-    {"scrypt_verify_with_buffers", verify_with_buffers, NULL},
-    {"scrypt_verify_group_with_buffers", verify_group_with_buffers, NULL},
-    {"scrypt_needs_rehash", needs_rehash, NULL},
-    {"scrypt_hash_needs", hash_needs, NULL},
-    {"scrypt_hash_params", hash_params, NULL},
-    {"scrypt_params_need", params_need, NULL},
-    {"scrypt_hasher_key", hasher_key, NULL},
-    {"scrypt_hasher_hash", hasher_hash, NULL},
-    {"scrypt_hasher_verify", hasher_verify, NULL},
+    {"scrypt_verify_group_with_buffers, both", verify_both, NULL},
     {"crypto_scrypt", of_libscrypt_kdf, &drop_in},
     {"crypto_scrypt, into its password", into_its_password, &drop_in},
     {"libscrypt_scrypt", of_libscrypt, &drop_in},
@@ -232,15 +153,13 @@ static const struct {
     {SODIUM "_str_verify", str_verify_of_libsodium, &drop_in},
 };
 
-static void take_buffers(void) {
-  if (params_need() != SCRYPT_OK) exit(3);
-  chunks = calloc(chunks_len, 1);
-  table = calloc(table_len, 4);
-  scratch = calloc(scratch_len, 8); /* room for that of a thin table too */
-}
-
-static void free_buffers(void) {
-  free(chunks);
-  free(table);
-  free(scratch);
+static void take_case(size_t most_tables) {
+  static scrypt_login logins[2];
+  (void)wanted_of(""); /* or the first call binds strcmp, which uses the stack that is looked at */
+  take_arguments(PASSWORD, SALT, PARAMS, KEY_LEN, most_tables);
+  if (scrypt_hash_phc(PASSWORD, SALT, PARAMS, KEY_LEN, phc, sizeof phc) != SCRYPT_OK) exit(3);
+  if (scrypt_hash_mcf(PASSWORD, SALT, PARAMS, KEY_LEN, mcf, sizeof mcf) != SCRYPT_OK) exit(3);
+  logins[0] = (scrypt_login){PASSWORD, phc, strlen(phc)};
+  logins[1] = (scrypt_login){PASSWORD, mcf, strlen(mcf)};
+  take_text(phc, logins, 2);
 }

@@ -129,8 +129,8 @@ int scrypt_key_within(const void *password, size_t password_len, const void *sal
  * that scrypt_key_with_buffers accepts; with any s up to log_n they are exactly those of scrypt_key_thin with this s.
  * SCRYPT_INVALID_PARAMS, also if s is above log_n. */
 SCRYPT_CHECKED SCRYPT_NONNULL
-int scrypt_buffer_lens(uint32_t log_n, uint32_t r, uint32_t p, uint8_t s, size_t *chunks,
-                       size_t *table, size_t *scratch);
+int scrypt_buffer_lens(uint32_t log_n, uint32_t r, uint32_t p, uint8_t s, size_t *chunks_len,
+                       size_t *table_len, size_t *scratch_len);
 
 /* Writes the same key, in the caller's buffers, each at least as long as scrypt_buffer_lens returns for s = 0. If the
  * table and the scratch are w times as long as that, up to w chunks are mixed at a time, and at most four. What the

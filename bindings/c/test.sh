@@ -45,7 +45,7 @@ release/hardened.sh "$lib/libscrypt_drop_in.so" $shared
 # In tail position its return address would be higher, and it would clear less than was measured.
 if "${tools}objdump" -d "$lib/libscrypt_c.so.0" | grep -E '[[:space:]](jmp|b)[[:space:]].*<clear_stack>'; then exit 1; fi
 echo "bound to themselves, when they are loaded, and read-only then, with stack protection: the shared libraries"
-python3 bindings/version.py --check
+python3 -m tools.mirror --check
 each "$lib/libscrypt_c.a $shared" short_tests
 # The program that chooses parameters prints those that scrypt_tool takes, or says what it takes itself.
 $emulator "$build/bin/scrypt_calibrate" ${emulator:+1}0.1 16 | grep -xE '1[0-4] 8 [1-9][0-9]*' > "$room/log"

@@ -1,11 +1,8 @@
 /* The order of things: each argument of each call is where the header has it, shown by a known key and known texts with
  * arguments that all differ; and where two refusals meet, the first in the comment of the call is returned, and outputs
  * are written as it says. */
+#include "arguments.h"
 #include "check.h"
-#include "scrypt_c.h"
-
-#include <stdlib.h>
-#include <string.h>
 
 /* Of the password pw and the salt saltsalt, with (4, 2, 3) and 20 bytes, by hashlib.scrypt. In a $7$ hash the salt is
  * the letters in its text. */
@@ -14,126 +11,137 @@ static const uint8_t KEY[20] = {0x94, 0x1e, 0xd0, 0x24, 0x78, 0x9a, 0xbd, 0xd7, 
 static const char PHC[] = "$scrypt$ln=4,r=2,p=3$c2FsdHNhbHQ$lB7QJHiavdcXlmY0J3GxoFXcUz4";
 static const char MCF[] = "$7$20....1....n34PoBLMgF5$Z8J2bfek1wDXI7xhu6YDEbhVlE3";
 
-/* What of the call is compared with what is known. */
-enum known { STATUS, A_KEY, A_PHC, AN_MCF };
-
-static uint8_t key[20], chunks[768];
-static uint32_t table[1024], scratch[192];
-static char text[SCRYPT_PHC_CAPACITY];
-static scrypt_hasher *hasher;
-
 #define SECRETS "pw", 2, "saltsalt", 8
 #define PARAMS 4, 2, 3
-#define BUFFERS chunks, 768, table, 1024, scratch, 128
-#define TEXT text, sizeof text
 #define OF(known) known, sizeof known - 1
 
-static int of_key(void) { return scrypt_key(SECRETS, PARAMS, key, 20); }
-static int key_within(void) { return scrypt_key_within(SECRETS, PARAMS, 5376, 1152, key, 20); }
-static int key_with_buffers(void) { return scrypt_key_with_buffers(SECRETS, PARAMS, key, 20, BUFFERS); }
-static int key_thin(void) {
-  return scrypt_key_thin(SECRETS, PARAMS, 1, key, 20, chunks, 768, table, 512, scratch, 192);
+/* What a call has to make of the case. */
+static int nothing(void) { return 1; }
+static int a_key(void) { return memcmp(made.output, KEY, sizeof KEY) == 0; }
+static int a_hashers_key(void) { return memcmp(made.key, KEY, sizeof KEY) == 0; }
+static int a_phc(void) { return memcmp(made.text, PHC, sizeof PHC) == 0; }
+static int an_mcf(void) { return memcmp(made.text, MCF, sizeof MCF) == 0; }
+static int a_new_hash(void) {
+  const int log_n = SCRYPT_RECOMMENDED_LOG_N, r = SCRYPT_RECOMMENDED_R, p = SCRYPT_RECOMMENDED_P;
+  char front[40];
+  snprintf(front, sizeof front, "$scrypt$ln=%d,r=%d,p=%d$", log_n, r, p);
+  return strncmp(made.text, front, strlen(front)) == 0 && strlen(made.text) == SCRYPT_NEW_CAPACITY - 1;
 }
-static int phc(void) { return scrypt_hash_phc(SECRETS, PARAMS, 20, TEXT); }
-static int phc_with_buffers(void) { return scrypt_hash_phc_with_buffers(SECRETS, PARAMS, 20, TEXT, BUFFERS); }
-static int mcf(void) { return scrypt_hash_mcf(SECRETS, PARAMS, 20, TEXT); }
-static int mcf_with_buffers(void) { return scrypt_hash_mcf_with_buffers(SECRETS, PARAMS, 20, TEXT, BUFFERS); }
-static int verify(void) { return scrypt_verify("pw", 2, OF(PHC)); }
-static int verify_within(void) { return scrypt_verify_within("pw", 2, OF(PHC), 5376, 1152, 20); }
-static int verify_with_buffers(void) { return scrypt_verify_with_buffers("pw", 2, OF(PHC), BUFFERS); }
-static int hasher_key(void) { return scrypt_hasher_key(hasher, SECRETS, key, 20, -1, NULL); }
-static int hasher_hash(void) { return scrypt_hasher_hash(hasher, SECRETS, text, sizeof text, -1, NULL); }
-static int hasher_verify(void) { return scrypt_hasher_verify(hasher, "pw", 2, OF(MCF), -1, NULL); }
-static int rehash(void) { return scrypt_needs_rehash(OF(PHC), PARAMS, 20); }
-
-/* Each has its own place: right, no text, another password, right. */
-static int verify_group_with_buffers(void) {
-  const scrypt_login logins[] = {{"pw", 2, OF(PHC)}, {"pw", 2, "$8$", 3}, {"PW", 2, OF(MCF)}, {"pw", 2, OF(MCF)}};
-  static const int WANTED[] = {SCRYPT_OK, SCRYPT_ENCODING_INVALID, SCRYPT_MISMATCH, SCRYPT_OK};
-  int statuses[4], status = scrypt_verify_group_with_buffers(logins, 4, statuses, BUFFERS);
-  return memcmp(statuses, WANTED, sizeof WANTED) == 0 ? status : -1;
+static int a_salt(void) { return made.salt[0] != 0 || made.salt[15] != 0; }
+static int are_lens(size_t table_len, size_t scratch_len) {
+  return *made.chunks_len == 768 && *made.table_len == table_len && *made.scratch_len == scratch_len;
 }
-static int hash_params(void) {
-  uint32_t log_n = 0, r = 0, p = 0;
-  size_t key_len = 0;
-  int status = scrypt_hash_params(OF(MCF), &log_n, &r, &p, &key_len);
-  return log_n == 4 && r == 2 && p == 3 && key_len == 20 ? status : -1;
+static int lens(void) { return are_lens(1024, 128); }
+static int lens_of_half(void) { return are_lens(512, 192); }
+static int are_limits(size_t least_key_len) {
+  return *made.most_bytes == SCRYPT_MOST_BYTES && *made.most_work == SCRYPT_MOST_WORK && *made.least_key_len == least_key_len;
 }
-
-/* Whether this is needed, with so many tables. */
-static int are_needed(int status, const scrypt_needs *it, size_t tables) {
+static int limits(void) { return are_limits(SCRYPT_LEAST_KEY_LEN); }
+static int limits_of_short_keys(void) { return are_limits(10); }
+static int stats(void) { return made.stats->waiting == 0 && made.stats->deriving == 0 && made.stats->refused == 0; }
+static int params(void) { return *made.log_n == 4 && *made.r == 2 && *made.p == 3 && *made.key_len == 20; }
+static int are_needed(size_t tables) {
+  const scrypt_needs *it = made.needs;
   return it->log_n == 4 && it->r == 2 && it->p == 3 && it->tables == tables && it->chunks_len == 768 &&
-                 it->table_len == 1024 && it->scratch_len == 128 && it->bytes == 5376 && it->work == 1152
-             ? status
-             : -1;
+         it->table_len == 1024 && it->scratch_len == 128 && it->bytes == 5376 && it->work == 1152;
 }
-static int buffer_lens(void) {
-  size_t lens[3] = {0, 0, 0};
-  int status = scrypt_buffer_lens(PARAMS, 1, &lens[0], &lens[1], &lens[2]);
-  return lens[0] == 768 && lens[1] == 512 && lens[2] == 192 ? status : -1;
-}
-static int hash_needs(void) {
-  scrypt_needs needs = {0, 0, 0, 0, 0, 0, 0, 0, 0, 0};
-  int status = scrypt_hash_needs(OF(PHC), 5376, 1152, 20, &needs);
-  return needs.key_len == 20 ? are_needed(status, &needs, 1) : -1;
-}
-static int params_need(void) {
-  scrypt_needs needs = {0, 0, 0, 0, 0, 0, 0, 0, 0, 0};
-  int status = scrypt_params_need(PARAMS, 9984, 1152, &needs);
-  return are_needed(status, &needs, 2);
-}
-static int limits_for_new(void) {
-  size_t most_bytes = 0, least_key_len = 0;
-  uint64_t most_work = 0;
-  int status = scrypt_limits_for_new(4, 2, 3, 10, &most_bytes, &most_work, &least_key_len);
-  return most_bytes == SCRYPT_MOST_BYTES && most_work == SCRYPT_MOST_WORK && least_key_len == 10 ? status : -1;
+static int needs(void) { return are_needed(1); }
+static int needs_of_two(void) { return are_needed(2); }
+static int needs_of_a_hash(void) { return are_needed(1) && made.needs->key_len == 20; }
+
+/* Each login has its own place: right, no text, another password, right. */
+static const scrypt_login LOGINS[] = {{"pw", 2, OF(PHC)}, {"pw", 2, "$8$", 3}, {"PW", 2, OF(MCF)}, {"pw", 2, OF(MCF)}};
+static int verdicts(void) {
+  static const int WANTED[] = {SCRYPT_OK, SCRYPT_ENCODING_INVALID, SCRYPT_MISMATCH, SCRYPT_OK};
+  return memcmp(made.statuses, WANTED, sizeof WANTED) == 0;
 }
 
 static const struct {
   const char *name;
-  int (*call)(void);
-  enum known known;
-} CALLS[] = {
-    {"scrypt_key", of_key, A_KEY},
-    {"scrypt_key_within", key_within, A_KEY},
-    {"scrypt_hasher_key", hasher_key, A_KEY},
-    {"scrypt_key_with_buffers", key_with_buffers, A_KEY},
-    {"scrypt_key_thin", key_thin, A_KEY},
-    {"scrypt_hash_phc", phc, A_PHC},
-    {"scrypt_hash_phc_with_buffers", phc_with_buffers, A_PHC},
-    {"scrypt_hasher_hash", hasher_hash, A_PHC},
-    {"scrypt_hash_mcf", mcf, AN_MCF},
-    {"scrypt_hash_mcf_with_buffers", mcf_with_buffers, AN_MCF},
-    {"scrypt_verify", verify, STATUS},
-    {"scrypt_verify_within", verify_within, STATUS},
-    {"scrypt_hasher_verify, and the bounds of its options", hasher_verify, STATUS},
-    {"scrypt_verify_with_buffers", verify_with_buffers, STATUS},
-    {"scrypt_verify_group_with_buffers", verify_group_with_buffers, STATUS},
-    {"scrypt_needs_rehash", rehash, STATUS},
-    {"scrypt_hash_params", hash_params, STATUS},
-    {"scrypt_buffer_lens", buffer_lens, STATUS},
-    {"scrypt_hash_needs", hash_needs, STATUS},
-    {"scrypt_params_need", params_need, STATUS},
-    {"scrypt_limits_for_new", limits_for_new, STATUS},
+  int (*is_right)(void);
+  int wanted;
+} KNOWN[] = {
+    {"scrypt_key", a_key, SCRYPT_OK},
+    {"scrypt_key_within", a_key, SCRYPT_OK},
+    {"scrypt_buffer_lens", lens, SCRYPT_OK},
+    {"scrypt_buffer_lens, of half a table", lens_of_half, SCRYPT_OK},
+    {"scrypt_key_with_buffers", a_key, SCRYPT_OK},
+    {"scrypt_key_thin", a_key, SCRYPT_OK},
+    {"scrypt_key_thin, in half a table", a_key, SCRYPT_OK},
+    {"scrypt_hash_new", a_new_hash, SCRYPT_OK},
+    {"scrypt_hash_phc", a_phc, SCRYPT_OK},
+    {"scrypt_hash_mcf", an_mcf, SCRYPT_OK},
+    {"scrypt_hash_phc_with_buffers", a_phc, SCRYPT_OK},
+    {"scrypt_hash_mcf_with_buffers", an_mcf, SCRYPT_OK},
+    {"scrypt_verify", nothing, SCRYPT_OK},
+    {"scrypt_verify_within", nothing, SCRYPT_OK},
+    {"scrypt_verify_with_buffers", nothing, SCRYPT_OK},
+    {"scrypt_verify_group_with_buffers", verdicts, SCRYPT_OK},
+    {"scrypt_needs_rehash", nothing, SCRYPT_OK},
+    {"scrypt_hash_params", params, SCRYPT_OK},
+    {"scrypt_hash_needs", needs_of_a_hash, SCRYPT_OK},
+    {"scrypt_params_need", needs, SCRYPT_OK},
+    {"scrypt_params_need, of two tables", needs_of_two, SCRYPT_OK},
+    {"scrypt_limits_for_new", limits, SCRYPT_OK},
+    {"scrypt_limits_for_new, of short keys", limits_of_short_keys, SCRYPT_OK},
+    {"scrypt_hasher_verify", nothing, SCRYPT_OK},
+    {"scrypt_hasher_hash", a_phc, SCRYPT_OK},
+    {"scrypt_hasher_key", a_hashers_key, SCRYPT_OK},
+    {"scrypt_hasher_needs_rehash", nothing, SCRYPT_OK},
+    {"scrypt_hasher_stats", stats, SCRYPT_OK},
+    {"scrypt_calibrate", nothing, SCRYPT_TOO_COSTLY},
+    {"scrypt_draw_salt", a_salt, SCRYPT_OK},
 };
 
-static void arguments(void) {
-  size_t i;
+static void forget(void) {
+  memset(made.output, 0, sizeof made.output);
+  memset(made.key, 0, sizeof made.key);
+  memset(made.text, 0, sizeof made.text);
+  memset(made.salt, 0, sizeof made.salt);
+  memset(made.statuses, 0, sizeof made.statuses);
+  memset(made.needs, 0, sizeof made.needs);
+  *made.chunks_len = *made.table_len = *made.scratch_len = *made.most_bytes = *made.least_key_len = *made.key_len = 0;
+  *made.log_n = *made.r = *made.p = 0;
+  *made.most_work = 0;
+}
+
+/* A call without a row fails too. */
+static void check_call(const char *name, int status) {
+  size_t i, count = sizeof KNOWN / sizeof *KNOWN;
+  for (i = 0; i < count && strcmp(KNOWN[i].name, name) != 0; i++) continue;
+  check(i < count && status == KNOWN[i].wanted && KNOWN[i].is_right(), name);
+  forget();
+}
+
+static void arguments(const char *text) {
+  static uint32_t half[512], scratch[192];
   /* Just what (4, 2, 3) needs. */
-  const scrypt_options with = {sizeof with, 4, 2, 3, 0, 20, 8, 5376, 1152, 20, 1, 1};
-  hasher = scrypt_hasher_new(&with, NULL);
-  for (i = 0; i < sizeof CALLS / sizeof CALLS[0]; i++) {
-    memset(key, 0, sizeof key);
-    memset(text, 0, sizeof text);
-    check(CALLS[i].call() == SCRYPT_OK, CALLS[i].name);
-    check(CALLS[i].known != A_KEY || memcmp(key, KEY, 20) == 0, CALLS[i].name);
-    check(CALLS[i].known != A_PHC || memcmp(text, PHC, sizeof PHC) == 0, CALLS[i].name);
-    check(CALLS[i].known != AN_MCF || memcmp(text, MCF, sizeof MCF) == 0, CALLS[i].name);
-  }
-  scrypt_hasher_free(hasher);
+  const scrypt_options options = {sizeof options, 4, 2, 3, 0, 20, 8, 5376, 1152, 20, 1, 1};
+  take_arguments(SECRETS, PARAMS, 20, 1);
+  take_text(text, LOGINS, 4);
+  given.hasher = scrypt_hasher_new(&options, NULL);
+  given.most_bytes = 5376, given.most_work = 1152;
+#define CALL(name, memory, pointers, arguments) check_call(#name, name arguments);
+#include "each_call.h"
+  check_call("scrypt_buffer_lens, of half a table",
+             scrypt_buffer_lens(PARAMS, 1, made.chunks_len, made.table_len, made.scratch_len));
+  check_call("scrypt_key_thin, in half a table",
+             scrypt_key_thin(SECRETS, PARAMS, 1, made.output, 20, made.chunks, 768, half, 512, scratch, 192));
+  check_call("scrypt_params_need, of two tables", scrypt_params_need(PARAMS, 9984, 1152, made.needs));
+  check_call("scrypt_limits_for_new, of short keys",
+             scrypt_limits_for_new(PARAMS, 10, made.most_bytes, made.most_work, made.least_key_len));
+  scrypt_hasher_free(given.hasher);
+  free_arguments();
 }
 
 /* ---- Where two refusals meet ---- */
+
+static uint8_t key[20], chunks[768];
+static uint32_t table[1024], scratch[192];
+static char text[SCRYPT_PHC_CAPACITY];
+
+#define BUFFERS chunks, 768, table, 1024, scratch, 128
+#define TEXT text, sizeof text
 
 /* The log_n of a table of 2^63 bytes. */
 enum { HUGE = 56 };
@@ -257,7 +265,8 @@ static void n_in_place_of_log_n(void) {
 }
 
 int main(void) {
-  arguments();
+  arguments(PHC);
+  arguments(MCF);
   memset(key, 7, sizeof key);
   memset(text, '!', sizeof text);
   chunks[0] = 7, table[0] = 7, scratch[0] = 7;

@@ -108,21 +108,20 @@ static void draw_text(const char *text, size_t len) {
   while (changes-- > 0) drawn[draw(drawn_len)] = BYTES[draw(sizeof BYTES - 1)];
 }
 
-static scrypt_hasher *hasher;
-static int verify_drawn(void) { return scrypt_hasher_verify(hasher, PASSWORD, drawn, drawn_len, -1, NULL); }
+static int verify_drawn(void) { return scrypt_hasher_verify(given.hasher, PASSWORD, drawn, drawn_len, -1, NULL); }
 static int rehash_drawn(void) { return scrypt_needs_rehash(drawn, drawn_len, 1, 1, 1, 32); }
 
 static void drawn_texts(void) {
   static const char LONG[] = "$scrypt$ln=4,r=8,p=1,data=0123456789012345678901234567890123456789$c2FsdHNhbHQ$AAAAAAAAAAAAAAAA";
   const char *const texts[] = {LONG, phc, mcf};
   int i;
-  hasher = scrypt_hasher_new(NULL, NULL);
+  given.hasher = scrypt_hasher_new(NULL, NULL);
   for (i = 0; i < 2000; i++) {
     draw_text(texts[i % 3], strlen(texts[i % 3]));
     check_stack("scrypt_hasher_verify of a drawn text", verify_drawn, 0);
     check_stack("scrypt_needs_rehash of a drawn text", rehash_drawn, 0);
   }
-  scrypt_hasher_free(hasher);
+  scrypt_hasher_free(given.hasher);
 }
 
 /* No letter of a hash is in that register. */
@@ -131,34 +130,36 @@ static void check_register(const char *name, int (*call)(void)) { check(call() =
 static void all_calls(const struct traces_case *of) {
   size_t i;
   the = of;
-  take_buffers();
+  take_case(SIZE_MAX);
   for (i = 0; i < sizeof CALLS / sizeof *CALLS; i++) {
     if (CALLS[i].library != NULL && *CALLS[i].library == NULL) continue;
     check_stack(CALLS[i].name, CALLS[i].call, 1);
-    if (CALLS[i].call == hash_phc || CALLS[i].call == hash_mcf) check_register(CALLS[i].name, CALLS[i].call);
+    if (CALLS[i].call == each_scrypt_hash_phc || CALLS[i].call == each_scrypt_hash_mcf) check_register(CALLS[i].name, CALLS[i].call);
     check(holds_in_a_child(fits_its_stack, CALLS[i].call), CALLS[i].name);
     check(holds_in_a_child(works_on_a_small_thread, CALLS[i].call), CALLS[i].name);
   }
   drawn_texts();
-  free_buffers();
+  free_arguments();
 }
 
 /* How much a call uses depends on how many chunks are mixed at a time, and on how many are left then. */
 static void each_number_of_chunks(const struct traces_case *one) {
   static struct traces_case of;
-  size_t i;
+  size_t i, most_tables;
   of = *one;
   the = &of;
   for (of.p = 1; of.p <= 12; of.p++)
     for (most_tables = 1; most_tables <= 4; most_tables++) {
       char name[100];
-      take_buffers();
+      take_case(most_tables);
       for (i = 0; i < sizeof CALLS / sizeof *CALLS; i++) {
-        if (CALLS[i].library != NULL || CALLS[i].call == hash_new) continue; /* which choose their own parameters */
+        int (*call)(void) = CALLS[i].call;
+        /* Those that choose their own parameters. */
+        if (CALLS[i].library != NULL || call == each_scrypt_hash_new || call == each_scrypt_calibrate) continue;
         snprintf(name, sizeof name, "%s of %u chunks in %zu tables", CALLS[i].name, of.p, most_tables);
-        check_stack(name, CALLS[i].call, 1);
+        check_stack(name, call, 1);
       }
-      free_buffers();
+      free_arguments();
     }
 }
 

@@ -95,12 +95,12 @@ static int leaves_nothing(const char *name, int (*call)(void), int is_expected) 
 
 static void all_calls(int is_searched) {
   size_t i;
-  take_buffers();
+  take_case(SIZE_MAX);
   for (i = 0; i < sizeof CALLS / sizeof *CALLS; i++) {
     if (CALLS[i].library != NULL && *CALLS[i].library == NULL) continue;
     check(is_searched ? leaves_nothing(CALLS[i].name, CALLS[i].call, 0) : CALLS[i].call() == SCRYPT_OK, CALLS[i].name);
   }
-  free_buffers();
+  free_arguments();
 }
 
 int main(int argc, char **argv) {
@@ -113,10 +113,14 @@ int main(int argc, char **argv) {
   }
   if (argc > 2 && (drop_in = dlopen(argv[2], RTLD_NOW)) == NULL) return 3;
   for (number = 0; (the = traces_read(argv[1], number)) != NULL; number++) {
-    traces_leave_out(key, sizeof key);
+    traces_leave_out(made.key, sizeof made.key);
+    traces_leave_out(made.output, sizeof made.output);
+    traces_leave_out(both, sizeof both);
     all_calls(1);
     check(!leaves_nothing("a block", leaves_a_block, 1), "what is left in a block is found");
-    memset(key, 0, sizeof key);
+    memset(made.key, 0, sizeof made.key);
+    memset(made.output, 0, sizeof made.output);
+    memset(both, 0, sizeof both);
     check(!leaves_nothing("a frame", leaves_a_frame, 1), "what is left on the stack is found");
     check(!leaves_nothing("vectors", leaves_vectors, 1), "what is left in registers is found");
   }

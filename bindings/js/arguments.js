@@ -1,5 +1,6 @@
 // What a caller hands in, as bytes and numbers. A caller's class or Proxy may run code at each property that is read, which may call this
 // package again: so bytes are read by the engine's own getters, which no class replaces.
+import { KEY_LEN, RECOMMENDED_LOG_N, RECOMMENDED_P, RECOMMENDED_R } from './declared.js';
 import { ScryptError, errorFor, outOfMemory } from './errors.js';
 
 /** The engine's own getter. It throws if it is called for another kind of object. */
@@ -163,10 +164,10 @@ export function parameters({ N, r, p }) {
 }
 
 /** The same, where they may be left out. */
-export const withDefaults = ({ N = 2 ** 17, r = 8, p = 1 }) => parameters({ N, r, p });
+export const withDefaults = ({ N = 2 ** RECOMMENDED_LOG_N, r = RECOMMENDED_R, p = RECOMMENDED_P }) => parameters({ N, r, p });
 
 /** The length of a key. */
-export const lengthOf = (dkLen = 32) => integer(dkLen, 'dkLen', 2 ** 32 - 1);
+export const lengthOf = (dkLen = KEY_LEN) => integer(dkLen, 'dkLen', 2 ** 32 - 1);
 
 /** A limit, or another one if it is left out. */
 export function limit(value, name, otherwise) {

@@ -1,5 +1,6 @@
 // The proved calls, in memory that is wiped after each of them.
 import { NO_LIMIT, bytesOf, copyOf, lengthOf, limit, optionsOf, parameters, wipeEncoded, withDefaults } from './arguments.js';
+import { SALT_LEN } from './declared.js';
 import { ScryptError, errorFor, outOfMemory } from './errors.js';
 import { Instance, places } from './instance.js';
 
@@ -56,7 +57,7 @@ export class Scrypt {
 
   hash(password, given) {
     const options = optionsOf(given, 'hash');
-    const { salt = crypto.getRandomValues(new Uint8Array(16)), format = 'phc' } = options;
+    const { salt = crypto.getRandomValues(new Uint8Array(SALT_LEN)), format = 'phc' } = options;
     const params = withDefaults(options);
     const keyLen = BigInt(lengthOf(options.dkLen));
     const mostBytes = limit(options.maxmem, 'maxmem', MOST_MEMORY);

@@ -1,5 +1,6 @@
 // An instance of the module: what is placed in its memory, and what is called there.
-import { NO, OK, errorOf, outOfMemory } from './errors.js';
+import { OK } from './declared.js';
+import { NO, errorOf, outOfMemory } from './errors.js';
 
 const PAGE = 65536;
 const STACK = 2 ** 20; // of the module, at the bottom of its memory

@@ -24,8 +24,6 @@ fn link(place: &Path) -> Result<(), String> {
     if is_static {
         println!("cargo:rustc-link-lib=pthread");
     }
-    // Tests look for the header there.
-    println!("cargo:rustc-env=SCRYPT_C_FOLDER={}", folder.display());
     Ok(())
 }
 

@@ -153,6 +153,12 @@ function ownChecks(open, cases) {
       await works(own);
     }
   };
+  list['words of errors'] = async () => {
+    const { own } = await open();
+    await refused('INVALID_PARAMS', () => own.hash('', { ...OF, r: 0 }), 'the option N', '128 * r * N below 2^64');
+    await refused('KEY_TOO_SHORT', () => own.verify('', own.hash('', { ...OF, dkLen: 10 })), 'a short key', 'shorter than is allowed');
+    await refused('ALGORITHM', () => own.params(`$argon2id$m=1$AAAAAAAA$${KEY}`), 'another algorithm', 'the hash names another algorithm');
+  };
   list['memory that cannot grow'] = async () => {
     const it = await open();
     const OF_ONE = { N: 1024, r: 8, p: 2 };

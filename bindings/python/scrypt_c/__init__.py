@@ -23,6 +23,7 @@ this package is used, or else the one that the system's loader finds.
 
 from .arguments import Bytes, Password
 from .calibration import Calibrated, calibrate
+from .declared import VERSION_STRING
 from .errors import (
     InvalidHashError,
     InvalidOutputLenError,
@@ -37,7 +38,7 @@ from .hasher import Options, PasswordHasher, Stats
 from .key import scrypt
 from .params import LEAST_KEY_LEN, MOST_BYTES, MOST_WORK, RECOMMENDED, Params, params_of
 
-__version__ = "0.12.0+proved.1"
+__version__ = VERSION_STRING
 
 __all__ = [
     "LEAST_KEY_LEN",

@@ -10,7 +10,8 @@ import warnings
 from . import library
 from .arguments import in_64_bits
 from .arguments import seconds as time_of
-from .errors import TOO_COSTLY, check
+from .declared import TOO_COSTLY
+from .errors import check
 from .hasher import PasswordHasher
 from .params import MOST_BYTES, Params
 

@@ -10,19 +10,10 @@ import time
 from types import MemberDescriptorType
 from typing import Any, Callable, Literal, NamedTuple, Optional, Union
 
-from . import library
+from . import declared, library
 from .arguments import Bytes, Password, in_64_bits, number, raw_bytes, raw_password, raw_text, seconds
-from .errors import (
-    CANCELLED,
-    KEY_TOO_SHORT,
-    NEEDS_REHASH,
-    OUT_OF_MEMORY,
-    SALT_INVALID,
-    TIMEOUT,
-    TOO_COSTLY,
-    InvalidParamsError,
-    check,
-)
+from .declared import CANCELLED, KEY_TOO_SHORT, NEEDS_REHASH, OUT_OF_MEMORY, SALT_INVALID, TIMEOUT, TOO_COSTLY
+from .errors import InvalidParamsError, check
 from .params import Params, accepted, check_costs, needs_of
 
 _SLICE_MS = 50
@@ -95,7 +86,7 @@ class PasswordHasher:
         self._options: dict[str, Any] = {"salt_len": salt_len, "mcf": bool(mcf), **most, "timeout": timeout}
         given = {name: in_64_bits(value, name) for name, value in most.items() if value is not None}
         lens = self._params.key_len, salt_len
-        options = library.Options(ctypes.sizeof(library.Options), *self._params[:3], bool(mcf), *lens, **given)
+        options = declared.Options(ctypes.sizeof(declared.Options), *self._params[:3], bool(mcf), *lens, **given)
         status = ctypes.c_int()
         self._c = library.hasher_new(options, status)
         self._refused = 0  # how many waits of the main thread ended, whose slices the library does not count
@@ -114,7 +105,7 @@ class PasswordHasher:
 
     def stats(self) -> Stats:
         """What the hasher does now, for metrics."""
-        it = library.Stats()
+        it = declared.Stats()
         check(library.hasher_stats(self._c, it))
         return Stats(it.waiting, it.deriving, it.refused + self._refused)
 

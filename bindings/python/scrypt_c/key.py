@@ -7,7 +7,8 @@ from typing import Optional
 
 from . import library
 from .arguments import Bytes, in_64_bits, number, raw_bytes
-from .errors import INVALID_OUTPUT_LEN, TOO_COSTLY, InvalidParamsError, check
+from .declared import INVALID_OUTPUT_LEN, MAX_OUTPUT_LEN, TOO_COSTLY
+from .errors import InvalidParamsError, check
 from .params import MOST, Params, accepted, check_costs, needs_of
 
 
@@ -26,7 +27,7 @@ def scrypt(password: Bytes, *, salt: Bytes, n: int, r: int, p: int, maxmem: int 
     needed = Params(log_n, r, p).memory  # refuses parameters that are not accepted
     if 0 < maxmem < needed:
         raise ValueError(f"n={n}, r={r}, p={p} need {needed} bytes, more than maxmem={maxmem}")
-    if not 1 <= dklen <= library.MAX_OUTPUT_LEN:
+    if not 1 <= dklen <= MAX_OUTPUT_LEN:
         check(INVALID_OUTPUT_LEN, f"dklen={dklen}")
     return _made(password, salt, Params(log_n, r, p), min(maxmem, MOST) or None, MOST, dklen)
 

@@ -7,7 +7,8 @@ from typing import NamedTuple, Optional, Union
 
 from . import library
 from .arguments import number, raw_text
-from .errors import INVALID_PARAMS, TOO_COSTLY, check
+from .declared import INVALID_PARAMS, TOO_COSTLY
+from .errors import check
 
 # No bound.
 MOST = 2**64 - 1

@@ -1,14 +1,13 @@
 """What the package exports, where the library is looked for, and what a missing one says."""
 
 import os
-import re
 import subprocess
 import sys
 import typing
 import unittest
 
 import scrypt_c
-from scrypt_c import errors, library
+from scrypt_c import declared, errors, library
 
 TRY = "from scrypt_c import library; print(library._place())"
 
@@ -36,15 +35,9 @@ class Library(unittest.TestCase):
             self.assertEqual(scrypt_c.__version__, file.read().strip())
 
     def test_as_in_the_header(self):
-        """The statuses, except those that no call from here returns or lets through; and the defaults."""
-        with open(os.path.join(os.path.dirname(__file__), "../../c/scrypt_c.h"), encoding="ascii") as file:
-            statuses = {name: int(number) for name, number in re.findall(r"^  SCRYPT_(\w+) = (\d+)", file.read(), re.M)}
-        for name in set(dir(errors)) & set(statuses):
-            self.assertEqual(getattr(errors, name), statuses[name], name)
-        for name in ("OK", "NEEDS_REHASH", "BUFFER_SIZE", "NULL_POINTER", "CANCELLED", "OPTIONS_SIZE"):
-            del statuses[name]
-        self.assertEqual({name: number for number, (_, name, _) in errors.ERRORS.items()},
-                         {f"SCRYPT_{name}": number for name, number in statuses.items()})
+        """An exception for each status, except those that no call from here returns or lets through; and the defaults."""
+        never = {getattr(declared, name) for name in ("OK", "BUFFER_SIZE", "NULL_POINTER", "CANCELLED", "OPTIONS_SIZE")}
+        self.assertEqual(set(errors.KINDS), set(declared.WORDS) - never)
         for hasher in (library.hasher_new(None, None), scrypt_c.PasswordHasher()._c):
             it = library.hasher_options(hasher).contents
             self.assertEqual((it.log_n, it.r, it.p, it.key_len), scrypt_c.RECOMMENDED)

@@ -7,6 +7,7 @@ import pickle
 import unittest
 
 import scrypt_c
+from scrypt_c.declared import MAX_OUTPUT_LEN
 from scrypt_c import InvalidHashError, InvalidParamsError, InvalidSaltError, KeyTooShortError, Params, PasswordHasher, TooCostlyError
 
 SMALL = PasswordHasher(log_n=4)
@@ -55,8 +56,8 @@ ROWS = [
     (InvalidParamsError, "n is a power of two, not", key, [{"n": it} for it in (3, 0, -2, 15, 16 - B64)]),
     (InvalidParamsError, RANGES, key, [
         {"n": 1 << 57}, {"n": 1 << 260}, {"n": 1 << 300}, {"r": 0}, {"r": -1}, {"r": 8 + B32}, {"p": B32}, {"p": 1 - B32}]),
-    (scrypt_c.InvalidOutputLenError, "1 to 137438953440 bytes", key, [
-        {"dklen": it} for it in (0, -1, 137438953441, 32 + B64, 32 - B64)]),
+    (scrypt_c.InvalidOutputLenError, f"1 to {MAX_OUTPUT_LEN} bytes", key, [
+        {"dklen": it} for it in (0, -1, MAX_OUTPUT_LEN + 1, 32 + B64, 32 - B64)]),
     (ValueError, "maxmem is not negative", key, [{"maxmem": -1}, {"maxmem": 1 - B64}]),
     (TypeError, "is an int, not", key, [{name: it} for name in ("n", "dklen") for it in (16.0, "16", None)]),
     (TypeError, "is bytes-like, not", key, [{name: it} for name in ("password", "salt") for it in (5, "text", None)]),

@@ -19,7 +19,7 @@ from concurrent.futures import ThreadPoolExecutor
 from unittest import mock
 
 from scrypt_c import PasswordHasher, library, scrypt
-from scrypt_c.errors import CANCELLED, TIMEOUT
+from scrypt_c.declared import CANCELLED, TIMEOUT
 
 WAIT = 60  # seconds, after which something is taken to wait for ever
 TEXT = PasswordHasher(log_n=4).hash("pw")

@@ -1,6 +1,6 @@
 //! Bounds on the cost of a hash.
 
-use crate::calls::{scrypt_params_need, RawNeeds, OK};
+use crate::calls::{self, scrypt_params_need, RawNeeds, OK};
 use crate::Params;
 
 /// The bounds above which a derivation is refused: an untrusted hash chooses its own cost, which may be days of work.
@@ -13,11 +13,12 @@ pub struct Bounds {
 }
 
 impl Bounds {
-    /// 257 MiB, and four times the work of the recommended parameters.
-    pub const USUAL: Bounds = Bounds { most_bytes: 257 << 20, most_work: 16_781_312 };
+    /// The default bounds of the library, which admit four times the work of the recommended parameters.
+    pub const USUAL: Bounds =
+        Bounds { most_bytes: calls::MOST_BYTES as usize, most_work: calls::MOST_WORK };
 
     /// The least length of the key in a hash that a [`Hasher`](crate::Hasher) verifies, unless new keys are shorter.
-    pub const LEAST_KEY_LEN: usize = 16;
+    pub const LEAST_KEY_LEN: usize = calls::LEAST_KEY_LEN as usize;
 
     /// Whether a derivation with these parameters is within the bounds.
     pub fn allow(&self, params: &Params) -> bool {

@@ -203,7 +203,7 @@ impl Hasher {
     ///
     /// # Errors
     ///
-    /// `InvalidOutputLen` unless the output has 1 to 137438953440 bytes, `Closed`, `Timeout` and `OutOfMemory`, which leave
+    /// `InvalidOutputLen` if the output is empty or longer than scrypt allows, `Closed`, `Timeout` and `OutOfMemory`, which leave
     /// the output unchanged; and [`Error::Cancelled`], which writes zeros.
     pub fn key(
         &self,
@@ -267,7 +267,7 @@ pub(crate) fn text_by(
     write: impl FnOnce(&mut [u8]) -> i32,
     salt_len: usize,
 ) -> Result<String, Error> {
-    let capacity = text_capacity(salt_len);
+    let capacity = PHC_CAPACITY as usize + 2 * salt_len; // for either format
     let mut text = Vec::new();
     text.try_reserve_exact(capacity).map_err(|_| Error::OutOfMemory)?;
     text.resize(capacity, 0);

@@ -65,7 +65,7 @@ use calls::{scrypt_draw_salt, scrypt_key, OK};
 ///
 /// # Errors
 ///
-/// `InvalidOutputLen` unless the output has 1 to 137438953440 bytes, and `OutOfMemory` if the memory is not
+/// `InvalidOutputLen` if the output is empty or longer than scrypt allows, and `OutOfMemory` if the memory is not
 /// available. Both leave the output unchanged.
 pub fn scrypt(
     password: &[u8],

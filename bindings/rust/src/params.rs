@@ -1,6 +1,6 @@
 //! The parameters of a derivation.
 
-use crate::calls::*;
+use crate::calls::{self, *};
 use crate::{Error, InvalidParams};
 use std::time::Duration;
 
@@ -15,16 +15,21 @@ pub struct Params {
 
 impl Params {
     /// The recommended logarithm of N.
-    pub const RECOMMENDED_LOG_N: u8 = 17;
+    pub const RECOMMENDED_LOG_N: u8 = calls::RECOMMENDED_LOG_N as u8;
     /// The recommended block size.
-    pub const RECOMMENDED_R: u32 = 8;
+    pub const RECOMMENDED_R: u32 = calls::RECOMMENDED_R as u32;
     /// The recommended parallelization.
-    pub const RECOMMENDED_P: u32 = 1;
+    pub const RECOMMENDED_P: u32 = calls::RECOMMENDED_P as u32;
     /// The recommended length of a hash's key in bytes.
-    pub const RECOMMENDED_LEN: usize = 32;
+    pub const RECOMMENDED_LEN: usize = calls::KEY_LEN as usize;
 
     /// The recommended parameters, which take 128 MiB.
-    pub const RECOMMENDED: Params = Params { log_n: 17, r: 8, p: 1, len: None };
+    pub const RECOMMENDED: Params = Params {
+        log_n: Params::RECOMMENDED_LOG_N,
+        r: Params::RECOMMENDED_R,
+        p: Params::RECOMMENDED_P,
+        len: None,
+    };
 
     /// Creates parameters, with N = `2^log_n`.
     ///

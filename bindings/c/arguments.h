@@ -1,0 +1,76 @@
+/* Variables for each_call.h, with the names of arguments in the header: what calls are given, and where they write. */
+#ifndef ARGUMENTS_H
+#define ARGUMENTS_H
+
+#include "scrypt_c.h"
+
+#include <stdlib.h>
+#include <string.h>
+
+static struct {
+  const void *password, *salt;
+  const char *text;
+  const scrypt_login *logins;
+  const scrypt_options *options;
+  scrypt_hasher *hasher;
+  size_t password_len, salt_len, text_len, key_len, output_len, capacity, len, count, chunks_len, table_len, scratch_len;
+  size_t most_bytes, least_key_len;
+  uint32_t log_n, r, p;
+  uint8_t s;
+  uint64_t most_work;
+  int64_t most_ms;
+  double seconds;
+} given;
+
+static struct {
+  uint8_t *chunks, output[64], key[64], salt[16];
+  char text[SCRYPT_PHC_CAPACITY + SCRYPT_MCF_CAPACITY(64)];
+  uint32_t *table, *scratch, log_n[1], r[1], p[1];
+  size_t chunks_len[1], table_len[1], scratch_len[1], key_len[1], most_bytes[1], least_key_len[1];
+  uint64_t most_work[1], place[1];
+  int statuses[SCRYPT_MOST_LOGINS];
+  scrypt_needs needs[1];
+  scrypt_stats stats[1];
+} made;
+
+/* A pointer that may not be NULL, the one of this number. */
+#define P(number, pointer) pointer
+
+#define BUFFERS_MADE made.chunks, given.chunks_len, made.table, given.table_len, made.scratch, given.scratch_len
+
+/* With buffers for as many tables as a derivation can use, and at most this many. */
+static void take_arguments(const void *password, size_t password_len, const void *salt, size_t salt_len, uint32_t log_n,
+                           uint32_t r, uint32_t p, size_t key_len, size_t most_tables) {
+  scrypt_needs needs;
+  if (scrypt_params_need(log_n, r, p, SIZE_MAX, UINT64_MAX, &needs) != SCRYPT_OK) exit(3);
+  if (needs.tables > most_tables) needs.tables = most_tables;
+  given.password = password, given.password_len = password_len;
+  given.salt = salt, given.salt_len = salt_len;
+  given.log_n = log_n, given.r = r, given.p = p;
+  given.key_len = key_len, given.output_len = key_len, given.least_key_len = key_len;
+  given.capacity = sizeof made.text, given.len = sizeof made.salt;
+  given.most_bytes = SIZE_MAX, given.most_work = UINT64_MAX;
+  given.most_ms = -1;
+  given.seconds = 1e-9; /* in which no parameters are found */
+  given.chunks_len = needs.chunks_len;
+  given.table_len = needs.tables * needs.table_len;
+  given.scratch_len = needs.tables * needs.scratch_len;
+  made.chunks = calloc(given.chunks_len, 1);
+  made.table = calloc(given.table_len, 4);
+  made.scratch = calloc(given.scratch_len, 4);
+  if (made.chunks == NULL || made.table == NULL || made.scratch == NULL) exit(3);
+}
+
+/* The text that is verified and read, alone and for `count` logins. */
+static void take_text(const char *text, const scrypt_login *logins, size_t count) {
+  given.text = text, given.text_len = strlen(text);
+  given.logins = logins, given.count = count;
+}
+
+static void free_arguments(void) {
+  free(made.chunks);
+  free(made.table);
+  free(made.scratch);
+}
+
+#endif
