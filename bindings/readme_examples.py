@@ -73,7 +73,7 @@ def run_go(room):
     written(program, "main.go", GO.format(example=examples("go", "bindings/go/README.md")[0]))
     folder = os.path.join(room, "the module")  # as in a folder whose name has a blank
     shutil.copytree(os.path.join(TOP, "bindings", "go"), folder)
-    written(program, "go.mod", f"module login\n\nrequire {GO_MODULE} v0.12.0\n\nreplace {GO_MODULE} => {json.dumps(folder)}\n")
+    written(program, "go.mod", f"module login\n\nrequire {GO_MODULE} v0.0.0\n\nreplace {GO_MODULE} => {json.dumps(folder)}\n")
     for name in ["libscrypt_c.a", "scrypt_c.h"]:
         shutil.copy(os.path.join(LIBRARY, name), folder)
     run(["go", "run", "-mod=mod", "."], cwd=program, env=os.environ | {"GOPROXY": "off"})

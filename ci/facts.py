@@ -1,11 +1,11 @@
 #!/usr/bin/env python3
-"""Compares what is stated in several files with the one file that each fact is changed in, and names the others.
+"""Refuses a number that a file states beside its rooms, in any spelling: who changes it would have to find that file.
 
-A fact has a room, the file and the line from which its value is read, and forms in which files state it. Each file that is
-listed has to have one of the forms; a file that has one and isn't listed is refused too. So who changes a fact is told which
-files to change, and who states it once more has to list it here. A form between two other letters or digits is not one.
+The first room of a fact is where it is changed. Each other one states it for a proof or for readers, and is named here if it has
+another number. What tools/mirror.py writes is made of the first. All else reads it: the packages and tests from what is made, scripts
+by tools/header.py, and documents link to the page that states it.
 
-What packages and tests have of the header of C is made by tools/mirror.py.
+The length of the longest key is no such number, as RFC 7914 fixes it.
 """
 
 import re
@@ -13,62 +13,62 @@ import subprocess
 import sys
 from pathlib import Path
 
-# What isn't read: what is made from the sources, and pictures.
-LEFT_OUT = (":!*.svg", ":!docs/PROMISES.md", ":!ci/facts.py", ":!crates/*/wrong-bodies.txt", ":!bindings/python/scrypt_c/declared.py",
-            ":!bindings/js/declared.js", ":!bindings/rust/src/calls.rs")
+from tools import mirror
 
-# A fact, the file and the pattern of its room, its forms with the value as `{}`, and the files that state it.
+HEADER, LIMITS, HASHER = mirror.HEADER, "crates/scrypt/src/limits.rt", "docs/HASHER.md"
+MIB, LEAST = mirror.BYTES >> 20, mirror.LEAST
+LOG_N, R, P = mirror.PARAMS
+
+
+def number(value):
+    """A number, also with `_` or `,` between groups of digits, or in hexadecimal."""
+    return re.sub(r"(?<=\d)(?=(?:\d{3})+$)", "[_,]?", str(value)) + f"|(?i:{value:#x})"
+
+
+# A fact, its spellings, in which a blank may be the end of a line of a comment, and its rooms.
 FACTS = [
-    ("the default limit on memory in MiB", "crates/scrypt/src/limits.rt", r"most_bytes: (\d+) << 20", ("{} MiB", "{} << 20", "C({}) << 20"), """
-        CHANGELOG.md SECURITY.md bindings/c/scrypt_c.h bindings/c/test_hasher_parts.c bindings/go/README.md
-        bindings/go/scrypt.go bindings/js/README.md bindings/python/README.md
-        bindings/python/scrypt_c/__init__.py bindings/python/scrypt_c/hasher.py bindings/rust/README.md
-        ci/program.py compare/hostile.py docs/API.md docs/DECISIONS.md docs/MIGRATION.md docs/scrypt_tool.1
-        examples/login_service/README.md"""),
-    ("the default limit on work", "crates/scrypt/src/limits.rt", r"Limits::USUAL\.most_work == (\d+)", ("{}",), """
-        bindings/c/scrypt_c.h bindings/js/index.d.ts bindings/python/tests/test_refused.py
-        ci/program.py crates/scrypt_commands/src/usage.rt docs/scrypt_tool.1"""),
-    ("the greatest length of a key", "bindings/c/scrypt_c.h", r"SCRYPT_MAX_OUTPUT_LEN UINT64_C\((\d+)\)", ("{}",), """
-        bindings/c/test_words.c bindings/go/key_test.go
-        ci/program.py
-        crates/library_tests/src/parameters.rt crates/scrypt/src/algorithm.rt crates/scrypt/src/derivation.rt crates/scrypt/src/errors.rt
-        crates/scrypt/src/mcf/verifying.rt crates/scrypt_c/src/hashes.rt crates/scrypt_c/src/keys.rt crates/scrypt_c/src/statuses.rt
-        crates/scrypt_examples/src/derived_keys.rt doc/headline.json docs/API.md docs/FORMATS.md docs/MIGRATION.md docs/scrypt_tool.1"""),
-    ("how long a derivation waits for others", "bindings/c/queue.c", r"waits for others: (1/\d+) of its", ("{} of its time", "{} of the derivation"), """
-        bindings/c/scrypt_c.h bindings/c/test_hasher_parts.c bindings/go/README.md bindings/go/hasher.go bindings/python/README.md
-        bindings/python/scrypt_c/hasher.py bindings/rust/README.md bindings/rust/src/hasher.rs docs/DECISIONS.md"""),
+    ("the default limit on memory",
+     rf"(?i:mib\W+){MIB}|{MIB}\)?(?: ?MiB| ?<< ?20| ?\* ?2 ?(?:\*\*|\^) ?20| ?\* ?1024 ?\* ?1024)|{number(mirror.BYTES)}",
+     [HEADER, LIMITS, "SECURITY.md", "docs/DECISIONS.md"]),
+    ("the default limit on work", number(mirror.WORK), [HEADER, LIMITS]),
+    # Not what a PHC text without parameters means, which never changes.
+    ("the recommended parameters",
+     rf"\w*(?i:log_?n|default_rounds)(?:: ?\w+)? ?={{0,2}} ?{LOG_N}(?! \+)|[Nr] ?= ?2 ?\*\* ?{LOG_N}|ln={LOG_N},r={R},p={P}"
+     rf"|(?<!to\x20)(?<!as\x20){LOG_N}, {R} and {P}|\| {LOG_N}, {R}, {P} \|[^\n]*recommended",
+     [HEADER, "crates/scrypt/src/params.rt", "crates/scrypt/specs/Accepted.antt", "crates/scrypt_commands/specs/Command.antt",
+      "docs/PARAMETERS.md"]),
+    ("the least length of a key",
+     rf"(?:fewer than|shorter than|less than|at least|keys of|below|\() ?{LEAST} bytes|{LEAST} bytes of key"
+     rf"|\w*(?i:least_?key_?len)\)?(?: ==|:)? {LEAST}",
+     [HEADER, LIMITS, "SECURITY.md"]),
+    ("how long a derivation waits for others", r"1/256 of (?:its|the)", ["bindings/c/queue.c", HASHER, "docs/DECISIONS.md"]),
+    ("the part of the memory that tables take", "7/8 of the memory", ["bindings/c/hasher.c", HEADER, HASHER]),
+    ("the version", rf"{re.escape(mirror.VERSION)}|v{re.escape(mirror.VERSION.partition('+')[0])}", ["VERSION"]),
 ]
 
-def read(path):
-    return Path(path).read_text("utf-8")
+# What isn't read: history, pictures, and what is compared with the sources elsewhere.
+LEFT_OUT = (":!CHANGELOG.md", ":!*.svg", ":!docs/PROMISES.md", ":!crates/*/wrong-bodies.txt", ":!ci/facts.py")
 
 
-def pattern_of(form):
-    """A form, also with `_` or `,` between groups of digits, and over the end of a line of a comment."""
-    digits = re.sub(r"(?<=\d)(?=(?:\d{3})+(?!\d))", "[_,]?", re.escape(form))
-    return rf"(?<![\w.]){digits}(?!\w)".replace(r"\ ", r"\s+(?:[*/]+\s+)?")
+def by_hand(path):
+    """What a file states itself: its text, without what is made."""
+    text = "" if path in mirror.MADE else Path(path).read_text("utf-8", "replace")
+    for made, pattern, _ in mirror.PLACES:
+        text = re.sub(pattern, r"\1\2", text, flags=re.M) if made == path else text
+    return text
 
 
-def stating(forms):
-    """The tracked files that have one of these forms."""
-    form = re.compile("|".join(map(pattern_of, forms)))
-    files = subprocess.run(["git", "ls-files", "-z", "--", ".", *LEFT_OUT], capture_output=True, text=True, check=True).stdout
-    return {path for path in files.split("\0") if path and form.search(Path(path).read_text("utf-8", "replace"))}
-
-
-def complaints_of(fact, room, pattern, forms, listed):
-    """The files that state a fact and are not listed, and those that are and don't."""
-    found = re.search(pattern, read(room), re.M)
-    if found is None:
-        return [f"{room}: {fact} is not there"]
-    forms = [form.format(found[1]) for form in forms]
-    found, listed = stating(forms) - {room}, set(listed.split()) - {room}
-    return [f"{path}: {fact} is not {' or '.join(forms)}, as in {room}" for path in sorted(listed - found)] + \
-           [f"{path}: {fact} is stated, which ci/facts.py does not list" for path in sorted(found - listed)]
+def complaints(texts):
+    for fact, spelling, rooms in FACTS:
+        form = re.compile(rf"(?<!\w)(?:{spelling})(?!\w)".replace(" ", r"(?:\s+(?:[*/#]+\s+)?)"))
+        stating = {path for path, text in texts.items() if form.search(text)}
+        yield from (f"{path}: {fact} is stated, and has its room in {rooms[0]}" for path in sorted(stating - set(rooms)))
+        yield from (f"{path}: {fact} is not as in {rooms[0]}" for path in rooms if path not in stating)
 
 
 def main():
-    sys.exit("\n".join(complaint for fact in FACTS for complaint in complaints_of(*fact)) or 0)
+    files = subprocess.run(["git", "ls-files", "-z", "--", ".", *LEFT_OUT], capture_output=True, text=True, check=True).stdout
+    sys.exit("\n".join(complaints({path: by_hand(path) for path in files.split("\0") if Path(path).is_file()})) or 0)
 
 
 if __name__ == "__main__":

@@ -18,7 +18,7 @@ from ci.hash_files import hash_files
 from ci.lines import MISFIT, NO_FILE, USAGE
 from ci.streams import cuts, memory, streams
 from compare import allocations
-from tools import crypt64, reference, runs
+from tools import crypt64, header, reference, runs
 from tools.known import CRYPT, EMPTY, EMPTY_PHC, HASHLIB, LONG, PASSLIB, PLAIN, RFC, SHORT
 from tools.runs import run
 
@@ -34,8 +34,7 @@ THIRD_KEY = (
     "7023bdcb3afd7348461c06cd81fd38ebfda8fbba904f8e3ea9b543f6545da1f2"
     "d5432955613f0fcf62d49705242a9af9e61e85dc0d651e40dfcf017b45575887"
 )
-# By default 257 MiB, four times the work of (17, 8, 1), and keys of 16 bytes.
-USUAL_BYTES, USUAL_WORK = 269484032, 16781312
+USUAL_BYTES, USUAL_WORK, LEAST = (header.NUMBERS[name] for name in ("MOST_BYTES", "MOST_WORK", "LEAST_KEY_LEN"))
 
 
 def too_costly(needed, work, most_bytes=USUAL_BYTES, most_work=USUAL_WORK):
@@ -209,14 +208,14 @@ LIMITS = [
     (f"--most-bytes=2432 --most-work=191 verify {EMPTY}", "", 2, too_costly(2432, 192, 2432, 191), "two options"),
     (f"--most-work=191 --most-work=192 verify {EMPTY}", "", 0, "ok", "a later option overrides an earlier one"),
     (f"--most-work=191 --usual-limits verify {EMPTY}", "", 0, "ok", "so does one for all of them"),
-    ("--most-work=192 verify $7$2/..../....$r/", "", 2, key_too_short(1, 16), "the others are the usual ones"),
+    ("--most-work=192 verify $7$2/..../....$r/", "", 2, key_too_short(1, LEAST), "the others are the usual ones"),
     (f"--usual-limits verify $scrypt$ln=17,r=8,p=5{PASSLIB_SALT_AND_KEY}", "", 2, too_costly(134224896, 20976640),
      "five times the recommended work"),
     (f"--usual-limits verify $scrypt$ln=19,r=8,p=1{PASSLIB_SALT_AND_KEY}", "", 2, too_costly(536873984, 16778240),
-     "more than 257 MiB"),
+     "more memory than is allowed"),
     ("--usual-limits verify $7$s/..../....$r/", "", 2, too_costly(9223372036854776192, 288230376151711872),
      "a table of 2^63 bytes"),
-    (f"--usual-limits verify {SHORT}", "", 2, key_too_short(10, 16), "a key of 10 bytes"),
+    (f"--usual-limits verify {SHORT}", "", 2, key_too_short(10, LEAST), "a key of 10 bytes"),
     ("--most-work=1 verify $scrypt$ln=4$aA", "", 1, "no", "a hash without a key is not verified"),
     ("--most-work=1 verify $argon2id$ln=4$aA", "", 2, "hash refused: Algorithm", "one that cannot be read comes first"),
     (f"--most-work=191 rehash phc 4 1 1 32 00 {EMPTY}", "", 0, "ok", "rehash may do the work of a new hash"),
@@ -260,7 +259,9 @@ LONG_PASSWORDS = [(1_000_001, "more than a million bytes"), (100_000_001, "more 
 LONG_PASSWORDS += [(102_400_001, "more than 100,000 reads of 1,024 bytes")]
 
 # Options that take the recommended parameters, a format, and how its hash begins.
-RECOMMENDED = [("--recommended", "phc", "$scrypt$ln=17,r=8,p=1$"), ("--recommended --draw-salt", "mcf", "$7$F6..../....")]
+LOG_N, R, P = (header.NUMBERS[f"RECOMMENDED_{name}"] for name in ("LOG_N", "R", "P"))
+RECOMMENDED = [("--recommended", "phc", f"$scrypt$ln={LOG_N},r={R},p={P}$")]
+RECOMMENDED += [("--recommended --draw-salt", "mcf", crypt64.text("", b"", LOG_N, R, P).rstrip("$"))]
 
 
 def rows(program):

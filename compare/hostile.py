@@ -34,8 +34,8 @@ MEMORY = 4 << 30
 # from this log_n on no machine has the table
 GREAT = 50
 
-# the bounds: 257 MiB, four times the recommended work and 16 bytes of key; and the lengths of the buffers
-BOUNDS = MOST_BYTES, MOST_WORK, LEAST_KEY_LEN = 257 << 20, 16 * ((1 << 17) + 32) * 8, 16
+# the default bounds, and the lengths of the buffers
+BOUNDS = MOST_BYTES, MOST_WORK, LEAST_KEY_LEN = [header.NUMBERS[name] for name in ("MOST_BYTES", "MOST_WORK", "LEAST_KEY_LEN")]
 LENS = CHUNKS, TABLE, SCRATCH = 128 * 16, 32 * 16 * 16, 64 * 16
 
 # parameters that are exactly, or almost, what is allowed

@@ -151,7 +151,7 @@ mmdebstrap --quiet --arch=amd64 --variant=apt --include=nodejs trixie "$root"
 install -d -o nobody -g nogroup "$root/home/user" "$root/home/user/node_modules"
 cp $dist/*.tgz "$root/tmp"
 as_user sh -c 'cd ~/node_modules && tar xzf /tmp/*.tgz && mv package scrypt-proved'
-{ sed -n '/^```js$/,/^```$/p' bindings/js/README.md | sed '1d;$d'; echo "console.log(text.slice(0, 22), await verify('another', text));"; } \
+{ sed -n '/^```js$/,/^```$/p' bindings/js/README.md | sed '1d;$d'; echo "console.log(text.slice(0, 11), await verify('another', text));"; } \
   > "$root/home/user/login.mjs"
-expect "$(as_user node /home/user/login.mjs)" '$scrypt$ln=17,r=8,p=1$ false' "Node $(as_user node --version) runs its page's lines"
+expect "$(as_user node /home/user/login.mjs)" '$scrypt$ln= false' "Node $(as_user node --version) runs its page's lines"
 echo "build/dist: tested in a fresh Debian root"

@@ -51,6 +51,9 @@ def numbers_of(text):
     return {name: int(number) << int(shift or 0) for name, number, shift in found}
 
 
+NUMBERS = numbers_of(TEXT)
+
+
 def name_of(declared):
     """The name of an argument or of a field."""
     return re.search(r"\w+$", declared)[0]

@@ -15,7 +15,7 @@ from tools import header
 
 NOTE = "Made by tools/mirror.py of "
 CALLS, STRUCTURES = header.calls_of(header.TEXT), header.structures_of(header.TEXT)
-STATUSES, NUMBERS = header.statuses_of(header.TEXT), header.numbers_of(header.TEXT)
+STATUSES, NUMBERS = header.statuses_of(header.TEXT), header.NUMBERS
 # In place of what C has for the two statuses with the number 1.
 WORDS = header.words_of(header.TEXT) | {"MISMATCH": "the password does not match the hash"}
 
@@ -194,12 +194,25 @@ MADE = {
 
 VERSION = read("VERSION").strip()
 
+HEADER, USAGE, MANUAL = "bindings/c/scrypt_c.h", "crates/scrypt_commands/src/usage.rt", "docs/scrypt_tool.1"
+BYTES, WORK, LEAST = (NUMBERS[name] for name in ("MOST_BYTES", "MOST_WORK", "LEAST_KEY_LEN"))
+PARAMS = [NUMBERS[f"RECOMMENDED_{name}"] for name in ("LOG_N", "R", "P")]
+
 # A file, what is around the number there, and the number.
 PLACES = [
-    ("bindings/c/scrypt_c.h", r'(#define SCRYPT_VERSION_STRING ")[^"]*(")', VERSION),
+    (HEADER, r'(#define SCRYPT_VERSION_STRING ")[^"]*(")', VERSION),
     ("bindings/js/package.json", r'(^  "version": ")[^"]*(")', VERSION),
     ("bindings/rust/Cargo.toml", r'(^version = ")[^"]*(")', VERSION),
-    ("crates/scrypt_commands/src/usage.rt", r'(^pub const VERSION: &str = "scrypt_tool )[^"\\]*(\\n")', VERSION),
+    (USAGE, r'(^pub const VERSION: &str = "scrypt_tool )[^"\\]*(\\n")', VERSION),
+    (USAGE, r"(LOG_N R P are )[\d ]*\d( and)", "{} {} {}".format(*PARAMS)),
+    (USAGE, r"(the most memory \()\d+( bytes\))", BYTES),
+    (USAGE, r"(\* R \* P \()\d+(\),)", WORK),
+    (USAGE, r"(the shortest key in bytes \()\d+( for verify)", LEAST),
+    (MANUAL, r"(^)[\d, and]*( are recommended\.$)", "{}, {} and {}".format(*PARAMS)),
+    (MANUAL, r"(^The most bytes of memory, )\d+( by default)", BYTES),
+    (MANUAL, r"( by default \()\d+( MiB\)\.$)", BYTES >> 20),
+    (MANUAL, r"(^It is )\d+( by default)", WORK),
+    (MANUAL, r"(^The least length of the key in bytes: )\d+( by default)", LEAST),
 ]
 
 

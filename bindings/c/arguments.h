@@ -11,7 +11,6 @@ static struct {
   const void *password, *salt;
   const char *text;
   const scrypt_login *logins;
-  const scrypt_options *options;
   scrypt_hasher *hasher;
   size_t password_len, salt_len, text_len, key_len, output_len, capacity, len, count, chunks_len, table_len, scratch_len;
   size_t most_bytes, least_key_len;

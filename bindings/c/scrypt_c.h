@@ -300,14 +300,14 @@ int scrypt_limits_for_new(uint32_t log_n, uint32_t r, uint32_t p, size_t key_len
 /* Makes and verifies password hashes for any number of threads, within bounds. At most one call for each processor derives
  * at a time; the others wait in line, first come, first served. Of the first 1000 that wait, up to four verifications with the
  * same log_n, r and p are derived at once, on some processors in less time than one after another: one in each table of a processor, and
- * at most its share of all calls. While all processors are taken, a derivation waits for others to join it for about 1/256 of
- * its time, and at most 1 ms. An error of one affects no other. A hasher keeps its memory for later calls: at most at_once
+ * at most its share of all calls. While all processors are taken, a derivation waits for others to join it, at most 1 ms. An
+ * error of one affects no other. A hasher keeps its memory for later calls: at most at_once
  * tables of most_bytes, whatever p is. It maps them when they are needed. A call for which the system has no memory while
  * another one derives waits for it, at its place in the line. */
 typedef struct scrypt_hasher scrypt_hasher;
 
-/* Default bounds: 257 MiB, which admit a table of 256 MiB; four times the work of the recommended parameters; and a key of
- * 16 bytes. */
+/* Default bounds: on bytes, a little more than a table of 256 MiB; on work, four times that of the recommended parameters; and
+ * on the length of a key. */
 #define SCRYPT_MOST_BYTES (UINT32_C(257) << 20)
 #define SCRYPT_MOST_WORK UINT32_C(16781312)
 #define SCRYPT_LEAST_KEY_LEN 16
@@ -316,9 +316,9 @@ typedef struct scrypt_hasher scrypt_hasher;
  * N = 1 is possible. More than 8192 processors are as many as 8192. */
 typedef struct scrypt_options {
   size_t size;              /* sizeof (scrypt_options), so that later versions can add fields; it has no default */
-  uint32_t log_n, r, p;     /* of new hashes and keys: 17, 8 and 1 */
+  uint32_t log_n, r, p;     /* of new hashes and keys: SCRYPT_RECOMMENDED_LOG_N, .. */
   int mcf;                  /* new hashes are PHC texts, or $7$ texts of crypt(3) if this is not 0 */
-  size_t key_len, salt_len; /* of new hashes: 32 and 16 */
+  size_t key_len, salt_len; /* of new hashes: SCRYPT_KEY_LEN and SCRYPT_SALT_LEN */
   size_t most_bytes;        /* what the buffers for one hash may need, as in scrypt_hash_needs: SCRYPT_MOST_BYTES, or what */
   uint64_t most_work;       /* a new hash needs if that is more; and SCRYPT_MOST_WORK, or that of a new hash */
   size_t least_key_len;     /* of a hash that is verified, at most key_len: SCRYPT_LEAST_KEY_LEN, or key_len if that is less */

@@ -29,8 +29,14 @@ static void options(void) {
   free(older);
   scrypt_hasher *hasher = scrypt_hasher_new(NULL, NULL);
   const scrypt_options *with = scrypt_hasher_options(hasher);
-  expect(with->log_n == 17 && with->r == 8 && with->p == 1 && with->key_len == 32 && with->salt_len == 16, "new hashes");
-  expect(with->most_bytes == SCRYPT_MOST_BYTES && with->most_work == SCRYPT_MOST_WORK && with->least_key_len == 16, "bounds");
+  IS(with->log_n, SCRYPT_RECOMMENDED_LOG_N);
+  IS(with->r, SCRYPT_RECOMMENDED_R);
+  IS(with->p, SCRYPT_RECOMMENDED_P);
+  IS(with->key_len, SCRYPT_KEY_LEN);
+  IS(with->salt_len, SCRYPT_SALT_LEN);
+  IS(with->most_bytes, SCRYPT_MOST_BYTES);
+  IS(with->most_work, SCRYPT_MOST_WORK);
+  IS(with->least_key_len, SCRYPT_LEAST_KEY_LEN);
   expect(with->processors == processors_of_process() && with->at_once == 2 * with->processors, "turns");
   expect(scrypt_hasher_options(NULL) == NULL, "no options of NULL");
   scrypt_hasher_free(hasher);
@@ -213,7 +219,7 @@ static void statuses_in_mid_call(void) {
   tables_free(&tables);
 }
 
-/* 1/256 of the derivation, at most a millisecond, and none below 50 microseconds. */
+/* A part of the derivation, at most a millisecond, and none below 50 microseconds. */
 static void moments(void) {
   static const struct { uint8_t log_n; uint32_t p; int64_t ns; } MOMENTS[] = {
       {4, 1, 0}, {12, 1, 0}, {12, 2, 52428}, {13, 1, 52428}, {14, 1, 104857}, {17, 1, 838860}, {18, 1, 1000000}};
@@ -301,10 +307,10 @@ static void processors(void) {
 static void memory(void) {
   static const struct { const char *line, *folder, *most; size_t most_bytes, at_once; } GROUPS[] = {
       {"0::/a", "/a", "memory.max max", 1, 128},
-      {"0::/a", "/a", "memory.max 1073741824", 0, 3},              /* three of 257 MiB, and the rest of the process */
+      {"0::/a", "/a", "memory.max 1073741824", 0, 3},              /* three of the default, and the rest of the process */
       {"0::/a", "/a", "memory.max 1073741824", 129 << 20, 6},      /* or six */
       {"0::/a", "", "memory.high 1073741824", 0, 3},               /* a group around it */
-      {"0::/a", "/a", "memory.max 268435456", 0, 1},               /* not one of 257 MiB, but one of a new hash */
+      {"0::/a", "/a", "memory.max 268435456", 0, 1},               /* not one of the default, but one of a new hash */
       {"0::/a", "/a", "memory.max 1073741824", SIZE_MAX, 6},       /* six of new hashes, as nobody has room for the largest */
       {"0::/a", "/a", "memory.max 1000", 0, 1},
       {"9:memory:/m\n4:cpu:/a", "/memory/m", "memory.limit_in_bytes 1073741824", 0, 3},

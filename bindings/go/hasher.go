@@ -24,8 +24,8 @@ type Options struct {
 	MCF     bool // whether new hashes are $7$ texts of crypt(3), by default PHC texts
 	SaltLen int  // the length of a new hash's salt, 1 to 64 bytes: by default 16
 
-	// How many tables may exist at the same time: by default two for each processor, or as many of MostBytes as fit into 7/8
-	// of the memory of the machine and of its control group.
+	// How many tables may exist at the same time: by default two for each processor, or as many of MostBytes as the machine
+	// and its control group have room for.
 	AtOnce int
 
 	// How many derivations may run at the same time: by default one for each processor that the process may use, by its
@@ -40,8 +40,7 @@ type Options struct {
 // A Hasher makes password hashes, and verifies passwords against hashes of either format. Any number of goroutines may
 // use it; at most one for each processor derives at a time, and the others wait, first come, first served. Of those that
 // wait, verifications with the same LogN, R and P are derived together if there are tables for them, which on some
-// processors takes less time than one after another. While all processors are taken, a derivation waits for others to join it for about 1/256 of its
-// time, and at most 1 ms. No error or context of one affects another.
+// processors takes less time than one after another. No error or context of one affects another.
 //
 // A Hasher holds at most AtOnce tables, whatever P is, and keeps their memory for later calls until Close. A call for which
 // the system has no memory while another one derives waits for it. Create one with
@@ -186,7 +185,7 @@ func (h *Hasher) Key(ctx context.Context, password, salt []byte, keyLen int) ([]
 
 // Verify returns nil if the password is that of the hash, and ErrMismatch if it is not, or if the hash has no salt or
 // no key. Other errors match (errors.Is) the context's, if it ends before the derivation begins, ErrInvalidHash,
-// ErrTooCostly if the hash needs more than the bounds, ErrKeyTooShort if its key has fewer than 16 bytes, or than new keys
+// ErrTooCostly if the hash needs more than the bounds, ErrKeyTooShort if its key has fewer than LeastKeyLen bytes, or than new keys
 // if that is less, ErrClosed or ErrOutOfMemory. An error of the text alone is returned without waiting.
 func (h *Hasher) Verify(ctx context.Context, text string, password []byte) error {
 	raw := []byte(text)

@@ -5,6 +5,7 @@ import (
 	"errors"
 	"math"
 	"runtime"
+	"strconv"
 	"strings"
 	"testing"
 )
@@ -121,7 +122,7 @@ func TestRefusedTexts(t *testing.T) {
 		words     string
 	}{
 		{"too costly", "$scrypt$ln=6,r=3,p=5" + shortKey + "AA", Options{MostWork: 5759}, ErrTooCostly,
-			"need 27264 bytes and a work of 5760, and a key of 16 bytes; MostBytes is 269484032, MostWork is 5759"},
+			"need 27264 bytes and a work of 5760, and a key of 16 bytes; MostBytes is " + strconv.FormatUint(MostBytes, 10) + ", MostWork is 5759"},
 		{"a key of 15 bytes", noHash[:len(noHash)-2], Options{}, ErrKeyTooShort, "a key of 15 bytes"},
 		{"as long as new keys", noHash[:len(noHash)-2], Options{Params: Params{KeyLen: 15}}, ErrMismatch, ""},
 		{"no text", "", Options{}, ErrEncodingInvalid, ""},

@@ -24,8 +24,8 @@ import (
 	"time"
 )
 
-// The default bounds on a hash: 257 MiB, four times the work of the recommended parameters, and the least length of its
-// key, or that of new keys if that is less.
+// The default bounds on a hash: on its memory, on its work, which is four times that of the recommended parameters, and on
+// the length of its key, or that of new keys if that is less.
 const (
 	MostBytes   uint64 = C.SCRYPT_MOST_BYTES
 	MostWork    uint64 = C.SCRYPT_MOST_WORK

@@ -12,7 +12,7 @@ export interface Params {
   dkLen?: number | undefined;
 }
 
-/** As options, each of which may be left out or undefined: 2 ** 17, 8 and 1, and 32 bytes. */
+/** As options, each of which may be left out or undefined: then it is the recommended one, and `dkLen` is 32. */
 export type PartialParams = { [K in keyof Params]?: Params[K] | undefined };
 
 /** As they are read from a hash. */
@@ -28,7 +28,7 @@ export interface KeyOptions extends Params {
 export interface HashOptions extends PartialParams {
   /** 1 to 64 bytes, or any number for `'mcf'`; 16 random ones if left out. */
   salt?: Bytes | undefined;
-  /** `'phc'`, the default: `$scrypt$ln=17,r=8,p=1$..`; or `'mcf'`, as crypt(3) has it: `$7$..`. */
+  /** `'phc'`, the default: `$scrypt$..`; or `'mcf'`, as crypt(3) has it: `$7$..`. */
   format?: 'phc' | 'mcf' | undefined;
   /** The most bytes of memory; 2 ** 30 + 2 ** 20 if left out. */
   maxmem?: number | undefined;
@@ -39,11 +39,11 @@ export interface HashOptions extends PartialParams {
  * 4 times the work of the defaults. `Infinity` is no limit on memory or work.
  */
 export interface VerifyOptions extends PartialParams {
-  /** The most bytes of memory; 257 * 2 ** 20 if left out, or more if the parameters need more. */
+  /** The most bytes of memory; if left out, enough for a table of 2 ** 28 bytes, or more if the parameters need more. */
   maxmem?: number | undefined;
-  /** The most work, 4 * (N + 32) * r * p; 16781312 if left out, or that of the parameters. */
+  /** The most work, 4 * (N + 32) * r * p; 4 times that of the defaults if left out, or that of the parameters. */
   maxwork?: number | undefined;
-  /** The least length of the key in bytes; 16 if left out, or dkLen if that is less. */
+  /** The least length of the key in bytes; if left out, as for the hashers of other languages, or dkLen if that is less. */
   minKeyLength?: number | undefined;
 }
 

@@ -55,7 +55,7 @@ mv "$room"/elsewhere/scrypt_c-* "$room/elsewhere/around/crate"
 cd "$room/elsewhere/around/crate"
 export CARGO_TARGET_DIR="$room/elsewhere/target"
 cargo run --quiet --example hash > "$room/log"
-grep -q '^\$scrypt\$ln=17,r=8,p=1\$' "$room/log"
+grep -q '^\$scrypt\$ln=' "$room/log"
 refused() {
   words=$1
   shift

@@ -4,7 +4,7 @@ import { read as readAge } from './age.js';
 import { read as readEthereum } from './ethereum.js';
 
 // An untrusted file chooses its own cost. One that asks for more is refused.
-const LIMITS = { maxmem: 257 * 2 ** 20, maxwork: 4 * 4 * (2 ** 17 + 32) * 8 };
+const LIMITS = { maxmem: 2 ** 28 + 2 ** 20, maxwork: 4 * 4 * (2 ** 17 + 32) * 8 };
 
 const coresOf = ({ N, r, p }) => 4 * (N + 32) * r * p;
 

@@ -1,4 +1,5 @@
 // What is checked in each engine. Each check is a name and a function, which throws.
+import { RECOMMENDED_LOG_N, RECOMMENDED_P, RECOMMENDED_R } from '../declared.js';
 import * as workers from '../index.js';
 import { compile } from '../load.js';
 import { endingChecks, ownEndingChecks } from './endings.js';
@@ -22,7 +23,7 @@ const VECTORS = [
 const KEY = 'A'.repeat(43);
 const HOSTILE = [
   ['ENCODING_INVALID', ''], ['ENCODING_INVALID', 'x'], ['ENCODING_INVALID', '$7$'], ['ENCODING_INVALID', '$'.repeat(100000)],
-  ['ENCODING_INVALID', Uint8Array.of(0xff, 0xfe)], ['ENCODING_INVALID', '$scrypt$ln=17,r=8,p=1$AAAAAAAA$\0'],
+  ['ENCODING_INVALID', Uint8Array.of(0xff, 0xfe)], ['ENCODING_INVALID', '$scrypt$ln=14,r=8,p=1$AAAAAAAA$\0'],
   ['ALGORITHM', `$argon2id$v=19$m=65536,t=2,p=1$AAAAAAAA$${KEY}`], ['VERSION', `$scrypt$v=1$ln=10,r=8,p=1$AAAAAAAA$${KEY}`],
   ['HASH_PARAM_INVALID', `$scrypt$ln=300,r=8,p=1$AAAAAAAA$${KEY}`], ['HASH_PARAM_INVALID', `$scrypt$ln=017,r=8,p=1$AAAAAAAA$${KEY}`],
   ['HASH_PARAM_INVALID', `$scrypt$ln=17,r=4294967304,p=1$AAAAAAAA$${KEY}`], ['HASH_PARAMS_INVALID', `$scrypt$ln=17,r=8,x=1$AAAAAAAA$${KEY}`],
@@ -121,7 +122,7 @@ function ownChecks(open, cases) {
       await refused(code, () => own.verify('', text), `${text}`.slice(0, 60));
       isWiped();
     }
-    for (const rest of ['', '$AAAAAAAA']) equal(own.verify('', `$scrypt$ln=17,r=8,p=1${rest}`), false, 'a text that has no key');
+    for (const rest of ['', '$AAAAAAAA']) equal(own.verify('', `$scrypt$ln=14,r=8,p=1${rest}`), false, 'a text that has no key');
     equal(own.memory < 2 ** 22, true, 'memory');
   };
   list.limits = async () => {
@@ -232,7 +233,8 @@ function workerChecks() {
   }
   list['a new hash'] = async () => {
     const text = await hash('pässword 🔑');
-    equal(/^\$scrypt\$ln=17,r=8,p=1\$[A-Za-z0-9+/]{22}\$[A-Za-z0-9+/]{43}$/.test(text), true, text);
+    equal(/^\$scrypt\$ln=\d+,r=\d+,p=\d+\$[A-Za-z0-9+/]{22}\$[A-Za-z0-9+/]{43}$/.test(text), true, text);
+    equal(JSON.stringify(await params(text)), JSON.stringify({ N: 2 ** RECOMMENDED_LOG_N, r: RECOMMENDED_R, p: RECOMMENDED_P, dkLen: 32 }));
     equal(await verify(new TextEncoder().encode('pässword 🔑'), text), true);
     equal(await verify('password', new TextEncoder().encode(text)), false);
     const accented = await hash('\u00e9', OF);

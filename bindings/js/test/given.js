@@ -41,7 +41,7 @@ export function givenChecks() {
       let count = 0;
       const run = () => {
         count += 1;
-        api.params('$scrypt$ln=17,r=8,p=1');
+        api.params('$scrypt$ln=14,r=8,p=1');
       };
       const key = hex(await api.scrypt('password', 'NaCl', OF));
       const text = await api.hash('password', { N: 2, salt: 'NaCl' });
@@ -180,7 +180,7 @@ export function givenChecks() {
       const given = Object.defineProperties({}, Object.fromEntries(Object.entries({ ...OF, maxmem: 2 ** 20, maxwork: 2 ** 20 }).map(([name, value]) => [name, {
         get() {
           counts[name] = (counts[name] ?? 0) + 1;
-          api.params('$scrypt$ln=17,r=8,p=1');
+          api.params('$scrypt$ln=14,r=8,p=1');
           return value;
         },
       }])));

@@ -11,9 +11,9 @@
     if hasher.check_needs_rehash(text):
         ...                                   # store hasher.hash(password) in its place
 
-An untrusted hash chooses its own cost: one that needs more than 257 MiB, or more than four times the recommended work,
-raises TooCostlyError before any work. Both bounds are arguments of PasswordHasher. A hash with a key of fewer than 16
-bytes raises KeyTooShortError.
+An untrusted hash chooses its own cost: one that needs more than MOST_BYTES of memory, or more than MOST_WORK, four times
+the recommended work, raises TooCostlyError before any work. Both bounds are arguments of PasswordHasher. A hash with a key
+of fewer than LEAST_KEY_LEN bytes raises KeyTooShortError.
 
 `scrypt` has the signature of hashlib.scrypt. The GIL is released while a key is derived.
 

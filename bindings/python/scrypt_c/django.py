@@ -27,6 +27,7 @@ from django.utils.crypto import constant_time_compare
 from django.utils.translation import gettext_noop as _
 
 from .arguments import raw_password
+from .declared import RECOMMENDED_LOG_N, RECOMMENDED_P, RECOMMENDED_R
 from .errors import InvalidHashError, VerifyMismatchError
 from .hasher import PasswordHasher
 from .key import derive_within, log_of
@@ -37,9 +38,9 @@ class ScryptPasswordHasher(BasePasswordHasher):
     """The format of Django's own ScryptPasswordHasher: scrypt$N$SALT$r$p$KEY."""
 
     algorithm = "scrypt"
-    work_factor = 2**17
-    block_size = 8
-    parallelism = 1
+    work_factor = 2**RECOMMENDED_LOG_N
+    block_size = RECOMMENDED_R
+    parallelism = RECOMMENDED_P
     most_bytes = MOST_BYTES
     most_work = MOST_WORK
 
@@ -93,7 +94,7 @@ class ScryptPasswordHasher(BasePasswordHasher):
 
 
 class PHCPasswordHasher(BasePasswordHasher):
-    """PHC texts after Django's name of the hasher: scrypt_c$scrypt$ln=17,r=8,p=1$SALT$KEY."""
+    """PHC texts after Django's name of the hasher: scrypt_c$scrypt$ln=..,r=..,p=..$SALT$KEY."""
 
     algorithm = "scrypt_c"
     hasher = PasswordHasher()

@@ -45,27 +45,26 @@ class PasswordHasher:
 
     `mcf` makes `$7$` hashes of crypt(3) instead of PHC hashes. Any number of threads may use a hasher. At most one for
     each processor derives at a time; the others wait in line, and raise TimeoutError after `timeout` seconds. Of those
-    that wait, verifications with the same N, r and p are done together, on some processors in less time than one after another. While
-    all processors are taken, a derivation waits for others to join it for about 1/256 of its time, and at most 1 ms. No
-    error, timeout or exception of one affects another.
+    that wait, verifications with the same N, r and p are done together, on some processors in less time than one after another.
+    No error, timeout or exception of one affects another.
 
     A hasher holds at most `at_once` tables, whatever p is; the default is two for each processor, or as many of
-    `most_bytes` as fit into 7/8 of the memory of the machine and of its control group. It keeps their memory for later calls
-    until `close` or the end of a `with` block. A call for which the system has no memory waits while another one derives.
+    `most_bytes` as the machine and its control group have room for. It keeps their memory for later calls until `close` or
+    the end of a `with` block. A call for which the system has no memory waits while another one derives.
 
     A hash that needs more than `most_bytes` of memory, or whose `Params.work` is above `most_work`, is refused without
-    waiting. By default these are 257 MiB and four times the work of the recommended parameters, or what new hashes need
-    if that is more. A hash whose key has fewer than 16 bytes, or than `key_len` if that is less, is refused too.
+    waiting. By default these are MOST_BYTES and MOST_WORK, or what new hashes need if that is more. A hash whose key has
+    fewer than LEAST_KEY_LEN bytes, or than `key_len` if that is less, is refused too.
     """
 
     def __init__(
         self,
-        log_n: int = 17,
-        r: int = 8,
-        p: int = 1,
-        key_len: int = 32,
+        log_n: int = declared.RECOMMENDED_LOG_N,
+        r: int = declared.RECOMMENDED_R,
+        p: int = declared.RECOMMENDED_P,
+        key_len: int = declared.KEY_LEN,
         *,
-        salt_len: int = 16,
+        salt_len: int = declared.SALT_LEN,
         mcf: bool = False,
         most_bytes: Optional[int] = None,
         most_work: Optional[int] = None,

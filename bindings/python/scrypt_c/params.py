@@ -5,7 +5,7 @@ from __future__ import annotations
 import ctypes
 from typing import NamedTuple, Optional, Union
 
-from . import library
+from . import declared, library
 from .arguments import number, raw_text
 from .declared import INVALID_PARAMS, TOO_COSTLY
 from .errors import check
@@ -26,10 +26,10 @@ def accepted(log_n: int, r: int, p: int) -> tuple[int, int, int]:
 class Params(NamedTuple):
     """N = 2**log_n, the block size r, the parallelization p, and the length of a hash's key in bytes."""
 
-    log_n: int = 17
-    r: int = 8
-    p: int = 1
-    key_len: int = 32
+    log_n: int = declared.RECOMMENDED_LOG_N
+    r: int = declared.RECOMMENDED_R
+    p: int = declared.RECOMMENDED_P
+    key_len: int = declared.KEY_LEN
 
     @property
     def cores(self) -> int:

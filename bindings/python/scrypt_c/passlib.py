@@ -14,6 +14,7 @@ from __future__ import annotations
 import passlib.hash
 
 from .arguments import raw_password
+from .declared import RECOMMENDED_LOG_N
 from .key import derive_within
 from .params import MOST_BYTES, MOST_WORK, Params
 
@@ -21,7 +22,7 @@ from .params import MOST_BYTES, MOST_WORK, Params
 class scrypt(passlib.hash.scrypt):  # passlib names handlers as their scheme
     """passlib.hash.scrypt by libscrypt_c."""
 
-    default_rounds = 17
+    default_rounds = RECOMMENDED_LOG_N
     most_bytes = MOST_BYTES
     most_work = MOST_WORK
 

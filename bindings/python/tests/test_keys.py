@@ -125,9 +125,8 @@ class Keys(unittest.TestCase):
                 self.assertEqual(it.filename, __file__, "the line of the caller")
 
     def test_params(self):
-        self.assertEqual(scrypt_c.RECOMMENDED, (17, 8, 1, 32))
-        self.assertEqual(scrypt_c.RECOMMENDED.memory, 134_220_800)
-        self.assertEqual(scrypt_c.RECOMMENDED.cores, 4_194_304)
+        self.assertEqual(scrypt_c.Params(17, 8, 1).memory, 134_220_800)
+        self.assertEqual(scrypt_c.Params(17, 8, 1).cores, 4_194_304)
 
 
 if __name__ == "__main__":

@@ -65,8 +65,8 @@ ROWS = [
     (TypeError, "a password is a str or bytes-like, not", verify, [{"text": KEY, "password": it} for it in (5, None, ["pw"])]),
     (TypeError, "a salt is bytes-like, not str", hashed, [{"password": "pw", "salt": "saltsalt"}]),
     (InvalidParamsError, RANGES, lambda: Params(57, 1, 1).memory, [{}]),
-    (TooCostlyError, "log_n=1, r=1, p=2000000 need 256000512 bytes and a work of 272000000, with most_bytes=269484032 and "
-     "most_work=16781312", verify, [{"text": f"$scrypt$ln=1,r=1,p=2000000{KEY}"}]),
+    (TooCostlyError, "log_n=1, r=1, p=2000000 need 256000512 bytes and a work of 272000000, with "
+     f"most_bytes={scrypt_c.MOST_BYTES} and most_work={scrypt_c.MOST_WORK}", verify, [{"text": f"$scrypt$ln=1,r=1,p=2000000{KEY}"}]),
     (TooCostlyError, "need 1125899906845696 bytes", verify, [{"text": f"$7$c6..../....saltsalt${22 * '.'}"}]),
     (KeyTooShortError, "its length is 15, and at least 16", verify, [{"text": f"$scrypt$ln=4,r=8,p=1{KEY}"}]),
     (KeyTooShortError, "at least 14", verify, [{"text": f"$7$46..../....saltsalt${16 * '.'}", "log_n": 6, "key_len": 14}]),

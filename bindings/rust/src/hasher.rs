@@ -9,7 +9,7 @@ use std::time::Duration;
 /// The format of a hash's text.
 #[derive(Clone, Copy, Debug, Default, PartialEq, Eq)]
 pub enum Format {
-    /// `$scrypt$ln=17,r=8,p=1$..`, of the Password Hashing Competition.
+    /// `$scrypt$ln=..,r=..,p=..$..`, of the Password Hashing Competition.
     #[default]
     Phc,
     /// `$7$..`, of crypt(3).
@@ -26,7 +26,7 @@ pub struct Options {
     /// The length of the salt of a new hash, 1 to 64 bytes.
     pub salt_len: usize,
     /// How many tables may exist at the same time. 0, the default, means two for each processor, or as many of the bound on
-    /// bytes as fit into 7/8 of the memory of the machine and of its control group.
+    /// bytes as the machine and its control group have room for.
     pub at_once: usize,
     /// How many derivations may run at the same time. 0, the default, means one for each processor that the process may
     /// use, by its affinity and its CPU quota.
@@ -66,10 +66,9 @@ pub struct Stats {
 /// Makes password hashes, and verifies passwords against hashes of either format.
 ///
 /// Any number of threads may use it, and its clones are the same hasher. At most one thread for each processor derives at
-/// a time, and the others wait, first come, first served, at most for [`Options::timeout`]. Of those that wait, verifications with the same N, r and p are
-/// derived together if there are tables for them, which on some processors takes less time than one after another. While all processors are
-/// taken, a derivation waits for others to join it for about 1/256 of its time, and at most 1 ms. No error of one affects
-/// another.
+/// a time, and the others wait, first come, first served, at most for [`Options::timeout`]. Of those that wait,
+/// verifications with the same N, r and p are derived together if there are tables for them, which on some processors takes
+/// less time than one after another. No error of one affects another.
 ///
 /// A hasher holds at most [`Options::at_once`] tables, whatever p is, and keeps their memory for later calls until it is
 /// closed or dropped. A call for which the system has no memory waits while another one derives. A hash that needs more than the bounds is refused without waiting, and so is one whose key has fewer

@@ -16,7 +16,8 @@ fn stored_and_read_again() -> Result<(), Box<dyn std::error::Error>> {
     let scrypt = Scrypt::default();
     let hash: PasswordHash = scrypt.hash_password(b"a password")?;
     let stored = hash.to_string();
-    assert!(stored.starts_with("$scrypt$ln=17,r=8,p=1$"), "{stored}");
+    let params = Params::RECOMMENDED;
+    assert_eq!(params_of(&stored)?, (params, Params::RECOMMENDED_LEN), "{stored}");
     let read = PasswordHash::new(&stored)?;
     scrypt.verify_password(b"a password", &read)?;
     assert_eq!(scrypt.verify_password(b"another", &read), Err(Error::PasswordInvalid));

@@ -20,7 +20,7 @@ with_number b name value =
     else if bytes_eq name (codes "--least-key-len") then option_map (λ n. record b { least_key_len = Some n }) (decimal_below (2 ^ 64) value)
     else None
 
--- The limits on a hash: a key has at least 16 bytes, if no option says otherwise. If a new hash is wanted in its place, they are at
+-- The limits on a hash: the least length of its key is that of USUAL, if no option says otherwise. If a new hash is wanted, they are at
 -- least what that needs, and a short key is weaker than wanted, and so allowed if no option says otherwise.
 abbrev pub limits_of : LimitOptions → Option Parameters → Limits
 limits_of b None =

@@ -52,7 +52,7 @@ impl LimitOptions {
         }
     }
 
-    /// Returns the limits on a hash: a key has at least 16 bytes, unless another length is named. If a new
+    /// Returns the limits on a hash: the least length of its key is that of `USUAL`, unless one is named. If a new
     /// hash is wanted in its place, they are at least what that needs, and a short key, which is weaker
     /// than wanted, is allowed unless a length is named.
     pub fn limits(self, wanted: Option<Params>) -> Limits

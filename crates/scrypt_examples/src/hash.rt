@@ -12,7 +12,7 @@ use scrypt::phc::PasswordHash;
 use scrypt::{Scrypt, StoredHash};
 use std::alloc::Global;
 
-/// The text to store: `$scrypt$ln=17,r=8,p=1$..`. The salt is drawn at random.
+/// The text to store: `$scrypt$..`. The salt is drawn at random.
 pub fn stored_text(alloc: Global, password: &[u8], salt: [u8; 16]) -> Result<String>
     ensures made { IfOk result (λ text.
         IsMadeText recommended_parameters password.now salt (string_bytes text)) }
