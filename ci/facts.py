@@ -33,13 +33,13 @@ FACTS = [
     ("the default limit on work", number(mirror.WORK), [HEADER, LIMITS]),
     # Not what a PHC text without parameters means, which never changes.
     ("the recommended parameters",
-     rf"\w*(?i:log_?n|default_rounds)(?:: ?\w+)? ?={{0,2}} ?{LOG_N}(?! \+)|[Nr] ?= ?2 ?\*\* ?{LOG_N}|ln={LOG_N},r={R},p={P}"
+     rf"(?i:log_?n|default_rounds)(?:: ?\w+)? ?={{0,2}} ?{LOG_N}(?! \+)|[Nr] ?= ?2 ?\*\* ?{LOG_N}|ln={LOG_N},r={R},p={P}"
      rf"|(?<!to\x20)(?<!as\x20){LOG_N}, {R} and {P}|\| {LOG_N}, {R}, {P} \|[^\n]*recommended",
      [HEADER, "crates/scrypt/src/params.rt", "crates/scrypt/specs/Accepted.antt", "crates/scrypt_commands/specs/Command.antt",
       "docs/PARAMETERS.md"]),
     ("the least length of a key",
      rf"(?:fewer than|shorter than|less than|at least|keys of|below|\() ?{LEAST} bytes|{LEAST} bytes of key"
-     rf"|\w*(?i:least_?key_?len)\)?(?: ==|:)? {LEAST}",
+     rf"|(?i:least_?key_?len)\)?(?: ==|:)? {LEAST}",
      [HEADER, LIMITS, "SECURITY.md"]),
     ("how long a derivation waits for others", r"1/256 of (?:its|the)", ["bindings/c/queue.c", HASHER, "docs/DECISIONS.md"]),
     ("the part of the memory that tables take", "7/8 of the memory", ["bindings/c/hasher.c", HEADER, HASHER]),
@@ -47,7 +47,7 @@ FACTS = [
 ]
 
 # What isn't read: history, pictures, and what is compared with the sources elsewhere.
-LEFT_OUT = (":!CHANGELOG.md", ":!*.svg", ":!docs/PROMISES.md", ":!crates/*/wrong-bodies.txt", ":!ci/facts.py")
+LEFT_OUT = (":!CHANGELOG.md", ":!*.svg", ":!docs/PROMISES.md", ":!crates/*/wrong-bodies.txt", ":!ci/*facts.py")
 
 
 def by_hand(path):
@@ -60,7 +60,7 @@ def by_hand(path):
 
 def complaints(texts):
     for fact, spelling, rooms in FACTS:
-        form = re.compile(rf"(?<!\w)(?:{spelling})(?!\w)".replace(" ", r"(?:\s+(?:[*/#]+\s+)?)"))
+        form = re.compile(rf"(?<![^\W_])(?:{spelling})(?!\w)".replace(" ", r"(?:\s+(?:[*/#]+\s+)?)"))
         stating = {path for path, text in texts.items() if form.search(text)}
         yield from (f"{path}: {fact} is stated, and has its room in {rooms[0]}" for path in sorted(stating - set(rooms)))
         yield from (f"{path}: {fact} is not as in {rooms[0]}" for path in rooms if path not in stating)
