@@ -106,6 +106,13 @@ int scrypt_verify_with_buffers(STORED, BUFFERS) {
   return cleared_scrypt_verify_with_buffers(THE_STORED, THE_BUFFERS);
 }
 
+int scrypt_verify_within_with_buffers(STORED, size_t most_bytes, uint64_t most_work, size_t least_key_len, BUFFERS) {
+  TAKE(password);
+  TAKE(text);
+  TAKE_BUFFERS;
+  return cleared_scrypt_verify_within_with_buffers(THE_STORED, most_bytes, most_work, least_key_len, THE_BUFFERS);
+}
+
 int scrypt_verify_group_with_buffers(const scrypt_login *logins, size_t count, int *statuses, BUFFERS) {
   static const scrypt_login NONE = {"", 0, "", 0};
   scrypt_login each[SCRYPT_MOST_LOGINS];

@@ -30,6 +30,9 @@ CALL(scrypt_verify_within, NEITHER, 2, (P(0, given.password), given.password_len
 CALL(scrypt_verify_with_buffers, BUFFERS, 5, (P(0, given.password), given.password_len, P(1, given.text),
     given.text_len, P(2, made.chunks), given.chunks_len, P(3, made.table), given.table_len, P(4, made.scratch),
     given.scratch_len))
+CALL(scrypt_verify_within_with_buffers, BUFFERS, 5, (P(0, given.password), given.password_len, P(1, given.text),
+    given.text_len, given.most_bytes, given.most_work, given.least_key_len, P(2, made.chunks), given.chunks_len, P(3,
+    made.table), given.table_len, P(4, made.scratch), given.scratch_len))
 CALL(scrypt_verify_group_with_buffers, BUFFERS, 5, (P(0, given.logins), given.count, P(1, made.statuses), P(2,
     made.chunks), given.chunks_len, P(3, made.table), given.table_len, P(4, made.scratch), given.scratch_len))
 CALL(scrypt_needs_rehash, NEITHER, 1, (P(0, given.text), given.text_len, given.log_n, given.r, given.p, given.key_len))

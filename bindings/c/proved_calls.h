@@ -62,6 +62,10 @@ PROVED_CALL(scrypt_verify_with_buffers, (const uint8_t *password, size_t passwor
     size_t text_len, uint8_t *chunks, size_t chunks_len, uint32_t *table, size_t table_len, uint32_t *scratch,
     size_t scratch_len), (password, password_len, text, text_len, chunks, chunks_len, table, table_len, scratch,
     scratch_len))
+PROVED_CALL(scrypt_verify_within_with_buffers, (const uint8_t *password, size_t password_len, const char *text,
+    size_t text_len, size_t most_bytes, uint64_t most_work, size_t least_key_len, uint8_t *chunks, size_t chunks_len,
+    uint32_t *table, size_t table_len, uint32_t *scratch, size_t scratch_len), (password, password_len, text, text_len,
+    most_bytes, most_work, least_key_len, chunks, chunks_len, table, table_len, scratch, scratch_len))
 PROVED_PROCEDURE(scrypt_verify_group_with_buffers, (const uint8_t *password, size_t password_len, const char *text,
     size_t text_len, const uint8_t *password_2, size_t password_2_len, const char *text_2, size_t text_2_len,
     const uint8_t *password_3, size_t password_3_len, const char *text_3, size_t text_3_len, const uint8_t *password_4,

@@ -11,6 +11,7 @@
  *   to verify a password against a stored hash       scrypt_verify                            yes
  *   the same within bounds, for a hash not your own  scrypt_verify_within                     yes
  *   to verify with no allocation, in your buffers    scrypt_verify_with_buffers               yes
+ *   the same within bounds                           scrypt_verify_within_with_buffers        yes
  *   up to four verifications at once                 scrypt_verify_group_with_buffers         yes
  *   whether a stored hash is too weak now            scrypt_needs_rehash                      yes
  *   what a stored hash costs, within bounds          scrypt_hash_needs; scrypt_hash_params    yes
@@ -231,6 +232,13 @@ SCRYPT_CHECKED
 int scrypt_verify_with_buffers(const void *password, size_t password_len, const char *text, size_t text_len,
                                uint8_t *chunks, size_t chunks_len, uint32_t *table, size_t table_len,
                                uint32_t *scratch, size_t scratch_len);
+
+/* The same, if what scrypt_hash_needs returns for these bounds is SCRYPT_OK, and otherwise that, however long the buffers are. */
+SCRYPT_CHECKED
+int scrypt_verify_within_with_buffers(const void *password, size_t password_len, const char *text, size_t text_len,
+                                      size_t most_bytes, uint64_t most_work, size_t least_key_len, uint8_t *chunks,
+                                      size_t chunks_len, uint32_t *table, size_t table_len, uint32_t *scratch,
+                                      size_t scratch_len);
 
 /* A password, and the text of the hash that it is verified against. */
 typedef struct scrypt_login {

@@ -68,6 +68,8 @@ static void verify_in_buffers(const char *text) {
             SCRYPT_OK, "the password, in buffers");
   check(scrypt_verify_with_buffers("PW", 2, text, n, chunks, sizeof chunks, table, 5000, scratch, 600) ==
             SCRYPT_MISMATCH, "another password, in longer buffers");
+  check(scrypt_verify_within_with_buffers("pw", 2, text, n, SIZE_MAX, 0, 0, chunks, chunks_len, table, table_len, scratch,
+                                          scratch_len) == SCRYPT_TOO_COSTLY, "no work is in bounds");
   scrypt_wipe(chunks, chunks_len, table, table_len, scratch, scratch_len);
   check(is_all(0, chunks, chunks_len) && is_all(0, table, 4 * table_len) && is_all(0, scratch, 4 * scratch_len), "wiped");
   for (i = 0; i < 3; i++)

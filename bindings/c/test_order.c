@@ -76,6 +76,7 @@ static const struct {
     {"scrypt_verify", nothing, SCRYPT_OK},
     {"scrypt_verify_within", nothing, SCRYPT_OK},
     {"scrypt_verify_with_buffers", nothing, SCRYPT_OK},
+    {"scrypt_verify_within_with_buffers", nothing, SCRYPT_OK},
     {"scrypt_verify_group_with_buffers", verdicts, SCRYPT_OK},
     {"scrypt_needs_rehash", nothing, SCRYPT_OK},
     {"scrypt_hash_params", params, SCRYPT_OK},
@@ -231,6 +232,12 @@ static void texts_with_two_faults(void) {
     meets(TEXTS[i].reason, scrypt_verify_within("pw", 2, of, len, SIZE_MAX, 1151, 16), is_read ? SCRYPT_TOO_COSTLY : status);
     meets(TEXTS[i].reason, scrypt_verify_with_buffers("pw", 2, of, len, NO_BUFFERS),
           is_read ? SCRYPT_BUFFER_SIZE : status);
+    meets(TEXTS[i].reason, scrypt_verify_within_with_buffers("pw", 2, of, len, SIZE_MAX, UINT64_MAX, 15, NO_BUFFERS),
+          is_read ? SCRYPT_BUFFER_SIZE : status);
+    meets(TEXTS[i].reason, scrypt_verify_within_with_buffers("pw", 2, of, len, SIZE_MAX, UINT64_MAX, 16, NO_BUFFERS),
+          is_read ? SCRYPT_KEY_TOO_SHORT : status);
+    meets(TEXTS[i].reason, scrypt_verify_within_with_buffers("pw", 2, of, len, SIZE_MAX, 1151, 16, NO_BUFFERS),
+          is_read ? SCRYPT_TOO_COSTLY : status);
     meets(TEXTS[i].reason, scrypt_needs_rehash(of, len, 57, 1, 1, 20), SCRYPT_INVALID_PARAMS);
     meets(TEXTS[i].reason, scrypt_needs_rehash(of, len, 4, 1, 1, 9), SCRYPT_INVALID_PARAMS);
     meets(TEXTS[i].reason, scrypt_needs_rehash(of, len, 56, 1, 1, 20), is_read ? SCRYPT_NEEDS_REHASH : status);

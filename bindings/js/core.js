@@ -79,9 +79,7 @@ export class Scrypt {
       const usual = it.words(3);
       it.call('scrypt_limits_for_new', ...wanted, keyLen, ...places(usual));
       const limits = ['maxmem', 'maxwork', 'minKeyLength'].map((name, i) => limit(options[name], name, it.big(usual[i])));
-      const [params, sizes] = [it.words(4), it.words(6)];
-      return it.isOk('scrypt_hash_needs', slices[1], ...limits, ...places(params), ...places(sizes))
-        && it.isOk('scrypt_verify_with_buffers', ...slices, ...it.buffers(sizes));
+      return it.isOk('scrypt_verify_within_with_buffers', ...slices, ...limits, ...it.buffersOf(slices[1], limits));
     });
   }
 

@@ -108,6 +108,13 @@ export class Instance {
     return this.buffers(sizes);
   }
 
+  /** The buffers for verifying a hash, or none if it is refused: the call that verifies it says why, before it looks at them. */
+  buffersOf(text, limits) {
+    const [params, sizes] = [this.words(4), this.words(6)];
+    const status = this.#status('scrypt_hash_needs', [text, ...limits, ...places(params), ...places(sizes)]);
+    return status === OK ? this.buffers(sizes) : [1, 4, 4].map((size) => this.take(0, size));
+  }
+
   /** The chunks, the table and the scratch of these sizes: for as many chunks at a time as the memory allows. */
   buffers(sizes) {
     const [tables, chunks, table, scratch] = sizes.map((it) => this.number(it));

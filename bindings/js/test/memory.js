@@ -1,4 +1,5 @@
 // What is left of bytes that were given, and what happens where memory ends.
+import { Scrypt } from '../core.js';
 import * as workers from '../index.js';
 import { compile } from '../load.js';
 import { equal, instead, opened, refused, works } from './support.js';
@@ -141,6 +142,12 @@ export function memoryChecks() {
     });
     equal(memories.filter(({ buffer }) => buffer.byteLength > 2 ** 23).length, 2, 'memories that were left');
     equal(memories.length, 3, 'memories');
+  };
+  list['the limits of the call that verifies'] = async () => {
+    const { exports } = await WebAssembly.instantiate(await compile());
+    const refusesNothing = (...args) => exports.scrypt_hash_needs(...args) && 0;
+    const own = new Scrypt({ ...exports, scrypt_hash_needs: refusesNothing }, () => exports);
+    await refused('TOO_COSTLY', () => own.verify('', `$scrypt$ln=4,r=8,p=11000$AAAAAAAA$${'A'.repeat(43)}`));
   };
   list['the data of a module that is not zero'] = async () => {
     const { exports } = await WebAssembly.instantiate(await compile());

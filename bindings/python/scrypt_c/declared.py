@@ -121,6 +121,8 @@ def calls(hasher: Any) -> dict[str, tuple[list[Any], Any]]:
         "scrypt_verify_within": ([BYTES, SIZE, BYTES, SIZE, SIZE, U64, SIZE], INT),
         "scrypt_verify_with_buffers": ([BYTES, SIZE, BYTES, SIZE, BYTES, SIZE, POINTER(U32), SIZE, POINTER(U32), SIZE],
             INT),
+        "scrypt_verify_within_with_buffers": ([BYTES, SIZE, BYTES, SIZE, SIZE, U64, SIZE, BYTES, SIZE, POINTER(U32),
+            SIZE, POINTER(U32), SIZE], INT),
         "scrypt_verify_group_with_buffers": ([POINTER(Login), SIZE, POINTER(INT), BYTES, SIZE, POINTER(U32), SIZE,
             POINTER(U32), SIZE], INT),
         "scrypt_needs_rehash": ([BYTES, SIZE, U32, U32, U32, SIZE], INT),

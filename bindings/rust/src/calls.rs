@@ -136,6 +136,9 @@ extern "C" {
     pub fn scrypt_verify_with_buffers(password: *const c_void, password_len: usize, text: *const c_char,
         text_len: usize, chunks: *mut u8, chunks_len: usize, table: *mut u32, table_len: usize, scratch: *mut u32,
         scratch_len: usize) -> c_int;
+    pub fn scrypt_verify_within_with_buffers(password: *const c_void, password_len: usize, text: *const c_char,
+        text_len: usize, most_bytes: usize, most_work: u64, least_key_len: usize, chunks: *mut u8, chunks_len: usize,
+        table: *mut u32, table_len: usize, scratch: *mut u32, scratch_len: usize) -> c_int;
     pub fn scrypt_verify_group_with_buffers(logins: *const RawLogin, count: usize, statuses: *mut c_int,
         chunks: *mut u8, chunks_len: usize, table: *mut u32, table_len: usize, scratch: *mut u32,
         scratch_len: usize) -> c_int;

@@ -6,9 +6,11 @@ ghost use Rattle.scrypt.specs.InBuffers.{are_enough};
 ghost use Rattle.scrypt.specs.McfHash.{IsMadeHash as IsMadeMcf, made_text_len};
 ghost use Rattle.scrypt.specs.PhcHash.{IsMadeText, IsSaltLen};
 ghost use Rattle.scrypt.specs.Logins.{AreLeft, reading_of};
-ghost use Rattle.scrypt.specs.WithinLimits.{with_limited_refusal};
-ghost use Rattle.scrypt.specs.Workspace.{IsDone, IsLeft, verdict_in, workspace_of};
+ghost use Rattle.scrypt.specs.StoredHash.{reading};
+ghost use Rattle.scrypt.specs.WithinLimits.{with_limited_refusal, within};
+ghost use Rattle.scrypt.specs.Workspace.{IsDone, IsLeft, verdict_in};
 ghost use Rattle.scrypt_c.specs.InBuffers.{LeftIn, buffers, statuses_in};
+ghost use Rattle.scrypt_c.specs.Limits.{limits_of};
 ghost use Rattle.scrypt_c.specs.Made.{AreHashParams, IsTooLong, IsTooShort, IsWrittenTo, wanted};
 ghost use Rattle.scrypt_c.specs.Statuses.{buffers_status, short_status};
 ghost use Rattle.scrypt_c.specs.Texts.{bytes_reading};
@@ -19,7 +21,9 @@ use crate::statuses::{
 use crate::target::Target;
 use crate::texts::{copy_to, stored_hash};
 use password_hash::Error;
-use scrypt::{CoreCount, LimitedError, Login, Params, mcf, phc, verify_logins, wipe};
+use scrypt::{
+    CoreCount, LimitedError, Limits, Login, Params, StoredHash, mcf, phc, verify_logins, wipe,
+};
 
 /// Does what `scrypt_hash_phc` does, in the caller's buffers, and allocates nothing.
 ///
@@ -148,32 +152,63 @@ pub extern "C" fn scrypt_verify_with_buffers(
     ensures left { LeftIn (IsLeft (bytes_reading text.now) (buffers chunks.old table.old scratch.old))
         chunks.new table.new scratch.new }
 {
-    let mut cores = CoreCount::new();
-    let verdict = verify(password, text, chunks, table, scratch, &mut cores);
-    status(verdict)
+    match stored_hash(text) {
+        Ok(hash) => verify(password, &hash, chunks, table, scratch),
+        Err(error) => short_status_of(error),
+    }
 }
 
-// Verifies a password with the hash that bytes are read as.
-fn verify(
+/// Does what `scrypt_verify_with_buffers` does, if the hash is within the limits: a hash that is not the caller's own chooses
+/// its cost.
+///
+/// Returns the errors of `scrypt_verify_within` before it allocates, however long the buffers are, and then those of
+/// `scrypt_verify_with_buffers`. A hash that is not within the limits leaves the buffers unchanged.
+#[unsafe(no_mangle)]
+pub extern "C" fn scrypt_verify_within_with_buffers(
     password: &[u8],
     text: &[u8],
+    most_bytes: usize,
+    most_work: u64,
+    least_key_len: usize,
     chunks: &mut [u8],
     table: &mut [u32],
     scratch: &mut [u32],
-    cores: &mut CoreCount,
-) -> Result<(), LimitedError>
-    ensures verdict { with_limited_refusal result
-        ≡ verdict_in (workspace_of chunks.old table.old scratch.old cores.old) password.now (bytes_reading text.now) }
-    ensures left { IsLeft (bytes_reading text.now)
-        (workspace_of chunks.old table.old scratch.old cores.old) (workspace_of chunks.new table.new scratch.new cores.new) }
+) -> i32
+    ensures status { result ≡ buffers_status (verdict_in (buffers chunks.old table.old scratch.old) password.now
+        (within (limits_of most_bytes most_work least_key_len) (bytes_reading text.now))) }
+    ensures left { LeftIn (IsLeft (within (limits_of most_bytes most_work least_key_len) (bytes_reading text.now))
+        (buffers chunks.old table.old scratch.old)) chunks.new table.new scratch.new }
 {
     let hash = match stored_hash(text) {
         Ok(hash) => hash,
-        Err(error) => return Err(LimitedError::Hash(error)),
+        Err(error) => return short_status_of(error),
     };
-    match hash.verify_with_buffers::<Target>(password, chunks, table, scratch, cores) {
-        Ok(()) => Ok(()),
-        Err(error) => Err(LimitedError::Hash(error)),
+    let limits = Limits {
+        most_bytes,
+        most_work,
+        least_key_len,
+    };
+    match hash.within(&limits) {
+        Ok(hash) => verify(password, hash, chunks, table, scratch),
+        Err(error) => status(Err(error)),
+    }
+}
+
+// Verifies a password with a hash that was read.
+fn verify(
+    password: &[u8],
+    hash: &StoredHash<'_>,
+    chunks: &mut [u8],
+    table: &mut [u32],
+    scratch: &mut [u32],
+) -> i32
+    ensures status { result ≡ buffers_status (verdict_in (buffers chunks.old table.old scratch.old) password.now (reading hash.now)) }
+    ensures left { LeftIn (IsLeft (reading hash.now) (buffers chunks.old table.old scratch.old)) chunks.new table.new scratch.new }
+{
+    let mut cores = CoreCount::new();
+    match hash.verify_with_buffers::<Target>(password, chunks, table, scratch, &mut cores) {
+        Ok(()) => OK,
+        Err(error) => short_status_of(error),
     }
 }
 
