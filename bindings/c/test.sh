@@ -92,6 +92,17 @@ if [ -n "$emulator" ]; then
   compiled key_lines bindings/c/key_lines.c "$lib/libscrypt_c.a"
   python3 -B bindings/c/random_keys.py 200 1 $emulator "$room/key_lines"
 fi
+# Calls that derive one key execute as many instructions as each other, within 4 per cent.
+derives_once() {
+  $CC -std=gnu99 -O2 -Wall -Wextra -Werror -I"$lib" bindings/c/test_work.c -o "$room/work" "$1" -lpthread
+  valgrind -q --tool=callgrind --callgrind-out-file="$room/counts-$2" "$room/work"
+  cat "$room/counts-$2".* | awk '
+    /^desc: Trigger/ { name = substr($0, index($0, "Request") + 9) }
+    /^totals/ { count[name] = $2; if (!least || $2 < least) least = $2 }
+    END { for (it in count) if (count[it] > 1.2 * least) { print it ": " count[it] " instructions, and another call " least; more = 1 } exit more }'
+  echo "one key is derived by each call that returns one, by the number of its instructions: $2"
+}
+if [ -z "$emulator" ] && has valgrind valgrind; then each "$built" derives_once; fi
 # The hasher's queue in every order of its threads, which are coroutines there: not with a checker. It takes 16 seconds.
 if [ -z "$emulator" ]; then
   $CC -std=gnu99 -O2 -Wall -Wextra -Werror -Wno-missing-field-initializers bindings/c/orders/test_orders.c -o "$room/orders"
