@@ -230,6 +230,28 @@ static void hashes(void) {
   check(mcf[0] == '$', "a refusal leaves the text");
 }
 
+/* Whether a long password is that of this text. */
+static int is_of_long(const char *password, size_t len, const char *text) {
+  return scrypt_verify(password, len, text, strlen(text)) == SCRYPT_OK &&
+         scrypt_verify_within(password, len, text, strlen(text), SIZE_MAX, UINT64_MAX, 0) == SCRYPT_OK;
+}
+
+/* Where memory is there, a call succeeds, however long a password, a salt, a key and a text are. */
+static void long_inputs(void) {
+  enum { LEN = 5000 };
+  static char password[LEN], salt[LEN], text[SCRYPT_MCF_CAPACITY(LEN)];
+  static uint8_t key[LEN], same[LEN];
+  memset(password, 'p', LEN);
+  memset(salt, 's', LEN);
+  check(scrypt_key(password, LEN, salt, LEN, 4, 1, 1, key, LEN) == SCRYPT_OK, "a long key");
+  check(scrypt_key_within(password, LEN, salt, LEN, 4, 1, 1, SIZE_MAX, UINT64_MAX, same, LEN) == SCRYPT_OK &&
+            memcmp(key, same, LEN) == 0, "the same within bounds");
+  check(scrypt_hash_phc(password, LEN, salt, 64, 4, 1, 1, 64, text, sizeof text) == SCRYPT_OK &&
+            is_of_long(password, LEN, text), "the longest salt of a PHC text");
+  check(scrypt_hash_mcf(password, LEN, salt, LEN, 4, 1, 1, 64, text, sizeof text) == SCRYPT_OK && strlen(text) > LEN &&
+            is_of_long(password, LEN, text), "a long $7$ text");
+}
+
 static void refusals_of_texts(void) {
   static const struct {
     const char *text;
@@ -264,6 +286,7 @@ int main(int argc, char **argv) {
   refusals_of_keys();
   if (argc == 1) new_hash();
   hashes();
+  long_inputs();
   each_number_of_chunks();
   refusals_of_texts();
   check(strncmp(scrypt_version(), VERSION, sizeof VERSION - 1) == 0, "the version of the header");
