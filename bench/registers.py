@@ -3,13 +3,13 @@
 
 usage: registers.py [LIBRARY..]
 
-Each LIBRARY is a shared or static library or an object, by default those of build/lib. The compiler drops an `inline(always)`
-without a word where a function grows too large. The keys stay the same, but each block then goes through memory, and one chunk
-takes up to 1.12 of the time, two up to 1.19.
+Each LIBRARY is a shared or static library, an object or a program, by default the libraries of build/lib. The compiler drops an
+`inline(always)` without a word where a function grows too large. The keys stay the same, but each block then goes through memory,
+and one chunk takes up to 1.12 of the time, two up to 1.19.
 
 A loop of the block mix has two cores of each chunk that it mixes. It is known by its rotations, and how many chunks it mixes by
 their number. For each loop this counts the vector instructions, and those of them with an operand on the stack. It fails if
-there is no such loop, a loop calls a function, cores are outside of a loop, or a number is above its limit.
+a number of chunks has no such loop, a loop calls a function, cores are outside of a loop, or a number is above its limit.
 """
 
 import re
@@ -107,9 +107,15 @@ def check(library):
     for level, chunks, vectors, on_stack, error in found:
         loop = f"{level}, {chunks:g} at once: {vectors} vector instructions, {on_stack} on the stack" if chunks else "cores"
         print(f"{library}: {loop}{': ' + error if error else ''}")
-    if not found:
+    # Chunks that are mixed in something else, as in words, have no loop here.
+    loops = {(loop[0], loop[1]) for loop in found if loop[1]}
+    levels = sorted({level for level, _ in loops})
+    missing = [(level, it) for level in levels for it in LIMITS[level] if (level, it) not in loops]
+    for level, chunks in missing:
+        print(f"{library}: {level}, {chunks} at once: no loop")
+    if not loops:
         print(f"{library}: no loop of cores")
-    return sum(loop[-1] is not None for loop in found) + (not found)
+    return sum(loop[-1] is not None for loop in found) + len(missing) + (not loops)
 
 
 def main():

@@ -248,8 +248,10 @@ def link_program(tasks):
 
 
 def answer(tasks, is_built):
-    """Links the program, where a compiler is here, and compares its answers."""
+    """Links the program and looks at its loops of cores, where a compiler is here, and compares its answers."""
     is_well, text = link_program(tasks) if is_built else (True, "")
+    if is_well and is_built:
+        is_well, text = tasks.run(sys.executable, "-B", "bench/registers.py", PROGRAM)
     return tasks.run(sys.executable, "-m", "ci.program", PROGRAM) if is_well else (is_well, text)
 
 
