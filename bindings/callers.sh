@@ -19,7 +19,7 @@ if [ -n "$emulator" ]; then
   exit
 fi
 python3 -B ../bench/registers.py
-python3 -B completions.py --test
+python3 -B completions/test.py
 if [ "${1:-}" = short ]; then
   for caller in c python drop_in; do $caller/test.sh short; done
   exit

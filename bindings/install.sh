@@ -86,9 +86,9 @@ programs() {
   put 755 "$build/bin/scrypt_calibrate" "$bindir/scrypt_calibrate"
   put 644 docs/scrypt_tool.1 "$mandir/man1/scrypt_tool.1"
   link scrypt_tool.1 "$mandir/man1/scrypt_calibrate.1"
-  python3 bindings/completions.py "$room/share"
-  (cd "$room/share" && find . -type f | sed 's|^\./||') > "$room/completions"
-  while read -r file; do put 644 "$room/share/$file" "$datarootdir/$file"; done < "$room/completions"
+  put 644 bindings/completions/scrypt_tool.bash "$datarootdir/bash-completion/completions/scrypt_tool"
+  put 644 bindings/completions/_scrypt_tool "$datarootdir/zsh/site-functions/_scrypt_tool"
+  put 644 bindings/completions/scrypt_tool.fish "$datarootdir/fish/vendor_completions.d/scrypt_tool.fish"
 }
 
 if [ ! -e "$build/lib/libscrypt_c.a" ]; then

@@ -1,0 +1,18 @@
+# Completes the words of scrypt_tool in bash.
+_scrypt_tool() {
+  local word=${COMP_WORDS[COMP_CWORD]} first=1 choices=""
+  # Bash takes an equals sign, and what comes after it, for words of their own.
+  while [[ $first -lt $COMP_CWORD && ${COMP_WORDS[first]} == --* ]]; do
+    [[ ${COMP_WORDS[first + 1]} == "=" ]] && first=$((first + 2))
+    first=$((first + 1))
+  done
+  case $((COMP_CWORD - first + 1)):${COMP_WORDS[first]} in
+    1:*)
+      choices="key hash verify rehash --raw --draw-salt --recommended --strip-newline --usual-limits --help --version
+        --most-bytes= --most-work= --least-key-len= --hash-file="
+      ;;
+    2:hash | 2:rehash) choices="phc mcf" ;;
+  esac
+  COMPREPLY=($(compgen -W "$choices" -- "$word"))
+}
+complete -o default -F _scrypt_tool scrypt_tool
