@@ -105,3 +105,5 @@ fi
 release/install.sh --tree "$room/files" "$list" "$DESTDIR$root"
 # An earlier version without a list installed one there, which the dynamic linker would take before this one.
 rm -f "$DESTDIR$libdir/glibc-hwcaps/x86-64-v3/libscrypt_c.so.0"
+echo "installed below $DESTDIR$(realpath -ms "$prefix"); programs find the library in $libdir after ldconfig, as root, if the system"
+echo "looks there, or by LD_LIBRARY_PATH=$libdir"

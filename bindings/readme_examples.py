@@ -1,5 +1,5 @@
 #!/usr/bin/env python3
-"""Runs the examples of README, of Python's and Go's own pages, and that in C of bindings/README.md, over build/lib.
+"""Runs the examples of README, of Python's and Go's own pages, and those in C of bindings/README.md, over build/lib.
 
 Only Go's has code around it. The example of Rust's page is run by `cargo test`, and that of JavaScript's by
 release/test.sh. What is not installed is named by its Debian package. The script fails if an example fails or is missing.
@@ -80,10 +80,10 @@ def run_go(room):
 
 
 def run_c(room):
-    source = written(room, "login.c", examples("c", "bindings/README.md")[0])
-    program = os.path.join(room, "login")
-    run(["cc", "-std=c99", "-Wall", "-Wextra", "-Werror", f"-I{LIBRARY}", source, f"{LIBRARY}/libscrypt_c.a", "-o", program])
-    run([program])
+    for example in examples("c", "bindings/README.md"):
+        source, program = written(room, "login.c", example), os.path.join(room, "login")
+        run(["cc", "-std=c99", "-Wall", "-Wextra", "-Werror", f"-I{LIBRARY}", source, f"{LIBRARY}/libscrypt_c.a", "-o", program])
+        run([program])
 
 
 def main():

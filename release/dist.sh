@@ -97,7 +97,7 @@ for ARCH in $archs; do
   mkdir "$parts/$packed"
   mv "$parts/files/$ARCH" "$parts/$packed/files"
   cp "$@" release/install.sh "$dist"/*_"${ARCH%%-*}".whl "$parts/$packed"
-  cp -R "$parts/doc/README.md" "$parts/doc/SECURITY.md" "$parts/doc/docs" "$parts/$packed"
+  cp -R "$parts/doc/README.md" "$parts/doc/SECURITY.md" "$parts/doc/docs" "$parts/doc/bindings" "$parts/$packed"
   packed "$packed"
 done
 git archive --format=tar --prefix="$name/" HEAD | gzip -9n > "$dist/$name-source.tar.gz"

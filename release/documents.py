@@ -1,5 +1,6 @@
 #!/usr/bin/env python3
-"""Writes the documents of a package: README.md, SECURITY.md and docs/, without links to what is only in the sources.
+"""Writes the documents of a package: README.md, SECURITY.md, docs/ and bindings/README.md, without links to what is only in the
+sources.
 
 usage: documents.py FOLDER    with RELEASED=1, README has the status of a release
 
@@ -14,7 +15,7 @@ import shutil
 import sys
 
 ROOT = os.path.join(os.path.dirname(os.path.abspath(__file__)), "..")
-PAGES = ["README.md", "SECURITY.md", "docs/*.md"]
+PAGES = ["README.md", "SECURITY.md", "docs/*.md", "bindings/README.md"]
 BESIDE = ["docs/*.svg", "docs/*.1"]  # what the pages show or link to
 LAST = "\nA path such as `{path}` is one of the sources, `scrypt-proved-{version}-source.tar.gz`.\n"
 
@@ -56,7 +57,8 @@ def main(folder):
     with open("VERSION", encoding="utf-8") as file:
         version = file.read().strip()
     pages, beside = ([path for it in of for path in sorted(glob.glob(it))] for of in (PAGES, BESIDE))
-    os.makedirs(os.path.join(folder, "docs"), exist_ok=True)
+    for path in [*pages, *beside]:
+        os.makedirs(os.path.dirname(os.path.join(folder, path)), exist_ok=True)
     for path in beside:
         shutil.copyfile(path, os.path.join(folder, path))
     for path in pages:

@@ -1,8 +1,9 @@
 #!/bin/sh
 # Installs what is here below a prefix, or removes it. It needs no root if the prefix can be written to.
-# usage: install.sh [PREFIX]             PREFIX is /usr/local, or an absolute path
+# usage: install.sh [PREFIX]             PREFIX is an absolute path, or without it /usr/local; this upgrades too
 #        install.sh --remove [PREFIX]
-#        install.sh [--remove] --tree FILES LIST TARGET    for `make install`, which checks the paths
+#        install.sh --help
+# For `make install`, which checks the paths: install.sh [--remove] --tree FILES LIST TARGET
 # Each file is written beside its place and renamed, so that a program that uses the old one goes on with it, and none
 # finds half of the new one. PREFIX/share/doc/scrypt_c/installed lists what was installed and the folders that were made
 # for it. By this list an upgrade removes what the new version does not have, and --remove leaves everything as it was.
@@ -10,10 +11,10 @@ set -eu
 unset CDPATH
 umask 022
 action=install
-if [ "${1:-}" = --remove ]; then
-  action=remove
-  shift
-fi
+case ${1:-} in
+  -h | --help) sed -n '2,5s/^# //p' "$0"; exit ;;
+  --remove) action=remove; shift ;;
+esac
 if [ "${1:-}" = --tree ]; then
   files=$2 list=$3 target=$4
 else

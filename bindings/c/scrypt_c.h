@@ -26,8 +26,8 @@
  * 128 * r * 2^log_n < 2^64 and r * p < 2^30. log_n is the logarithm of N: N in its place is refused from 64 on.
  *
  * Lengths are in bytes unless words are named; a word has 4 bytes. A password, a salt, a text or an output may be NULL with
- * length 0. For any other NULL a call returns SCRYPT_NULL_POINTER before any other status; only scrypt_buffer_lens and
- * scrypt_wipe do not check, and gcc and clang warn there.
+ * length 0, and another argument if the call's comment allows it. For any other NULL a call returns SCRYPT_NULL_POINTER before
+ * any other status; only scrypt_buffer_lens and scrypt_wipe do not check, and gcc and clang warn there.
  * No output may overlap an input or another output. The caller frees nothing but a scrypt_hasher. Any number of threads may
  * call at once.
  */
@@ -328,7 +328,8 @@ typedef struct scrypt_options {
   int mcf;                  /* new hashes are PHC texts, or $7$ texts of crypt(3) if this is not 0 */
   size_t key_len, salt_len; /* of new hashes: SCRYPT_KEY_LEN and SCRYPT_SALT_LEN */
   size_t most_bytes;        /* what the buffers for one hash may need, as in scrypt_hash_needs: SCRYPT_MOST_BYTES, or what */
-  uint64_t most_work;       /* a new hash needs if that is more; and SCRYPT_MOST_WORK, or that of a new hash */
+                            /* a new hash needs if that is more */
+  uint64_t most_work;       /* the most work of a hash: SCRYPT_MOST_WORK, or that of a new hash if that is more */
   size_t least_key_len;     /* of a hash that is verified, at most key_len: SCRYPT_LEAST_KEY_LEN, or key_len if that is less */
   size_t at_once;           /* how many tables may exist at a time: two for each processor, or as many of most_bytes as fit */
                             /* into 7/8 of the memory of the machine and of its control group, but one at least */

@@ -65,7 +65,15 @@ nan 16
 0.1 0.9
 1e-9 16
 END
-echo "scrypt_calibrate prints parameters, and refuses other words"
+# On a clock of the test's: steady, and on a busy machine.
+if [ -z "$emulator" ]; then
+  $CC -O2 -Wall -Wextra -Werror -fPIC -shared bindings/c/clock.c -o "$room/clock.so"
+  LD_PRELOAD=$room/clock.so "$build/bin/scrypt_calibrate" 1 2 > "$room/log" 2>&1
+  if grep busy "$room/log"; then exit 1; fi
+  BUSY=1 LD_PRELOAD=$room/clock.so "$build/bin/scrypt_calibrate" 1 2 2> "$room/log" | grep -xE '1[01] 8 [1-9][0-9]*' > /dev/null
+  grep -qE '^this machine is busy: the same derivation took [0-9.e+]+ and [0-9.e+]+ seconds$' "$room/log"
+fi
+echo "scrypt_calibrate prints parameters, warns if the machine is busy, and refuses other words"
 # What the system does with advice, for a program with its own madvise.
 compiled() {
   program=$1

@@ -100,6 +100,7 @@ echo "installed, found and uninstalled: lib is a link"
 make -s install prefix="$room/archive/files" docdir="$room/archive/doc" DESTDIR= > /dev/null
 cp release/install.sh "$room/archive/"
 "$room/archive/install.sh" "$room/R&D kit/usr" | grep -qF "the program is $room/R&D kit/usr/bin/scrypt_tool;"
+"$room/archive/install.sh" --help | grep -q '^usage: install.sh \[PREFIX\]'
 is_found "$room/R&D kit/usr"
 "$room/archive/install.sh" --remove "$room/R&D kit/usr"
 is_gone "$room/R&D kit/usr"
@@ -243,15 +244,22 @@ manual=$room/stage/usr/share/man
 for call in scrypt_c $(awk '/^scrypt_/ { print $1 }' bindings/c/abi); do
   test -s "$manual/man3/$call.3" || { echo "the manual has no page $call" >&2; exit 1; }
   if command -v man > /dev/null; then
-    (cd "$manual" && LC_ALL=C.UTF-8 man --warnings -l -Tutf8 "man3/$call.3" > "$room/page" 2>> "$room/warnings")
+    (cd "$manual" && LC_ALL=C.UTF-8 MANWIDTH=80 man --warnings -l -Tutf8 "man3/$call.3" 2>> "$room/warnings" | col -bx > "$room/page")
     grep -q "\b$call\b" "$room/page" || { echo "the page $call is of another call" >&2; exit 1; }
+    if grep -E '.{81}' "$room/page"; then echo "the page $call has lines of more than 80 columns" >&2; exit 1; fi
+    cat "$room/page" >> "$room/pages"
   fi
 done
 if [ -s "$room/warnings" ]; then sort "$room/warnings" | uniq; exit 1; fi
+if [ -s "$room/pages" ]; then
+  for shown in ' {9}size_t at_once;' ' {7}int main' ' {9}puts\(scrypt_status_text'; do
+    grep -qE "^$shown" "$room/pages" || { echo "no page of the manual has the line $shown" >&2; exit 1; }
+  done
+fi
 for name in $(grep -oP '^#define \KSCRYPT_(?!C_H|CHECKED|NONNULL|HELPER|CAST)\w+' bindings/c/scrypt_c.h); do
-  grep -q "^.B #define $name\b" "$manual"/man3/*.3 || { echo "no page of the manual has $name" >&2; exit 1; }
+  grep -q "^.B \"#define $name\b" "$manual"/man3/*.3 || { echo "no page of the manual has $name" >&2; exit 1; }
 done
-echo "a page of the manual for each call, and each macro in one"
+echo "a page of the manual of 80 columns for each call, each macro in one, and examples"
 test -z "$(grep -rl "$room" "$room/stage/usr/lib/x86_64-linux-gnu" --include='scrypt_c*')"
 test "$(ls "$room/stage")" = usr
 echo "installed in a stage"
