@@ -32,11 +32,16 @@ help:
 	@sed -n '/^#/!q; s/^# \{0,1\}//p' Makefile
 
 run: kit
-	@begun=$$(date +%s); $(MAKE) -j$(SIDE_BY_SIDE) $(LIBRARIES) && \
-	(cd crates/scrypt_tool && rt run -- key 4 1 1 64 "" < /dev/null) && \
+	@echo "Proves and builds the program, in about 8 minutes on four idle processors. What each step prints is in build/log."
+	@begun=$$(date +%s); $(MAKE) --no-print-directory -j$(SIDE_BY_SIDE) proved-scrypt_tool && \
 	if command -v $${CC:-cc} > /dev/null && command -v objcopy > /dev/null; then $(TERMINAL); else \
-	  echo "No C compiler is here (packages gcc and binutils): build/bin/scrypt_tool was not linked." >&2; fi && \
-	took=$$(($$(date +%s) - begun)) && echo "proved, built and run in $$((took / 60)):$$(printf %02d $$((took % 60))) minutes" >&2
+	  echo "a C compiler is not installed (packages gcc, binutils): not run: build/bin/scrypt_tool was not linked"; fi && \
+	took=$$(($$(date +%s) - begun)) && echo "proved and built in $$((took / 60)):$$(printf %02d $$((took % 60))) minutes" && \
+	echo "crates/scrypt_tool/out/scrypt_tool prints the first key of RFC 7914, section 12:" && \
+	crates/scrypt_tool/out/scrypt_tool key 4 1 1 64 "" < /dev/null
+
+# Prints the name of a step, what it counted and how long it took, and meanwhile what is in work.
+STEP = python3 -B -m ci.step
 
 # The program that is installed asks for a password at a terminal, which the proved one reads as any input.
 TERMINAL = bindings/terminal/build.sh
@@ -49,15 +54,18 @@ LIBRARIES = proved-password_hash proved-scrypt_kernel proved-scrypt proved-scryp
 HAS_ROOM = $(shell test $$(nproc) -ge 4 && awk '/^MemAvailable/ && $$2 > 12000000 { print "yes" }' /proc/meminfo)
 SIDE_BY_SIDE = $(if $(HAS_ROOM),2,1)
 proved-password_hash proved-scrypt_kernel: private JOBS = $(if $(HAS_ROOM),--jobs 3)
-.PHONY: $(LIBRARIES)
+.PHONY: $(LIBRARIES) proved-scrypt_tool
 $(LIBRARIES): proved-%: kit
-	cd crates/$* && rt lib $(JOBS)
+	@$(STEP) $* env -C crates/$* rt lib $(JOBS)
 proved-scrypt: proved-password_hash proved-scrypt_kernel
 proved-scrypt_commands: proved-scrypt
+proved-scrypt_tool: proved-scrypt_commands
+	@$(STEP) scrypt_tool env -C crates/scrypt_tool rt run -- key 4 1 1 64 "" < /dev/null
 
 # What is cheap is reported first, and each part runs whatever the others find.
 check: kit
-	@python3 -m ci.telling $(MAKE) -j1 --no-print-directory --keep-going documents what-changed answers
+	@echo "Proves and tests what changed, in about 2 minutes on four idle processors; the first time everything, in about 11."
+	@$(MAKE) -j1 --no-print-directory --keep-going documents what-changed answers
 
 # From nothing, the libraries are proved first, with more jobs for each. What is kept of them lets a check prove only what
 # changed.
@@ -65,31 +73,33 @@ KEPT = $(wildcard crates/scrypt_commands/out/incremental)
 .PHONY: what-changed
 what-changed:
 	$(if $(KEPT),,$(MAKE) -j$(SIDE_BY_SIDE) $(LIBRARIES))
-	python3 -m ci.check $(if $(HAS_ROOM),4,1)
+	@$(STEP) what-changed python3 -m ci.check $(if $(HAS_ROOM),4,1)
 
 # What the program answers.
 ANSWERS = answers-program answers-hashes
 .PHONY: answers $(ANSWERS)
 answers:
-	@$(MAKE) -j2 --no-print-directory --keep-going --output-sync $(ANSWERS)
+	@$(MAKE) -j2 --no-print-directory --keep-going $(ANSWERS)
 $(ANSWERS): answers-%:
-	python3 -m ci.$* crates/scrypt_tool/out/scrypt_tool
+	@$(STEP) $@ python3 -m ci.$* crates/scrypt_tool/out/scrypt_tool
 
 # The documents and what must not compile are checked there too, beside the proofs.
 test: kit
-	python3 -m ci.gate
+	@python3 -m ci.gate
 
 # Each check runs whatever the others find, so that one run reports every fault.
 DOCUMENTS = lint formats names mirror facts cycles fit promises tests-of-ci tests-of-doc tests-of-compare tests-of-release pages
 documents:
-	@$(MAKE) --no-print-directory --keep-going --output-sync -j$$(nproc) $(DOCUMENTS:%=document-%)
-.PHONY: $(DOCUMENTS:%=document-%)
+	@$(STEP) documents $(MAKE) --no-print-directory --keep-going --output-sync -j$$(nproc) documents-checked
+.PHONY: documents-checked $(DOCUMENTS:%=document-%)
+documents-checked: $(DOCUMENTS:%=document-%)
+	@echo "$(words $^) of $(words $^) checks of the documents and the scripts"
 document-lint:
 	@ci/lint.sh
 document-formats:
 	@if command -v rt > /dev/null; then find crates \( -name '*.rt' -o -name '*.antt' \) -not -path '*/out/*' \
 	  -exec "$$(dirname "$$(readlink -f "$$(command -v rt)")")/rattle" fmt --check {} +; \
-	else echo "rattle fmt: SKIPPED: the Rattle kit isn't here"; fi
+	else echo "the Rattle kit is not installed: not run: rattle fmt"; fi
 document-names:
 	@python3 -m ci.docs
 document-mirror:
@@ -108,7 +118,7 @@ document-tests-of-release:
 	@python3 -B release/test_proved.py
 document-pages:
 	@if python3 -c "from tools import debian; debian.add_packages(); import jinja2, pygments" 2> /dev/null; \
-	then python3 -m doc.make; else echo "doc: SKIPPED: Debian's python3-jinja2 and python3-pygments aren't installed"; fi
+	then python3 -m doc.make; else echo "what makes pages is not installed (packages python3-jinja2, python3-pygments): not run: make doc"; fi
 
 wrong-bodies: $(LIBRARIES)
 	python3 -m ci.wrong_bodies all $(CRATES)

@@ -10,8 +10,9 @@
   and isn't installed is named.
 
 All else but the calls runs on the processors that `rt ci` leaves idle, at a lower priority, since its crates wait for one another.
-What they print, with the time that each took, follows what `rt ci` prints. The last line counts what passed: the crates
-and programs of `rt ci`, and each of these tasks.
+Each crate and each task is one line: when it ended, what it counted and how long it took. What it printed is in build/log/test.log,
+and is shown if it fails. The last line counts what passed, the crates and programs of `rt ci` and each of these tasks, and names the
+packages without which parts were left out.
 """
 
 import concurrent.futures
@@ -29,10 +30,16 @@ import tempfile
 import threading
 import time
 
+from ci import step
 from tools import edits, kit, prover_command, sources
 
 # How many tasks run at once beside `rt ci`, and how many may have begun, with those that wait.
 LANES, MOST = 4, 20
+
+LOG = f"{step.LOGS}/test.log"
+
+# What `rt ci` prints of what passed, after all else that it prints of that.
+ENDED = re.compile(r"rt: (\w+(?:: its tests)?)(?: are)? (?:proved|passed)$")
 
 # What `rt ci` prints of a crate whose library is there.
 PROVED = re.compile(r"rt: (\w+) (?:proved$|is kept: )")
@@ -54,24 +61,22 @@ LIBRARY_FOR_ARM64 = "the library for arm64"
 
 ARM64 = "callers for arm64"
 
-# What the build for arm64 and its tests need, and the Debian packages that have it.
+# What the build for arm64 and its tests need, commands and a file, and the Debian packages that have it.
 FOR_ARM64 = {
-    "/usr/bin/aarch64-linux-gnu-gcc": "gcc-aarch64-linux-gnu",
+    "aarch64-linux-gnu-gcc": "gcc-aarch64-linux-gnu",
     "/usr/aarch64-linux-gnu/include/stdio.h": "libc6-dev-arm64-cross",
-    "/usr/bin/qemu-aarch64-static": "qemu-user-static",
+    "qemu-aarch64-static": "qemu-user-static",
 }
+
+# The packages that a line on what was left out names.
+PACKAGES = re.compile(r"\bpackages? (.*?)(?:\)| is not)")
 
 BEGUN = time.monotonic()
 
 
-def in_minutes(seconds):
-    """The minutes and seconds."""
-    return f"{int(seconds) // 60}:{int(seconds) % 60:02}"
-
-
 def clock():
     """The minutes and seconds since the gate began."""
-    return in_minutes(time.monotonic() - BEGUN)
+    return step.in_minutes(time.monotonic() - BEGUN)
 
 
 def left_by_ci(name):
@@ -120,6 +125,7 @@ class Tasks:
 
     def __init__(self, libraries):
         self.libraries, self.proved, self.waiting, self.begun, self.running = libraries, set(), [], {}, set()
+        self.in_work, self.voice, self.is_ended = [], step.Voice(self.work), False
         self.lanes, self.threads = Lanes(LANES), concurrent.futures.ThreadPoolExecutor(MOST)
         self.added = itertools.count()
         self.prover = self.early = None
@@ -142,13 +148,22 @@ class Tasks:
         if not all([it.result()[0] for it in before]):
             return False, ""
         with self.lanes.taken(place):
-            begun, self.spent.seconds = clock(), 0
+            begun, self.spent.seconds = time.monotonic(), 0
+            self.in_work.append(name)
             is_well, text = call()
-            text = f"{begun} to {clock()}, {in_minutes(self.spent.seconds)} of a processor: {name}\n{text}"
+            self.in_work.remove(name)
+        took = f"{step.in_minutes(time.monotonic() - begun)}, {step.in_minutes(self.spent.seconds)} of a processor"
+        if not self.is_ended:
+            self.voice.say(f"{clock()} {name}: {step.count(text)} ({took})" if is_well else f"{text}{clock()} {name}: FAILED ({took})")
         if is_early and not is_well and self.prover.poll() is None and self.early is None:
-            self.early = f"{text}failed: {name}"
+            self.early = f"failed: {name}"
             self.prover.terminate()
         return is_well, text
+
+    def work(self):
+        """What is in work, of these tasks and of the crates of `rt ci`."""
+        names = step.in_work(self.prover.pid) if self.prover and self.prover.poll() is None else []
+        return f"{clock()} in work: {', '.join([*self.in_work, *names]) or 'rt ci'}"
 
     def run(self, *command, cwd=None, nice=10):
         """Whether a command succeeds, and what it prints. Adds its processor time to that of the task that runs it."""
@@ -173,23 +188,26 @@ class Tasks:
             self.begin()
 
     def __enter__(self):
+        self.voice.__enter__()
         return self
 
     def __exit__(self, failure, *_):
         """Ends the tasks, with what they have started, if the gate ends before them."""
+        self.voice.__exit__()
+        self.is_ended = True
         self.threads.shutdown(wait=False, cancel_futures=failure is not None)
         for process in list(self.running) if failure else ():
             os.killpg(process.pid, signal.SIGTERM)
 
     def end(self, log):
-        """Prints what the tasks print, also to a file, and returns the names of those that fail."""
-        failed = [f"{name}, which did not begin" for name, *_ in self.waiting]
+        """Writes what the tasks print to a file, and returns the names of those that fail, and the lines on what they left out."""
+        failed, left_out = [f"{name}, which did not begin" for name, *_ in self.waiting], []
         for name, task in self.begun.items():
             is_well, text = task.result()
-            print(text, end="", flush=True)
-            log.write(text)
+            log.write(f"-- {name}\n{text}")
             failed += [] if is_well else [name]
-        return failed
+            left_out += step.NOT_RUN.findall(text)
+        return failed, left_out
 
 
 def build(tasks, made, kept):
@@ -257,7 +275,7 @@ def answer(tasks, is_built):
 
 def missing_for_arm64():
     """The packages that the build for arm64 and its tests need, and that aren't installed."""
-    return [package for path, package in FOR_ARM64.items() if not os.path.exists(path)]
+    return [package for it, package in FOR_ARM64.items() if not shutil.which(it) and not os.path.exists(it)]
 
 
 def prove_for_arm64(tasks, *names):
@@ -307,42 +325,64 @@ def add_all(tasks, made, kept, is_built):
     tasks.add("answers to hashes", ["scrypt_tool"], lambda: tasks.run(sys.executable, "-m", "ci.hashes", PROGRAM))
 
 
+def told(voice, lines):
+    """Says what `rt ci` printed, if the last of these lines ends what it prints of one thing: of what passed only the count. Returns
+    the lines that are not said yet."""
+    if not lines[-1].startswith("rt: "):
+        return lines
+    ended = ENDED.match(lines[-1])
+    text = f"{ended[1]}: {step.count(''.join(lines[:-1]))}" if ended else step.shown("".join(lines)).rstrip("\n")
+    voice.say(f"{clock()} {text}")
+    return []
+
+
 def prove(tasks, log):
-    """Runs `rt ci`, copies what it prints to a file, and returns its last line, or ends as it did."""
+    """Runs `rt ci`, writes what it prints to a file, and returns its last line, or ends as it did."""
     tasks.prover = ran = subprocess.Popen(["rt", "ci"], stdout=subprocess.PIPE, text=True, errors="replace")
     tasks.begin()
-    line = ""
+    line, lines = "", []
     for line in ran.stdout:
-        print(f"{clock()} {line}" if line.startswith("rt: ") else line, end="", flush=True)
         log.write(line)
         tasks.note(line)
+        lines = told(tasks.voice, [*lines, line])
     if ran.wait():
+        print(*lines, sep="", end="", flush=True)
         sys.exit(tasks.early or ran.returncode)
     return line
 
 
+def left_out(is_built):
+    """What is left out for want of what is not installed."""
+    if not is_built:
+        yield "a C compiler is not installed (package gcc): not run: the libraries for C and JavaScript, and what calls them"
+    if missing_for_arm64():
+        yield f"what builds for arm64 is not installed (packages {', '.join(missing_for_arm64())}): not run: all for arm64"
+
+
 def main():
     is_built = shutil.which(os.environ.get("CC", "cc")) is not None
+    print(f"Proves and tests everything, in about 16 minutes on four idle processors. What each step prints is in {LOG}.", flush=True)
     clean()
-    with tempfile.TemporaryDirectory(ignore_cleanup_errors=True) as room, open(f"{room}/log", "w+", encoding="utf-8") as log:
+    step.LOGS.mkdir(parents=True, exist_ok=True)
+    with tempfile.TemporaryDirectory(ignore_cleanup_errors=True) as room, open(LOG, "w+", encoding="utf-8") as log:
         os.environ["PROVED_LIBRARIES"] = f"{room}/libraries"
         with Tasks(f"{room}/libraries") as tasks:
             add_all(tasks, f"{room}/made", f"{room}/kept", is_built)
             count = prove(tasks, log)
-            failed = tasks.end(log)
+            failed, lines = tasks.end(log)
         if failed:
             sys.exit(f"failed: {'; '.join(failed)}")
         check_axioms(log)
-        if missing_for_arm64():
-            print(f"Nothing was built for arm64: install the packages {' '.join(missing_for_arm64())}")
-        if not is_built:
-            print("No C compiler is here (package gcc): the library was not called.")
-        else:
+        if is_built:
             log.flush()
             subprocess.run([sys.executable, "-B", "release/proved.py", "keep", log.name], check=True)
     used = resource.getrusage(resource.RUSAGE_CHILDREN)
     print(f"{clock()}, {(used.ru_utime + used.ru_stime) / 60:.1f} processor minutes")
-    print(f"{int(PASSED.match(count)[1]) + len(tasks.begun)} passed, 0 failed")
+    lines = list(dict.fromkeys([*left_out(is_built), *lines]))
+    print(*lines, sep="\n", end="\n" if lines else "")
+    packages = sorted({it for line in lines for it in PACKAGES.findall(line)})
+    without = f"; parts are left out without the packages {', '.join(packages)}" if lines else ""
+    print(f"{int(PASSED.match(count)[1]) + len(tasks.begun)} passed, 0 failed{without}")
 
 
 if __name__ == "__main__":

@@ -8,7 +8,7 @@ lint() {
   kind=$1 package=$2
   shift 2
   if ! command -v "$1" > /dev/null; then
-    echo "$1: SKIPPED: $package isn't installed"
+    echo "$1 is not installed (package $package): not run"
     return
   fi
   wrong=$(find bench bindings ci compare doc examples release tools -name "$kind" -not -path '*/out/*' \

@@ -330,15 +330,15 @@ def refused_memory(program):
     if runs.COMPILER:
         yield from allocations.cases(program)
     else:
-        print("No C compiler is here (package gcc): no allocation was made to fail.")
+        print("a C compiler is not installed (package gcc): not run: allocations that fail")
 
 
 def terminal(program):
     """Runs on a terminal, if the program that is installed can be linked here."""
     if not runs.COMPILER:
-        print("No C compiler is here (package gcc): the program was not run on a terminal.")
+        print("a C compiler is not installed (package gcc): not run: the program on a terminal")
     elif not os.path.exists(f"{program}.o"):
-        print("rt ci kept the proof of the program, and its object is not here: it was not run on a terminal.")
+        print("the object of the program is not beside it, so that it is tried without a terminal")
     else:
         yield from prompt.cases(program)
 

@@ -32,7 +32,7 @@ trap 'debian/rules clean > /dev/null 2>&1; rm -rf "$parts"' EXIT
 
 # The files below any prefix, the documents, and what PROVED.txt says of the files.
 for ARCH in $archs; do
-  RELEASED=1 make -s install prefix="$parts/files/$ARCH" pythondir="$parts/python" docdir="$parts/doc" DESTDIR= ARCH="$ARCH"
+  RELEASED=1 make -s install prefix="$parts/files/$ARCH" pythondir="$parts/python" docdir="$parts/doc" DESTDIR= ARCH="$ARCH" > /dev/null
   rm "$parts/doc/installed" # or the next one would be an upgrade, and remove these
   ARCH=$ARCH release/strip.sh "$parts/files/$ARCH"
 done

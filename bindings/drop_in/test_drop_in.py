@@ -320,4 +320,6 @@ for name, theirs, package in [
     ("crypto_scrypt", BY_COSTS["crypto_scrypt"], "libscrypt-kdf1"),
     ("libscrypt_scrypt", BY_COSTS["libscrypt_scrypt"], "libscrypt0"),
 ]:
-    print(f"{name}: as hashlib" + (", and as its own library" if theirs else f"; {package} is not installed"))
+    print(f"{name}: as hashlib" + (", and as its own library" if theirs else ""))
+    if not theirs:
+        print(f"the own library of {name} is not installed (package {package}): not run beside it")

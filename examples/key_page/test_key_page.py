@@ -33,7 +33,7 @@ SECONDS = 120
 def made_by_age(room):
     """Files of the installed age, with their passwords and the files that they contain."""
     if not shutil.which("age"):
-        print("age is not installed (package age): the page was tried with the file here alone")
+        print("age is not installed (package age): not run on files that it makes")
         return
     for length in LENGTHS:
         content, path = room / f"content-{length}", room / f"{length}.age"
