@@ -241,10 +241,12 @@ fi
 
 make -s install prefix=/usr libdir=/usr/lib/x86_64-linux-gnu DESTDIR="$room/stage" > /dev/null
 manual=$room/stage/usr/share/man
-for call in scrypt_c $(awk '/^scrypt_/ { print $1 }' bindings/c/abi); do
-  test -s "$manual/man3/$call.3" || { echo "the manual has no page $call" >&2; exit 1; }
+mkdir -p "$manual/man1" && cp docs/scrypt_tool.1 "$manual/man1" # where the program isn't built
+for page in man1/scrypt_tool.1 man3/scrypt_c.3 $(awk '/^scrypt_/ { print "man3/" $1 ".3" }' bindings/c/abi); do
+  call=$(basename "${page%.*}")
+  test -s "$manual/$page" || { echo "the manual has no page $call" >&2; exit 1; }
   if command -v man > /dev/null; then
-    (cd "$manual" && LC_ALL=C.UTF-8 MANWIDTH=80 man --warnings -l -Tutf8 "man3/$call.3" 2>> "$room/warnings" | col -bx > "$room/page")
+    (cd "$manual" && LC_ALL=C.UTF-8 MANWIDTH=80 man --warnings -l -Tutf8 "$page" 2>> "$room/warnings" | col -bx > "$room/page")
     grep -q "\b$call\b" "$room/page" || { echo "the page $call is of another call" >&2; exit 1; }
     if grep -E '.{81}' "$room/page"; then echo "the page $call has lines of more than 80 columns" >&2; exit 1; fi
     cat "$room/page" >> "$room/pages"
