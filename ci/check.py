@@ -5,6 +5,9 @@ others out of the folders of its crate and of those below. It differs from that 
 - It doesn't read all sources first where a library isn't built, which only reports some faults sooner.
 - Rattle's own compiler compiles the tests and the library for C, in half of LLVM's time. In the gate LLVM does.
 
+`rt all` has an option for neither, so two functions of the kit's command are replaced. Where that has other ones, `rt all test` checks
+the same.
+
 usage: python3 -m ci.check [JOBS]   how many crates at a time
 """
 
