@@ -36,6 +36,9 @@ THIRD_KEY = (
 )
 USUAL_BYTES, USUAL_WORK, LEAST = (header.NUMBERS[name] for name in ("MOST_BYTES", "MOST_WORK", "LEAST_KEY_LEN"))
 
+# The least log_n whose table with r = 8 has more.
+ABOVE = USUAL_BYTES.bit_length() - 10
+
 
 def too_costly(needed, work, most_bytes=USUAL_BYTES, most_work=USUAL_WORK):
     return f"hash refused: TooCostly, it needs {needed} bytes and work {work}, and --most-bytes is {most_bytes} and --most-work {most_work}"
@@ -211,8 +214,8 @@ LIMITS = [
     ("--most-work=192 verify $7$2/..../....$r/", "", 2, key_too_short(1, LEAST), "the others are the usual ones"),
     (f"--usual-limits verify $scrypt$ln=17,r=8,p=5{PASSLIB_SALT_AND_KEY}", "", 2, too_costly(134224896, 20976640),
      "five times the recommended work"),
-    (f"--usual-limits verify $scrypt$ln=19,r=8,p=1{PASSLIB_SALT_AND_KEY}", "", 2, too_costly(536873984, 16778240),
-     "more memory than is allowed"),
+    (f"--usual-limits verify $scrypt$ln={ABOVE},r=8,p=1{PASSLIB_SALT_AND_KEY}", "", 2,
+     too_costly((1 << 10 + ABOVE) + 3072, 32 * ((1 << ABOVE) + 32)), "more memory than is allowed"),
     ("--usual-limits verify $7$s/..../....$r/", "", 2, too_costly(9223372036854776192, 288230376151711872),
      "a table of 2^63 bytes"),
     (f"--usual-limits verify {SHORT}", "", 2, key_too_short(10, LEAST), "a key of 10 bytes"),

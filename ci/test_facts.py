@@ -11,6 +11,7 @@ from pathlib import Path
 
 from ci import facts
 from ci.facts import LEAST, LOG_N, MIB, P, R
+from tools import mirror
 from tools.mirror import BYTES, VERSION, WORK
 
 # A fact, and what a page, a script or a program would say of it.
@@ -45,6 +46,14 @@ def run(*command, cwd):
     """What a command prints; nothing if all is well."""
     ran = subprocess.run(command, cwd=cwd, capture_output=True, text=True, check=False)
     return ran.stdout + ran.stderr
+
+
+class Statuses(unittest.TestCase):
+    def test_table(self):
+        """The page for all languages has each status."""
+        page = Path("bindings/README.md").read_text("utf-8")
+        for name, number in mirror.STATUSES.items():
+            self.assertIn(f"\n| `SCRYPT_{name}` ({number}) |", page)
 
 
 class Lists(unittest.TestCase):
@@ -112,7 +121,8 @@ class Lists(unittest.TestCase):
         self.assertEqual(naming, self.listed("An option of the program"))
 
     def test_a_call(self):
-        self.change(facts.HEADER, "/* ---- Salts", "SCRYPT_CHECKED\nint scrypt_new(const char *text, size_t text_len, double seconds);\n\n/* ---- Salts")
+        end = "/* ---- Salts"
+        self.change(facts.HEADER, end, f"int scrypt_new(const char *text, size_t text_len, double seconds);\n\n{end}")
         self.assertEqual(self.unmade(), {"bindings/c/each_call.h", "bindings/python/scrypt_c/declared.py", "bindings/rust/src/calls.rs"})
         self.mirror()
         self.assertEqual(self.unmade(), set())

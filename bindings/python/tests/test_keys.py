@@ -10,6 +10,7 @@ import warnings
 from unittest import mock
 
 import scrypt_c
+from scrypt_c import key
 
 SMALL = {"n": 16, "r": 1, "p": 1}
 
@@ -72,6 +73,15 @@ class Keys(unittest.TestCase):
             before = peak()
             scrypt_c.scrypt(b"pw", maxmem=bound, **costs)
             self.assertLess(abs(peak(of_now=False) - before - tables * one), one // 4)
+
+    def test_bounds(self):
+        """Both have 64 bits: the lower half of 2^32 is 0."""
+        given = b"pw", b"salt", scrypt_c.Params(4, 1, 1)
+        for bounds in (2432, 192), (1 << 32, 1 << 32):
+            self.assertEqual(key.derive_within(*given, *bounds, 32), hashlib.scrypt(b"pw", salt=b"salt", dklen=32, **SMALL))
+        for bounds in (2431, 192), (2432, 191):
+            with self.assertRaises(scrypt_c.TooCostlyError):
+                key.derive_within(*given, *bounds, 32)
 
     def test_a_long_key(self):
         with self.assertRaisesRegex(MemoryError, rf"\b{1 << 36} bytes"):
