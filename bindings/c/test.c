@@ -192,6 +192,11 @@ static void hash_params(const char *text) {
   check(scrypt_limits_for_new(18, 8, 1, 32, &most_bytes, &most_work, &least_key_len) == SCRYPT_OK &&
             most_bytes == SCRYPT_MOST_BYTES && most_work == SCRYPT_MOST_WORK && least_key_len == SCRYPT_LEAST_KEY_LEN,
         "the usual bounds");
+  check(scrypt_limits_for_new(19, 8, 1, 10, NULL, &most_work, &least_key_len) == SCRYPT_NULL_POINTER, "no place for bytes");
+  check(scrypt_limits_for_new(19, 8, 1, 10, &most_bytes, NULL, &least_key_len) == SCRYPT_NULL_POINTER, "no place for work");
+  check(scrypt_limits_for_new(19, 8, 1, 10, &most_bytes, &most_work, NULL) == SCRYPT_NULL_POINTER, "no place for a length");
+  check(most_bytes == SCRYPT_MOST_BYTES && most_work == SCRYPT_MOST_WORK && least_key_len == SCRYPT_LEAST_KEY_LEN,
+        "the other two are unchanged");
   check(scrypt_hash_params("$7$", 3, &log_n, &r, &p, &key_len) == SCRYPT_ENCODING_INVALID, "no hash");
   check(log_n == 99 && r == 99 && p == 99 && key_len == 99, "an error leaves the four");
   check(scrypt_hash_params(text, strlen(text), &log_n, &r, &p, &key_len) == SCRYPT_OK, "params");
@@ -223,6 +228,7 @@ static void hashes(void) {
   check(rehash(phc, 5) == SCRYPT_NEEDS_REHASH && rehash(mcf, 5) == SCRYPT_NEEDS_REHASH, "weaker");
   check(rehash(phc, 57) == SCRYPT_INVALID_PARAMS, "unaccepted numbers");
   check(scrypt_needs_rehash(phc, strlen(phc), 4, 8, 1, 9) == SCRYPT_INVALID_PARAMS, "a key of 9 bytes");
+  check(scrypt_needs_rehash(phc, strlen(phc), 4, 8, 1, 0) == SCRYPT_INVALID_PARAMS, "a key of no bytes, which is no default");
   check(scrypt_hash_phc("", 0, "", 0, 4, 8, 1, 32, phc, sizeof phc) == SCRYPT_SALT_INVALID, "no salt");
   check(scrypt_hash_phc("", 0, "s", 1, 4, 8, 1, 65, phc, sizeof phc) == SCRYPT_INVALID_PARAMS, "key_len");
   check(scrypt_hash_mcf("", 0, "", 0, 4, 8, 0, 32, mcf, sizeof mcf) == SCRYPT_INVALID_PARAMS, "p of 0");
