@@ -4,7 +4,7 @@
 - When the crates below are proved, over a copy of their libraries: the wrong bodies, what must not compile, and the static libraries for C, since
   `rt lib` takes nothing from `rt ci` and would prove the crates below again. The first of these libraries checks its crate
   in an empty folder; the second, the module for JavaScript, and the wrong bodies of that crate, take from it what they leave
-  unchanged. Then they are linked and called.
+  unchanged. Then they are linked and called, and compared with those that Rattle's own compiler builds.
 - When the program is proved: its answers. It is linked with what asks at a terminal after that.
 - For arm64: the library and the program, with another mixer, whose calls and answers run in an emulator. A package that this needs
   and isn't installed is named.
@@ -214,19 +214,18 @@ def build(tasks, made, kept):
     """Builds the static libraries for C for both processors, not at a lower priority, since other tasks wait for them.
 
     The verdict of the newer processor's is printed."""
-    os.makedirs(made)
+    os.makedirs(f"{made}/{NEWER}")
     os.makedirs(kept)
     command = [*prover_command.of("build", "scrypt_c"), "--toolchain", f"{kit.located()}/toolchain", "--backend", "llvm"]
     command += ["--incremental", kept]
     lines = []
-    for name, options in [(NEWER, ["--cpu", NEWER]), ("scrypt_c", [])]:
-        is_well, text = tasks.run(*command, *options, "-o", f"{made}/{name}.a", cwd="crates/scrypt_c", nice=0)
+    for folder, options in [(f"{made}/{NEWER}", ["--cpu", NEWER]), (made, [])]:
+        is_well, text = tasks.run(*command, *options, "-o", f"{folder}/libscrypt_c.a", cwd="crates/scrypt_c", nice=0)
         if not is_well:
             return False, text
         lines += [line for line in text.splitlines() if line.startswith("logic=proved ") and f" cpu={NEWER} " in line]
-    # The wrong bodies of the crate write what they keep to the folder itself, while these are copied from.
-    shutil.copytree(kept, f"{kept}-arm64")
-    shutil.copytree(kept, f"{kept}-module")
+    # The wrong bodies of the crate write what they keep to the folder itself, while others copy from this one.
+    shutil.copytree(kept, f"{kept}-unchanged")
     return len(lines) == 1, "\n".join([f"== scrypt_c-{NEWER}", *lines, ""])
 
 
@@ -241,16 +240,9 @@ def check_axioms(log):
         sys.exit(f"doc/axioms.txt has {known} functions, and the check of the program assumes {found[1]}: make axioms")
 
 
-def place(made):
-    """Moves the static libraries for C to where `rt lib` leaves them."""
-    os.makedirs(f"crates/scrypt_c/out/{NEWER}", exist_ok=True)
-    shutil.move(f"{made}/{NEWER}.a", f"crates/scrypt_c/out/{NEWER}/libscrypt_c.a")
-    shutil.move(f"{made}/scrypt_c.a", "crates/scrypt_c/out/libscrypt_c.a")
-
-
 def link_and_call(tasks, made):
     """Links the libraries, and calls them. What is packed is this. Not at a lower priority, since one call measures time."""
-    place(made)
+    shutil.copytree(made, "crates/scrypt_c/out", dirs_exist_ok=True)  # as `rt lib` leaves them
     return tasks.run("sh", "-c", "bindings/lib.sh built && bindings/callers.sh short", nice=0)
 
 
@@ -292,14 +284,19 @@ def test_arm64(tasks):
 def add_for_arm64(tasks, kept):
     """Adds what is for arm64."""
     below = prover_command.below("scrypt_tool")
-    tasks.add(LIBRARY_FOR_ARM64, prover_command.below("scrypt_c"), lambda: prove_for_arm64(tasks, f"scrypt_c={kept}-arm64"), LIBRARY)
+    tasks.add(LIBRARY_FOR_ARM64, prover_command.below("scrypt_c"), lambda: prove_for_arm64(tasks, f"scrypt_c={kept}-unchanged"), LIBRARY)
     tasks.add(PROGRAM_FOR_ARM64, below, lambda: prove_for_arm64(tasks, "scrypt_tool"))
     tasks.add(ARM64, below, lambda: test_arm64(tasks), PROGRAM_FOR_ARM64, LIBRARY_FOR_ARM64)
 
 
 def build_module(tasks, kept):
     """Builds the module for JavaScript over what the build of the libraries kept."""
-    return tasks.run(sys.executable, "-m", "bindings.js.build", f"{kept}-module")
+    return tasks.run(sys.executable, "-m", "bindings.js.build", f"{kept}-unchanged")
+
+
+def compare_compilers(tasks, made, kept):
+    """Compares the calls from C as clang and as Rattle's own compiler build them."""
+    return tasks.run(sys.executable, "-m", "bindings.compilers", made, f"{kept}-unchanged")
 
 
 def add_all(tasks, made, kept, is_built):
@@ -313,6 +310,7 @@ def add_all(tasks, made, kept, is_built):
             add_for_arm64(tasks, kept)
         tasks.add("callers of the library", prover_command.below("scrypt_c"), lambda: link_and_call(tasks, made), LIBRARY)
         tasks.add(MODULE, prover_command.below("scrypt_c"), lambda: build_module(tasks, kept), LIBRARY)
+        tasks.add("two compilers", prover_command.below("scrypt_c"), lambda: compare_compilers(tasks, made, kept), LIBRARY)
         tasks.add("callers of the module", prover_command.below("scrypt_c"), lambda: tasks.run("bindings/js/test/test.sh"), MODULE)
     for name in edits.crates_with(edits.GATE):
         is_over = name == "scrypt_c" and is_built
