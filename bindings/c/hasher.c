@@ -106,7 +106,7 @@ int scrypt_hasher_needs_rehash(const scrypt_hasher *hasher, const char *text, si
 static size_t usual_at_once(const scrypt_options *with, const scrypt_needs *new) {
   size_t memory = memory_of_process(), usable = memory - memory / 8, fit = usable / with->most_bytes;
   size_t two = with->processors > SIZE_MAX / 2 ? SIZE_MAX : 2 * with->processors;
-  if (fit == 0) fit = usable / table_bytes(new);
+  if (fit == 0) fit = usable / new->bytes;
   return fit == 0 ? 1 : fit < two ? fit : two;
 }
 

@@ -35,8 +35,6 @@ void *map_zeros_in_child(size_t size) {
   return NULL;
 }
 
-size_t table_bytes(const scrypt_needs *one) { return 4 * (one->table_len + one->scratch_len) + one->chunks_len; }
-
 static int has_huge(const scrypt_needs *one) { return 4 * one->table_len >= HUGE_PAGE; }
 
 /* Nobody maps or unmaps while the system copies a process. So what is noted is mapped in a child too, since it is noted after
@@ -109,7 +107,7 @@ static int map(struct tables *tables, size_t bytes, int is_huge) {
 #define SKIPPED 64
 
 size_t tables_room(struct tables *tables, const scrypt_needs *one, size_t most) {
-  size_t bytes = table_bytes(one), count;
+  size_t bytes = one->bytes, count;
   if (tables->refused != 0 && most > 1 && tables->skipped++ == SKIPPED) tables->refused = tables->skipped = 0;
   for (count = most; count > 0; count--) {
     size_t all = bytes > SIZE_MAX / count ? SIZE_MAX : count * bytes;

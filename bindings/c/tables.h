@@ -23,9 +23,6 @@ struct tables {
   size_t skipped; /* how often it wasn't */
 };
 
-/* The bytes of one derivation's buffers. They are within a bound, so that the sum doesn't overflow. */
-size_t table_bytes(const scrypt_needs *one);
-
 /* Makes room for `most` tables with scratch and chunks, or for as many as the system allows, and returns how many: 0 if not
  * even one. What they held is lost. */
 size_t tables_room(struct tables *tables, const scrypt_needs *one, size_t most);

@@ -145,8 +145,8 @@ static void interrupt(char what, struct thread *it) {
 }
 
 static void act(char what, scrypt_hasher *hasher) {
-  static const scrypt_needs ONE = {4, 8, 1, 32, 1, 1024, 16 * 256, 512, 0, 0};
-  const size_t table = table_bytes(&ONE) + sizeof(uint32_t), all = READ(mapped); /* with a mark */
+  static const scrypt_needs ONE = {4, 8, 1, 32, 1, 1024, 16 * 256, 512, 1024 + 4 * (16 * 256 + 512), 0};
+  const size_t table = ONE.bytes + sizeof(uint32_t), all = READ(mapped); /* with a mark */
   int before = READ(ended);
   if (what == '$') scrypt_hasher_close(hasher);
   if (what == 'm') WRITE(most_mapped, table);

@@ -101,7 +101,7 @@ static void freed_at_any_time(void) {
 static void short_of_memory(void) {
   pthread_t all[24];
   scrypt_hasher *hasher = made(4, 8, 4);
-  WRITE(most_in_all, READ(mapped) + table_bytes(&hasher->needs) + sizeof(uint32_t));
+  WRITE(most_in_all, READ(mapped) + hasher->needs.bytes + sizeof(uint32_t));
   for (int i = 0; i < 24; i++) pthread_create(&all[i], NULL, verify_one, hasher);
   for (int i = 0; i < 24; i++) pthread_join(all[i], NULL);
   WRITE(most_in_all, SIZE_MAX);
@@ -129,7 +129,7 @@ static void given_back(void) {
   for (int i = 0; i < 2; i++) pthread_join(both[i], NULL);
   tables_free(&hasher->queue->turn[0].tables);
   begun = 0;
-  WRITE(most_in_all, READ(mapped) + table_bytes(&hasher->needs) + sizeof(uint32_t));
+  WRITE(most_in_all, READ(mapped) + hasher->needs.bytes + sizeof(uint32_t));
   WRITE(munmap_hook, verify_another);
   IS(verify(hasher, text, "right", -1), SCRYPT_OK);
   expect(READ(munmap_hook) == NULL, "nothing was given back");
@@ -144,7 +144,7 @@ static void memory_again(void) {
   pthread_t all[8];
   scrypt_hasher *hasher = made(4, 4, 4);
   WRITE(is_stopped, 1);
-  WRITE(most_in_all, READ(mapped) + table_bytes(&hasher->needs) + sizeof(uint32_t));
+  WRITE(most_in_all, READ(mapped) + hasher->needs.bytes + sizeof(uint32_t));
   for (int i = 0; i < 8; i++) pthread_create(&all[i], NULL, verify_one, hasher);
   until(look_at(hasher).stats.waiting == 7 && READ(inside) == 1);
   WRITE(most_in_all, SIZE_MAX);

@@ -121,16 +121,16 @@ static void room_for_one(void) {
   char text[SCRYPT_PHC_CAPACITY];
   make_text(text, "right", 4, 8, 1);
   IS(verify(hasher, text, "right", -1), SCRYPT_OK);
-  IS(READ(mapped) - before, sizeof(struct queue) + table_bytes(&hasher->needs) + sizeof(uint32_t));
+  IS(READ(mapped) - before, sizeof(struct queue) + hasher->needs.bytes + sizeof(uint32_t));
   scrypt_hasher_free(hasher);
 }
 
 /* What was refused for several tables is tried again, and not each time. */
 static void refused_for_a_while(void) {
-  static const scrypt_needs ONE = {4, 8, 1, 32, 1, 1024, 16 * 256, 512, 0, 0};
+  static const scrypt_needs ONE = {4, 8, 1, 32, 1, 1024, 16 * 256, 512, 1024 + 4 * (16 * 256 + 512), 0};
   struct tables tables = {0};
   size_t before = READ(mapped), tries = 1;
-  WRITE(most_mapped, table_bytes(&ONE) + sizeof(uint32_t));
+  WRITE(most_mapped, ONE.bytes + sizeof(uint32_t));
   IS(tables_room(&tables, &ONE, 4), 1);
   WRITE(most_mapped, SIZE_MAX);
   while (tables_room(&tables, &ONE, 4) == 1 && tries < 1000) tries++;

@@ -234,7 +234,7 @@ static void check_wake(const uint32_t *word) {
 static void check_mapped(void) {
   size_t largest = 0;
   FOR_THREADS(it) {
-    size_t bytes = table_bytes(&COSTS[plan_of(it)->cost]) + sizeof(uint32_t);
+    size_t bytes = COSTS[plan_of(it)->cost].bytes + sizeof(uint32_t);
     if (largest < bytes) largest = bytes;
   }
   CHECK(world.generation > 0 || bytes_mapped() <= scenario->tables * largest, "more tables are mapped than may exist at a time");

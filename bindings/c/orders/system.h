@@ -19,7 +19,7 @@
 #define LEAST_MOMENT_NS 0
 #define TABLE_WORDS 40 /* with which a call waits for others for one nanosecond */
 #define TABLE_BYTES (4 * (size_t)TABLE_WORDS)
-#define COST(log_n, r, p, words) {log_n, r, p, 32, p, 0, words, 0, 0, 0}
+#define COST(log_n, r, p, words) {log_n, r, p, 32, p, 0, words, 0, 4 * (words), 0}
 enum { USUAL, OTHER_N, OTHER_R, OTHER_P };
 static const scrypt_needs COSTS[] = {
     [USUAL] = COST(1, 8, 1, TABLE_WORDS),
