@@ -19,7 +19,7 @@ use Rattle.scrypt.specs.Reading.{Stored, chunks_of, mixed_of, verdict}
 use Rattle.scrypt.specs.Workspace.{IsDone, IsLeft, Workspace}
 use Rattle.scrypt.specs.declared.logins.Login.{Login}
 use Rattle.scrypt.proofs.KeyFacts.{both_mixed, length-mixed_chunks}
-use Rattle.scrypt.proofs.ReadingFacts.{enough_decided, not_enough, same_verdict}
+use Rattle.scrypt.proofs.ReadingFacts.{enough_decided, same_verdict}
 
 -- n chunks, which are those of d and others
 pub record AreMore (c d : Parameters) (others : Option ℕ) (n : ℕ) : Type 0 where
@@ -43,15 +43,6 @@ none_of_more c zero these none = none
 none_of_more c (suc i) [] none = absurd cc
 none_of_more c (suc i) ((password, Ok s) ∷ rest) none = rw (none_of_more c i rest none) refl
 none_of_more c (suc i) ((password, Err why) ∷ rest) none = none_of_more c i rest none
-
-pub no_room_for : (s : Option Parameters) (c e : Parameters) (chunks table scratch : List ℕ) → s ≡ Some c → s ≡ Some e
-    → ¬ IsTrue (are_enough c chunks table scratch) → are_enough e chunks table scratch ≡ false
-no_room_for s c e chunks table scratch one other short = let same : e ≡ c = cc in rw same (not_enough c chunks table scratch short)
-
-pub left_at_once : (these : List Attempt) (c : Parameters) (before after : Workspace) → shared these ≡ Some c
-    → IsTrue (are_enough c before.chunks before.table before.scratch) → IsDone c before after → AreLeft these before after
-left_at_once [] c before after is room done = absurd cc
-left_at_once (a ∷ rest) c before after is room done = rw (is, room) done
 
 -- the chunks of all are one list
 

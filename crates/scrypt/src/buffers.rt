@@ -1,15 +1,15 @@
 // The workspace of a derivation: the lengths of its buffers, the caller's, allocated ones, and what is used of either.
 
-ghost use Rattle.std.specs.Prelude.{◌≡◌, ◌⊎◌, ◌↔◌, ◌+◌, ◌-◌, ◌*◌, ◌<◌, ◌≤◌, length, IfOk, IfSome, IsSome, IsTrue};
-ghost use Rattle.scrypt_kernel.specs.Memory.{allocated_room};
+ghost use Rattle.std.specs.Prelude.{◌≡◌, ◌⊎◌, ◌↔◌, ◌+◌, ◌-◌, ◌*◌, ◌<◌, ◌≤◌, length, IfOk, IfSome, IsSome, IsTrue, None};
+ghost use Rattle.scrypt_kernel.specs.Memory.{allocated_room, buffer_room};
 ghost use Rattle.scrypt.specs.Cost.{chunks_bytes, scratch_words, table_words, thin_scratch_words};
 ghost use Rattle.scrypt.specs.InBuffers.{are_enough};
 ghost use Rattle.scrypt.specs.Limits.{tables_within};
-ghost use Rattle.scrypt.specs.Mixing.{HasTables, IsWidth};
-ghost use Rattle.scrypt.specs.Workspace.{AreUsed, chunks_at_once};
+ghost use Rattle.scrypt.specs.Mixing.{HasTables, IsReady, IsSpent, IsWidth};
+ghost use Rattle.scrypt.specs.Workspace.{AreUsed, IsDone, chunks_at_once, workspace_of};
 
 use crate::{CoreCount, Params};
-use scrypt_kernel::memory::Allocated;
+use scrypt_kernel::memory::{Allocated, Buffer};
 use std::alloc::{AllocError, Global};
 
 /// The lengths of the buffers that a derivation works on.
@@ -129,7 +129,7 @@ pub(crate) fn chunks_at_once(params: &Params, count: usize, table: usize, scratc
 /// Returns how many of `count` chunks are mixed at a time in these buffers, or `None` if a buffer is too
 /// short for them.
 #[tactic(auto, using(crate::proofs::CostFacts::width_of_part, std::proofs::lemmas::Bool::Decides::nat_tests), unfolding(crate::specs::InBuffers::are_enough))]
-pub(crate) fn width_in(
+fn width_in(
     params: &Params,
     count: u32,
     chunks: &[u8],
@@ -199,6 +199,46 @@ impl<'a, M> InUse<'a, M> {
             cores,
         }
     }
+}
+
+/// Calls `derive` with the front of the caller's buffers, as much as a derivation of `count` chunks uses, and with `output`.
+/// Returns what it returns, or `None`, and then changes nothing, exactly if a buffer is too short.
+pub(crate) fn at_front<V, T, F: FnOnce(&mut InUse<'_, Buffer<'_>>, &mut [V]) -> T>(
+    params: &Params,
+    count: u32,
+    chunks: &mut [u8],
+    table: &mut [u32],
+    scratch: &mut [u32],
+    cores: &mut CoreCount,
+    output: &mut [V],
+    derive: F,
+) -> Option<T>
+    requires some { 0 < count }
+    requires callable { (used : _) (shown : _) → IsReady buffer_room params.now.log_n 0 params.now.r count used.now
+        → shown.now ≡ output.old → F.pre derive used shown }
+    requires spends { (used : _) (shown : _) (made : T) (after : _) (left : _)
+        → IsReady buffer_room params.now.log_n 0 params.now.r count used.now → F.post derive used shown made after left
+        → IsSpent buffer_room (record params.now { p = count }) used.now after.now }
+    ensures exact { IsSome result ↔ IsTrue (are_enough (record params.now { p = count }) chunks.old table.old scratch.old) }
+    ensures made { IfSome result (λ made. (used : _) × (shown : _) × (after : _) × (left : _)
+        × IsReady buffer_room params.now.log_n 0 params.now.r count used.now
+        × (shown.now ≡ output.old) × (left.now ≡ output.new) × F.post derive used shown made after left) }
+    ensures done { IsSome result → IsDone (record params.now { p = count })
+        (workspace_of chunks.old table.old scratch.old cores.old) (workspace_of chunks.new table.new scratch.new cores.new) }
+    ensures unchanged { result ≡ None → (output.new ≡ output.old)
+        × (workspace_of chunks.new table.new scratch.new cores.new ≡ workspace_of chunks.old table.old scratch.old cores.old) }
+{
+    let Some(width) = width_in(params, count, chunks, table, scratch) else {
+        return None;
+    };
+    params.expose_invariant();
+    let lens = BufferLens::for_tables(params, width);
+    let (chunks, _) = chunks.split_at_mut(count as usize * (128 * params.r() as usize));
+    let (table, _) = table.split_at_mut(lens.table);
+    let (scratch, _) = scratch.split_at_mut(lens.scratch);
+    let mut rows = Buffer::new(table);
+    let mut used = InUse::new(width, chunks, &mut rows, scratch, cores);
+    Some(derive(&mut used, output))
 }
 
 /// Buffers for one derivation.

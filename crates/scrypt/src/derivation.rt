@@ -6,7 +6,7 @@ ghost use Rattle.scrypt_kernel.specs.Pbkdf2.{max_output_len, pbkdf2};
 ghost use Rattle.scrypt.specs.Accepted.{is_output_len};
 ghost use Rattle.scrypt.specs.Cost.{chunks_bytes, cost, scratch_words, table_words, thin_cost, thin_scratch_words};
 ghost use Rattle.scrypt.specs.Key.{derived_key};
-ghost use Rattle.scrypt.specs.Mixing.{HasTables, IsKept, IsReady};
+ghost use Rattle.scrypt.specs.Mixing.{HasTables, IsKept, IsReady, IsSpent};
 ghost use Rattle.scrypt.specs.declared.errors.DeriveError.TheVariants.{InvalidOutputLen as BadLength, OutOfMemory};
 
 pub(crate) mod mixing;
@@ -281,6 +281,25 @@ pub fn scrypt_thin_by<W: Mixer>(
     let mut used = InUse::new(1, chunks, &mut rows, scratch, cores);
     derive_in::<Buffer<'_>, W>(password, salt, params, s, &mut used, output);
     Ok(())
+}
+
+/// Derives a key in any memory. Afterwards the chunks and the scratch are zeros.
+pub(crate) fn derive_and_wipe<M: TableMemory, W: Mixer>(
+    password: &[u8],
+    salt: &[u8],
+    params: &Params,
+    used: &mut InUse<'_, M>,
+    output: &mut [u8],
+)
+    requires ready { IsReady M.room params.now.log_n 0 params.now.r params.now.p used.old }
+    requires length { length output.old ≤ max_output_len }
+    ensures value { output.new ≡ derived_key password.now salt.now
+        params.now.log_n params.now.r params.now.p (length output.old) }
+    ensures spent { IsSpent M.room params.now used.old used.new }
+{
+    derive_in::<M, W>(password, salt, params, 0, used, output);
+    used.chunks.fill(0);
+    used.scratch.fill(0);
 }
 
 /// Steps 1 to 3, in any memory, and a table that keeps one row in `2^s`.

@@ -1,17 +1,15 @@
 // Verifying several passwords in one memory, at once if possible.
 
 ghost use Rattle.std.specs.Prelude.{◌≡◌, ℕ, ◌∷◌, List, ◌+◌, ◌*◌, ◌<◌, length, map, IfSome, IsTrue, None, Some, true, false};
-ghost use Rattle.scrypt.specs.Accepted.{Parameters};
-ghost use Rattle.scrypt.specs.InBuffers.{are_enough};
 ghost use Rattle.scrypt.specs.Logins.{AreLeft, Attempt, IsAlone, all_of, attempt_of, attempts, count_of, own, params_of, reading_of, shared, verdict_on};
-ghost use Rattle.scrypt.specs.Mixing.{IsReady, IsSpent, IsWidth};
+ghost use Rattle.scrypt.specs.Mixing.{IsReady, IsSpent};
 ghost use Rattle.scrypt.specs.Reading.{chunks_of, mapped, mixed_of, verdict};
 ghost use Rattle.scrypt.specs.StoredParts.{stored};
 ghost use Rattle.scrypt.specs.WithinLimits.{with_limited_refusal};
 ghost use Rattle.scrypt.specs.Workspace.{IsLeft, verdict_in, workspace_of};
 ghost use Rattle.scrypt_kernel.specs.Memory.{buffer_room};
 
-use crate::buffers::{InUse, width_in};
+use crate::buffers::{InUse, at_front};
 use crate::comparing::is_derived_key;
 use crate::derivation::derive_chunks;
 use crate::derivation::mixing::mix_all;
@@ -190,41 +188,38 @@ fn verified_at_once<W: Mixer>(
     ensures unchanged { result ≡ false → (chunks.new ≡ chunks.old) × (table.new ≡ table.old) × (scratch.new ≡ scratch.old)
         × (cores.new ≡ cores.old) }
 {
-    let Some((params, count, width)) = room_for(logins, chunks, table, scratch) else {
+    let Some((params, count)) = shared_params(logins) else {
         return false;
     };
-    params.expose_invariant();
-    let lens = BufferLens::for_tables(&params, width);
-    let (chunks, _) = chunks.split_at_mut(count as usize * (128 * params.r() as usize));
-    let (table, _) = table.split_at_mut(lens.table);
-    let (scratch, _) = scratch.split_at_mut(lens.scratch);
-    let mut rows = Buffer::new(table);
-    let mut used = InUse::new(width, chunks, &mut rows, scratch, cores);
-    verify_at_once::<W>(logins, verdicts, &params, count, &mut used);
-    true
+    let verified = at_front(
+        &params,
+        count,
+        chunks,
+        table,
+        scratch,
+        cores,
+        verdicts,
+        |used, verdicts| verify_at_once::<W>(logins, verdicts, &params, count, used),
+    );
+    match verified {
+        Some(()) => true,
+        None => false,
+    }
 }
 
-// Returns the parameters of the first, the number of all chunks, and how many are mixed at a time in these buffers,
-// if all keys are derived at once in them.
+// Returns the parameters of the first, and the number of all chunks, if all keys can be derived at once.
 #[tactic(auto, unfolding(crate::specs::Logins::with_more))]
-fn room_for(
-    logins: &[Login<'_, '_>],
-    chunks: &[u8],
-    table: &[u32],
-    scratch: &[u32],
-) -> Option<(Params, u32, usize)>
+fn shared_params(logins: &[Login<'_, '_>]) -> Option<(Params, u32)>
+    ensures some { IfSome result (λ got. 0 < got.1) }
     ensures count { IfSome result (λ got. count_of got.0 (attempts logins.now) ≡ Some got.1) }
     ensures shared { IfSome result (λ got. shared (attempts logins.now) ≡ Some (record got.0 { p = got.1 })) }
-    ensures width { IfSome result (λ got. IsWidth got.0.log_n got.0.r got.1 got.2 chunks.now table.now scratch.now) }
-    ensures room { IfSome result (λ got. IsTrue (are_enough (record got.0 { p = got.1 }) chunks.now table.now scratch.now)) }
-    ensures none { result ≡ None → (c : Parameters) → shared (attempts logins.now) ≡ Some c
-        → are_enough c chunks.now table.now scratch.now ≡ false }
+    ensures none { result ≡ None → shared (attempts logins.now) ≡ None }
 {
     let (first, rest) = logins.split_first()?;
     let params = first.params()?;
+    params.expose_invariant();
     let count = params.p().checked_add(count_of(&params, rest)?)?;
-    let width = width_in(&params, count, chunks, table, scratch)?;
-    Some((params, count, width))
+    Some((params, count))
 }
 
 // Returns the number of the chunks of all, if each hash that is not refused has this `N` and this `r`.

@@ -10,12 +10,12 @@ ghost use Rattle.scrypt.specs.Reading.{IsVerdict, is_right, with_refusal};
 ghost use Rattle.scrypt.specs.StoredParts.{stored};
 ghost use Rattle.scrypt.specs.Workspace.{IsLeft, verdict_in, workspace_of};
 
-use crate::buffers::{Buffers, InUse, width_in};
+use crate::buffers::{Buffers, InUse, at_front};
 use crate::comparing::is_derived_key;
 use crate::derivation::derive_chunks;
 use crate::derivation::mixing::mix_all;
 use crate::stored_parts::StoredParts;
-use crate::{BufferLens, CoreCount, Mixer};
+use crate::{CoreCount, Mixer};
 use password_hash::{Error, Result};
 use scrypt_kernel::memory::{Allocated, Buffer, TableMemory};
 use std::alloc::Global;
@@ -97,14 +97,20 @@ pub(crate) fn verify_in_buffers<W: Mixer>(
     ensures verdict { with_refusal result
         ≡ verdict_in (workspace_of chunks.old table.old scratch.old cores.old) password.now (Ok (stored parts.now)) }
 {
-    let Some(width) = width_in(&parts.params, parts.params.p(), chunks, table, scratch) else {
-        return Err(Error::OutOfMemory);
-    };
-    let lens = BufferLens::for_tables(&parts.params, width);
-    let (chunks, _) = chunks.split_at_mut(lens.chunks);
-    let (table, _) = table.split_at_mut(lens.table);
-    let (scratch, _) = scratch.split_at_mut(lens.scratch);
-    let mut rows = Buffer::new(table);
-    let mut used = InUse::new(width, chunks, &mut rows, scratch, cores);
-    verdict(is_key_of::<Buffer<'_>, W>(password, parts, &mut used))
+    parts.params.expose_invariant();
+    let count = parts.params.p();
+    let same = at_front(
+        &parts.params,
+        count,
+        chunks,
+        table,
+        scratch,
+        cores,
+        &mut [],
+        |used, _: &mut [()]| is_key_of::<Buffer<'_>, W>(password, parts, used),
+    );
+    match same {
+        Some(same) => verdict(same),
+        None => Err(Error::OutOfMemory),
+    }
 }

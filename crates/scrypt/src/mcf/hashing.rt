@@ -14,11 +14,11 @@ ghost use Rattle.scrypt.specs.Mixing.{IsReady, IsSpent};
 ghost use Rattle.scrypt.specs.Workspace.{IsDone, workspace_of};
 ghost use Rattle.scrypt_kernel.specs.Memory.{buffer_room};
 
-use crate::buffers::{InUse, width_in};
+use crate::buffers::{InUse, at_front};
 use crate::hashing::{check_call, key_allocating, stored_key};
 use crate::mcf::five_letters::five_letters;
 use crate::mcf::reading::is_mcf;
-use crate::{BufferLens, CoreCount, Mixer, Params, Scrypt, Vectors};
+use crate::{CoreCount, Mixer, Params, Scrypt, Vectors};
 use password_hash::mcf::alphabet::letter;
 use password_hash::mcf::{Base64, PasswordHash};
 use password_hash::phc::Output;
@@ -226,17 +226,22 @@ pub fn hash_with_buffers<W: Mixer>(
     if text.len() < len {
         return Err(Error::OutOfMemory);
     }
-    let Some(width) = width_in(params, params.p(), chunks, table, scratch) else {
-        return Err(Error::OutOfMemory);
-    };
-    let lens = BufferLens::for_tables(params, width);
-    let (chunks, _) = chunks.split_at_mut(lens.chunks);
-    let (table, _) = table.split_at_mut(lens.table);
-    let (scratch, _) = scratch.split_at_mut(lens.scratch);
-    let mut rows = Buffer::new(table);
-    let mut used = InUse::new(width, chunks, &mut rows, scratch, cores);
-    fill_with_hash::<W>(password, salt, params, &mut text[..len], &mut used);
-    Ok(len)
+    params.expose_invariant();
+    let count = params.p();
+    let made = at_front(
+        params,
+        count,
+        chunks,
+        table,
+        scratch,
+        cores,
+        &mut text[..len],
+        |used, text| fill_with_hash::<W>(password, salt, params, text, used),
+    );
+    match made {
+        Some(()) => Ok(len),
+        None => Err(Error::OutOfMemory),
+    }
 }
 
 // Hashes a password. The text fills `text`.

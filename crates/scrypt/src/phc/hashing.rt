@@ -9,11 +9,11 @@ ghost use Rattle.password_hash.specs.declared.error.Error.TheVariants.{OutOfMemo
 ghost use Rattle.scrypt.specs.InBuffers.{are_enough};
 ghost use Rattle.scrypt.specs.Workspace.{IsDone, workspace_of};
 
-use crate::buffers::{InUse, width_in};
+use crate::buffers::at_front;
 use crate::hashing::{check_call, key_allocating, stored_key};
 use crate::phc::ALG_ID;
 use crate::phc::params::written;
-use crate::{BufferLens, CoreCount, Mixer, Params, Scrypt, Vectors};
+use crate::{CoreCount, Mixer, Params, Scrypt, Vectors};
 use password_hash::phc::{Output, PasswordHash, Salt};
 use password_hash::{CustomizedPasswordHasher, Error, PasswordHasher, Result, Version};
 use scrypt_kernel::memory::Buffer;
@@ -135,15 +135,21 @@ pub fn hash_with_buffers<W: Mixer>(
     let Ok(salt) = Salt::new(salt) else {
         return Err(Error::SaltInvalid);
     };
-    let Some(width) = width_in(params, params.p(), chunks, table, scratch) else {
-        return Err(Error::OutOfMemory);
-    };
-    let lens = BufferLens::for_tables(params, width);
-    let (chunks, _) = chunks.split_at_mut(lens.chunks);
-    let (table, _) = table.split_at_mut(lens.table);
-    let (scratch, _) = scratch.split_at_mut(lens.scratch);
-    let mut rows = Buffer::new(table);
-    let mut used = InUse::new(width, chunks, &mut rows, scratch, cores);
-    let key = stored_key::<Buffer<'_>, W>(password, salt.as_bytes(), params, &mut used);
-    Ok(hash_of(params, salt, key))
+    params.expose_invariant();
+    let letters = salt.as_bytes();
+    let count = params.p();
+    let key = at_front(
+        params,
+        count,
+        chunks,
+        table,
+        scratch,
+        cores,
+        &mut [],
+        |used, _: &mut [()]| stored_key::<Buffer<'_>, W>(password, letters, params, used),
+    );
+    match key {
+        Some(key) => Ok(hash_of(params, salt, key)),
+        None => Err(Error::OutOfMemory),
+    }
 }
