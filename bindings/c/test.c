@@ -66,6 +66,8 @@ static void verify_in_buffers(const char *text) {
   check(scrypt_buffer_lens(4, 8, 1, 0, &chunks_len, &table_len, &scratch_len) == SCRYPT_OK, "lens");
   check(scrypt_verify_with_buffers("pw", 2, text, n, chunks, chunks_len, table, table_len, scratch, scratch_len) ==
             SCRYPT_OK, "the password, in buffers");
+  check(scrypt_verify_within_with_buffers("pw", 2, text, n, SIZE_MAX, UINT64_MAX, 0, chunks, chunks_len, table, table_len, scratch,
+                                          scratch_len) == SCRYPT_OK, "the password, in buffers, with no bounds");
   check(scrypt_verify_with_buffers("PW", 2, text, n, chunks, sizeof chunks, table, 5000, scratch, 600) ==
             SCRYPT_MISMATCH, "another password, in longer buffers");
   check(scrypt_verify_within_with_buffers("pw", 2, text, n, SIZE_MAX, 0, 0, chunks, chunks_len, table, table_len, scratch,

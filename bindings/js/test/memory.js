@@ -152,8 +152,8 @@ export function memoryChecks() {
   list['the data of a module that is not zero'] = async () => {
     const { exports } = await WebAssembly.instantiate(await compile());
     const words = new Uint8Array(exports.memory.buffer);
-    equal(Number(exports.__heap_base.value) - 2 ** 20, 688, 'bytes of constants');
-    equal(isZero(words.subarray(0, 2 ** 20)) && isZero(words.subarray(2 ** 20 + 688)), true, 'zeros around them');
+    equal(Number(exports.__heap_base.value) - 2 ** 20, 720, 'bytes of constants');
+    equal(isZero(words.subarray(0, 2 ** 20)) && isZero(words.subarray(2 ** 20 + 720)), true, 'zeros around them');
   };
   return list;
 }

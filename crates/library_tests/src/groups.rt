@@ -79,8 +79,7 @@ fn logins_of(
     for i in 0..MANY {
         logins.push(Login {
             password: b"pw",
-            hash: StoredHash::read(if i == 0 { first } else { others }),
-            limits: None,
+            hash: StoredHash::read(if i == 0 { first } else { others }).map_err(LimitedError::Hash),
         })?;
     }
     Ok(logins)

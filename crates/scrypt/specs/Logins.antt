@@ -3,26 +3,20 @@ use Rattle.std.specs.Prelude.{◌≡◌, ℕ, ◌+◌, ◌^◌, ◌&&◌, nat_eq
 use Rattle.std.specs.List.{flat_map}
 use Rattle.password_hash.specs.Refusal.{Refusal}
 use Rattle.scrypt.specs.Accepted.{Parameters}
-use Rattle.scrypt.specs.Reading.{◌and_then◌, Stored, with_refusal}
+use Rattle.scrypt.specs.Reading.{◌and_then◌, Stored}
 use Rattle.scrypt.specs.StoredHash.{reading}
-use Rattle.scrypt.specs.WithinLimits.{within}
+use Rattle.scrypt.specs.WithinLimits.{with_limited_refusal}
 use Rattle.scrypt.specs.InBuffers.{are_enough}
 use Rattle.scrypt.specs.Workspace.{Workspace, IsDone, IsLeft, verdict_in}
-use Rattle.scrypt.specs.declared.limits.Limits.{Limits}
 use Rattle.scrypt.specs.declared.logins.Login.{Login}
 
 -- a password, and the reading of the hash that it is verified with
 abbrev pub Attempt : Type 0
 Attempt = List ℕ × Result Stored Refusal
 
--- the reading of a hash, within limits if there are any
-abbrev pub within_any : Option Limits → Result Stored Refusal → Result Stored Refusal
-within_any None reading = reading
-within_any (Some limits) reading = within limits reading
-
--- the reading of the hash of a login
+-- the reading of the hash of a login, or why it is refused
 abbrev pub reading_of : Login → Result Stored Refusal
-reading_of login = within_any login.limits (with_refusal login.hash and_then reading)
+reading_of login = with_limited_refusal login.hash and_then reading
 
 -- the password of a login, and the reading of its hash
 abbrev pub attempt_of : Login → Attempt

@@ -3,7 +3,7 @@
 ghost use Rattle.std.specs.Prelude.{◌≡◌, ℕ, ◌∷◌, List, ◌+◌, ◌*◌, ◌<◌, length, map, IfSome, IsTrue, None, Some, true, false};
 ghost use Rattle.scrypt.specs.Logins.{AreLeft, Attempt, IsAlone, all_of, attempt_of, attempts, count_of, own, params_of, reading_of, shared, verdict_on};
 ghost use Rattle.scrypt.specs.Mixing.{IsReady, IsSpent};
-ghost use Rattle.scrypt.specs.Reading.{chunks_of, mapped, mixed_of, verdict};
+ghost use Rattle.scrypt.specs.Reading.{chunks_of, mapped, mixed_of, verdict, with_refusal};
 ghost use Rattle.scrypt.specs.StoredParts.{stored};
 ghost use Rattle.scrypt.specs.WithinLimits.{with_limited_refusal};
 ghost use Rattle.scrypt.specs.Workspace.{IsLeft, verdict_in, workspace_of};
@@ -14,10 +14,9 @@ use crate::comparing::is_derived_key;
 use crate::derivation::derive_chunks;
 use crate::derivation::mixing::mix_all;
 use crate::errors::LimitedError;
-use crate::stored_hash::within::limited;
 use crate::stored_parts::StoredParts;
 use crate::verifying::{verdict, verify_in_buffers};
-use crate::{BufferLens, CoreCount, Limits, Mixer, Params, StoredHash};
+use crate::{BufferLens, CoreCount, Mixer, Params, StoredHash};
 use scrypt_kernel::memory::Buffer;
 
 /// A password and the stored hash that it is verified with.
@@ -25,27 +24,22 @@ use scrypt_kernel::memory::Buffer;
 pub struct Login<'p, 't> {
     /// The password.
     pub password: &'p [u8],
-    /// The hash, or the error of reading its text.
-    pub hash: password_hash::Result<StoredHash<'t>>,
-    /// Limits on the hash, if there are any.
-    pub limits: Option<Limits>,
+    /// The hash, or why it is refused: the error of reading its text, or of [`StoredHash::within`].
+    pub hash: Result<StoredHash<'t>, LimitedError>,
 }
 
 impl<'p, 't> Login<'p, 't> {
-    // Returns the parts of the hash, if it can be read and is within its limits, or the first error.
+    // Returns the parts of the hash, or why it is refused.
     fn parts(&self) -> Result<&StoredParts<'t>, LimitedError>
         ensures { mapped (λ parts. stored parts.now) (with_limited_refusal result) ≡ reading_of self.now }
     {
         let hash = match &self.hash {
             Ok(hash) => hash,
-            Err(error) => return Err(LimitedError::Hash(*error)),
+            Err(refused) => return Err(*refused),
         };
-        if let Some(limits) = &self.limits {
-            return hash.parts_within(limits);
-        }
         match hash.parts() {
             Ok(parts) => Ok(parts),
-            Err(error) => Err(LimitedError::Hash(error)),
+            Err(unread) => Err(LimitedError::Hash(unread)),
         }
     }
 
@@ -137,9 +131,9 @@ impl<'p, 't> Login<'p, 't> {
     }
 }
 
-/// Verifies each password, as [`StoredHash::verify_with_buffers`] does it alone in these buffers, or
-/// [`StoredHash::verify_within`] if it has limits, whatever the others are. `verdicts` is as long as `logins`,
-/// and gets the verdict of each at its place. Does not allocate.
+/// Verifies each password, as [`StoredHash::verify_with_buffers`] does it alone in these buffers, whatever the
+/// others are. The verdict of a hash that is refused is why. `verdicts` is as long as `logins`, and gets the
+/// verdict of each at its place. Does not allocate.
 ///
 /// If all hashes that are not refused have the `N` and the `r` of the first, and each buffer is long enough for one
 /// derivation with as many chunks as all have, their keys are derived at once: as many chunks are mixed at a time as
@@ -282,5 +276,15 @@ fn compare(logins: &[Login<'_, '_>], mixed: &[u8], verdicts: &mut [Result<(), Li
         let end = at + login.chunks_len();
         verdicts[i] = login.compare(&mixed[at..end]);
         at = end;
+    }
+}
+
+// Returns a verdict as one of a call with limits.
+fn limited(verdict: password_hash::Result<()>) -> Result<(), LimitedError>
+    ensures { with_limited_refusal result ≡ with_refusal verdict }
+{
+    match verdict {
+        Ok(()) => Ok(()),
+        Err(error) => Err(LimitedError::Hash(error)),
     }
 }

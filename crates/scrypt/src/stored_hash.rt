@@ -10,7 +10,7 @@ ghost use Rattle.scrypt.specs.StoredHash.{formatted, is_mcf_text, is_stored_text
 ghost use Rattle.scrypt.specs.StoredParts.{IsReadAs, stored};
 ghost use Rattle.scrypt.specs.Workspace.{IsLeft, verdict_in, workspace_of};
 
-pub(crate) mod within;
+mod within;
 
 use crate::mcf::reading::parts_of_mcf;
 use crate::phc::reading::{parts_of_phc, read_params};

@@ -260,11 +260,11 @@ fn login<'p, 't>(password: &'p [u8], text: &'t [u8]) -> Login<'p, 't>
     ensures password { result.password.now ≡ password.now }
     ensures reading { reading_of result ≡ bytes_reading text.now }
 {
-    Login {
-        password,
-        hash: stored_hash(text),
-        limits: None,
-    }
+    let hash = match stored_hash(text) {
+        Ok(hash) => Ok(hash),
+        Err(error) => Err(LimitedError::Hash(error)),
+    };
+    Login { password, hash }
 }
 
 // Returns the status of a verdict in the caller's buffers.

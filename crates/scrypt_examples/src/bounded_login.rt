@@ -35,10 +35,15 @@ pub fn log_in(
         Ok(hash) => hash,
         Err(error) => return Err(LimitedError::Hash(error)),
     };
-    match hash.verify_within::<Vectors>(password, limits, chunks, table, scratch, cores) {
+    let hash = match hash.within(limits) {
+        Ok(hash) => hash,
+        Err(LimitedError::Hash(Error::PasswordInvalid)) => return Ok(false),
+        Err(error) => return Err(error),
+    };
+    match hash.verify_with_buffers::<Vectors>(password, chunks, table, scratch, cores) {
         Ok(()) => Ok(true),
-        Err(LimitedError::Hash(Error::PasswordInvalid)) => Ok(false),
-        Err(error) => Err(error),
+        Err(Error::PasswordInvalid) => Ok(false),
+        Err(error) => Err(LimitedError::Hash(error)),
     }
 }
 

@@ -62,20 +62,18 @@ pub fn two_verdicts_within<'a>(
     ensures other_verdict { IfOk result (λ both.
         with_limited_refusal both.1 ≡ verdict other_password.now (within limits (reading other_text.now))) }
 {
-    let (one, other) = (StoredHash::read(text), StoredHash::read(other_text));
-    let lens = lens_for_both(lens_within(&one, &limits), lens_within(&other, &limits));
+    let (one, other) = (read_within(text, &limits), read_within(other_text, &limits));
+    let lens = lens_for_both(lens_of(&one), lens_of(&other));
     let mut own = Buffers::allocate(alloc, &lens)?;
     let mut cores = CoreCount::new();
     let logins = [
         Login {
             password,
             hash: one,
-            limits: Some(limits),
         },
         Login {
             password: other_password,
             hash: other,
-            limits: Some(limits),
         },
     ];
     let mut verdicts = [Ok(()); 2];
@@ -104,13 +102,26 @@ fn lens_for_both(one: BufferLens, other: BufferLens) -> BufferLens
     }
 }
 
-// Returns the lengths of the buffers for verifying within limits, which are 0 if the hash is refused.
-fn lens_within(hash: &password_hash::Result<StoredHash<'_>>, limits: &Limits) -> BufferLens
-    ensures { AreEnoughFor result (within limits.now (with_refusal hash.now and_then reading)) }
+// Reads the text of a hash, and refuses one that exceeds the limits.
+fn read_within<'a>(text: &'a str, limits: &Limits) -> Result<StoredHash<'a>, LimitedError>
+    ensures { with_limited_refusal result and_then reading ≡ within limits.now (reading text.now) }
+{
+    let hash = match StoredHash::read(text) {
+        Ok(hash) => hash,
+        Err(error) => return Err(LimitedError::Hash(error)),
+    };
+    if let Err(error) = hash.within(limits) {
+        return Err(error);
+    }
+    Ok(hash)
+}
+
+// Returns the lengths of the buffers for verifying with a hash, which are 0 if it is refused.
+fn lens_of(hash: &Result<StoredHash<'_>, LimitedError>) -> BufferLens
+    ensures { AreEnoughFor result (with_limited_refusal hash.now and_then reading) }
 {
     parameters_are_those_of_the_reading();
     if let Ok(hash) = hash
-        && let Ok(hash) = hash.within(limits)
         && let Ok(lens) = hash.buffer_lens()
     {
         return lens;

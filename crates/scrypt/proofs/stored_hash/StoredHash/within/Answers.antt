@@ -1,5 +1,5 @@
 use Rattle.std.proofs.Common.{rules}
-use Rattle.scrypt.proofs.stored_hash.StoredHash.parts_within.Goals as goal
+use Rattle.scrypt.proofs.stored_hash.StoredHash.within.Goals as goal
 
 -- The search finds these too. They are here so that a body with other limits or errors is refused by one of them.
 pub returns-then-not-allow : goal.returns-then-not-allow
