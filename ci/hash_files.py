@@ -57,4 +57,4 @@ def hash_files(program):
         for name, printed, reason in NAMES:
             fault = f"{room}/{printed}: No such file or directory (os error 2)\n"
             yield f"the name {printed!r} ({reason})", run([program, f"--hash-file={room}/{name}", "verify"]), (4, "", fault)
-        yield "--help reads no file", run([program, "--help", f"--hash-file={room}"])[0], 0
+        yield "--help with a file is no command, and reads none", run([program, f"--hash-file={room}", "--help"])[0], 2

@@ -94,14 +94,16 @@ ANSWERS = [
     (f"verify {PLAIN}", "pleaseletmein", 0, "ok", "a salt may be a plain text"),
     *((f"hash mcf 4 1 1 {salt}", "", 0, crypt64.text(letters, key_of(b"", letters.encode(), 32), 4, 1, 1),
        f"the salt {salt} has the letters {letters}") for salt, letters in SALT_LETTERS),
-    *((f"{asked} {line}", "", 0, prompt.VERSION, "the arguments are ignored") for asked in ("--version", "--draw-salt --version")
-      for line in ("key", "hash phc 4 1 1 00", f"verify {EMPTY}", f"rehash phc 4 1 1 32 00 {EMPTY}")),
 ]
 
 # Lines that are not commands, by what is wrong.
 NO_COMMANDS = {
     "no command": ["", "help", "Key 4 1 1 64 ", "--usual-limits", "--draw-salt", "--recommended", "--strip-newline", "--most-work=1"],
     "no command after an option": ["--usual-limits help"],
+    "nothing comes after what asks for a text about the program":
+        [f"{asked} {more}" for asked in ("-h", "--help", "--version") for more in ("", "x", "--raw", "--help", "key 4 1 1 64 ", "verify $7$")],
+    "nor before it": [f"{option} {asked}" for option in ("--raw", "--usual-limits", "--most-work=1", "--hash-file=x", "key")
+                      for asked in ("-h", "--help", "--version")],
     "one minus begins no option": ["-", "-help", "-H", "-hkey", "-key 4 1 1 64 ", f"-verify {EMPTY}"],
     "too few arguments": ["key", "key 4 1 1 16", "hash", "hash phc", "hash phc 4 1 1", "--draw-salt hash phc 4 1", "verify",
                           "rehash phc 4 1 1 32 00", f"rehash phc 4 1 1 00 {EMPTY}"],
@@ -315,7 +317,7 @@ with open(f"{prompt.TOP}/ci/help.txt", encoding="ascii") as file:
 def information(program):
     yield "--version", run([program, "--version"]), (0, f"{prompt.VERSION}\n", "")
     yield "--help", run([program, "--help"]), (0, HELP, "")
-    yield "-h", run([program, "-h", "verify"]), (0, HELP, "")
+    yield "-h", run([program, "-h"]), (0, HELP, "")
     named = USAGE.removeprefix("usage: ").split(" | ")
     yield "the usage line has each command as the help", set(named) - {it.strip() for it in HELP.splitlines()}, set()
 

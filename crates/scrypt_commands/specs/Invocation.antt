@@ -1,6 +1,6 @@
 -- What a command line asks for.
 use Rattle.std.specs.Prelude.{ℕ, ◌||◌, Bool, false, bytes_eq, codes, if◌then◌else◌, is_some}
-use Rattle.std.specs.Prelude.{List, [], ◌∷◌, Option, None, Result, Ok, Err}
+use Rattle.std.specs.Prelude.{List, [], ◌∷◌, Option, None, Some, Result, Ok, Err}
 use Rattle.std.specs.Bool.{then_some}
 use Rattle.std.specs.Option.{option_copied, option_map_or}
 use Rattle.scrypt.specs.Reading.{◌and_then◌}
@@ -13,6 +13,7 @@ use Rattle.scrypt_commands.specs.declared.error.CliError.TheVariants.{HashMisfit
 use Rattle.scrypt_commands.specs.declared.invocation.Invocation.{Invocation as InvocationOf}
 use Rattle.scrypt_commands.specs.declared.invocation.Invocation.TheVariants as typed
 use Rattle.scrypt_commands.specs.declared.options.Options.{Options as OptionsOf}
+use Rattle.scrypt_commands.specs.declared.usage.TheConstants.{HELP, VERSION}
 
 -- a command by its options, with the words after its name, the salt that was drawn and the text of the file of the hash, if there
 -- are these
@@ -70,14 +71,26 @@ abbrev pub asked_by : Result CommandLine CliError → Invocation
 asked_by (Ok line) = Command line
 asked_by (Err error) = Refuse error
 
+-- the text about the program that a word asks for, if it does
+unfoldable pub text_of : List ℕ → Option (List ℕ)
+text_of word =
+    if bytes_eq word (codes "--help") then Some HELP.now
+    else if bytes_eq word (codes "-h") then Some HELP.now
+    else if bytes_eq word (codes "--version") then Some VERSION.now
+    else None
+
+-- the same of words: it is asked for by one word alone
+unfoldable pub text_of_words : List (List ℕ) → Option (List ℕ)
+text_of_words (word ∷ []) = text_of word
+text_of_words others = None
+
 -- what these options and the words after them ask for
 abbrev pub invocation_by : Options × List (List ℕ) → Invocation
-invocation_by (o, words) = option_map_or Tell o.information
-    (if wants_file words then Refuse NoHashFile else asked_by (command_by o words))
+invocation_by (o, words) = if wants_file words then Refuse NoHashFile else asked_by (command_by o words)
 
 -- what these words ask for, of which the first may be options
 abbrev pub invocation_of : List (List ℕ) → Invocation
-invocation_of words = invocation_by (options_of words)
+invocation_of words = option_map_or Tell (text_of_words words) (invocation_by (options_of words))
 
 -- whether a salt is drawn
 abbrev pub draws_salt : Invocation → Bool
@@ -103,7 +116,6 @@ options_view it = record {
   strips_newline = it.strips_newline;
   is_raw = it.is_raw;
   hash_file = option_copied it.hash_file;
-  information = option_copied it.information;
 }
 
 -- a command by its options

@@ -6,7 +6,6 @@ use Rattle.std.specs.List.{after_first, before_first, ends_with, position_or_len
 use Rattle.std.specs.Option.{option_map_or}
 use Rattle.scrypt_commands.specs.LimitOptions.{usual, with_number}
 use Rattle.scrypt_commands.specs.declared.limit_options.LimitOptions.{LimitOptions}
-use Rattle.scrypt_commands.specs.declared.usage.TheConstants.{HELP, VERSION}
 
 -- the texts of words
 abbrev pub texts_of : List (String Global) → List (List ℕ)
@@ -20,7 +19,6 @@ pub record Options : Type 0 where
   pub strips_newline : Bool
   pub is_raw : Bool
   pub hash_file : Option (List ℕ)
-  pub information : Option (List ℕ)
 
 -- no options
 abbrev pub no_options : Options
@@ -31,7 +29,6 @@ no_options = record {
   strips_newline = false;
   is_raw = false;
   hash_file = None;
-  information = None;
 }
 
 -- the options with the one of this name too, which has a value
@@ -55,9 +52,6 @@ with_option o word =
     else if bytes_eq word (codes "--recommended") then Some (record o { is_recommended = true; draws_salt = true })
     else if bytes_eq word (codes "--strip-newline") then Some (record o { strips_newline = true })
     else if bytes_eq word (codes "--raw") then Some (record o { is_raw = true })
-    else if bytes_eq word (codes "--help") then Some (record o { information = Some HELP.now })
-    else if bytes_eq word (codes "-h") then Some (record o { information = Some HELP.now })
-    else if bytes_eq word (codes "--version") then Some (record o { information = Some VERSION.now })
     else with_value o word
 
 -- the options that come first, and the words after them

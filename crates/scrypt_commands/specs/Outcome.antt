@@ -1,7 +1,6 @@
 -- The outcome of a command line: what the program prints for its arguments and its input.
-use Rattle.std.specs.Prelude.{ℕ, ◌&&◌, Bool, false, true, nat_le, if◌then◌else◌, List, [], ◌∷◌, ◌++◌, length, codes}
+use Rattle.std.specs.Prelude.{ℕ, ◌&&◌, Bool, false, true, nat_le, if◌then◌else◌, List, [], ◌++◌, length, codes}
 use Rattle.std.specs.Prelude.{Option, None, Some, option_map, unwrap_or, Result, Ok, Err, ⊤}
-use Rattle.std.specs.Option.{option_map_or}
 use Rattle.std.specs.Result.{result_unwrap_or}
 use Rattle.hex.specs.Hex.{encode_lower}
 use Rattle.password_hash.specs.Phc.{hash_text}

@@ -3,7 +3,8 @@
 ghost use Rattle.std.specs.Prelude.{◌≡◌, ◌⊎◌, ℕ, IfOk, IsTrue, List, [], OnErr, Option, length, true};
 ghost use Rattle.std.specs.Io.KnownBytes.{Keeps};
 ghost use Rattle.std.specs.Option.{option_copied};
-ghost use Rattle.scrypt_commands.specs.Invocation.{draws_salt, hash_file_of, invocation_of, invocation_view, is_raw, wants_file};
+ghost use Rattle.scrypt_commands.specs.Invocation.{draws_salt, hash_file_of, invocation_of, invocation_view, is_raw};
+ghost use Rattle.scrypt_commands.specs.Invocation.{text_of, text_of_words, wants_file};
 ghost use Rattle.scrypt_commands.specs.Options.{texts_of};
 ghost use Rattle.scrypt_commands.specs.Run.{EndsUnread, IsRun, unread_plan, plan_of};
 ghost use Rattle.scrypt_commands.specs.Steps.{IsDrawn};
@@ -12,6 +13,7 @@ use crate::command_line::CommandLine;
 use crate::error::CliError;
 use crate::options::parse_options;
 use crate::run::{Ended, answered, end, run_line, write_line};
+use crate::usage::{HELP, VERSION};
 use scrypt::Mixer;
 use std::alloc::Global;
 use std::io;
@@ -42,14 +44,15 @@ pub enum Invocation<'a> {
 }
 
 impl<'a> Invocation<'a> {
-    /// Parses the options, which come first. The words of the command are read by `run`.
+    /// Parses the options, which come first, or a word that asks for a text about the program, which is the only one. The words of
+    /// the command are read by `run`.
     pub fn parse(words: &'a [String]) -> Invocation<'a>
         ensures value { invocation_view result ≡ invocation_of (texts_of words.now) }
     {
-        let (options, words) = parse_options(words);
-        if let Some(text) = options.information {
+        if let Some(text) = text_of_words(words) {
             return Invocation::Tell(text);
         }
+        let (options, words) = parse_options(words);
         if wants_file(words) {
             return Invocation::Refuse(CliError::NoHashFile);
         }
@@ -130,6 +133,32 @@ fn draw<M: Machine>(machine: &M, is_drawn: bool) -> io::Result<Option<[u8; 16]>>
         return Ok(None);
     }
     Ok(Some(machine.draw_salt()?))
+}
+
+// Returns the text about the program that a word asks for, or `None`.
+#[tactic(auto, using(crate::proofs::CommandFacts::other), unfolding(crate::specs::Invocation::text_of))]
+fn text_of(word: &str) -> Option<&'static str>
+    ensures { option_copied result ≡ text_of word.now }
+{
+    match word {
+        "--help" | "-h" => Some(HELP),
+        "--version" => Some(VERSION),
+        _ => None,
+    }
+}
+
+// The same of words: it is asked for by one word alone.
+#[tactic(auto, unfolding(crate::specs::Invocation::text_of_words))]
+fn text_of_words(words: &[String]) -> Option<&'static str>
+    ensures { option_copied result ≡ text_of_words (texts_of words.now) }
+{
+    let Some((word, rest)) = words.split_first() else {
+        return None;
+    };
+    if !rest.is_empty() {
+        return None;
+    }
+    text_of(word.as_str())
 }
 
 // Returns whether the first word is `--hash-file`, which is no option without a file.

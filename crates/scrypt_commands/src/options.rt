@@ -8,7 +8,6 @@ ghost use Rattle.scrypt_commands.specs.Options.{options_of, password_of, texts_o
 use crate::command_name::Name;
 use crate::error::CliError;
 use crate::limit_options::LimitOptions;
-use crate::usage::{HELP, VERSION};
 
 /// The options before a command.
 #[derive(Clone, Copy)]
@@ -25,8 +24,6 @@ pub struct Options<'a> {
     pub is_raw: bool,
     /// the file whose text is HASH, the last word
     pub hash_file: Option<&'a str>,
-    /// this text is printed, and there is no command
-    pub information: Option<&'static str>,
 }
 
 /// No options.
@@ -37,7 +34,6 @@ pub const NONE: Options<'static> = Options {
     strips_newline: false,
     is_raw: false,
     hash_file: None,
-    information: None,
 };
 
 /// Parses the options, and returns the words after them too. The command begins at the first word
@@ -74,8 +70,6 @@ impl<'a> Options<'a> {
             }
             "--strip-newline" => options.strips_newline = true,
             "--raw" => options.is_raw = true,
-            "--help" | "-h" => options.information = Some(HELP),
-            "--version" => options.information = Some(VERSION),
             _ => return self.with_value(word),
         }
         Some(options)
