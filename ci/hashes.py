@@ -113,8 +113,8 @@ SAME_KEYS = [(b"a" * 63, b"a" * 63 + b"\0"), (b"a" * 65, hashlib.sha256(b"a" * 6
 # How long a password is, around the block of SHA-256 and far beyond it.
 LONG_PASSWORDS = [63, 64, 65, 200, 100_000]
 
-# How long a key is: a stored key is compared in pieces of 96 bytes.
-LONG_KEYS = [33, 65, 95, 96, 97, 192, 200]
+# How long a key is: a stored key is compared in pieces of 96 bytes. An argument may have up to 128 KiB.
+LONG_KEYS = [33, 65, 95, 96, 97, 192, 200, 4096, 90_000]
 
 # How a run ends by its verdict, if that isn't a refusal of the hash.
 ENDS = {"ok": runs.OK, "no": runs.NO, "out of memory": (3, "", "out of memory\n")}
@@ -172,6 +172,9 @@ def made(tool):
         answer = unlimited(tool, ["hash", form, "4", "1", "1", b"NaCl".hex()], password)
         yield f"a password of {length} bytes, {form}", answer, (0, f"{text}\n", "")
         yield f"a password of {length} bytes, {form}", unlimited(tool, ["verify", text], password), runs.OK
+        new = reference.hash_of(form, password, b"NaCl", 5, 1, 1, 32)
+        answer = unlimited(tool, ["rehash", form, "5", "1", "1", "32", b"NaCl".hex(), text], password)
+        yield f"a password of {length} bytes, {form}, hashed again", answer, (0, f"{new}\n", "")
 
 
 def main():

@@ -16,7 +16,7 @@ import sys
 from ci import prompt
 from ci.hash_files import hash_files
 from ci.lines import MISFIT, NO_FILE, USAGE
-from ci.streams import cuts, memory, streams
+from ci.streams import cuts, faults, memory, streams
 from compare import allocations
 from tools import crypt64, header, reference, runs
 from tools.known import CRYPT, EMPTY, EMPTY_PHC, HASHLIB, LONG, PASSLIB, PLAIN, RFC, SHORT
@@ -59,6 +59,10 @@ def key_of(password, salt, length):
     return hashlib.scrypt(password, salt=salt, n=16, r=1, p=1, dklen=length)
 
 
+# A format, a long salt, and the hash of the empty password. That of a PHC hash has at most 64 bytes.
+LONG_SALTS = [(form, salt, reference.hash_of(form, b"", salt, 4, 1, 1, 32))
+              for form, salt in (("phc", b"s" * 64), ("mcf", b"s" * 64), ("mcf", b"s" * 65), ("mcf", b"s" * 5000))]
+
 # Each row has the words between single blanks, the input, the status, the line, and the reason for the row.
 ANSWERS = [
     ("key 4 1 1 64 ", "", 0, FIRST_KEY, "the first key of RFC 7914"),
@@ -69,6 +73,7 @@ ANSWERS = [
     ("key 0 1 1 32 ", "", 0, reference.scrypt(b"", b"", 0, 1, 1, 32).hex(), "N = 1"),
     ("key 4 3 2 33 0a0bFF", "password", 0, "16b7ca20bc71b047b152bb150c62dd9e14d23f698eeaade5d0ed74a8e355acd2da",
      "each parameter is another, and a salt has digits of either case"),
+    *((f"key 4 1 1 {it} ", "", 0, key_of(b"", b"", it).hex(), "a long key") for it in (4096, 1_000_000)),
     ("key 4 1 1 16 ", "x" * 5000, 0, "19e0dd858b21a85d5233e34f8025c066", "more than one read of the input"),
     ("key 4 1 1 16 ", "pass\nword\n", 0, "704d1995acb73578bcb377b08d0d622c", "newlines belong to the password"),
     ("hash phc 16 8 1 68cd79ef5debdd7b2fc5b8b7d65aabd5", "password", 0, PASSLIB, "passlib's hash"),
@@ -94,6 +99,10 @@ ANSWERS = [
     (f"verify {PLAIN}", "pleaseletmein", 0, "ok", "a salt may be a plain text"),
     *((f"hash mcf 4 1 1 {salt}", "", 0, crypt64.text(letters, key_of(b"", letters.encode(), 32), 4, 1, 1),
        f"the salt {salt} has the letters {letters}") for salt, letters in SALT_LETTERS),
+    *((f"hash {form} 4 1 1 {salt.hex()}", "", 0, text, f"a salt of {len(salt)} bytes") for form, salt, text in LONG_SALTS),
+    *((f"verify {text}", "", 0, "ok", f"the same, verified, in {len(text)} bytes") for _, _, text in LONG_SALTS),
+    *((f"rehash {form} 4 1 1 32 {salt.hex()} $7$2/..../....$r/", "", 0, text, "and in place of a weaker hash")
+      for form, salt, text in LONG_SALTS),
 ]
 
 # Lines that are not commands, by what is wrong.
@@ -261,12 +270,18 @@ OPTIONS = [
 
 # Passwords of some bytes, whose keys are compared with hashlib's: the input is read whole, however long it is.
 LONG_PASSWORDS = [(1_000_001, "more than a million bytes"), (100_000_001, "more than a hundred million")]
-LONG_PASSWORDS += [(102_400_001, "more than 100,000 reads of 1,024 bytes")]
+LONG_PASSWORDS += [(102_400_001, "more than 100,000 reads of 1,024 bytes"), ((1 << 28) + 1, "more than 256 MiB")]
 
 # Options that take the recommended parameters, a format, and how its hash begins.
 LOG_N, R, P = (header.NUMBERS[f"RECOMMENDED_{name}"] for name in ("LOG_N", "R", "P"))
 RECOMMENDED = [("--recommended", "phc", f"$scrypt$ln={LOG_N},r={R},p={P}$")]
 RECOMMENDED += [("--recommended --draw-salt", "mcf", crypt64.text("", b"", LOG_N, R, P).rstrip("$"))]
+
+
+# Lines, and whether each draws a salt.
+DRAWN = [(line, True) for line in ("--draw-salt hash phc 4 1 1", f"--draw-salt rehash phc 5 1 1 32 {EMPTY}")]
+DRAWN += [(line, False) for line in ("key 4 1 1 16 ", "hash phc 4 1 1 00", f"verify {EMPTY}", f"rehash phc 5 1 1 32 00 {EMPTY}")]
+DRAWN += [(f"--draw-salt {line}", False) for line in ("key 4 1 1 16", f"verify {EMPTY}", "--help", "--version", "foo")]
 
 
 def rows(program):
@@ -306,6 +321,9 @@ def salts(program):
         with runs.failing_calls() as library:
             hashed = run([program, "--draw-salt", "hash", "phc", "4", "1", "1"], env={"LD_PRELOAD": library})
             verified = run([program, "verify", EMPTY], env={"LD_PRELOAD": library})
+            for line, drawn in DRAWN:
+                printed = run([program, *line.split(" ")], env={"LD_PRELOAD": library, "SIZES": "1"})[2]
+                yield f"whether {line!r} draws a salt", "drawn\n" in printed, drawn
         yield "no salt can be drawn", hashed, (3, "", "no salt can be drawn\n")
         yield "none is needed", verified, runs.OK
 
@@ -350,7 +368,7 @@ def terminal(program):
 
 def main():
     # What a program touches counts what this one has before, so that this is first.
-    parts = [memory, rows, long_passwords, streams, cuts, refused_memory, salts, hash_files, information, raw_keys, terminal]
+    parts = [memory, rows, long_passwords, streams, cuts, faults, refused_memory, salts, hash_files, information, raw_keys, terminal]
     _, wrong = runs.report("program", itertools.chain(*(part(sys.argv[1]) for part in parts)))
     sys.exit(1 if wrong else 0)
 

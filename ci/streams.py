@@ -30,6 +30,12 @@ ORDERS = [
     ("--usual-limits verify $7$s/..../....$r/", 4, "input failed", "and the limits"),
 ]
 
+# A line for each fault without numbers that the arguments alone can have. It is written at once.
+FAULTS = ["help", "--hash-file verify", "--raw hash phc 4 1 1 00", "--recommended key 16", "--draw-salt verify x", "--raw rehash x"]
+FAULTS += ["key 4 1 1 16 0", "key 4 0 1 16 ", "key 4 1 1 0 ", "hash phc 4 1 1 ", "key 56 1 1 32 ", "\udcff"]
+FAULTS += ["verify $", "verify $argon2id", "verify $7$2/..../....$", "verify $scrypt$v=1"]
+FAULTS += [f"verify $scrypt${it}" for it in ("ln=256", "r=00", "p=-1", "x=1")]
+
 # How the shell opens a stream, in a line that has `"$@"` for the command, the fault line, and the reason for the row.
 STREAMS = [
     ('"$@" > /dev/full', "output failed\n", "a full device takes nothing"),
@@ -72,10 +78,14 @@ def failing_after(length, words):
 def writes_of(stream, words):
     """What each write to one of the outputs of a run writes, through a pipe that keeps them apart."""
     read, write = os.pipe2(os.O_DIRECT)
-    subprocess.run(words, stdin=subprocess.DEVNULL, **{"stdout": subprocess.PIPE, "stderr": subprocess.PIPE, stream: write})
+    how = {"stdin": subprocess.DEVNULL, "stdout": subprocess.DEVNULL, "stderr": subprocess.DEVNULL, stream: write}
+    ran = subprocess.Popen(words, **how)
     os.close(write)
+    # While it runs, since a pipe holds few writes.
     with open(read, "rb", buffering=0) as pipe:
-        return [text.decode() for text in iter(lambda: pipe.read(1 << 16), b"")]
+        writes = [text.decode() for text in iter(lambda: pipe.read(1 << 16), b"")]
+    ran.wait()
+    return writes
 
 
 def cut_at(length, stream, words):
@@ -103,6 +113,20 @@ def cuts(program):
         yield f"the writes of the fault of {line!r}", writes_of("stderr", words), [fault]
         for length in range(len(fault)):
             yield f"{line!r}, of whose fault {length} bytes are taken", cut_at(length, "stderr", words), (status, fault[:length], "")
+
+
+def faults(program):
+    """Each fault without numbers is written by one write."""
+    texts = set()
+    for line in FAULTS:
+        words = [program, *line.split(" ")]
+        fault = runs.run(words)[2]
+        texts.add(fault)
+        yield f"the writes of the fault of {line!r}", writes_of("stderr", words), [fault]
+    yield "the faults of these lines differ", len(texts), len(FAULTS)
+    for shell, fault, reason in STREAMS:
+        words = ["sh", "-c", shell, "sh", program, *STREAM_COMMANDS[0].split(" ")]
+        yield f"the writes of a fault ({reason})", writes_of("stderr", words), [fault]
 
 
 def streams(program):

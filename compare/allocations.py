@@ -10,7 +10,7 @@ usage: python3 -m compare.allocations PROGRAM        needs a C compiler
 import functools
 import sys
 
-from tools import runs
+from tools import crypt64, phc, runs
 from tools.known import HASHLIB as PHC
 
 # how a run ends if an allocation is refused: while the arguments are read, and after that
@@ -37,6 +37,12 @@ RUNS = [
     (f"rehash mcf 5 1 1 32 4e61436c {PHC}", b"password", 0, 10),
     (f"rehash mcf 4 1 1 32 4e61436c {PHC}", b"password", 0, 5),
     (f"rehash mcf 5 1 1 32 4e61436c {MCF}", b"another", 1, 5),
+    # large chunks take no more
+    ("key 0 2048 1 32 4e61436c", b"password", 0, 8),
+    ("hash phc 0 2048 1 4e61436c", b"password", 0, 7),
+    ("hash mcf 0 2048 1 4e61436c", b"password", 0, 7),
+    (f"verify {phc.text(b'NaCl', bytes(32), 0, 2048, 1)}", b"password", 1, 4),
+    (f"verify {crypt64.text('NaCl', bytes(32), 0, 2048, 1)}", b"password", 1, 4),
     # refused before the input, some with the salt in memory
     ("key 4 1 1", b"password", 2, 0),
     ("key 4 1 1 32 4", b"password", 2, 0),
@@ -46,6 +52,17 @@ RUNS = [
     # refused after it
     ("verify $scrypt$v=1$ln=4,r=1,p=1$TmFDbA$rsa3SD7SbgiAK0H0AyCGoOiGvnrEj8/ZL/DO+BCXUvQ", b"password", 2, 1),
     ("hash phc 4 1 1 " + "4e" * 65, b"password", 2, 2),
+    ("verify $argon2id$ln=4$aA", b"password", 2, 1),
+    ("verify $scrypt$ln=256$aA", b"password", 2, 1),
+    ("verify $scrypt$ln=4$aA", b"password", 1, 1),
+    ("verify $7$", b"password", 2, 1),
+    ("verify $7$2/..../....", b"password", 2, 1),
+    ("verify $7$2/..../....$z", b"password", 2, 1),
+    ("verify $7$2/..../....$", b"password", 2, 1),
+    ("verify $7$zzzzzzzzzzz$r/", b"password", 2, 1),
+    ("--usual-limits verify $7$s/..../....$" + "z" * 40, b"password", 2, 1),
+    ("--usual-limits verify $7$2/..../....$r/", b"password", 2, 1),
+    (f"--most-work=1 verify {PHC}", b"password", 2, 1),
 ]
 
 # the words of runs that derive a key with four chunks, and the sizes of the chunks, the table and the scratch, or of these

@@ -1,5 +1,5 @@
 /* Preloaded into a program: the allocation of number FAIL_AT fails, counted from 1 over malloc and realloc, and no
-   random bytes are available. If SIZES is set, each allocation's size is printed on standard error. */
+   random bytes are available. If SIZES is set, each allocation's size is printed on standard error, and that bytes were drawn. */
 #include <stdio.h>
 #include <stdlib.h>
 #include <unistd.h>
@@ -24,4 +24,11 @@ void *malloc(size_t size) { return fails("malloc", size) ? NULL : __libc_malloc(
 
 void *realloc(void *block, size_t size) { return fails("realloc", size) ? NULL : __libc_realloc(block, size); }
 
-int getentropy(void *buffer, size_t length) { return buffer && length ? -1 : 0; }
+int getentropy(void *buffer, size_t length) {
+  static const char drawn[] = "drawn\n";
+  if (getenv("SIZES")) {
+    ssize_t written = write(2, drawn, sizeof drawn - 1);
+    (void)written;
+  }
+  return buffer && length ? -1 : 0;
+}
