@@ -51,13 +51,17 @@ WHOLE = [
     "ensures exact { IsTrue result ↔ (self.now ≡ other.now) }",
 ]
 
-# Why the compiler may refuse an edit, and the errors for it.
-KINDS = {"private": re.compile("private-"), "a false constant": re.compile("failed-constant-evaluation")}
+# Why the compiler may refuse an edit, and the errors for it. What counts a core is not even known to another crate.
+KINDS = {
+    "private": re.compile("private-"),
+    "unknown outside of the cores": re.compile("unknown-method]: no function or constant named `after_core` found for struct `CoreCount`"),
+    "a false constant": re.compile("failed-constant-evaluation"),
+}
 
 
 def kind_of(printed):
     """What a check refuses for, if all errors that it prints are of one kind, or None."""
-    errors = re.findall(r"^src/\S+ error\[(\S+?)\]", printed, re.M)
+    errors = re.findall(r"^src/\S+ error\[(.*)", printed, re.M)
     return next((kind for kind, error in KINDS.items() if errors and all(map(error.match, errors))), None)
 
 

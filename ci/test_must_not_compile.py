@@ -37,11 +37,14 @@ IN_COUNTER = [
 ]
 
 PRIVATE = "src/lib.rt:3:5: error[private-field]: `seal` is private\n"
+UNKNOWN = "src/lib.rt:3:5: error[unknown-method]: no function or constant named `{}` found for struct `CoreCount`: help: it has only `new`\n"
 FALSE = "src/statuses.rt:60:15: error[failed-constant-evaluation]: evaluation reached a false `prove!`\n"
 
 # What a check prints, what it refuses for, and the reason for the row.
 PRINTED = [
     (PRIVATE * 2, "private", "a use of something private"),
+    (UNKNOWN.format("after_core"), "unknown outside of the cores", "a use of what counts a core"),
+    (UNKNOWN.format("after"), None, "a name that is not there"),
     (FALSE, "a false constant", "a constant with another number"),
     (PRIVATE + FALSE, None, "errors of two kinds"),
     (FALSE + "src/lib.rt:1:1: error[unknown-name]: no `x`\n", None, "another error beside it"),
