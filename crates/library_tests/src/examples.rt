@@ -1,12 +1,15 @@
 // One good path of each example that allocates: what it then returns is what its contract says.
 
 use crate::holds;
+use password_hash::phc::PasswordHash;
 use scrypt::{CoreCount, Limits, Params};
+use scrypt_examples::bounded_login::log_in_counted;
+use scrypt_examples::by_traits::{derive, is_right};
 use scrypt_examples::derived_keys::{Deriver, key_in_a_thin_table, key_or_out_of_memory};
 use scrypt_examples::hash::stored_text;
 use scrypt_examples::key_file::{Header, age_wrap_key};
 use scrypt_examples::login::LoginPolicy;
-use scrypt_examples::migration::rewrite;
+use scrypt_examples::migration::{named_alike, rewrite};
 use scrypt_examples::verdicts::{two_verdicts_within, verdict};
 use std::test::Fail;
 
@@ -46,6 +49,7 @@ fn keys_of_files(rt: HostRuntime) -> Result<(), Fail> {
 #[test]
 fn stored_texts(rt: HostRuntime) -> Result<(), Fail> {
     stored_text(rt.alloc(), PASSWORD, SALT)?;
+    LoginPolicy::new(4, 1, 1)?.enroll_mcf(rt.alloc(), PASSWORD, SALT)?;
     // The text is weaker than wanted, so that a new one is made.
     LoginPolicy::new(5, 1, 1)?.log_in(rt.alloc(), PHC, PASSWORD, SALT)?;
     rewrite(rt.alloc(), &LoginPolicy::new(4, 1, 1)?, MCF, PASSWORD, SALT)?;
@@ -59,4 +63,21 @@ fn verdicts_in_own_buffers(rt: HostRuntime) -> Result<(), Fail> {
     let limits = Limits::USUAL;
     let (one, other) = two_verdicts_within(rt.alloc(), PHC, PASSWORD, MCF, PASSWORD, limits)?;
     holds(one.is_ok() && other.is_ok(), "two")
+}
+
+#[test]
+fn verdicts_that_allocate(rt: HostRuntime) -> Result<(), Fail> {
+    let hash = PasswordHash::new(PHC)?;
+    let verdict = log_in_counted(rt.alloc(), MCF, PASSWORD, &mut CoreCount::new())?;
+    holds(verdict, "by a `$7$` text")?;
+    holds(is_right(rt.alloc(), &hash, PASSWORD)?, "by the trait")?;
+    derive(
+        rt.alloc(),
+        PASSWORD,
+        &SALT,
+        Params::new(1, 1, 1)?,
+        &mut [0; 32],
+    )?;
+    named_alike(rt.alloc(), &hash)?;
+    Ok(())
 }

@@ -1,7 +1,8 @@
 //! Logins by untrusted texts: one that is too costly is refused before any work.
 
-ghost use Rattle.std.specs.Prelude.{◌≡◌, ◌+◌, ◌≤◌, nat_le};
-ghost use Rattle.scrypt.specs.Reading.{mapped, with_refusal};
+ghost use Rattle.std.specs.Prelude.{◌≡◌, ◌+◌, ◌≤◌, IfOk, IsErrOf, Ok, nat_le};
+ghost use Rattle.password_hash.specs.declared.error.Error.TheVariants.{OutOfMemory};
+ghost use Rattle.scrypt.specs.Reading.{mapped, verdict, with_refusal};
 ghost use Rattle.scrypt.specs.StoredHash.{params_reading, reading};
 ghost use Rattle.scrypt.specs.WithinLimits.{with_limited_refusal, within};
 ghost use Rattle.scrypt.specs.Workspace.{IsLeft, verdict_in, workspace_of};
@@ -9,6 +10,7 @@ ghost use Rattle.scrypt_examples.specs.Login.{let_in};
 
 use password_hash::Error;
 use scrypt::{CoreCount, LimitedError, Limits, StoredHash, Vectors};
+use std::alloc::Global;
 
 /// Whether the password is that of the stored text, in buffers that are kept from login to login.
 ///
@@ -33,7 +35,7 @@ pub fn log_in(
 {
     let hash = match StoredHash::read(stored) {
         Ok(hash) => hash,
-        Err(error) => return Err(LimitedError::Hash(error)),
+        Err(error) => return Err(LimitedError::from(error)),
     };
     let hash = match hash.within(limits) {
         Ok(hash) => hash,
@@ -44,6 +46,30 @@ pub fn log_in(
         Ok(()) => Ok(true),
         Err(Error::PasswordInvalid) => Ok(false),
         Err(error) => Err(LimitedError::Hash(error)),
+    }
+}
+
+/// Whether the password is that of the stored text, in memory that is allocated.
+///
+/// Returns the error of reading the text, and otherwise `OutOfMemory` if an allocation fails. Then no core is counted, so
+/// that a login that is tried again pays once.
+pub fn log_in_counted(
+    alloc: Global,
+    stored: &str,
+    password: &[u8],
+    cores: &mut CoreCount,
+) -> password_hash::Result<bool>
+    ensures right { IfOk result (λ right. let_in (verdict password.now (reading stored.now)) ≡ Ok right) }
+    ensures memory { IsErrOf result OutOfMemory → cores.new ≡ cores.old }
+{
+    let hash = match StoredHash::read(stored) {
+        Ok(hash) => hash,
+        Err(error) => return Err(error),
+    };
+    match hash.verify_counted::<Vectors>(alloc, password, cores) {
+        Ok(()) => Ok(true),
+        Err(Error::PasswordInvalid) => Ok(false),
+        Err(error) => Err(error),
     }
 }
 

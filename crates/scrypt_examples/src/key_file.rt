@@ -1,6 +1,7 @@
 //! The keys of an encrypted file, from one password.
 
 ghost use Rattle.std.specs.Prelude.{◌≡◌, ◌↔◌, ◌⊎◌, ◌++◌, take, drop, IfErr, IfOk, IsErrOf, IsTrue};
+ghost use Rattle.scrypt_kernel.specs.Hmac.{hmac_sha256};
 ghost use Rattle.scrypt.specs.Accepted.{are_accepted};
 ghost use Rattle.scrypt.specs.Key.{derived_key};
 ghost use Rattle.scrypt.specs.KeyOfParams.{key_by};
@@ -9,6 +10,7 @@ ghost use Rattle.password_hash.specs.declared.error.Error.TheVariants.{OutOfMemo
 ghost use Rattle.scrypt_examples.specs.KeyFile.{age_label};
 
 use password_hash::Error;
+use scrypt::hmac::hmac_sha256;
 use scrypt::laws::shorter_key_is_prefix;
 use scrypt::{DeriveError, Params, scrypt};
 use std::alloc::Global;
@@ -58,6 +60,16 @@ impl Header {
         keys.encryption.copy_from_slice(encryption);
         keys.authentication.copy_from_slice(authentication);
         Ok(keys)
+    }
+}
+
+impl Subkeys {
+    /// The tag by which a reader of the file knows that its header and what follows it were written with the password:
+    /// HMAC-SHA-256 of both with the second key.
+    pub fn tag(&self, header: &[u8], rest: &[u8]) -> [u8; 32]
+        ensures value { result ≡ hmac_sha256 self.now.authentication (header.now ++ rest.now) }
+    {
+        hmac_sha256(&self.authentication, header, rest)
     }
 }
 

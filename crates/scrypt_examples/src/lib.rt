@@ -7,6 +7,7 @@
 
 pub mod bounded_login;
 mod buffers;
+pub mod by_traits;
 pub mod derived_keys;
 pub mod hash;
 pub mod key_file;

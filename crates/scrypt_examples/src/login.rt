@@ -1,14 +1,15 @@
 //! Logins: users are enrolled, let in by their passwords, and their hashes replaced when they have become weak.
 
-ghost use Rattle.std.specs.Prelude.{◌≡◌, ◌⊎◌, ◌↔◌, None, Ok, Err, IsOk, IsSome, true, IfErr, IfOk, IfSome, string_bytes, IsTrue};
+ghost use Rattle.std.specs.Prelude.{◌≡◌, ◌⊎◌, ◌↔◌, None, Ok, Err, IsOk, IsSome, false, true, IfErr, IfOk, IfSome, string_bytes, IsTrue};
 ghost use Rattle.password_hash.specs.Refusal.{refusal};
 ghost use Rattle.password_hash.specs.declared.error.Error.TheVariants.{OutOfMemory};
 ghost use Rattle.scrypt.specs.Accepted.{are_accepted};
+ghost use Rattle.scrypt.specs.McfHash.{IsMadeHash as IsMadeMcf};
 ghost use Rattle.scrypt.specs.Reading.{verdict, weaker};
 ghost use Rattle.scrypt.specs.StoredHash.{reading};
 ghost use Rattle.scrypt_examples.specs.Login.{AreWanted, IsEnrolled, let_in, lets_in, new_text};
 
-use password_hash::{Error, PasswordHasher, Result};
+use password_hash::{Error, PasswordHasher, Result, mcf};
 use scrypt::laws::made_texts_are_accepted;
 use scrypt::phc::PasswordHash;
 use scrypt::{InvalidParams, Params, Scrypt, StoredHash};
@@ -57,6 +58,21 @@ impl LoginPolicy {
         let hasher = Scrypt::new_with_params(self.wanted);
         let hash: PasswordHash = hasher.hash_password(alloc, password, salt)?;
         Ok(hash.to_string(alloc)?)
+    }
+
+    /// The `$7$` text to store for a new user of a system that reads crypt(3) texts. The salt is drawn at random.
+    ///
+    /// Returns `OutOfMemory` if an allocation fails.
+    pub fn enroll_mcf(&self, alloc: Global, password: &[u8], salt: [u8; 16]) -> Result<String>
+        ensures made { IfOk result (λ text. IsMadeMcf self.now.wanted password.now salt (string_bytes text)) }
+        ensures accepts { IfOk result (λ text. verdict password.now (reading (string_bytes text)) ≡ Ok tt) }
+        ensures strong { IfOk result (λ text. weaker self.now.wanted (reading (string_bytes text)) ≡ Ok false) }
+        ensures err { IfErr result (λ e. e ≡ OutOfMemory) }
+    {
+        made_texts_are_accepted();
+        let hasher = Scrypt::new_with_params(self.wanted);
+        let hash: mcf::PasswordHash = hasher.hash_password(alloc, password, salt)?;
+        Ok(hash.into_string())
     }
 
     /// Logs a user in by the stored text. The salt is drawn at random, for a new text.

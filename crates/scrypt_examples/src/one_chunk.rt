@@ -1,10 +1,12 @@
-//! One chunk, mixed with SIMD cores and without.
+//! One chunk, mixed with SIMD cores and without, and one block.
 
-ghost use Rattle.std.specs.Prelude.{◌≡◌, ◌+◌, ◌/◌, length};
+ghost use Rattle.std.specs.Prelude.{◌≡◌, ◌+◌, ◌-◌, ◌/◌, ◌%◌, ◌^◌, ◌<◌, ◌≤◌, length, slice_index};
 ghost use Rattle.scrypt_kernel.specs.RoMixCost.{AreRoMixLens, AreThinLens, ro_mix_cost};
 
-use scrypt::CoreCount;
-use scrypt::romix::{plain_ro_mix, scrypt_ro_mix, thin_ro_mix};
+use scrypt::block_mix::lanes::{self, shuffle_in, shuffle_out};
+use scrypt::laws::diagonal_order_undone;
+use scrypt::romix::{integerify_diagonal, plain_ro_mix, scrypt_ro_mix, thin_ro_mix};
+use scrypt::{CoreCount, salsa};
 
 /// Mixes a chunk by SIMD cores, and its copy by cores of which none is one: the results are the same, and so is the number of
 /// the cores.
@@ -44,4 +46,29 @@ pub fn mix_with_one_row(
 {
     scrypt_ro_mix(b, v, t, log_n, cores);
     thin_ro_mix(copy, one, spare, log_n, log_n, cores);
+}
+
+/// Runs the core of a block by SIMD, and that of its copy in words: the results are the same, and two cores are counted.
+pub fn core_with_and_without_simd(x: &mut [u32; 16], copy: &mut [u32; 16], cores: &mut CoreCount)
+    requires copied { copy.old ≡ x.old }
+    ensures same { copy.new ≡ x.new }
+    ensures all { cores.new.all ≡ cores.old.all + 2 }
+    ensures lanes { cores.new.lanes ≡ cores.old.lanes + 1 }
+{
+    diagonal_order_undone();
+    shuffle_in(x);
+    lanes::core(x, cores);
+    shuffle_out(x);
+    salsa::core(copy, cores);
+}
+
+/// Returns the row that a step of the walk takes in where there are at most `2^32` rows. The second word of the last block
+/// then does not matter.
+pub fn row_by_first_word(x: &[u32], log_n: u8) -> usize
+    requires some { 0 < length x.now }
+    requires whole { length x.now % 16 ≡ 0 }
+    requires few { log_n ≤ 32 }
+    ensures row { result ≡ slice_index x.now (length x.now - 16) % 2 ^ log_n }
+{
+    integerify_diagonal(x, log_n)
 }
