@@ -1,18 +1,10 @@
 // Derivations in the caller's buffers, which may hold anything.
 
 use crate::holds;
-use crate::laws::KEY;
+use crate::keys::{FIRST, SECOND};
 use scrypt::{BufferLens, CoreCount, InvalidOutputLen, Params, scrypt_thin, scrypt_with_buffers};
 use scrypt_examples::derived_keys::key_in_a_thin_table;
 use std::test::Fail;
-
-// RFC 7914, section 12, the second key.
-const SECOND: [u8; 64] = [
-    0xfd, 0xba, 0xbe, 0x1c, 0x9d, 0x34, 0x72, 0x00, 0x78, 0x56, 0xe7, 0x19, 0x0d, 0x01, 0xe9, 0xfe,
-    0x7c, 0x6a, 0xd7, 0xcb, 0xc8, 0x23, 0x78, 0x30, 0xe7, 0x73, 0x76, 0x63, 0x4b, 0x37, 0x31, 0x62,
-    0x2e, 0xaf, 0x30, 0xd9, 0x2e, 0x22, 0xa3, 0x88, 0x6f, 0xf1, 0x09, 0x27, 0x9d, 0x98, 0x30, 0xda,
-    0xc7, 0x27, 0xaf, 0xb9, 0x4a, 0x83, 0xee, 0x6d, 0x83, 0x60, 0xcb, 0xdf, 0xa2, 0xcc, 0x06, 0x40,
-];
 
 #[test]
 fn keys_in_used_buffers() -> Result<(), Fail> {
@@ -30,7 +22,7 @@ fn keys_in_used_buffers() -> Result<(), Fail> {
             &mut key,
             &mut cores,
         )?;
-        holds(key == KEY, "both times")?;
+        holds(key == FIRST, "both times")?;
     }
     Ok(())
 }
@@ -43,7 +35,7 @@ fn keys_by_thin_tables(rt: HostRuntime) -> Result<(), Fail> {
     for s in 0..5 {
         key = [0; 64];
         key_in_a_thin_table(alloc, b"", b"", &params, s, &mut key, &mut cores)?;
-        holds(key == KEY, "the first key")?;
+        holds(key == FIRST, "the first key")?;
     }
     let params = Params::new(10, 8, 16)?;
     key_in_a_thin_table(

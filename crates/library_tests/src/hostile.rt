@@ -1,9 +1,10 @@
-// Hostile `$7$` texts, whose verdicts are those of borrowed hashes and of owned ones. More texts are in `ci/hashes.py`.
+// Hostile texts, whose verdicts are the same by each call that reads them. More texts are in `ci/hashes.py`.
 
 use crate::hash_allocations::followed;
 use crate::holds;
 use crate::laws::HASH;
-use crate::verdicts::is_mcf_verdict;
+use crate::phc_texts::HASH as PHC;
+use crate::verdicts::{is_mcf_verdict, is_phc_verdict};
 use password_hash::mcf::alphabet::value;
 use password_hash::{Error, mcf};
 use scrypt::laws::texts_have_one_reading;
@@ -14,7 +15,7 @@ use std::test::Fail;
 // Where the key begins.
 const KEY_AT: usize = 15;
 
-// The lengths of the beginnings that are hashes of shorter keys.
+// The lengths of the beginnings of a `$7$` hash that are hashes of shorter keys.
 const SHORTER_KEYS: [usize; 14] = [19, 23, 25, 27, 31, 34, 35, 39, 43, 46, 47, 51, 55, 58];
 
 // The verdict by a beginning of this length.
@@ -40,6 +41,30 @@ fn beginnings(rt: HostRuntime) -> Result<(), Fail> {
         let wanted = wanted_of_beginning(len);
         holds(
             is_mcf_verdict(rt.alloc(), beginning, b"", wanted),
+            "its verdict",
+        )?;
+    }
+    Ok(())
+}
+
+// The verdict on its password by the beginning of this length of a PHC hash. Without the whole salt there is no key, and one
+// that ends in the key is the hash of a shorter key.
+fn wanted_of_phc_beginning(len: usize) -> Result<(), Error> {
+    match len {
+        2..=6 => Err(Error::Algorithm),
+        7 | 12 | 13 | 17 | 21 | 26 | 30 | 33 | 34 | 38 | 42 | 44 => Err(Error::PasswordInvalid),
+        61 | 65 | 69 | 73 | 77 | 81 | 85 | 88 => Ok(()),
+        _ => Err(Error::EncodingInvalid),
+    }
+}
+
+#[test]
+fn beginnings_of_a_phc_hash(rt: HostRuntime) -> Result<(), Fail> {
+    for len in 0..=88 {
+        let beginning = PHC.get(..len).unwrap_or("");
+        let wanted = wanted_of_phc_beginning(len);
+        holds(
+            is_phc_verdict(rt.alloc(), beginning, b"password", wanted),
             "its verdict",
         )?;
     }

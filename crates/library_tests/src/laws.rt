@@ -1,5 +1,6 @@
 // The laws on keys and hashes whose values are known: what a law states is computed too.
 
+use crate::keys::FIRST;
 use crate::{holds, is};
 use password_hash::{PasswordHasher, PasswordVerifier, mcf};
 use scrypt::laws::{
@@ -9,24 +10,16 @@ use scrypt::{Kdf, Params, Scrypt, scrypt};
 use std::alloc::Global;
 use std::test::Fail;
 
-// RFC 7914, section 12, the first key.
-pub static KEY: [u8; 64] = [
-    0x77, 0xd6, 0x57, 0x62, 0x38, 0x65, 0x7b, 0x20, 0x3b, 0x19, 0xca, 0x42, 0xc1, 0x8a, 0x04, 0x97,
-    0xf1, 0x6b, 0x48, 0x44, 0xe3, 0x07, 0x4a, 0xe8, 0xdf, 0xdf, 0xfa, 0x3f, 0xed, 0xe2, 0x14, 0x42,
-    0xfc, 0xd0, 0x06, 0x9d, 0xed, 0x09, 0x48, 0xf8, 0x32, 0x6a, 0x75, 0x3a, 0x0f, 0xc8, 0x1f, 0x17,
-    0xe8, 0xd3, 0xe0, 0xfb, 0x2e, 0x0d, 0x36, 0x28, 0xcf, 0x35, 0xe2, 0x0c, 0x38, 0xd1, 0x89, 0x06,
-];
-
 #[test]
 fn beginnings_of_a_key(rt: HostRuntime) -> Result<(), Fail> {
     shorter_key_is_prefix();
     let (params, mut key, mut whole) = (Params::new(4, 1, 1)?, [0; 64], [0; 64]);
     for &len in &[1, 32, 33, 64] {
         scrypt(rt.alloc(), b"", b"", &params, &mut key[..len])?;
-        holds(key[..len] == KEY[..len], "its first bytes")?;
+        holds(key[..len] == FIRST[..len], "its first bytes")?;
     }
     Scrypt::from(params).derive_key(rt.alloc(), b"", b"", &mut whole)?;
-    holds(whole == KEY, "the whole key, by the trait")
+    holds(whole == FIRST, "the whole key, by the trait")
 }
 
 // SHA-256 of 65 letters `a`, by OpenSSL.

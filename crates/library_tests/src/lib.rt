@@ -24,6 +24,8 @@ mod hashes;
 #[cfg(test)]
 mod hostile;
 #[cfg(test)]
+mod keys;
+#[cfg(test)]
 mod lanes;
 #[cfg(test)]
 mod laws;

@@ -67,7 +67,7 @@ fn added_parameters() -> Result<(), Fail> {
 pub const HASH: &str =
     "$scrypt$ln=16,r=8,p=1$aM15713r3Xsvxbi31lqr1Q$nFNh2CVHVjNldFVKDHDlm4CbdRSCdEBsjjJxD+iCs5E";
 
-// Texts that print as they were read, and the reason for the row. `ci/hashes.py` has texts that are refused.
+// Texts that print as they were read, and the reason for the row. `ci/hashes.py` has more that are refused.
 static PRINTED: [(&str, &str); 6] = [
     (HASH, "a whole one"),
     ("$scrypt", "the algorithm alone"),
@@ -91,6 +91,43 @@ fn printed_texts(rt: HostRuntime) -> Result<(), Fail> {
     for &(text, reason) in &PRINTED {
         let printed = PasswordHash::new(text)?.to_string(rt.alloc())?;
         holds(is(printed.as_str(), text), reason)?;
+    }
+    Ok(())
+}
+
+// Texts that are refused, and the reason for the row.
+static UNREAD: [(&str, &str); 15] = [
+    ("", "the empty text"),
+    ("$", "no algorithm"),
+    ("scrypt", "no dollar"),
+    ("$Scrypt", "a capital"),
+    ("$scrypt$", "an empty part"),
+    ("$scrypt$v=01", "a version with a leading zero"),
+    ("$scrypt$v=4294967296", "a version of 2^32"),
+    ("$scrypt$ln=", "an empty value"),
+    ("$scrypt$ln=1,ln=2", "a name twice"),
+    ("$scrypt$aM", "spare bits of the salt"),
+    ("$scrypt$aA==", "padding"),
+    ("$scrypt$aA$AAAAAAAAAAAA", "a key of 9 bytes"),
+    (
+        "$scrypt$aA$AAAAAAAAAAAAAAAAAAAAAAAAAAAAAAAAAAAAAAAAAAAAAAAAAAAAAAAAAAAAAAAAAAAAAAAAAAAAAAAAAAAAAAA",
+        "a key of 65 bytes",
+    ),
+    (
+        "$scrypt$x=000000000000000000000000000000000000000000000000000000000000000000000000000000000000000000000000000000000000000000000000000000",
+        "128 bytes of parameters",
+    ),
+    (
+        "$aaaaaaaaaaaaaaaaaaaaaaaaaaaaaaaaa",
+        "an algorithm of 33 letters",
+    ),
+];
+
+#[test]
+fn texts_that_are_refused() -> Result<(), Fail> {
+    for &(text, reason) in &UNREAD {
+        let refused = PasswordHash::new(text).err();
+        holds(refused == Some(EncodingInvalid), reason)?;
     }
     Ok(())
 }

@@ -6,14 +6,30 @@ use password_hash::Error::{
     Version,
 };
 use password_hash::{PasswordVerifier, mcf, phc};
-use scrypt::Scrypt;
+use scrypt::{Scrypt, StoredHash};
 use std::alloc::Global;
 use std::test::Fail;
 
-// The verdict by a PHC text.
-fn phc_verdict(alloc: Global, text: &str, password: &[u8]) -> Result<(), Error> {
-    let hash = phc::PasswordHash::new(text)?;
-    Scrypt::new().verify_password(alloc, password, &hash)
+// The verdict by a stored text, which is of either format.
+fn stored_verdict(alloc: Global, text: &str, password: &[u8]) -> Result<(), Error> {
+    match StoredHash::read(text) {
+        Ok(hash) => hash.verify(alloc, password),
+        Err(refused) => Err(refused),
+    }
+}
+
+// Whether the verdict by a PHC text, by each call alike, is this.
+pub fn is_phc_verdict(
+    alloc: Global,
+    text: &str,
+    password: &[u8],
+    wanted: Result<(), Error>,
+) -> bool {
+    let verdict = match phc::PasswordHash::new(text) {
+        Ok(hash) => Scrypt::new().verify_password(alloc, password, &hash),
+        Err(refused) => Err(refused),
+    };
+    verdict == wanted && stored_verdict(alloc, text, password) == wanted
 }
 
 // The verdict by a borrowed `$7$` text.
@@ -33,7 +49,7 @@ fn owned_verdict(alloc: Global, text: &str, password: &[u8]) -> Result<(), Error
     }
 }
 
-// Whether the verdict by a `$7$` text, borrowed and owned alike, is this.
+// Whether the verdict by a `$7$` text, borrowed, owned and stored alike, is this.
 pub fn is_mcf_verdict(
     alloc: Global,
     text: &str,
@@ -42,6 +58,7 @@ pub fn is_mcf_verdict(
 ) -> bool {
     borrowed_verdict(alloc, text, password) == wanted
         && owned_verdict(alloc, text, password) == wanted
+        && stored_verdict(alloc, text, password) == wanted
 }
 
 // passlib's parameters, salt and key, of `password`.
@@ -89,7 +106,8 @@ fn is_verdict_by(
     wanted: Result<(), Error>,
 ) -> Result<bool, Fail> {
     let text = format!(in alloc; "${params}${SALT}{key}")?;
-    Ok(phc_verdict(alloc, text.as_str(), password.as_bytes()) == wanted)
+    let is_wanted = is_phc_verdict(alloc, text.as_str(), password.as_bytes(), wanted);
+    Ok(is_wanted)
 }
 
 #[test]
