@@ -1,9 +1,8 @@
 // Derivations in the caller's buffers, which may hold anything.
 
 use crate::holds;
-use crate::keys::{FIRST, SECOND};
+use crate::keys::FIRST;
 use scrypt::{BufferLens, CoreCount, InvalidOutputLen, Params, scrypt_thin, scrypt_with_buffers};
-use scrypt_examples::derived_keys::key_in_a_thin_table;
 use std::test::Fail;
 
 #[test]
@@ -25,29 +24,6 @@ fn keys_in_used_buffers() -> Result<(), Fail> {
         holds(key == FIRST, "both times")?;
     }
     Ok(())
-}
-
-#[tactic(auto, using(std::proofs::lemmas::Bool::Decides::nat_tests), unfolding(scrypt::specs::Accepted::is_output_len))]
-#[test]
-fn keys_by_thin_tables(rt: HostRuntime) -> Result<(), Fail> {
-    let (alloc, mut cores) = (rt.alloc(), CoreCount::new());
-    let (params, mut key) = (Params::new(4, 1, 1)?, [0; 64]);
-    for s in 0..5 {
-        key = [0; 64];
-        key_in_a_thin_table(alloc, b"", b"", &params, s, &mut key, &mut cores)?;
-        holds(key == FIRST, "the first key")?;
-    }
-    let params = Params::new(10, 8, 16)?;
-    key_in_a_thin_table(
-        alloc,
-        b"password",
-        b"NaCl",
-        &params,
-        3,
-        &mut key,
-        &mut cores,
-    )?;
-    holds(key == SECOND, "one row in eight")
 }
 
 #[test]

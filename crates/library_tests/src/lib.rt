@@ -12,8 +12,6 @@ mod buffers;
 #[cfg(test)]
 mod derivation_allocations;
 #[cfg(test)]
-mod examples;
-#[cfg(test)]
 mod failing_allocations;
 #[cfg(test)]
 mod groups;

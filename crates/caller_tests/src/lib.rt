@@ -1,6 +1,8 @@
-//! Tests of the commands: over streams that fail at each call, and by a caller whose contract rests on that of a run.
+//! Tests of the commands, over streams that fail at each call, and by a caller whose contract rests on that of a run; and of the examples.
 #![tactic(auto)]
 
+#[cfg(test)]
+mod examples;
 pub mod program;
 #[cfg(test)]
 mod streams;

@@ -35,6 +35,23 @@ fn derived_keys(rt: HostRuntime) -> Result<(), Fail> {
     Ok(())
 }
 
+#[tactic(auto, using(std::proofs::lemmas::Bool::Decides::nat_tests), unfolding(scrypt::specs::Accepted::are_accepted, scrypt::specs::Accepted::is_output_len))]
+#[test]
+fn keys_by_thin_tables(rt: HostRuntime) -> Result<(), Fail> {
+    let (alloc, mut cores) = (rt.alloc(), CoreCount::new());
+    let (params, mut whole, mut key) = (Params::new(4, 1, 1)?, [0; 64], [0; 64]);
+    key_or_out_of_memory(alloc, PASSWORD, &SALT, 4, 1, 1, &mut whole, &mut cores)?;
+    for s in 0..5 {
+        key = [0; 64];
+        key_in_a_thin_table(alloc, PASSWORD, &SALT, &params, s, &mut key, &mut cores)?;
+        holds(key == whole, "from all rows to one")?;
+    }
+    let params = Params::new(10, 8, 16)?;
+    key_or_out_of_memory(alloc, PASSWORD, &SALT, 10, 8, 16, &mut whole, &mut cores)?;
+    key_in_a_thin_table(alloc, PASSWORD, &SALT, &params, 3, &mut key, &mut cores)?;
+    holds(key == whole, "one row in eight")
+}
+
 #[test]
 fn keys_of_files(rt: HostRuntime) -> Result<(), Fail> {
     let header = Header {
