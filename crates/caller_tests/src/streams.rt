@@ -3,8 +3,9 @@
 ghost use Rattle.std.specs.Prelude.{◌≤◌, IfOk};
 
 use crate::holds;
+use crate::program::printed;
 use scrypt_commands::run::{Ended, run};
-use std::alloc::Global;
+use std::alloc::{AllocError, Global};
 use std::io::{Error, ErrorKind, Read, Result, Write};
 use std::test::Fail;
 
@@ -88,6 +89,15 @@ type Row<'a> = (
     &'static str,
 );
 
+// The words of a line.
+fn words_of(alloc: Global, line: &str) -> std::result::Result<Vec<String>, AllocError> {
+    let mut words = Vec::new(alloc);
+    for word in line.split(' ') {
+        words.push(String::from_str(alloc, word)?)?;
+    }
+    Ok(words)
+}
+
 // Runs a line, and fails unless it ends as its row has it.
 fn check(alloc: Global, row: Row<'_>) -> std::result::Result<(), Fail> {
     let (
@@ -98,10 +108,7 @@ fn check(alloc: Global, row: Row<'_>) -> std::result::Result<(), Fail> {
         [written, told],
         reason,
     ) = row;
-    let mut words = Vec::new(alloc);
-    for word in line.split(' ') {
-        words.push(String::from_str(alloc, word)?)?;
-    }
+    let words = words_of(alloc, line)?;
     let mut input = Stream::new(alloc, input);
     let mut output = Stream::new(alloc, output);
     let mut faults = Stream::new(alloc, faults);
@@ -316,4 +323,23 @@ fn other_ends(rt: HostRuntime) -> std::result::Result<(), Fail> {
         check(rt.alloc(), row)?;
     }
     Ok(())
+}
+
+// What is written a byte a call is what is written at once, however many calls that takes: a key of 5,000 bytes takes 10,001.
+#[test]
+fn a_long_line(rt: HostRuntime) -> std::result::Result<(), Fail> {
+    let alloc = rt.alloc();
+    let words = words_of(alloc, "key 4 1 1 5000 ")?;
+    let (status, whole) = printed(alloc, &words, b"xxx");
+    let mut output = Stream::new(alloc, ALL);
+    let mut input = Stream::new(alloc, INPUT);
+    let mut faults = Stream::new(alloc, ALL);
+    let ended = run(alloc, &words, &mut input, &mut output, &mut faults);
+    holds(status == 0 && ended.status == 0, "both end well")?;
+    holds(whole.len() == 10_001, "two digits for each byte")?;
+    let (written, flushed) = output.text.split_at(whole.len().min(output.text.len()));
+    holds(
+        written == whole.as_slice() && flushed == b"^".as_slice(),
+        "the same line, and one flush",
+    )
 }
