@@ -7,7 +7,7 @@ use Rattle.std.specs.List.{flat_map, range_with_len}
 use Rattle.scrypt_kernel.specs.Words.{block, xor_words}
 use Rattle.scrypt_kernel.specs.Salsa.{salsa20_8}
 use Rattle.scrypt_kernel.specs.BlockMix.{block_mix, chain, y}
-use Rattle.scrypt_kernel.specs.Diagonal.{AreInverse, IsBlockMixBy, permuted}
+use Rattle.scrypt_kernel.specs.Diagonal.{AfterTurns, AreInverse, IsBlockMixBy, chain_in, permuted}
 use Rattle.scrypt_kernel.proofs.PartFacts.{halves_all, length-part, length-parts, part_after, part_of_parts}
 use Rattle.scrypt_kernel.proofs.SalsaFacts.{length-salsa20_8}
 use Rattle.scrypt_kernel.proofs.OrderFacts.{block_in, length-permuted, out_then_in, standard_of, zip_in}
@@ -123,51 +123,6 @@ block_mix_by_once f b out other whole one two =
     (λ k h. two.odd k h ∙ sym (same_x one two (2 * k + 1 + 1) (omega arith))) in
     first ∙ sym second
 
--- after i turns of two steps each, of r: X is x, and output has what was written of the block mix out
-pub record AfterTurns {f : List ℕ → List ℕ} {b out : List ℕ} (mix : IsBlockMixBy f b out) (r i : ℕ) (x output : List ℕ) : Type 0 where
-  pub chained : x ≡ mix.x (2 * i)
-  pub even : (k : ℕ) → k < i → block output k ≡ mix.x (2 * k + 1)
-  pub odd : (k : ℕ) → k < i → block output (r + k) ≡ mix.x (2 * k + 1 + 1)
-
-module _ {f : List ℕ → List ℕ} {b out : List ℕ} (mix : IsBlockMixBy f b out) (r : ℕ) (is : r ≡ length b / 32) (whole : length b % 32 ≡ 0) where
-  -- before the first turn
-  pub no_turn : (x output : List ℕ) → x ≡ block b (2 * r - 1) → AfterTurns mix r 0 x output
-  no_turn x output first =
-      let last : 2 * r - 1 ≡ length b / 16 - 1 = omega arith in
-      record {
-        chained = first ∙ ap (block b) last ∙ sym mix.first;
-        even = λ k h. absurd (omega arith);
-        odd = λ k h. absurd (omega arith);
-      }
-
-  -- one more turn, whose steps give x1 and x2
-  pub one_more_turn : (i : ℕ) (x output x1 output1 x2 output2 : List ℕ) → i < r → AfterTurns mix r i x output
-      → x1 ≡ f (xor_words x (block b (2 * i)))
-      → block output1 i ≡ x1 → ((k : ℕ) → k ≢ i → block output1 k ≡ block output k)
-      → x2 ≡ f (xor_words x1 (block b (2 * i + 1)))
-      → block output2 (r + i) ≡ x2 → ((k : ℕ) → k ≢ r + i → block output2 k ≡ block output1 k)
-      → AfterTurns mix r (i + 1) x2 output2
-  one_more_turn i x output x1 output1 x2 output2 inside before is1 written1 others1 is2 written2 others2 =
-      let first : x1 ≡ mix.x (2 * i + 1) = rw (mix.next (2 * i) (omega arith), ← before.chained) is1 in
-      let second : x2 ≡ mix.x (2 * i + 1 + 1) = rw (mix.next (2 * i + 1) (omega arith), ← first) is2 in
-      let even_next : 2 * i + 1 + 1 ≡ 2 * (i + 1) = omega arith in
-      record {
-        chained = rw even_next at second;
-        even = λ k h. grind (arith, others2 k, others1 k, before.even k);
-        odd = λ k h. grind (arith, others2 (r + k), others1 (r + k), before.odd k);
-      }
-
-  -- after the last turn
-  pub all_turns : (i : ℕ) (x output : List ℕ) → i ≡ r → length output ≡ length b → AfterTurns mix r i x output → output ≡ out
-  all_turns i x output done long after = block_mix_by_once f b output out whole (record {
-    x = mix.x;
-    first = mix.first;
-    next = mix.next;
-    long = long;
-    even = λ k h. after.even k (omega arith);
-    odd = λ k h. rw (← is) (after.odd k (omega arith));
-  }) mix
-
 -- the block mix by the core in another order is that of the words in standard order
 pub mixed_in : (p q : List ℕ) → AreInverse p q → (input : List ℕ) → 0 < length input → length input % 32 ≡ 0
     → IsBlockMixBy (core_in p q) input (permuted p (block_mix (permuted q input)))
@@ -175,3 +130,63 @@ mixed_in p q inverse input some whole =
     let long : length (permuted q input) ≡ length input = length-permuted q input in
     let standard = block_mix_by p q inverse (permuted q input) (omega arith) (omega arith) in
     rw (out_then_in p q inverse input (omega arith)) at standard
+
+-- the turns of the block mix of b, which is in another order
+module _ (p q : List ℕ) (inverse : AreInverse p q) (b : List ℕ) (some : 0 < length b) (whole : length b % 32 ≡ 0) where
+  chain_first : chain_in p q b 0 ≡ block b (length b / 16 - 1)
+  unfolding chain
+  chain_first =
+      let long : length (permuted q b) ≡ length b = length-permuted q b in
+      sym (block_in p q inverse (permuted q b) (length (permuted q b) / 16 - 1) (omega arith))
+      ∙ ap (λ z. block z (length (permuted q b) / 16 - 1)) (out_then_in p q inverse b (omega arith))
+      ∙ ap (λ n. block b (n / 16 - 1)) long
+
+  chain_next : (i : ℕ) → i < length b / 16 → chain_in p q b (i + 1) ≡ core_in p q (xor_words (chain_in p q b i) (block b i))
+  chain_next i inside =
+      let long : length (permuted q b) ≡ length b = length-permuted q b in
+      let next = next_in p q inverse (permuted q b) (omega arith) (omega arith) i (omega arith) in
+      rw (out_then_in p q inverse b (omega arith)) at next
+
+  -- before the first turn
+  pub no_turn : (x output : List ℕ) → x ≡ block b (2 * (length b / 32) - 1) → AfterTurns p q b 0 x output
+  no_turn x output first =
+      let last : 2 * (length b / 32) - 1 ≡ length b / 16 - 1 = omega arith in
+      record {
+        chained = first ∙ ap (block b) last ∙ sym chain_first;
+        even = λ k h. absurd (omega arith);
+        odd = λ k h. absurd (omega arith);
+      }
+
+  -- one more turn, whose steps give x1 and x2
+  pub one_more_turn : (i : ℕ) (x output x1 output1 x2 output2 : List ℕ) → i < length b / 32 → AfterTurns p q b i x output
+      → x1 ≡ core_in p q (xor_words x (block b (2 * i)))
+      → block output1 i ≡ x1 → ((k : ℕ) → k ≢ i → block output1 k ≡ block output k)
+      → x2 ≡ core_in p q (xor_words x1 (block b (2 * i + 1)))
+      → block output2 (length b / 32 + i) ≡ x2 → ((k : ℕ) → k ≢ length b / 32 + i → block output2 k ≡ block output1 k)
+      → AfterTurns p q b (i + 1) x2 output2
+  one_more_turn i x output x1 output1 x2 output2 inside before is1 written1 others1 is2 written2 others2 =
+      let first : x1 ≡ chain_in p q b (2 * i + 1) = rw (chain_next (2 * i) (omega arith), ← before.chained) is1 in
+      let second : x2 ≡ chain_in p q b (2 * i + 1 + 1) = rw (chain_next (2 * i + 1) (omega arith), ← first) is2 in
+      let even_next : 2 * i + 1 + 1 ≡ 2 * (i + 1) = omega arith in
+      record {
+        chained = rw even_next at second;
+        even = λ k h. grind (arith, others2 k, others1 k, before.even k);
+        odd = λ k h. grind (arith, others2 (length b / 32 + k), others1 (length b / 32 + k), before.odd k);
+      }
+
+  -- after the last turn
+  pub all_turns : (i : ℕ) (x output : List ℕ) → i ≡ length b / 32 → length output ≡ length b → AfterTurns p q b i x output
+      → output ≡ permuted p (block_mix (permuted q b))
+  all_turns i x output done long after = block_mix_by_once (core_in p q) b output _ whole (record {
+    x = chain_in p q b;
+    first = chain_first;
+    next = chain_next;
+    long = long;
+    even = λ k h. after.even k (omega arith);
+    odd = λ k h. after.odd k (omega arith);
+  }) (mixed_in p q inverse b some whole)
+
+-- a turn, in other words for the same lists
+pub turns_at : (p q b b' : List ℕ) (i j : ℕ) (x y old old' new new' : List ℕ) → b ≡ b' → old ≡ old' → new ≡ new'
+    → (AfterTurns p q b i x old → AfterTurns p q b j y new) → AfterTurns p q b' i x old' → AfterTurns p q b' j y new'
+turns_at p q b b' i j x y old old' new new' is old_is new_is turn before = rw (← is, ← new_is) (turn (rw (is, old_is) before))

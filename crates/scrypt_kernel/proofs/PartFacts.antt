@@ -3,7 +3,7 @@ use Rattle.std.proofs.Common.{◌≡◌, ◌≢◌, ℕ, zero, suc, ◌<◌, ◌
 use Rattle.std.proofs.Common.{sym, ap, ap₂, ◌∙◌, take_all, arith, rules, inl, inr, add-zero, zero-add, append_assoc}
 use Rattle.std.proofs.Math.Nat.{mul-le-mul_right}
 use Rattle.std.proofs.lemmas.Bool.{cases_lt}
-use Rattle.std.proofs.lemmas.List.{take_at, drop-drop, take-append-drop, length-take-le, places, same_lists}
+use Rattle.std.proofs.lemmas.List.{take_at, take-take, drop-drop, take-append-drop, length-take-le, places, same_lists}
 use Rattle.std.proofs.lemmas.List.{length-append, length-drop, nil_from_length}
 use Rattle.std.proofs.lemmas.Slice.{drop-put_mid}
 use Rattle.std.proofs.lemmas.List.FromFn.{fill_by_all}
@@ -27,6 +27,13 @@ length-part s k x room = length-take-le s (drop (k * s) x) (omega (arith, length
 -- a part of a beginning that holds it
 pub part-take : (s k a : ℕ) (x : List ℕ) → k * s + s ≤ a → part s (take a x) k ≡ part s x k
 part-take s k a x inside = same_lists _ _ (search (rules, places)) (λ i d h. grind (arith, places))
+
+-- a list that was made longer
+pub take_longer : (a : ℕ) (x longer : List ℕ) → a ≤ length x → take (length x) longer ≡ x → take a longer ≡ take a x
+take_longer a x longer inside is = sym (take-take a (length x) longer inside) ∙ ap (take a) is
+
+pub part_longer : (s k : ℕ) (x longer : List ℕ) → k * s + s ≤ length x → take (length x) longer ≡ x → part s longer k ≡ part s x k
+part_longer s k x longer inside is = sym (part-take s k (length x) longer inside) ∙ ap (λ z. part s z k) is
 
 module _ (s k : ℕ) (x ys : List ℕ) (a n : ℕ) (at : a ≡ k * s) (size : n ≡ s) (full : length ys ≡ s) (room : a + s ≤ length x) where
   pub part_put_same : part s (put_mid a n x ys) k ≡ ys

@@ -4,6 +4,7 @@
 use Rattle.std.specs.Prelude.{◌≡◌, ℕ, ◌+◌, ◌*◌, ◌/◌, ◌%◌, ◌<◌, List, [], ◌∷◌, map, length, slice_index, nat_lt, IsTrue}
 use Rattle.scrypt_kernel.specs.Words.{block, last_block, xor_words}
 use Rattle.scrypt_kernel.specs.Salsa.{double_round, salsa20_8}
+use Rattle.scrypt_kernel.specs.BlockMix.{chain}
 use Rattle.std.specs.List.{list_all, range_with_len}
 
 -- pivot[i] is the standard index of the word that diagonal order has at index i
@@ -50,3 +51,13 @@ pub record IsBlockMixBy (f : List ℕ → List ℕ) (b out : List ℕ) : Type 0 
   pub long : length out ≡ length b
   pub even : (k : ℕ) → k < length b / 32 → block out k ≡ x (2 * k + 1)
   pub odd : (k : ℕ) → k < length b / 32 → block out (length b / 32 + k) ≡ x (2 * k + 1 + 1)
+
+-- X before step i of the block mix of b, which is in the order p, and q undoes that
+abbrev pub chain_in : List ℕ → List ℕ → List ℕ → ℕ → List ℕ
+chain_in p q b i = permuted p (chain (permuted q b) i)
+
+-- after i turns of this block mix, of two steps each: X is x, and output has what they wrote
+pub record AfterTurns (p q b : List ℕ) (i : ℕ) (x output : List ℕ) : Type 0 where
+  pub chained : x ≡ chain_in p q b (2 * i)
+  pub even : (k : ℕ) → k < i → block output k ≡ chain_in p q b (2 * k + 1)
+  pub odd : (k : ℕ) → k < i → block output (length b / 32 + k) ≡ chain_in p q b (2 * k + 1 + 1)

@@ -6,7 +6,7 @@ ghost use Rattle.scrypt_kernel.specs.Salsa.{salsa20_8};
 ghost use Rattle.scrypt_kernel.specs.Count.{AreCountedAs};
 ghost use Rattle.scrypt_kernel.specs.BlockMix.{block_mix};
 ghost use Rattle.scrypt_kernel.specs.KeptRows.{IsRowLen};
-ghost use Rattle.scrypt_kernel.specs.Diagonal.{permuted};
+ghost use Rattle.scrypt_kernel.specs.Diagonal.{AfterTurns, permuted};
 
 pub mod lanes;
 pub mod pivot;
@@ -85,14 +85,37 @@ pub(crate) fn mix<O: OrderedBlocks, I: Input>(
     let r = len / 32;
     // Step 1: X = B[2 * r - 1].
     let mut x: O = input.read(2 * r - 1, len);
+    'turns: for i in 0..r {
+        x = take_turn::<O, I>(x, input, output, i, len, cores);
+    }
+}
+
+// One turn of a block mix: steps 2 and 3 for `2 * i` and `2 * i + 1`, with X in `x` before and in the result after.
+#[inline(always)]
+pub(crate) fn take_turn<O: OrderedBlocks, I: Input>(
+    x: O,
+    input: &I,
+    output: &mut [u32],
+    i: usize,
+    len: usize,
+    cores: &mut CoreCount,
+) -> O
+    requires rows { I.are_rows input.now O.count len }
+    requires output { length output.old ≡ O.count * len }
+    requires row { IsRowLen len }
+    requires inside { i < len / 32 }
+    ensures mixed { (k : ℕ) → k < O.count → AfterTurns O.pivot O.inverse_pivot (I.words input.now k) i (O.held x k) (part len output.old k)
+        → AfterTurns O.pivot O.inverse_pivot (I.words input.now k) (i + 1) (O.held result k) (part len output.new k) }
+    ensures counted { AreCountedAs O.simd (O.count * 2) cores.old cores.new }
+{
+    let r = len / 32;
     // Step 2: for i = 0 to 2 * r - 1 do T = X xor B[i], X = Salsa (T), Y[i] = X.
     // Step 3: B' = (Y[0], Y[2], .., Y[2 * r - 2], Y[1], Y[3], .., Y[2 * r - 1]).
-    'steps: for i in 0..r {
-        x = mix_block::<O, I>(x, input, 2 * i, len, cores);
-        x.write(output, len, i);
-        x = mix_block::<O, I>(x, input, 2 * i + 1, len, cores);
-        x.write(output, len, r + i);
-    }
+    let x = mix_block::<O, I>(x, input, 2 * i, len, cores);
+    x.write(output, len, i);
+    let x = mix_block::<O, I>(x, input, 2 * i + 1, len, cores);
+    x.write(output, len, r + i);
+    x
 }
 
 // Step 2 for one `i`, except Y[i] = X: T = X xor B[i], X = Salsa (T).
@@ -108,6 +131,7 @@ fn mix_block<O: OrderedBlocks, I: Input>(
     requires inside { 16 * i + 16 ≤ len }
     ensures value { (k : ℕ) → k < O.count → O.held result k ≡ permuted O.pivot (salsa20_8
         (permuted O.inverse_pivot (xor_words (O.held x k) (block (I.words input.now k) i)))) }
+    ensures long { (k : ℕ) → k < O.count → length (I.words input.now k) ≡ len }
     ensures counted { AreCountedAs O.simd O.count cores.old cores.new }
 {
     x.xor(input.read(i, len)).core(cores)

@@ -3,10 +3,12 @@
 ghost use Rattle.std.specs.Prelude.{◌≡◌, ℕ, ◌+◌, ◌*◌, ◌/◌, ◌%◌, ◌<◌, ◌≤◌, List, [], ◌++◌, length, take};
 ghost use Rattle.std.specs.Vec.{vec_capacity};
 ghost use Rattle.scrypt_kernel.specs.Count.{AreCountedAs};
-ghost use Rattle.scrypt_kernel.specs.KeptRows.{AddsRow, IsRowLen, mixed_in};
+ghost use Rattle.scrypt_kernel.specs.Diagonal.{AfterTurns};
+ghost use Rattle.scrypt_kernel.specs.KeptRows.{AddsRow, IsRowLen, mixed_in, place};
+ghost use Rattle.scrypt_kernel.specs.Words.{part};
 
 use crate::CoreCount;
-use crate::block_mix::mix;
+use crate::block_mix::{mix, take_turn};
 use crate::order::OrderedBlocks;
 use crate::parts::Parts;
 use crate::words::part;
@@ -156,8 +158,6 @@ impl Allocated {
     }
 
     // Makes the memory long enough for one more row. What is in it there is unspecified.
-    //
-    // So the memory of a row is fetched while it is mixed, and it is there when the next row is mixed of it.
     #[inline(always)]
     fn make_room(&mut self, row: &[u32])
         requires room { self.old.len + length row.now ≤ vec_capacity self.old.memory }
@@ -208,8 +208,91 @@ impl TableMemory for Allocated {
         cores: &mut CoreCount,
     ) {
         self.make_room(next);
-        let memory = self.memory.as_mut_slice();
-        mix_next::<O>(memory, self.len, next.len(), i, len, cores);
+        mix_next_ahead::<O>(&mut self.memory, self.len, next.len(), i, len, cores);
         self.len += next.len();
+    }
+}
+
+// Does what `mix_next` does, and makes the memory longer by one more row meanwhile, if there is room for it.
+//
+// Memory has to be written to become longer. A row that is written at once waits for each of its cache lines to be
+// fetched. Here those of the row after the next one are fetched a few for each turn, while the cores are computed.
+#[inline(always)]
+fn mix_next_ahead<O: OrderedBlocks>(
+    memory: &mut Vec<u32>,
+    end: usize,
+    row_len: usize,
+    i: usize,
+    len: usize,
+    cores: &mut CoreCount,
+)
+    requires row { IsRowLen len }
+    requires chunks { row_len ≡ O.count * len }
+    requires last { end ≡ (i + 1) * (O.count * len) }
+    requires room { end + row_len ≤ length memory.old.items }
+    ensures words { AddsRow (mixed_in O.pivot O.inverse_pivot 1) O.count len i (take end memory.old.items)
+        (take (end + row_len) memory.new.items) }
+    ensures len { length memory.old.items ≤ length memory.new.items }
+    ensures room { vec_capacity memory.old ≤ vec_capacity memory.new }
+    ensures counted { AreCountedAs O.simd (O.count * (2 * (len / 32))) cores.old cores.new }
+{
+    let r = len / 32;
+    let most = end + 2 * row_len;
+    let rows = memory.as_slice();
+    let mut x = O::read(
+        &Parts::of(part(row_len, rows, i), len, O::count()),
+        2 * r - 1,
+    );
+    'turns: for j in 0..r {
+        lengthen(memory, O::count(), most);
+        x = take_turn_of_next::<O>(x, memory.as_mut_slice(), end, row_len, i, j, len, cores);
+    }
+}
+
+// Takes turn `j` of the block mix of row `i`, which ends at `end`, into the `row_len` words after it, as row `i + 1`.
+#[inline(always)]
+fn take_turn_of_next<O: OrderedBlocks>(
+    x: O,
+    memory: &mut [u32],
+    end: usize,
+    row_len: usize,
+    i: usize,
+    j: usize,
+    len: usize,
+    cores: &mut CoreCount,
+) -> O
+    requires row { IsRowLen len }
+    requires chunks { row_len ≡ O.count * len }
+    requires last { end ≡ (i + 1) * (O.count * len) }
+    requires room { end + row_len ≤ length memory.old }
+    requires inside { j < len / 32 }
+    ensures mixed { (k : ℕ) → k < O.count
+        → AfterTurns O.pivot O.inverse_pivot (part len memory.old (place O.count i k)) j
+        (O.held x k) (part len memory.old (place O.count (i + 1) k))
+        → AfterTurns O.pivot O.inverse_pivot (part len memory.old (place O.count i k)) (j + 1)
+        (O.held result k) (part len memory.new (place O.count (i + 1) k)) }
+    ensures kept { take end memory.new ≡ take end memory.old }
+    ensures len { length memory.new ≡ length memory.old }
+    ensures counted { AreCountedAs O.simd (O.count * 2) cores.old cores.new }
+{
+    let (rows, rest) = memory.split_at_mut(end);
+    let last = Parts::of(part(row_len, rows, i), len, O::count());
+    take_turn::<O, Parts<'_>>(x, &last, &mut rest[..row_len], j, len, cores)
+}
+
+// Makes the memory longer by 32 words for each of `n` chunks, if it has fewer than `most` words and there is room. What is in it
+// there is unspecified.
+#[inline(always)]
+fn lengthen(memory: &mut Vec<u32>, n: usize, most: usize)
+    ensures words { take (length memory.old.items) memory.new.items ≡ memory.old.items }
+    ensures len { length memory.old.items ≤ length memory.new.items }
+    ensures room { vec_capacity memory.old ≤ vec_capacity memory.new }
+{
+    if memory.len() < most {
+        'chunks: for _k in 0..n {
+            if memory.capacity() - memory.len() >= 32 {
+                memory.extend_from_slice(&[0; 32]).unwrap();
+            }
+        }
     }
 }

@@ -1,0 +1,94 @@
+use Rattle.std.proofs.Common.{◌≡◌, ◌+◌, ◌-◌, ◌*◌, ◌/◌, ◌++◌, length, take, drop, ap, sym, ◌∙◌, arith, le_refl, refl}
+use Rattle.std.proofs.lemmas.List.{length-take-le, take_at}
+use Rattle.scrypt_kernel.specs.Words.{block, part}
+use Rattle.scrypt_kernel.specs.KeptRows.{mixed_in, place}
+use Rattle.scrypt_kernel.proofs.CountFacts.{counted_both, counted_none}
+use Rattle.scrypt_kernel.proofs.BlockMixFacts.{all_turns, no_turn, turns_at}
+use Rattle.scrypt_kernel.proofs.PartFacts.{length-part, part-take, part_longer, parts_apart, take_longer}
+use Rattle.scrypt_kernel.proofs.RoMixFacts.{one_mix, part_of_row, place_inside}
+use Rattle.scrypt_kernel.proofs.memory.mix_next_ahead.Goals as goal
+
+pub turns-init : goal.turns-init
+turns-init g c =
+    let n = g.O.OrderedBlocks.count in
+    let len = c.args.len in
+    let i = c.args.i in
+    let all = c.args.memory.now.items in
+    let row_is = rw c.requires.chunks at c.part.ensures.value in
+    record {
+      kept = refl;
+      len = le_refl _;
+      room = le_refl _;
+      mixed = λ k h.
+          let room = place_inside n len i (i + 1) k h (omega arith) in
+          let b = part len all (place n i k) in
+          let long : length b ≡ len = length-part len (place n i k) all (omega (arith, room, c.requires.last, c.requires.room)) in
+          let input_is = c.of.ensures.parts k (omega (arith, h, c.count.ensures.value)) ∙ ap (λ z. part len z k) row_is
+          ∙ part_of_row n len i k c.as_slice-rows.result.now h ∙ ap (λ z. part len z (place n i k)) c.as_slice-rows.ensures.value in
+          no_turn _ _ g.met.O.OrderedBlocks.inverse b (omega (arith, long, c.requires.row.some)) (omega (arith, long, c.requires.row.whole))
+          _ _ (c.read-x.ensures.value k h ∙ ap (λ z. block z (2 * (len / 32) - 1)) input_is
+          ∙ ap (λ w. block b (2 * (w / 32) - 1)) (sym long));
+      counted = counted_none _ _ _ (omega arith);
+    }
+
+pub turns-preserved : goal.turns-preserved
+turns-preserved g c =
+    let n = g.O.OrderedBlocks.count in
+    let len = c.args.len in
+    let i = c.args.i in
+    let end = c.args.end in
+    let first = c.args.memory.now.items in
+    let old = c.turns.memory.items in
+    let longer = c.lengthen.new.memory.items in
+    let new = c.take_turn_of_next-x.new.memory in
+    let same : length new ≡ length longer = c.take_turn_of_next-x.ensures.len ∙ ap length c.as_mut_slice.ensures.value in
+    let is : take c.lengthen.new.memory.len (new ++ drop (length new) longer) ≡ new =
+    take_at new _ c.lengthen.new.memory.len (omega (arith, same)) in
+    let longer_kept = take_longer end old longer (omega (arith, c.turns.invariant.len, c.requires.room)) c.lengthen.ensures.words
+    ∙ c.turns.invariant.kept in
+    let turn_kept = rw c.as_mut_slice.ensures.value at c.take_turn_of_next-x.ensures.kept in
+    record {
+      kept = ap (take end) is ∙ turn_kept ∙ longer_kept;
+      len = omega (arith, ap length is, same, c.turns.invariant.len, c.lengthen.ensures.len);
+      room = omega (arith, c.turns.invariant.room, c.lengthen.ensures.room);
+      mixed = λ k h.
+          let room = place_inside n len i (i + 1) k h (omega arith) in
+          let next_room = place_inside n len (i + 1) (i + 2) k h (omega arith) in
+          let input_is = sym (part-take len (place n i k) end longer (omega (arith, room, c.requires.last)))
+          ∙ ap (λ z. part len z (place n i k)) longer_kept ∙ part-take len (place n i k) end first (omega (arith, room, c.requires.last)) in
+          let old_is = part_longer len (place n (i + 1) k) old longer
+          (omega (arith, next_room, c.requires.last, c.requires.chunks, c.requires.room, c.turns.invariant.len)) c.lengthen.ensures.words in
+          turns_at _ _ _ _ _ _ _ _ _ _ _ _ input_is old_is (sym (ap (λ z. part len z (place n (i + 1) k)) is))
+          (rw c.as_mut_slice.ensures.value at (c.take_turn_of_next-x.ensures.mixed k h)) (c.turns.invariant.mixed k h);
+      counted = counted_both _ c.turns.invariant.counted c.take_turn_of_next-x.ensures.counted (omega arith);
+    }
+
+pub returns-clause-words : goal.returns-clause-words
+returns-clause-words g c =
+    let p = g.O.OrderedBlocks.pivot in
+    let q = g.O.OrderedBlocks.inverse_pivot in
+    let n = g.O.OrderedBlocks.count in
+    let len = c.args.len in
+    let i = c.args.i in
+    let end = c.args.end in
+    let next_end = c.args.end + c.args.row_len in
+    let first = c.args.memory.now.items in
+    let all = c.turns.memory.items in
+    let inside : next_end ≡ (i + 2) * (n * len) = omega (arith, c.requires.last, c.requires.chunks) in
+    record {
+      len = length-take-le next_end all (omega (arith, c.requires.room, c.turns.invariant.len)) ∙ inside;
+      kept = λ a h.
+          let apart = parts_apart len a ((i + 1) * n) h in
+          part-take len a next_end all (omega (arith, apart, c.requires.last))
+          ∙ sym (part-take len a end all (omega (arith, apart, c.requires.last))) ∙ ap (λ z. part len z a) c.turns.invariant.kept;
+      added = λ k h.
+          let b = part len first (place n i k) in
+          let room = place_inside n len i (i + 1) k h (omega arith) in
+          let next_room = place_inside n len (i + 1) (i + 2) k h (omega arith) in
+          let long : length b ≡ len = length-part len (place n i k) first (omega (arith, room, c.requires.last, c.requires.room)) in
+          let full = length-part len (place n (i + 1) k) all (omega (arith, next_room, inside, c.requires.room, c.turns.invariant.len)) in
+          part-take len (place n (i + 1) k) next_end all (omega (arith, next_room, inside))
+          ∙ all_turns p q g.met.O.OrderedBlocks.inverse b (omega (arith, long, c.requires.row.some))
+          (omega (arith, long, c.requires.row.whole)) _ _ _ (omega (arith, long)) (full ∙ sym long) (c.turns.invariant.mixed k h)
+          ∙ one_mix p q b ∙ ap (mixed_in p q 1) (sym (part-take len (place n i k) end first (omega (arith, room, c.requires.last))));
+    }
