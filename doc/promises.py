@@ -43,6 +43,8 @@ which are proved for every input. A clause is above its function's body; the pac
 
 {headline}
 
+Want of memory is the error `OutOfMemory`, and the buffers are those of `scrypt_with_buffers`.
+
 {verifying}
 
 The clauses count cores. That every core is counted, and computed for that count, is checked by reading.
