@@ -5,7 +5,8 @@ the `prove!` of a constant false: clauses name constants, so they hold for any v
 
 A count of cores could be wrong in three more ways, which are refused: a handwritten proof other than the one of the
 counter; a new count anywhere but where a derivation begins, or in a test; and an impl for the counter that makes
-another count. Another name for the counter is refused too, since it could hide a new count.
+another count. Another name for the counter is refused too, since it could hide a new count. What SHA-256 compresses is
+counted in one file, so no other may name the trait `Digest`, by which the crate `sha2` is called.
 
 An impl of `PartialEq` chooses its own relation, and the contract of `Clone` does not require a copy to be equal. So
 `Clone` is always derived, and `PartialEq` is derived or its clause compares the whole values.
@@ -23,6 +24,9 @@ from tools import edits, prover_command, sources
 
 HANDWRITTEN = ["crates/scrypt_kernel/proofs/cores/count/CoreCount/of/Proof.antt"]
 NEW_COUNTS = {
+    "crates/scrypt_kernel/src/hmac.rt": 1,
+    "crates/scrypt_kernel/src/pbkdf2.rt": 1,
+    "crates/scrypt/src/comparing.rt": 1,
     "crates/scrypt/src/derivation.rt": 2,
     "crates/scrypt/src/hashing.rt": 1,
     "crates/scrypt/src/mcf/verifying.rt": 1,
@@ -39,6 +43,9 @@ NEW = re.compile(r"\bCoreCount\s*>?\s*::\s*new\b")
 
 # Another name for the counter or for what is in it.
 OTHER_NAMES = re.compile(r"\bCoreCount\s+as\b|\btype\s+\w+[^=;]*=[^;]*\bCoreCount\b|\buse\s[^;]*\bCoreCount\s*::")
+
+# The trait by which `sha2` is called, and the file that counts these calls.
+HASHING, HASHING_SOURCE = re.compile(r"\bDigest\b"), "crates/scrypt_kernel/src/cores/sha256.rt"
 
 # The counter's own file, and the only impls for it.
 COUNTER_SOURCE = "crates/scrypt_kernel/src/cores/count.rt"
@@ -91,6 +98,8 @@ def count_complaints(those):
     for source in those:
         for found in OTHER_NAMES.findall(source.text):
             yield f"{source.path}: another name for the counter of cores: {found}"
+        if source.path != HASHING_SOURCE and HASHING.search(source.text):
+            yield f"{source.path}: calls SHA-256 where it is not counted"
     [text] = [source.text for source in those if source.path == COUNTER_SOURCE]
     if re.search(r"\bSelf\s*::\s*new\b", text):
         yield f"{COUNTER_SOURCE}: a new count by `Self::new`"

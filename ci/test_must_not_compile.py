@@ -21,6 +21,7 @@ REFUSED = [
     ("type Count = crate::CoreCount;\n", "another name by `type`"),
     ("use crate::CoreCount::{new};\n", "the function's own name"),
     ("let mut cores = CoreCount /* a count */ ::new();\n", "a comment between the two"),
+    ("use sha2::{Digest, Sha256};\n", "hashing that is not counted"),
     ("impl Clone for CoreCount {\n    fn clone(&self) -> CoreCount { }\n}\n", "a copy of a count"),
     ("impl From<u32>\n    for CoreCount {\n}\n", "a count from a number"),
     ("impl Clone for Limits {\n}\n", "a copy that is not derived"),

@@ -4,6 +4,7 @@
 pub use Rattle.scrypt_kernel.specs.Words
 pub use Rattle.scrypt_kernel.specs.Hmac
 pub use Rattle.scrypt_kernel.specs.Pbkdf2
+pub use Rattle.scrypt_kernel.specs.Pbkdf2Cost
 pub use Rattle.scrypt_kernel.specs.Salsa
 pub use Rattle.scrypt_kernel.specs.BlockMix
 pub use Rattle.scrypt_kernel.specs.RoMix
@@ -19,7 +20,7 @@ pub mod ThinKey
 pub mod ChunkOrder
 -- RFC 7914, section 6: which parameters and output lengths are accepted
 pub mod Accepted
--- what a derivation costs in cores and in memory
+-- what a derivation costs in cores, in blocks that SHA-256 compresses, and in memory
 pub mod Cost
 -- what a derivation may need
 pub mod Limits

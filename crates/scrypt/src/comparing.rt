@@ -1,9 +1,12 @@
 // Comparing a stored key with the derived one (RFC 7914, section 6, step 3), without a copy of either.
 
-ghost use Rattle.std.specs.Prelude.{◌≡◌};
+ghost use Rattle.std.specs.Prelude.{◌≡◌, length};
+ghost use Rattle.scrypt_kernel.specs.Count.{AreHashed};
+ghost use Rattle.scrypt.specs.Cost.{pbkdf2_cost};
 ghost use Rattle.scrypt.specs.Reading.{is_right, mixed_of};
 ghost use Rattle.scrypt.specs.StoredParts.{stored};
 
+use crate::CoreCount;
 use crate::stored_parts::StoredParts;
 use scrypt_kernel::pbkdf2::Blocks;
 
@@ -15,16 +18,30 @@ const PIECE_LEN: usize = 96;
 pub(crate) fn is_derived_key(password: &[u8], mixed: &[u8], parts: &StoredParts<'_>) -> bool
     ensures exact { mixed.now ≡ mixed_of password.now (stored parts.now) → result ≡ is_right password.now (stored parts.now) }
 {
+    compare_counted(password, mixed, parts, &mut CoreCount::new())
+}
+
+// Does so, and counts the blocks that SHA-256 compresses: those of PBKDF2, which hashes the password and the chunks once,
+// however long the key is.
+fn compare_counted(
+    password: &[u8],
+    mixed: &[u8],
+    parts: &StoredParts<'_>,
+    cores: &mut CoreCount,
+) -> bool
+    ensures exact { mixed.now ≡ mixed_of password.now (stored parts.now) → result ≡ is_right password.now (stored parts.now) }
+    ensures counted { AreHashed (pbkdf2_cost (length password.now) (length mixed.now) (length (stored parts.now).key)) cores.old cores.new }
+{
     let len = parts.key_len;
     parts.expose_key_len();
-    let blocks = Blocks::new(password, mixed);
+    let blocks = Blocks::new(password, mixed, cores);
     let mut same = true;
     for i in 0..len.div_ceil(PIECE_LEN) {
         let at = PIECE_LEN * i;
         let size = (len - at).min(PIECE_LEN);
         let mut places = [0u8; PIECE_LEN];
         let piece = &mut places[..size];
-        blocks.write(3 * i as u32, piece);
+        blocks.write(3 * i as u32, piece, cores);
         same &= parts.key.matches_at(at, piece);
     }
     same

@@ -1,5 +1,5 @@
 -- What verifying leaves in the caller's buffers.
-use Rattle.std.proofs.Common.{◌≡◌, ◌∙◌, ◌-◌, ◌≤◌, ℕ, List, ap, ap₂, arith, length, w32, SFits, of_z, to_z}
+use Rattle.std.proofs.Common.{◌≡◌, ◌∙◌, ◌-◌, ◌≤◌, ℕ, List, ap, arith, length, w32, SFits, of_z, to_z}
 use Rattle.std.proofs.lemmas.Int.{to_z-of_z}
 use Rattle.std.proofs.lemmas.Bool.Decides.{Decides-and, nat_tests}
 use Rattle.std.specs.Bool.{Decides}
@@ -15,8 +15,8 @@ use Rattle.scrypt_c.specs.Limits.{params_of}
 use Rattle.scrypt_c.specs.Statuses.{IsKeyStatus, buffers_status}
 
 -- a call counts from 0
-pub from_zero : (w : Workspace) → (w.cores.all ≡ 0) × (w.cores.lanes ≡ 0) → w ≡ buffers w.chunks w.table w.scratch
-from_zero w zero = ap₂ (λ all lanes. record w { cores = record { seal = tt; all = all; lanes = lanes } }) zero.0 zero.1
+pub from_zero : (w : Workspace) → (w.cores.all ≡ 0) × (w.cores.lanes ≡ 0) × (w.cores.compressions ≡ 0) → w ≡ buffers w.chunks w.table w.scratch
+from_zero w zero = λ i. record w { cores = record { seal = tt; all = zero.0 i; lanes = zero.1 i; compressions = zero.2 i } }
 
 -- the status of one of a group, as an array keeps it
 pub kept_status : {out : Result ⊤ Refusal} (status : ℤ) (w w' : Workspace) (password password' : List ℕ) (reading reading' : Result Stored Refusal)

@@ -9,7 +9,7 @@ use Rattle.scrypt_c.specs.Texts.{bytes_reading}
 -- the buffers of a call, which counts from 0
 abbrev pub buffers : List ℕ → List ℕ → List ℕ → Workspace
 buffers chunks table scratch =
-    record { chunks = chunks; table = table; scratch = scratch; cores = record { seal = tt; all = 0; lanes = 0 } }
+    record { chunks = chunks; table = table; scratch = scratch; cores = record { seal = tt; all = 0; lanes = 0; compressions = 0 } }
 
 -- this holds of these buffers, with some count
 abbrev pub LeftIn : (Workspace → Type 0) → List ℕ → List ℕ → List ℕ → Type 0

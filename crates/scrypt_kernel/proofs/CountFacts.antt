@@ -1,7 +1,7 @@
 -- Facts on the count of cores.
-use Rattle.std.proofs.Common.{◌≡◌, ℕ, ◌+◌, Bool, true, false, arith}
+use Rattle.std.proofs.Common.{◌≡◌, ℕ, ◌+◌, Bool, true, false, arith, refl}
 use Rattle.scrypt_kernel.specs.declared.cores.count.CoreCount.{CoreCount}
-use Rattle.scrypt_kernel.specs.Count.{AreCountedAs}
+use Rattle.scrypt_kernel.specs.Count.{AreCountedAs, AreHashed}
 
 -- no core more
 pub counted_none : (simd : Bool) (n : ℕ) (a : CoreCount) → n ≡ 0 → AreCountedAs simd n a a
@@ -13,3 +13,19 @@ pub counted_both : {simd : Bool} {n m : ℕ} {a b c : CoreCount} (k : ℕ) → A
     → k ≡ n + m → AreCountedAs simd k a c
 counted_both {simd = true} k one two sum = record { all = omega arith; lanes = omega arith }
 counted_both {simd = false} k one two sum = record { all = omega arith; lanes = omega arith }
+
+-- the same number of blocks in another form
+pub hashed_as : {n : ℕ} {a b : CoreCount} (k : ℕ) → AreHashed n a b → n ≡ k → AreHashed k a b
+hashed_as k one is = record { all = one.all; lanes = one.lanes; compressions = omega (arith, one.compressions) }
+
+-- the blocks of one step and of the next
+pub hashed_both : {n m : ℕ} {a b c : CoreCount} (k : ℕ) → AreHashed n a b → AreHashed m b c → n + m ≡ k → AreHashed k a c
+hashed_both k one two sum = record {
+  all = omega (arith, one.all, two.all);
+  lanes = omega (arith, one.lanes, two.lanes);
+  compressions = omega (arith, one.compressions, two.compressions);
+}
+
+-- nothing hashed
+pub hashed_none : (n : ℕ) (a : CoreCount) → n ≡ 0 → AreHashed n a a
+hashed_none n a none = record { all = refl; lanes = refl; compressions = omega (arith, none) }

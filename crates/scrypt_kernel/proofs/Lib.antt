@@ -20,6 +20,8 @@ pub mod RoMixFacts
 pub mod WalkFacts
 -- Facts on the words and the bytes of several chunks.
 pub mod ChunkFacts
+-- Facts on the blocks that SHA-256 compresses.
+pub mod HashFacts
 -- Facts on HMAC and PBKDF2.
 pub mod Pbkdf2Facts
 -- The standards' own vectors, computed by the definitions, so that a wrong step or constant in a definition does not check.

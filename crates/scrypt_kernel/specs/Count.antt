@@ -1,4 +1,4 @@
--- The count of Salsa20/8 cores.
+-- The count of Salsa20/8 cores, and of the blocks of 64 bytes that SHA-256 compresses.
 use Rattle.std.specs.Prelude.{◌≡◌, ℕ, ◌+◌, Bool, true, if◌then◌else◌}
 use Rattle.scrypt_kernel.specs.declared.cores.count.CoreCount.{CoreCount}
 
@@ -10,3 +10,9 @@ pub record AreCountedAs (simd : Bool) (n : ℕ) (before after : CoreCount) : Typ
 -- n more cores were run, each of them as a SIMD core
 abbrev pub AreCounted : ℕ → CoreCount → CoreCount → Type 0
 AreCounted n before after = AreCountedAs true n before after
+
+-- n more blocks were compressed, and no core was run
+pub record AreHashed (n : ℕ) (before after : CoreCount) : Type 0 where
+  pub all : after.all ≡ before.all
+  pub lanes : after.lanes ≡ before.lanes
+  pub compressions : after.compressions ≡ before.compressions + n

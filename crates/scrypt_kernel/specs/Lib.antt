@@ -6,9 +6,11 @@ pub mod Words
 pub mod Hmac
 -- RFC 8018, section 5.2: PBKDF2 with one iteration
 pub mod Pbkdf2
+-- what PBKDF2 costs in blocks that SHA-256 compresses
+pub mod Pbkdf2Cost
 -- RFC 7914, section 3: the Salsa20/8 core
 pub mod Salsa
--- how many cores were run
+-- how many cores were run, and how many blocks SHA-256 compressed
 pub mod Count
 -- RFC 7914, section 4: scryptBlockMix
 pub mod BlockMix

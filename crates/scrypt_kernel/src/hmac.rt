@@ -1,10 +1,14 @@
 //! HMAC (RFC 2104) with SHA-256.
 
-ghost use Rattle.std.specs.Prelude.{◌≡◌, ℕ, List, ◌++◌, bit_xor, map};
+ghost use Rattle.std.specs.Prelude.{◌≡◌, ℕ, List, ◌++◌, bit_xor, length, map};
+ghost use Rattle.scrypt_kernel.specs.Count.{AreHashed};
 ghost use Rattle.scrypt_kernel.specs.Hmac.{hmac_sha256, padded_key};
 ghost use Rattle.scrypt_kernel.specs.HmacState.{HoldsText};
+ghost use Rattle.scrypt_kernel.specs.Pbkdf2Cost.{end_cost, key_cost, state_cost};
 
-use sha2::{Digest, Sha256};
+use crate::CoreCount;
+use crate::cores::sha256::{begin, finish, update};
+use sha2::Sha256;
 
 /// Returns the HMAC-SHA-256 of `text` followed by `tail`, with the key `key` (RFC 2104, section 2).
 ///
@@ -13,7 +17,8 @@ use sha2::{Digest, Sha256};
 pub fn hmac_sha256(key: &[u8], text: &[u8], tail: &[u8]) -> [u8; 32]
     ensures value { result ≡ hmac_sha256 key.now (text.now ++ tail.now) }
 {
-    Hmac::new(key, text).finish(tail)
+    let mut cores = CoreCount::new();
+    Hmac::new(key, text, &mut cores).finish(tail, &mut cores)
 }
 
 // A key, and the text hashed with it so far. `finish` leaves it as it is, so that texts with the same
@@ -26,40 +31,46 @@ pub(crate) struct Hmac {
 
 impl Hmac {
     // Creates a state with this key and this text.
-    pub(crate) fn new(key: &[u8], text: &[u8]) -> Hmac
-        ensures { HoldsText result key.now text.now }
+    pub(crate) fn new(key: &[u8], text: &[u8], cores: &mut CoreCount) -> Hmac
+        ensures value { HoldsText result key.now text.now }
+        ensures counted { AreHashed (state_cost (length key.now) (length text.now)) cores.old cores.new }
     {
-        let block = padded_key(key);
-        let mut inner = Sha256::new();
-        inner.update(masked(&block, 0x36));
-        inner.update(text);
-        let mut outer = Sha256::new();
-        outer.update(masked(&block, 0x5c));
+        let block = padded_key(key, cores);
+        let mut inner = begin();
+        update(&mut inner, &masked(&block, 0x36), cores);
+        update(&mut inner, text, cores);
+        let mut outer = begin();
+        update(&mut outer, &masked(&block, 0x5c), cores);
         Hmac { inner, outer }
     }
 
     // Returns HMAC of the text followed by `tail`.
     #[tactic(auto, unfolding(crate::specs::Hmac::hmac_sha256))]
-    pub(crate) fn finish(&self, tail: &[u8]) -> [u8; 32]
-        ensures { (secret text : List ℕ) → HoldsText self.now secret text
+    pub(crate) fn finish(&self, tail: &[u8], cores: &mut CoreCount) -> [u8; 32]
+        ensures value { (secret text : List ℕ) → HoldsText self.now secret text
             → result ≡ hmac_sha256 secret (text ++ tail.now) }
+        ensures counted { (secret text : List ℕ) → HoldsText self.now secret text
+            → AreHashed (end_cost (length text) (length tail.now)) cores.old cores.new }
     {
         let mut inner = self.inner.clone().unwrap();
-        inner.update(tail);
+        update(&mut inner, tail, cores);
         let mut outer = self.outer.clone().unwrap();
-        outer.update(inner.finalize());
-        outer.finalize()
+        update(&mut outer, &finish(inner, cores), cores);
+        finish(outer, cores)
     }
 }
 
 // Returns the key in a block of 64 bytes: the key, or its digest if it is longer, and then zeros.
 #[tactic(auto, using(crate::proofs::Pbkdf2Facts::padded_short))]
-fn padded_key(key: &[u8]) -> [u8; 64]
-    ensures { result ≡ padded_key key.now }
+fn padded_key(key: &[u8], cores: &mut CoreCount) -> [u8; 64]
+    ensures value { result ≡ padded_key key.now }
+    ensures counted { AreHashed (key_cost (length key.now)) cores.old cores.new }
 {
     let mut padded = [0u8; 64];
     if key.len() > 64 {
-        let digest = Sha256::digest(key);
+        let mut hasher = begin();
+        update(&mut hasher, key, cores);
+        let digest = finish(hasher, cores);
         padded[..32].copy_from_slice(&digest);
     } else {
         padded[..key.len()].copy_from_slice(key);

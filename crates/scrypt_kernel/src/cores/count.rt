@@ -1,21 +1,25 @@
-//! The count of how many cores were run. Nothing outside this module and the cores can increment a count.
+//! The count of how many cores were run, and how many blocks SHA-256 compressed. Nothing outside the module `cores` can
+//! increment a count.
 
 ghost use Rattle.std.specs.Prelude.{◌≡◌, ◌+◌, ℕ, Bool, if◌then◌else◌};
 ghost use Rattle.std.specs.Borrow.{ftrue};
 ghost use Rattle.scrypt_kernel.specs.Salsa.{salsa20_8};
 ghost use Rattle.scrypt_kernel.specs.Diagonal.{diagonal_core};
 
+use sha2::Sha256;
 use std::marker::Model;
 
-/// How many Salsa20/8 cores were run: all of them, and the SIMD cores (`lanes`).
+/// How many Salsa20/8 cores were run: all of them, and the SIMD cores (`lanes`). And how many blocks of 64 bytes SHA-256
+/// compressed (`compressions`).
 ///
-/// Contracts see two numbers without an upper bound. At run time a count has no bytes, and no
+/// Contracts see three numbers without an upper bound. At run time a count has no bytes, and no
 /// running program reads it.
 #[derive(Drop)]
 pub struct CoreCount {
     seal: (),
     pub ghost all: { ℕ },
     pub ghost lanes: { ℕ },
+    pub ghost compressions: { ℕ },
 }
 
 impl Model for CoreCount {
@@ -23,23 +27,41 @@ impl Model for CoreCount {
 }
 
 impl CoreCount {
-    ghost use Rattle.scrypt_kernel.specs.Count.{AreCountedAs};
+    ghost use Rattle.scrypt_kernel.specs.Count.{AreCountedAs, AreHashed};
 
     /// Creates a count of zero.
     pub fn new() -> CoreCount
-        ensures none { (result.all ≡ 0) × (result.lanes ≡ 0) }
+        ensures none { (result.all ≡ 0) × (result.lanes ≡ 0) × (result.compressions ≡ 0) }
     {
         CoreCount::of()
     }
 
     // The count after one more core, whose input and output are the evidence that it was run. Those of
-    // a SIMD core are in diagonal order. `one` has whether it is such a core, and the two numbers after it.
+    // a SIMD core are in diagonal order. `one` has whether it is such a core, and the three numbers after it.
     pub(super) fn after_core(_before: &CoreCount, _from: &[u32; 16], _to: &[u32; 16]) -> CoreCount
-        ghost one: { Bool × ℕ × ℕ }
+        ghost one: { Bool × ℕ × ℕ × ℕ }
         requires core { _to.now ≡ (if one.0 then diagonal_core _from.now else salsa20_8 _from.now) }
         requires all { one.1 ≡ _before.now.all + 1 }
         requires lanes { one.2 ≡ _before.now.lanes + (if one.0 then 1 else 0) }
-        ensures { AreCountedAs one.0 1 _before.now result }
+        requires compressions { one.3 ≡ _before.now.compressions }
+        ensures counted { AreCountedAs one.0 1 _before.now result }
+        ensures kept { result.compressions ≡ _before.now.compressions }
+    {
+        CoreCount::of()
+    }
+
+    // The count after the compressions of this hasher when it takes these bytes or ends. `more` has how many, and the three
+    // numbers after them.
+    pub(super) fn after_compressions(
+        _before: &CoreCount,
+        _hasher: &Sha256,
+        _data: &[u8],
+    ) -> CoreCount
+        ghost more: { ℕ × ℕ × ℕ × ℕ }
+        requires all { more.1 ≡ _before.now.all }
+        requires lanes { more.2 ≡ _before.now.lanes }
+        requires compressions { more.3 ≡ _before.now.compressions + more.0 }
+        ensures { AreHashed more.0 _before.now result }
     {
         CoreCount::of()
     }
@@ -47,8 +69,8 @@ impl CoreCount {
     // Returns the count of these numbers.
     #[inline(always)]
     fn of() -> CoreCount
-        ghost numbers: { ℕ × ℕ }
-        ensures { (result.all ≡ numbers.0) × (result.lanes ≡ numbers.1) }
+        ghost numbers: { ℕ × ℕ × ℕ }
+        ensures { (result.all ≡ numbers.0) × (result.lanes ≡ numbers.1) × (result.compressions ≡ numbers.2) }
     {
         CoreCount { seal: () }
     }

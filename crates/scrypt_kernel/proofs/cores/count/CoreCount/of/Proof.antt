@@ -34,20 +34,20 @@ stayed = tt
 module _ {M : Type 1} {𝓤 : Ura M} (𝓛 : Logic 𝓤) (mem : Memory → SProp 𝓤) (run : Routine → Fun 𝓤) (C : Calls 𝓤 𝓛.H) (Λ : Loops 𝓤 𝓛.H) where
   open 𝓛 use {H}
 
-  abbrev bound : ℕ × ℕ → (walk_of 𝓛 f.ended stayed (f.clauses 𝓛 mem run)).Ghost
+  abbrev bound : ℕ × ℕ × ℕ → (walk_of 𝓛 f.ended stayed (f.clauses 𝓛 mem run)).Ghost
   bound numbers = ((tt, tt, tt, tt, tt), numbers)
 
-  abbrev of_numbers : ℕ × ℕ → CoreCount
-  of_numbers numbers = record { seal = tt; all = numbers.0; lanes = numbers.1 }
+  abbrev of_numbers : ℕ × ℕ × ℕ → CoreCount
+  of_numbers numbers = record { seal = tt; all = numbers.0; lanes = numbers.1; compressions = numbers.2 }
 
-  walk : (numbers : ℕ × ℕ) → ent 𝓤 (on_entry 𝓛 f.signature tt tt tt tt)
+  walk : (numbers : ℕ × ℕ × ℕ) → ent 𝓤 (on_entry 𝓛 f.signature tt tt tt tt)
       (WpFn 𝓤 H C Λ code.function [] ((walk_of 𝓛 f.ended stayed (f.clauses 𝓛 mem run)).post (bound numbers)))
   walk numbers =
       qed 𝓛 (raw (alive 𝓛 f.signature tt tt) ∷ ‵ (owns [] tt tt) ∷ []) ∵ enter ! C Λ code.function [] _ $
       alloc_all ! (λ l. pass_all ! refl tt $ sets ! (agg ! (and_then ! (unit_lit !) (no_more !))) refl (tt, (tt, tt)) $
       returns ! (look_at ! 0 refl) $ free_all ! refl $
       suffices ! _ (ends_at 𝓛 f.ended stayed (f.clauses 𝓛 mem run) (bound numbers) (vstruct (vcons vunit vnil)) (of_numbers numbers) tt tt) $
-      says ! (refl, refl) $ pure_i ! (made.the_row.own_val (of_numbers numbers) (vstruct (vcons vunit vnil) ∷ []))
+      says ! (refl, refl, refl) $ pure_i ! (made.the_row.own_val (of_numbers numbers) (vstruct (vcons vunit vnil) ∷ []))
       ((λ vss. (tt, (tt, tt))), tt) (((vunit ∷ [], tt), (refl, (refl, tt))), tt) $
       move ! (1 ∷ 2 ∷ 0 ∷ []) $ done !)
 

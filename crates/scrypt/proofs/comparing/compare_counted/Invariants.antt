@@ -1,0 +1,14 @@
+use Rattle.std.proofs.Common.{◌≡◌, ◌↔◌, ◌+◌, ◌*◌, ◌/◌, length, min, take, true}
+use Rattle.scrypt_kernel.specs.Count.{AreHashed}
+use Rattle.scrypt_kernel.specs.Pbkdf2.{pbkdf2}
+use Rattle.scrypt_kernel.specs.Pbkdf2Cost.{end_cost}
+use Rattle.scrypt.specs.StoredKey.{key_bytes}
+use Rattle.scrypt.proofs.comparing.compare_counted.Given as goal
+
+-- the keys are the same as far as they were compared, and what was hashed since the first of the chunks is counted
+abbrev pub invariant-loop-i : goal.invariant-loop-i
+invariant-loop-i l = record {
+  compared : let key = key_bytes l.parts.key in
+      (l.same ≡ true) ↔ (take (min (96 * l.i) (length key)) key ≡ pbkdf2 l.password l.mixed (min (96 * l.i) (length key)));
+  counted : AreHashed ((min (96 * l.i) (length (key_bytes l.parts.key)) + 31) / 32 * end_cost (length l.mixed) 4) l.initial.cores l.cores;
+}

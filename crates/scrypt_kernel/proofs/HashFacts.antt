@@ -1,0 +1,33 @@
+-- Facts on the blocks that SHA-256 compresses.
+use Rattle.std.proofs.Common.{◌≡◌, ◌∙◌, ℕ, ◌+◌, ◌*◌, ◌%◌, List, ap, arith, inl, inr, length}
+use Rattle.std.proofs.lemmas.Bool.{cases_lt, le-ltb, lt-ltb}
+use Rattle.std.proofs.lemmas.Grind.{common_steps}
+use Rattle.sha2.proofs.Facts256.{length-sha256}
+use Rattle.sha2.specs.Hashers.{Holds256}
+use Rattle.sha2.specs.Sha256.{Holds}
+use Rattle.sha2.specs.declared.Sha256.{Sha256}
+use Rattle.scrypt_kernel.specs.Count.{AreHashed}
+use Rattle.scrypt_kernel.specs.Hmac.{padded_key}
+use Rattle.scrypt_kernel.specs.declared.cores.count.CoreCount.{CoreCount}
+use Rattle.scrypt_kernel.proofs.CountFacts.{hashed_none}
+
+-- how many bytes a hasher holds of a block
+pub same_fill : (s : Sha256) (m : List ℕ) → Holds256 s m → s.core.total % 64 ≡ length m % 64
+unfolding Holds
+same_fill s m held = omega (arith, held.0)
+
+pub length-padded_key : (secret : List ℕ) → length (padded_key secret) ≡ 64
+length-padded_key secret = elim (cases_lt 64 (length secret)) [
+  | inl above ↦ grind (arith, common_steps, lt-ltb, length-sha256)
+  | inr fits ↦ grind (arith, common_steps, le-ltb)
+]
+
+-- the ends of n texts and of m more, each of which costs the same
+pub more_blocks : (e n m k : ℕ) → n + m ≡ k → n * e + m * e ≡ k * e
+more_blocks e n m k sum =
+    let both : n * e + m * e ≡ (n + m) * e = omega arith in
+    both ∙ ap (λ z. z * e) sum
+
+-- none yet
+pub no_ends_hashed : (n e : ℕ) (a : CoreCount) → n ≡ 0 → AreHashed (n * e) a a
+no_ends_hashed n e a none = hashed_none (n * e) a (ap (λ z. z * e) none ∙ omega arith)
