@@ -1,11 +1,16 @@
 use Rattle.std.proofs.Common.{◌≡◌, ℕ, zero, suc, ◌<◌, ◌≤◌, ◌+◌, ◌*◌, ◌/◌, ◌^◌, List, refl, ap, ◌∙◌, arith, lit≤, add-one}
 use Rattle.std.proofs.Math.Nat.{div-eq_of_eq-mul_left, div-mul-le_self, mul-div_left, mul-le-mul_right, one-le-pow}
 use Rattle.std.proofs.lemmas.Nat.{le-div, mul-le}
-use Rattle.std.specs.Prelude.{◌↔◌}
+use Rattle.scrypt_kernel.specs.Pbkdf2Cost.{end_cost}
+use Rattle.std.specs.Prelude.{◌↔◌, IsTrue}
+use Rattle.std.proofs.lemmas.Bool.Decides.{nat_tests}
 use Rattle.scrypt_kernel.specs.Words.{part, words_of}
 use Rattle.scrypt_kernel.specs.Table.{thin_ro_mix_cost}
 use Rattle.scrypt_kernel.proofs.WalkFacts.{extra_rows-whole, whole_cost}
-use Rattle.scrypt.specs.Cost.{cost, extra_rows_of_chunks, scratch_words, table_words, thin_chunks_cost}
+use Rattle.scrypt.specs.Accepted.{Parameters}
+use Rattle.scrypt.specs.Limits.{are_within, work}
+use Rattle.scrypt.specs.declared.limits.Limits.{Limits}
+use Rattle.scrypt.specs.Cost.{chunks_bytes, cost, extra_rows_of_chunks, hash_cost, lengths_cost, scratch_words, table_words, thin_chunks_cost}
 use Rattle.scrypt.specs.Workspace.{chunks_at_once}
 
 none_of_chunks : (b : List ℕ) (log_n r i : ℕ) → extra_rows_of_chunks b log_n 0 r i ≡ 0
@@ -65,3 +70,22 @@ pub width_of_part : (log_n r n table scratch : ℕ) → 0 < r
 unfolding chunks_at_once
 width_of_part log_n r n table scratch some =
     width_is log_n r n (chunks_at_once log_n r n table scratch) _ _ some (omega arith) (omega arith) (omega arith) refl
+
+-- 14 blocks for each chunk of each r, which is less than 128 / 9, and those of the lengths
+pub both_bounded : (password_len salt_len log_n r p n : ℕ)
+    → cost log_n r p + 9 * hash_cost password_len salt_len r p n ≤ work log_n r p + 9 * lengths_cost password_len salt_len n
+both_bounded password_len salt_len log_n r p n =
+    let x : ℕ = r * p in
+    let bytes : chunks_bytes r p ≡ 128 * x = omega arith in
+    let ends : (chunks_bytes r p + 31) / 32 ≡ 4 * x = omega (arith, bytes) in
+    let last : end_cost (chunks_bytes r p) 4 ≡ 2 = omega (arith, bytes) in
+    let whole : chunks_bytes r p / 64 ≡ 2 * x = omega (arith, bytes) in
+    let most = mul-le (4 * x) (end_cost salt_len 4) (4 * x) 3 (omega arith) (omega arith) in
+    rw (ends, last, whole) (omega (arith, most))
+
+pub both_within : (limits : Limits) (c : Parameters) (password_len salt_len n : ℕ) → IsTrue (are_within limits c)
+    → cost c.log_n c.r c.p + 9 * hash_cost password_len salt_len c.r c.p n ≤ limits.most_work + 9 * lengths_cost password_len salt_len n
+unfolding are_within
+both_within limits c password_len salt_len n fits =
+    let most : work c.log_n c.r c.p ≤ limits.most_work = grind (arith, nat_tests) in
+    omega (arith, most, both_bounded password_len salt_len c.log_n c.r c.p n)

@@ -8,8 +8,9 @@ use Rattle.scrypt.specs.declared.limits.Limits.{Limits}
 abbrev pub buffers_bytes : ℕ → ℕ → ℕ → ℕ
 buffers_bytes log_n r p = chunks_bytes r p + 4 * table_words log_n r + 4 * scratch_words r
 
--- The work of a derivation, 4 * (N + 32) * r * p: its cores, and PBKDF2, which takes about as long as 128 * r * p of
--- them.
+-- The work of a derivation, 4 * (N + 32) * r * p: its cores, and at least nine for each block that SHA-256 compresses for
+-- chunks, which takes about as long as nine. What it compresses for a longer password, salt or key is not in it. The law
+-- `work_bounds_both_counts` says so exactly.
 abbrev pub work : ℕ → ℕ → ℕ → ℕ
 work log_n r p = cost log_n r p + 128 * (r * p)
 

@@ -1,6 +1,6 @@
 //! Laws of the definitions. Each function does nothing at run time: its contract is the law.
 
-ghost use Rattle.std.specs.Prelude.{◌≡◌, ◌≢◌, ◌⊎◌, ◌↔◌, true, false, ℕ, ◌-◌, ◌*◌, ◌%◌, ◌^◌, ◌<◌, ◌≤◌, List, [], ◌∷◌, ◌++◌, IsTrue};
+ghost use Rattle.std.specs.Prelude.{◌≡◌, ◌≢◌, ◌⊎◌, ◌↔◌, true, false, ℕ, ◌+◌, ◌-◌, ◌*◌, ◌%◌, ◌^◌, ◌<◌, ◌≤◌, List, [], ◌∷◌, ◌++◌, IsTrue};
 ghost use Rattle.std.specs.Prelude.{length, take, Option, Result, Ok, Err, IsSome, Some, All};
 ghost use Rattle.sha2.specs.Sha256.{sha256};
 ghost use Rattle.password_hash.specs.Crypt64.{Crypt64, letter_value, letters_of};
@@ -16,7 +16,9 @@ ghost use Rattle.scrypt.specs.KeyOfParams.{key_by};
 ghost use Rattle.scrypt_kernel.specs.Diagonal.{AreInverse, IsBlockMixBy, diagonal_core, diagonal_order, inverse_pivot, pivot, standard_order};
 ghost use Rattle.scrypt.specs.Key.{derived_key, mixed_chunks};
 ghost use Rattle.scrypt.specs.ThinKey.{thin_key};
-ghost use Rattle.scrypt.specs.Cost.{cost, thin_cost};
+ghost use Rattle.scrypt.specs.Cost.{cost, hash_cost, lengths_cost, thin_cost};
+ghost use Rattle.scrypt.specs.Limits.{are_within, work};
+ghost use Rattle.scrypt.specs.declared.limits.Limits.{Limits};
 ghost use Rattle.scrypt_kernel.specs.Table.{extra_rows};
 ghost use Rattle.scrypt.specs.McfParams.{params_letters, five_letter_number};
 ghost use Rattle.scrypt.specs.McfHash.{HashIsRefused as McfHashIsRefused, IsMadeHash as IsMadeMcf, made_key, mcf_text, read_fields, read_mcf};
@@ -195,6 +197,16 @@ pub fn thin_key_is_the_key()
 pub fn extra_rows_are_bounded()
     ensures bound { (b : List ℕ) (log_n s : ℕ) → extra_rows b log_n s (2 ^ log_n) ≤ 2 ^ log_n * (2 ^ s - 1) }
     ensures whole { (password salt : List ℕ) (log_n r p : ℕ) → thin_cost password salt log_n r p 0 ≡ cost log_n r p }
+{}
+
+/// The work of a derivation bounds its cores together with nine for each block that SHA-256 compresses, except for the
+/// blocks of a long password, salt or key. So does the limit on work of all derivations within it.
+#[tactic(auto, using(crate::proofs::CostFacts::both_bounded, crate::proofs::CostFacts::both_within))]
+pub fn work_bounds_both_counts()
+    ensures bounded { (password_len salt_len log_n r p n : ℕ) → cost log_n r p + 9 * hash_cost password_len salt_len r p n
+        ≤ work log_n r p + 9 * lengths_cost password_len salt_len n }
+    ensures within { (limits : Limits) (c : Parameters) (password_len salt_len n : ℕ) → IsTrue (are_within limits c)
+        → cost c.log_n c.r c.p + 9 * hash_cost password_len salt_len c.r c.p n ≤ limits.most_work + 9 * lengths_cost password_len salt_len n }
 {}
 
 /// The diagonal order and the standard order are inverse to each other on whole blocks, and so are

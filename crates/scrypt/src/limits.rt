@@ -11,7 +11,8 @@ use crate::{BufferLens, Params};
 pub struct Limits {
     /// The most bytes of the three buffers together, as [`BufferLens::of`] returns their lengths.
     pub most_bytes: usize,
-    /// The most work, as [`Params::work`] returns it.
+    /// The most work, as [`Params::work`] returns it: the cores of a derivation, and nine for each block that SHA-256
+    /// compresses, except for the blocks of a long password, salt or key.
     pub most_work: u64,
     /// The least length of the key in bytes. A key of `n` bytes accepts about one wrong password in
     /// `256^n`.
