@@ -1,15 +1,16 @@
 -- Base64 of bytes, and the bytes that letters decode to.
 use Rattle.std.proofs.Common.{◌≡◌, ℕ, suc, ◌+◌, ◌*◌, ◌/◌, ◌%◌, ◌<◌, ◌==◌, false, List, [], ◌∷◌, length, slice_index, ap, arith, ◌∙◌, refl}
-use Rattle.std.specs.Prelude.{Ok}
+use Rattle.std.specs.Prelude.{All, IsTrue, Ok}
 use Rattle.std.specs.List.{AllByRecursion as ByRecursion}
 use Rattle.std.proofs.lemmas.List.{append-nil}
 use Rattle.std.proofs.lemmas.List.Elements.{All-get_or, All-from_recursion}
+use Rattle.std.proofs.lemmas.List.Sums.{AllPass-from_list_all}
 use Rattle.base64.specs.Rfc4648.{encode_symbols}
 use Rattle.base64.specs.GeneralPurpose.{IsBytes, decode_of}
 use Rattle.base64.specs.Engines.{standard_no_pad}
 use Rattle.base64.proofs.EngineFacts.{decode_of-encode_of}
 use Rattle.base64.proofs.RoundTrip.{length-encode_symbols}
-use Rattle.password_hash.specs.Letters.{is_value_letter}
+use Rattle.password_hash.specs.Letters.{is_base64_letter, is_value_letter}
 use Rattle.password_hash.specs.Phc.{base64}
 use Rattle.password_hash.proofs.PairsFacts.{Lacks, letters_lack}
 
@@ -35,10 +36,18 @@ symbols_hold P t each (a ∷ b ∷ c ∷ m) h =
     let third = each (b % 16 * 4 + c / 64) (omega (arith, h 2)) in
     (first, (second, (third, (each (c % 64) (omega arith), symbols_hold P t each m (λ i. h (suc (suc (suc i))))))))
 
+-- what each symbol of the table is, every letter of Base64 is
+base64_are : (P : ℕ → Type 0) → All P standard_no_pad.encode_table → (bytes : List ℕ) → IsBytes bytes → All P (base64 bytes)
+base64_are P each bytes h =
+    let table : List ℕ = standard_no_pad.encode_table in
+    let symbols = symbols_hold P table (λ v below. All-get_or P table v 0 below each) bytes h in
+    rw append-nil (All-from_recursion P (encode_symbols table bytes) symbols)
+
 -- Base64 lacks each byte that is not a letter of values
 pub base64_lacks : (c : ℕ) → is_value_letter c ≡ false → (bytes : List ℕ) → IsBytes bytes → Lacks c (base64 bytes)
-base64_lacks c other bytes h =
-    let table : List ℕ = standard_no_pad.encode_table in
-    let none : Lacks c table = letters_lack is_value_letter c other table refl in
-    let symbols = symbols_hold (λ b. (b == c) ≡ false) table (λ v below. All-get_or (λ b. (b == c) ≡ false) table v 0 below none) bytes h in
-    rw append-nil (All-from_recursion (λ b. (b == c) ≡ false) (encode_symbols table bytes) symbols)
+base64_lacks c other bytes h = base64_are (λ b. (b == c) ≡ false) (letters_lack is_value_letter c other standard_no_pad.encode_table refl) bytes h
+
+-- it has the letters `a-zA-Z0-9+/` alone
+pub base64_letters : (bytes : List ℕ) → IsBytes bytes → All (λ byte. IsTrue (is_base64_letter byte)) (base64 bytes)
+base64_letters bytes h =
+    base64_are (λ byte. IsTrue (is_base64_letter byte)) (AllPass-from_list_all is_base64_letter standard_no_pad.encode_table refl) bytes h

@@ -2,6 +2,7 @@
 use Rattle.std.proofs.Math.Seq.{drop-length, drop-cons}
 use Rattle.std.proofs.Common.{◌≡◌, ◌≢◌, sym, ap, refl, arith, ℕ, zero, suc, ◌+◌, ◌-◌, ◌*◌, ◌/◌, ◌%◌, ◌^◌, ◌<◌, ◌≤◌, Option, Some, None}
 use Rattle.std.proofs.Common.{List, [], ◌∷◌, ◌++◌, length, drop, get_or, length-drop}
+use Rattle.std.specs.Prelude.{IsSome}
 use Rattle.std.proofs.Math.Nat.{pow-suc, pow-le-pow_right}
 use Rattle.std.specs.List.{All}
 use Rattle.std.proofs.lemmas.Nat.{div_below}
@@ -98,26 +99,39 @@ next_letter pending number (suc count) number' x bytes bytes' same some is =
     let less : suc count - 1 ≡ count = omega arith in
     rw (less, is) same
 
--- every letter is an ASCII byte and no dollar
+-- what the letter of each value is, every letter is
+
+letters_of-are : (P : ℕ → Type 0) → ((value : ℕ) → value < 64 → P (letter value)) → (count number : ℕ) → All P (letters_of count number)
+unfolding letters_of
+letters_of-are P each zero number = All-nil P
+letters_of-are P each (suc count) number =
+    All-cons P (letter (number % 64)) (letters_of count (number / 64)) (each (number % 64) (omega arith))
+    (letters_of-are P each count (number / 64))
+
+crypt64_of-are : (P : ℕ → Type 0) → ((value : ℕ) → value < 64 → P (letter value)) → (bytes : List ℕ) → All P (crypt64_of bytes)
+unfolding crypt64_of
+crypt64_of-are P each [] = All-nil P
+crypt64_of-are P each (a ∷ []) = letters_of-are P each 2 a
+crypt64_of-are P each (a ∷ b ∷ []) = letters_of-are P each 3 (a + 256 * b)
+crypt64_of-are P each (a ∷ b ∷ c ∷ rest) =
+    let number = a + 256 * b + 65536 * c in
+    All-append P (letters_of 4 number) (crypt64_of rest) (letters_of-are P each 4 number) (crypt64_of-are P each rest)
+
+-- an ASCII byte and no dollar
 
 abbrev pub IsPlain : ℕ → Type 0
 IsPlain byte = (byte < 128) × (byte ≢ 36)
 
 pub letters_of-plain : (count number : ℕ) → All IsPlain (letters_of count number)
-unfolding letters_of
-letters_of-plain zero number = All-nil IsPlain
-letters_of-plain (suc count) number =
-    All-cons IsPlain (letter (number % 64)) (letters_of count (number / 64)) (letter-ascii (number % 64) (omega arith))
-    (letters_of-plain count (number / 64))
+letters_of-plain count number = letters_of-are IsPlain letter-ascii count number
 
 pub crypt64_of-plain : (bytes : List ℕ) → All IsPlain (crypt64_of bytes)
-unfolding crypt64_of
-crypt64_of-plain [] = All-nil IsPlain
-crypt64_of-plain (a ∷ []) = letters_of-plain 2 a
-crypt64_of-plain (a ∷ b ∷ []) = letters_of-plain 3 (a + 256 * b)
-crypt64_of-plain (a ∷ b ∷ c ∷ rest) =
-    All-append IsPlain (letters_of 4 (a + 256 * b + 65536 * c)) (crypt64_of rest)
-    (letters_of-plain 4 (a + 256 * b + 65536 * c)) (crypt64_of-plain rest)
+crypt64_of-plain bytes = crypt64_of-are IsPlain letter-ascii bytes
+
+-- a letter of the alphabet
+pub crypt64_letters : (bytes : List ℕ) → All (λ byte. IsSome (letter_value byte)) (crypt64_of bytes)
+crypt64_letters bytes =
+    crypt64_of-are (λ byte. IsSome (letter_value byte)) (λ value below. rw (letter_value-letter value below) refl) bytes
 
 -- so is the first letter that is left
 pub letter-is_plain : (pending number x : ℕ) (bytes left' : List ℕ) → letters_of pending number ++ crypt64_of bytes ≡ x ∷ left' → IsPlain x

@@ -24,6 +24,10 @@ is_value_letter b =
     is_lowercase b || is_uppercase b || is_digit b
     || (b == 47) || (b == 43) || (b == 46) || (b == 45)
 
+-- `a-zA-Z0-9+/`, the letters of Base64
+abbrev pub is_base64_letter : ℕ → Bool
+is_base64_letter b = is_lowercase b || is_uppercase b || is_digit b || (b == 43) || (b == 47)
+
 -- an identifier: 1 to 32 of `a-z0-9-`
 pub record IsIdentifier (text : List ℕ) : Type 0 where
   pub some : 1 ≤ length text

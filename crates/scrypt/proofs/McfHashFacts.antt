@@ -1,18 +1,20 @@
-use Rattle.std.proofs.Common.{◌≡◌, ◌≢◌, false, ℕ, List, [], ◌∷◌, ◌++◌, length, drop, Some, None, Ok, Err, refl, rules, ap, ap₂, ◌∙◌, lit<}
-use Rattle.std.specs.Prelude.{IfErr, Option, if◌then◌else◌, ok_or, IsTrue}
+use Rattle.std.proofs.Common.{◌≡◌, ◌≢◌, false, ℕ, List, [], ◌∷◌, ◌++◌, length, drop, Some, None, Ok, Err, refl, rules, ap, ap₂, ◌∙◌, append_assoc, lit<}
+use Rattle.std.specs.Prelude.{IfErr, Option, codes, if◌then◌else◌, ok_or, IsTrue}
 use Rattle.std.specs.Str.{bytes_eq}
+use Rattle.std.proofs.lemmas.List.{append-nil}
 use Rattle.std.proofs.lemmas.Slice.Eq.{bytes_eq-Decides}
 use Rattle.password_hash.specs.Crypt64.{Crypt64, IsCrypt64, crypt64_of, decoded}
 use Rattle.password_hash.specs.Mcf.{IsMcfText}
-use Rattle.password_hash.specs.Parts.{parts_of, parts_text}
+use Rattle.password_hash.specs.Parts.{dollar, parts_of, parts_text}
 use Rattle.password_hash.specs.Refusal.{Algorithm, EncodingInvalid, OutputSize}
+use Rattle.password_hash.proofs.Crypt64Facts.{AreBytes}
 use Rattle.password_hash.proofs.McfFacts.{IsMcfText-from_parts, parts_of-IsMcfText}
-use Rattle.scrypt.specs.Accepted.{is_output_len}
-use Rattle.scrypt.specs.McfParams.{params_letters, field_params}
-use Rattle.scrypt.specs.McfHash.{mcf_id, read_fields, read_key, read_mcf, read_parts}
+use Rattle.scrypt.specs.Accepted.{Parameters, are_accepted, is_output_len}
+use Rattle.scrypt.specs.McfParams.{params_letters, params_text, field_params}
+use Rattle.scrypt.specs.McfHash.{mcf_id, mcf_text, read_fields, read_key, read_mcf, read_parts}
 use Rattle.scrypt.specs.Reading.{◌and_then◌, NamesNoPassword, Stored}
 use Rattle.scrypt.proofs.AcceptedFacts.{ok_if, refuted}
-use Rattle.scrypt.proofs.McfParamsFacts.{field_fault, field_is}
+use Rattle.scrypt.proofs.McfParamsFacts.{field_accepted, field_fault, field_is}
 use Rattle.scrypt.proofs.ReadingFacts.{IsFault, both_read, faults, no_password}
 use Rattle.password_hash.proofs.DecodedFacts.{decoded_is, encoded_is, not_decoded}
 
@@ -56,25 +58,52 @@ parts_read ([] ∷ []) s is = absurd cc
 parts_read ((byte ∷ first) ∷ rest) s is = absurd cc
 parts_read [] s is = absurd cc
 
-key_is : (letters key : List ℕ) → read_key (letters ∷ []) ≡ Ok key → Crypt64 key letters
-key_is letters key is = encoded_is key letters (at (decoded letters) is)
+key_is : (letters key : List ℕ) → read_key (letters ∷ []) ≡ Ok key → Crypt64 key letters × IsTrue (is_output_len (length key))
+key_is letters key is = let found = at (decoded letters) is in (encoded_is key letters found.0, found.1)
   where
     at : (found : Option (List ℕ))
-        → (ok_or found EncodingInvalid and_then λ key. if is_output_len (length key) then Ok key else Err OutputSize) ≡ Ok key → found ≡ Some key
+        → (ok_or found EncodingInvalid and_then λ key. if is_output_len (length key) then Ok key else Err OutputSize) ≡ Ok key
+        → (found ≡ Some key) × IsTrue (is_output_len (length key))
     at None is = absurd cc
-    at (Some bytes) is = ap Some (cc (ok_if (is_output_len (length bytes)) (Ok bytes) OutputSize is).1)
+    at (Some bytes) is =
+        let fits = ok_if (is_output_len (length bytes)) (Ok bytes) OutputSize is in
+        let same : bytes ≡ key = cc fits.1 in
+        rw (← same) (refl, fits.0)
 
-fields_read : (fields : List (List ℕ)) (s : Stored) → read_fields fields ≡ Ok s
-    → fields ≡ (params_letters s.params.log_n s.params.r s.params.p ++ s.salt) ∷ crypt64_of s.key ∷ []
+-- the fields of a hash: the letters of allowed parameters and the salt, and the letters of the key
+pub record AreFields (s : Stored) (fields : List (List ℕ)) : Type 0 where
+  pub written : fields ≡ (params_letters s.params.log_n s.params.r s.params.p ++ s.salt) ∷ crypt64_of s.key ∷ []
+  pub params : IsTrue (are_accepted s.params.log_n s.params.r s.params.p)
+  pub no_len : s.params.output_len ≡ None
+  pub key : AreBytes s.key
+  pub key_len : IsTrue (is_output_len (length s.key))
+
+pub fields_read : (fields : List (List ℕ)) (s : Stored) → read_fields fields ≡ Ok s → AreFields s fields
 fields_read (field ∷ letters ∷ []) s is =
     let params = both_read (field_params field) _ is in
     let key = both_read (read_key (letters ∷ [])) _ params.2 in
     let made : Stored = record { params = params.0; salt = drop 11 field; key = key.0 } in
     let same : made ≡ s = cc key.2 in
-    rw (← same) (ap₂ (λ y z. y ∷ z ∷ []) (field_is field params.0 params.1) (key_is letters key.0 key.1).encoding)
+    let encoded = key_is letters key.0 key.1 in
+    let accepted = field_accepted field params.0 params.1 in
+    rw (← same) (record {
+      written = ap₂ (λ y z. y ∷ z ∷ []) (field_is field params.0 params.1) encoded.0.encoding;
+      params = accepted.0;
+      no_len = accepted.1;
+      key = encoded.0.are_bytes;
+      key_len = encoded.1;
+    })
 fields_read (field ∷ letters ∷ third ∷ after) s is = let none = (both_read (field_params field) _ is).2 in absurd cc
 fields_read (field ∷ []) s is = let none = (both_read (field_params field) _ is).2 in absurd cc
 fields_read [] s is = absurd cc
+
+-- the text of such fields
+pub text_of_fields : (c : Parameters) (salt letters : List ℕ)
+    → parts_text (mcf_id ∷ (params_letters c.log_n c.r c.p ++ salt) ∷ letters ∷ []) ≡ params_text c ++ (salt ++ dollar ∷ letters)
+text_of_fields c salt letters =
+    let front = params_letters c.log_n c.r c.p in
+    ap (λ rest. codes "$7$" ++ rest)
+    (ap (λ z. (front ++ salt) ++ (dollar ∷ z)) (append-nil letters) ∙ append_assoc front salt (dollar ∷ letters))
 
 -- such a text is a `$7$` text
 pub is_mcf : {text : List ℕ} {s : Stored} → read_mcf text ≡ Ok s
@@ -85,11 +114,10 @@ is_mcf {text} {s} is =
     (fields, IsMcfText-from_parts text mcf_id fields parts (lit< tt, refl), read)
 
 -- a hash has one text
-pub text_of : {text : List ℕ} {s : Stored} → read_mcf text ≡ Ok s
-    → text ≡ parts_text (mcf_id ∷ (params_letters s.params.log_n s.params.r s.params.p ++ s.salt) ∷ crypt64_of s.key ∷ [])
+pub text_of : {text : List ℕ} {s : Stored} → read_mcf text ≡ Ok s → text ≡ mcf_text s
 text_of {text} {s} is =
     let (fields, seven, read) = is_mcf is in
-    seven.written ∙ ap (λ z. parts_text (mcf_id ∷ z)) (fields_read fields s read)
+    seven.written ∙ ap (λ z. parts_text (mcf_id ∷ z)) (fields_read fields s read).written ∙ text_of_fields s.params s.salt (crypt64_of s.key)
 
 key_fault : (fields : List (List ℕ)) → IfErr (read_key fields) IsFault
 key_fault [] = tt

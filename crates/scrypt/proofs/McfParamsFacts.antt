@@ -120,12 +120,20 @@ letter_said (Some value) number says small = ap Some says
 
 -- the numbers that parameters were made of
 pub made_of : (log_n : ℕ) (r p : Option ℕ) (c : Parameters) → of_numbers log_n r p ≡ Ok c
-    → IsTrue (are_accepted c.log_n c.r c.p) × (log_n ≡ c.log_n) × (r ≡ Some c.r) × (p ≡ Some c.p)
+    → IsTrue (are_accepted c.log_n c.r c.p) × (log_n ≡ c.log_n) × (r ≡ Some c.r) × (p ≡ Some c.p) × (c.output_len ≡ None)
 made_of log_n None p c is = absurd cc
 made_of log_n (Some r) None c is = absurd cc
 made_of log_n (Some r) (Some p) c is =
     let made = checked_ok log_n r p c is in
-    rw (← made.1) (made.0, refl, refl, refl)
+    rw (← made.1) (made.0, refl, refl, refl, refl)
+
+-- what a field encodes are accepted parameters without a length
+pub field_accepted : (field : List ℕ) (c : Parameters) → field_params field ≡ Ok c
+    → IsTrue (are_accepted c.log_n c.r c.p) × (c.output_len ≡ None)
+unfolding field_params
+field_accepted field c says =
+    let made = made_of _ _ _ c (ok_if (nat_lt (slice_index field 0) 128) _ EncodingInvalid says).1 in
+    (made.0, made.4)
 
 -- a field that encodes accepted parameters begins with their letters
 pub field_is : (field : List ℕ) (c : Parameters) → field_params field ≡ Ok c → field ≡ params_letters c.log_n c.r c.p ++ drop 11 field

@@ -1,12 +1,12 @@
 use Rattle.std.proofs.Common.{◌≡◌, ◌≢◌, ℕ, ◌^◌, ◌%◌, ◌<◌, ◌≤◌, List, [], ◌∷◌, ◌++◌, length, drop}
-use Rattle.std.proofs.Common.{Some, Ok, true, ◌∙◌, refl, sym, ap, ap₂, arith, lit<, append_assoc, length-append}
+use Rattle.std.proofs.Common.{Option, Some, Ok, true, ◌∙◌, refl, sym, ap, ap₂, subst, arith, lit<, append_assoc, length-append}
 use Rattle.std.specs.Prelude.{All, Result, codes, nat_lt, IsTrue}
 use Rattle.std.proofs.lemmas.Bool.{lt-ltb}
 use Rattle.std.specs.Str.{IsAscii}
 use Rattle.std.proofs.lemmas.Str.{IsUtf8-from_ascii}
 use Rattle.std.proofs.lemmas.Str.Ascii.{IsAscii-from_all}
 use Rattle.std.proofs.lemmas.List.{append-nil, drop_all, drop_at}
-use Rattle.std.proofs.lemmas.List.Elements.{All-nil, All-cons, All-append, All-from_get_or, All-from_recursion, All-weaker}
+use Rattle.std.proofs.lemmas.List.Elements.{All-nil, All-cons, All-append, All-drop, All-from_get_or, All-from_recursion, All-head, All-weaker}
 use Rattle.password_hash.specs.Crypt64.{letter, letters_of, crypt64_of, encoded_len}
 use Rattle.password_hash.specs.Mcf.{IsField, IsMcf, IsMcfText}
 use Rattle.password_hash.specs.Parts.{dollar}
@@ -18,11 +18,12 @@ use Rattle.password_hash.proofs.McfFacts.{IsField-crypt64_of}
 use Rattle.scrypt.specs.Accepted.{Parameters, are_accepted, is_stored_len, without_len}
 use Rattle.scrypt.proofs.KeyFacts.{key_by-are_bytes, length-key_by}
 use Rattle.scrypt.specs.McfParams.{five_letter_number, params_letters, params_text, field_params}
-use Rattle.scrypt.specs.McfHash.{IsMadeHash, made_key, made_text_len, mcf_id, mcf_text}
+use Rattle.scrypt.specs.McfHash.{IsMadeHash, IsMcfHashText, made_hash, made_key, made_text_len, mcf_id, mcf_text, read_mcf}
 use Rattle.scrypt.specs.Hashing.{key_len_or_default}
+use Rattle.scrypt.specs.Reading.{Stored}
 use Rattle.scrypt.proofs.AcceptedFacts.{checked_is, key_len_stored, numbers, output_len_decided, small_params}
 use Rattle.scrypt.proofs.McfParamsFacts.{five_letter_number_letters_of, of_numbers}
-use Rattle.scrypt.proofs.McfHashFacts.{key_read, read_seven, text_of}
+use Rattle.scrypt.proofs.McfHashFacts.{fields_read, is_mcf, key_read, read_seven, text_of, text_of_fields}
 
 -- the letters of the numbers
 
@@ -79,27 +80,55 @@ text_parts c salt key good no_dollar =
       is_id = (lit< tt, refl);
       are_fields = All-cons IsField field (crypt64_of key ∷ []) field_is
           (All-cons IsField (crypt64_of key) [] (IsField-crypt64_of key) (All-nil IsField));
-      written = ap (λ rest. codes "$7$" ++ rest)
-          (sym (append_assoc letters salt (dollar ∷ crypt64_of key)) ∙ ap (λ z. field ++ (dollar ∷ z)) (sym (append-nil (crypt64_of key))));
+      written = sym (text_of_fields c salt (crypt64_of key));
+    }
+
+-- the text of allowed parts is read as these
+pub text_read : (text : List ℕ) (s : Stored) → IsMcfHashText text s → read_mcf text ≡ Ok s
+text_read text s is =
+    let c = s.params in
+    let front = params_letters c.log_n c.r c.p in
+    let rest : drop 11 (front ++ s.salt) ≡ s.salt = drop_at front s.salt 11 (count_letters c.log_n c.r c.p) in
+    let bare : without_len c ≡ c = ap (λ (len : Option ℕ). record c { output_len = len }) (sym is.no_len) in
+    ap read_mcf is.whole ∙ read_seven (text_parts c s.salt s.key is.params is.salt) refl
+    ∙ rw (field_read c s.salt is.params, key_read (record { are_bytes = is.key; encoding = refl }) is.key_len, rest, bare) refl
+
+-- and what is read as some parts is their text
+pub read_is_text : (text : List ℕ) (s : Stored) → read_mcf text ≡ Ok s → IsMcfHashText text s
+read_is_text text s is =
+    let (fields, seven, read) = is_mcf is in
+    let are = fields_read fields s read in
+    let front = params_letters s.params.log_n s.params.r s.params.p in
+    let rest : drop 11 (front ++ s.salt) ≡ s.salt = drop_at front s.salt 11 (count_letters s.params.log_n s.params.r s.params.p) in
+    let field = All-head IsField (front ++ s.salt) (crypt64_of s.key ∷ []) (subst (All IsField) are.written seven.are_fields) in
+    record {
+      whole = text_of is;
+      params = are.params;
+      no_len = are.no_len;
+      salt = subst IsField rest (All-drop (λ byte. byte ≢ dollar) 11 (front ++ s.salt) field);
+      key = are.key;
+      key_len = are.key_len;
     }
 
 -- the text that hashing makes
 pub made_text : (c : Parameters) (password salt : List ℕ) → IsTrue (are_accepted c.log_n c.r c.p) → IsTrue (is_stored_len c.output_len)
-    → IsMadeHash c password salt (mcf_text c salt (made_key c password salt))
+    → IsMadeHash c password salt (mcf_text (made_hash c password salt))
 made_text c password salt good fits =
     let stored = key_len_stored c.output_len fits in
-    let front = params_letters c.log_n c.r c.p in
     let letters = crypt64_of salt in
     let key = made_key c password salt in
     let long = length-key_by c password letters (key_len_or_default c) in
-    let bytes = All-from_get_or (λ byte. byte < 256) key 0 (λ i below. key_by-are_bytes c password letters (key_len_or_default c) i) in
-    let allowed = (output_len_decided (length key)).1 (omega (arith, long, stored.0), omega (arith, long, stored.1)) in
-    let rest : drop 11 (front ++ letters) ≡ letters = drop_at front letters 11 (count_letters c.log_n c.r c.p) in
-    read_seven (text_parts c letters key good (IsField-crypt64_of salt)) refl
-    ∙ rw (field_read c letters good, key_read (record { are_bytes = bytes; encoding = refl }) allowed, rest) refl
+    text_read _ (made_hash c password salt) (record {
+      whole = refl;
+      params = good;
+      no_len = refl;
+      salt = IsField-crypt64_of salt;
+      key = All-from_get_or (λ byte. byte < 256) key 0 (λ i below. key_by-are_bytes c password letters (key_len_or_default c) i);
+      key_len = (output_len_decided (length key)).1 (omega (arith, long, stored.0), omega (arith, long, stored.1));
+    })
 
 pub length-made_text : (c : Parameters) (password salt : List ℕ)
-    → length (mcf_text c salt (made_key c password salt)) ≡ made_text_len c (length salt)
+    → length (mcf_text (made_hash c password salt)) ≡ made_text_len c (length salt)
 length-made_text c password salt =
     let letters = crypt64_of salt in
     let key = made_key c password salt in
@@ -122,11 +151,15 @@ pub ruleset made_lengths = (made_length)
 
 -- a text that was written whole
 
-pub whole_is_made : (c : Parameters) (password salt key text : List ℕ) → text ≡ mcf_text c salt key → key ≡ made_key c password salt
+-- the parts of a hash with this key
+abbrev with_key : Parameters → List ℕ → List ℕ → Stored
+with_key c salt key = record { params = without_len c; salt = crypt64_of salt; key = key }
+
+pub whole_is_made : (c : Parameters) (password salt key text : List ℕ) → text ≡ mcf_text (with_key c salt key) → key ≡ made_key c password salt
     → IsTrue (are_accepted c.log_n c.r c.p) → IsTrue (is_stored_len c.output_len) → IsMadeHash c password salt text
 whole_is_made c password salt key text is derived good fits = rw (is, derived) (made_text c password salt good fits)
 
-pub whole_is_ascii : (c : Parameters) (salt key text : List ℕ) → text ≡ mcf_text c salt key → IsTrue (are_accepted c.log_n c.r c.p) → IsAscii text
+pub whole_is_ascii : (c : Parameters) (salt key text : List ℕ) → text ≡ mcf_text (with_key c salt key) → IsTrue (are_accepted c.log_n c.r c.p) → IsAscii text
 whole_is_ascii c salt key text is good =
     let ascii : ℕ → Type 0 = λ byte. byte < 128 in
     let plain = λ (letters : List ℕ) (each : All IsPlain letters). All-weaker IsPlain ascii (λ byte is. is.0) letters each in
@@ -140,7 +173,7 @@ whole_is_ascii c salt key text is good =
     (All-append ascii (crypt64_of salt) last (plain (crypt64_of salt) (crypt64_of-plain salt))
     (All-cons ascii dollar (crypt64_of key) (lit< tt) (plain (crypt64_of key) (crypt64_of-plain key)))))))
 
-pub whole_is_mcf : (c : Parameters) (salt key text : List ℕ) → text ≡ mcf_text c salt key → IsTrue (are_accepted c.log_n c.r c.p) → IsMcf text
+pub whole_is_mcf : (c : Parameters) (salt key text : List ℕ) → text ≡ mcf_text (with_key c salt key) → IsTrue (are_accepted c.log_n c.r c.p) → IsMcf text
 whole_is_mcf c salt key text is good = rw is (_, _, text_parts c (crypt64_of salt) key good (IsField-crypt64_of salt))
 
 pub ruleset whole_texts = (whole_is_ascii, whole_is_made)

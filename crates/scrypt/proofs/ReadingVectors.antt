@@ -8,17 +8,20 @@ use Rattle.password_hash.specs.Refusal.{Refusal, Algorithm, EncodingInvalid, Out
 use Rattle.password_hash.proofs.StandardFacts.{decoded_of, encode_symbols, groups_bytes, groups_error, scan_steps}
 use Rattle.scrypt_kernel.proofs.StandardFacts.{bytes}
 use Rattle.scrypt.specs.Accepted.{are_accepted, is_output_len}
-use Rattle.scrypt.specs.McfHash.{read_mcf}
+use Rattle.scrypt.specs.McfHash.{mcf_text, read_mcf}
 use Rattle.scrypt.specs.McfParams.{field_params}
 use Rattle.scrypt.specs.PhcHash.{phc_params}
 use Rattle.scrypt.specs.PhcParams.{read_pairs}
 use Rattle.scrypt.specs.Reading.{Stored, checked}
 use Rattle.scrypt.specs.StoredHash.{formatted, is_mcf_text, reading}
 
--- a text, and the parameters, the salt and the key that it is read as
+-- the parts of a hash: parameters, a salt and a key
+abbrev parts : ℕ → ℕ → ℕ → List ℕ → List ℕ → Stored
+parts log_n r p salt key = record { params = record { log_n = log_n; r = r; p = p; output_len = None }; salt = salt; key = key }
+
+-- a text, and the parts that it is read as
 abbrev read_as : List ℕ → ℕ → ℕ → ℕ → List ℕ → List ℕ → List ℕ × Result Stored Refusal
-read_as text log_n r p salt key =
-    (text, Ok (record { params = record { log_n = log_n; r = r; p = p; output_len = None }; salt = salt; key = key }))
+read_as text log_n r p salt key = (text, Ok (parts log_n r p salt key))
 
 -- a text, and the error of reading it
 abbrev refused : List ℕ → Refusal → List ℕ × Result Stored Refusal
@@ -33,7 +36,7 @@ phc_readings =
     read_as (codes "$scrypt$ln=16,r=8,p=1$aM15713r3Xsvxbi31lqr1Q$nFNh2CVHVjNldFVKDHDlm4CbdRSCdEBsjjJxD+iCs5E") 16 8 1
     (bytes (codes "68cd79ef5debdd7b2fc5b8b7d65aabd5"))
     (bytes (codes "9c5361d8254756336574554a0c70e59b809b75148274406c8e32710fe882b391"))
-    -- parameters in another order, and none, which are the recommended ones
+    -- parameters in another order, and none, which are (17, 8, 1)
     ∷ read_as (codes "$scrypt$p=3,r=2,ln=1$aA$AAAAAAAAAAAAAA") 1 2 3 (codes "h") (bytes (codes "00000000000000000000"))
     ∷ read_as (codes "$scrypt$aA$AAAAAAAAAAAAAA") 17 8 1 (codes "h") (bytes (codes "00000000000000000000"))
     ∷ refused (codes "") EncodingInvalid
@@ -57,16 +60,38 @@ unfolding are_accepted checked decimal_below decoded_bytes decoded_of digits enc
     has_plus_or_leading_zero is_mcf_text parsed_pairs phc_params read_hash read_pairs reading scan_steps
 phc_texts_read = refl
 
--- `$7$` texts: what is read, and then each refusal, of the eleven letters, the numbers, and the key
+-- `$7$` texts, and the parts that they are read as and are the texts of
 
-abbrev mcf_readings : List (List ℕ × Result Stored Refusal)
-mcf_readings =
+abbrev mcf_texts : List (List ℕ × Stored)
+mcf_texts =
     -- the first key of RFC 7914, section 12, of 32 bytes
-    read_as (codes "$7$2/..../....$rNxJWVHNv/mCNcgE/f6/L4zO6Fos5c2uTzhyzoisI62") 4 1 1 []
-    (bytes (codes "77d6576238657b203b19ca42c18a0497f16b4844e3074ae8dfdffa3fede21442"))
+    (
+      codes "$7$2/..../....$rNxJWVHNv/mCNcgE/f6/L4zO6Fos5c2uTzhyzoisI62",
+      parts 4 1 1 [] (bytes (codes "77d6576238657b203b19ca42c18a0497f16b4844e3074ae8dfdffa3fede21442")),
+    )
+    -- `libxcrypt`'s hash
+    ∷ (
+      codes "$7$CU..../....Mq4YHD2syxYT.MsH1Ek0n1$JyHIxez0DOwm0r6.kAIohc8UFBOLU4xX8a1wGBpLrw7",
+      parts 14 32 1 (codes "Mq4YHD2syxYT.MsH1Ek0n1") (bytes (codes "953f51bdfa0b8fc6cbc28d003043d12daa8051a35da0d18f8a39f052535f379f")),
+    )
     -- a key of one byte, and a salt that is no encoding
-    ∷ read_as (codes "$7$CU..../....Mq_Y$r/") 14 32 1 (codes "Mq_Y") (bytes (codes "77"))
-    ∷ refused (codes "$7") EncodingInvalid
+    ∷ (codes "$7$CU..../....Mq_Y$r/", parts 14 32 1 (codes "Mq_Y") (bytes (codes "77")))
+    ∷ []
+
+pub mcf_texts_read : map (λ row. reading row.0) mcf_texts ≡ map (λ row. Ok row.1) mcf_texts
+unfolding are_accepted bytes_of_number checked crypt64_of decoded field_params formatted is_mcf_text is_output_len letter letter_value letters_of
+    number_of read_mcf reading
+mcf_texts_read = refl
+
+pub mcf_texts_written : map (λ row. mcf_text row.1) mcf_texts ≡ map (λ row. row.0) mcf_texts
+unfolding crypt64_of letter letters_of
+mcf_texts_written = refl
+
+-- the refusals of `$7$` texts: of the eleven letters, the numbers, and the key
+
+abbrev mcf_refusals : List (List ℕ × Result Stored Refusal)
+mcf_refusals =
+    refused (codes "$7") EncodingInvalid
     ∷ refused (codes "$7$") EncodingInvalid
     ∷ refused (codes "$7$*/...$r/") EncodingInvalid
     ∷ refused (codes "$7$*/..../....$r/") ParamsInvalid
@@ -77,7 +102,7 @@ mcf_readings =
     ∷ refused (codes "$7$2/..../....$") OutputSize
     ∷ []
 
-pub mcf_texts_read : map (λ row. reading row.0) mcf_readings ≡ map (λ row. row.1) mcf_readings
+pub mcf_texts_refused : map (λ row. reading row.0) mcf_refusals ≡ map (λ row. row.1) mcf_refusals
 unfolding are_accepted bytes_of_number checked crypt64_of decoded field_params formatted is_mcf_text is_output_len letter letter_value letters_of
     number_of read_mcf reading
-mcf_texts_read = refl
+mcf_texts_refused = refl

@@ -1,10 +1,12 @@
 -- `$7$` hashes of crypt(5): how their texts are read, and which are made.
-use Rattle.std.specs.Prelude.{◌≡◌, ℕ, ◌+◌, List, [], ◌∷◌, ◌++◌, length, drop, codes, if◌then◌else◌, Option, ok_or, Result, Ok, Err, ⊤}
+use Rattle.std.specs.Prelude.{◌≡◌, ℕ, ◌+◌, ◌<◌, List, [], ◌∷◌, ◌++◌, All, length, drop, codes, if◌then◌else◌, IsTrue}
+use Rattle.std.specs.Prelude.{Option, None, ok_or, Result, Ok, Err, ⊤}
 use Rattle.std.specs.Str.{bytes_eq}
 use Rattle.password_hash.specs.Crypt64.{crypt64_of, decoded, encoded_len}
+use Rattle.password_hash.specs.Mcf.{IsField}
 use Rattle.password_hash.specs.Parts.{dollar, parts_of}
 use Rattle.password_hash.specs.Refusal.{Refusal, Algorithm, EncodingInvalid, OutputSize}
-use Rattle.scrypt.specs.Accepted.{Parameters, is_output_len, without_len}
+use Rattle.scrypt.specs.Accepted.{Parameters, are_accepted, is_output_len, without_len}
 use Rattle.scrypt.specs.KeyOfParams.{key_by}
 use Rattle.scrypt.specs.McfParams.{field_params, params_text}
 use Rattle.scrypt.specs.Hashing.{HashingIsRefused, IsNamedOrNone, key_len_or_default}
@@ -35,20 +37,32 @@ read_parts _ = Err EncodingInvalid
 unfoldable pub read_mcf : List ℕ → Result Stored Refusal
 read_mcf text = read_parts (parts_of text)
 
+-- the text of these parts: `$7$`, the eleven letters of the parameters, the salt as it is, `$`, and the key in crypt Base64
+abbrev pub mcf_text : Stored → List ℕ
+mcf_text s = params_text s.params ++ (s.salt ++ dollar ∷ crypt64_of s.key)
+
+-- the text is read as these parts: it is their text, and they are allowed
+pub record IsMcfHashText (text : List ℕ) (s : Stored) : Type 0 where
+  pub whole : text ≡ mcf_text s
+  pub params : IsTrue (are_accepted s.params.log_n s.params.r s.params.p)
+  pub no_len : s.params.output_len ≡ None
+  pub salt : IsField s.salt
+  pub key : All (λ byte. byte < 256) s.key
+  pub key_len : IsTrue (is_output_len (length s.key))
+
 -- the key that these parameters make of a password and a salt: the salt of its derivation is the letters of the salt
 abbrev pub made_key : Parameters → List ℕ → List ℕ → List ℕ
 made_key c password salt = key_by c password (crypt64_of salt) (key_len_or_default c)
 
+-- the parts of the hash that these parameters make of a password and a salt
+abbrev pub made_hash : Parameters → List ℕ → List ℕ → Stored
+made_hash c password salt = record { params = without_len c; salt = crypt64_of salt; key = made_key c password salt }
+
 -- the text is the hash that these parameters make of a password and a salt
 abbrev pub IsMadeHash : Parameters → List ℕ → List ℕ → List ℕ → Type 0
-IsMadeHash c password salt text =
-    read_mcf text ≡ Ok (record { params = without_len c; salt = crypt64_of salt; key = made_key c password salt })
+IsMadeHash c password salt text = read_mcf text ≡ Ok (made_hash c password salt)
 
--- the text with these parameters, this salt and this key
-abbrev pub mcf_text : Parameters → List ℕ → List ℕ → List ℕ
-mcf_text c salt key = params_text c ++ (crypt64_of salt ++ dollar ∷ crypt64_of key)
-
--- the length of that text, for a salt of n bytes: the parameters, the letters of the salt, `$` and those
+-- the length of its text, for a salt of n bytes: the parameters, the letters of the salt, `$` and those
 -- of the key
 abbrev pub made_text_len : Parameters → ℕ → ℕ
 made_text_len c n = 14 + encoded_len n + (1 + encoded_len (key_len_or_default c))

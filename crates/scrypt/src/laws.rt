@@ -21,7 +21,7 @@ ghost use Rattle.scrypt.specs.Limits.{are_within, work};
 ghost use Rattle.scrypt.specs.declared.limits.Limits.{Limits};
 ghost use Rattle.scrypt_kernel.specs.Table.{extra_rows};
 ghost use Rattle.scrypt.specs.McfParams.{params_letters, five_letter_number};
-ghost use Rattle.scrypt.specs.McfHash.{HashIsRefused as McfHashIsRefused, IsMadeHash as IsMadeMcf, made_key, mcf_text, read_fields, read_mcf};
+ghost use Rattle.scrypt.specs.McfHash.{HashIsRefused as McfHashIsRefused, IsMadeHash as IsMadeMcf, IsMcfHashText, made_hash, mcf_text, read_fields, read_mcf};
 ghost use Rattle.scrypt.specs.PhcParams.{params_of_pairs, written_pairs};
 ghost use Rattle.scrypt.specs.PhcHash.{HashIsRefused, IsMadeHash, phc_params, read_phc};
 ghost use Rattle.scrypt.specs.Reading.{IsOfText, NamesNoPassword, Stored, verdict, weaker};
@@ -74,6 +74,12 @@ pub fn texts_have_one_reading()
     ensures crypt64_text { (bytes one other : List ℕ) → Crypt64 bytes one → Crypt64 bytes other → one ≡ other }
 {}
 
+/// A `$7$` text is read as the parts that it is the text of, if these are allowed, and as no others: it is `$7$`, the eleven
+/// letters of accepted parameters, a salt without a `$`, a `$`, and the crypt Base64 of a key of an accepted output length.
+pub fn mcf_texts_are_read()
+    ensures exact { (text : List ℕ) (s : Stored) → (read_mcf text ≡ Ok s) ↔ IsMcfHashText text s }
+{}
+
 /// A hash made from a password with accepted parameters verifies against that password. A PHC hash
 /// does so also after it has been printed and parsed. A `$7$` text consists of the letters of the
 /// parameters, of the salt and of the key.
@@ -90,7 +96,7 @@ pub fn made_hashes_are_accepted()
     ensures mcf { (c : Parameters) (password salt text : List ℕ) → IsMadeMcf c password salt text
         → verdict password (read_mcf text) ≡ Ok tt }
     ensures mcf_written { (c : Parameters) (password salt : List ℕ) → IsTrue (are_accepted c.log_n c.r c.p)
-        → IsTrue (is_stored_len c.output_len) → IsMadeMcf c password salt (mcf_text c salt (made_key c password salt)) }
+        → IsTrue (is_stored_len c.output_len) → IsMadeMcf c password salt (mcf_text (made_hash c password salt)) }
 {}
 
 /// A text that is `$7` or begins with `$7$` is read by its fields, the text of a PHC hash as this hash, and the reading of

@@ -9,7 +9,7 @@ use Rattle.password_hash.specs.declared.error.Error.TheVariants.{SaltInvalid}
 use Rattle.scrypt.specs.Accepted.{Parameters}
 use Rattle.scrypt.specs.Hashing.{key_len_or_default}
 use Rattle.scrypt.specs.KeyOfParams.{key_by}
-use Rattle.scrypt.specs.McfHash.{made_key, mcf_text}
+use Rattle.scrypt.specs.McfHash.{made_hash, mcf_text}
 use Rattle.scrypt.specs.PhcParams.{written_pairs}
 use Rattle.scrypt.specs.Reading.{◌and_then◌ as ◌>>=◌, Stored, verdict, weaker}
 use Rattle.scrypt.specs.declared.limits.Limits.{Limits}
@@ -66,7 +66,7 @@ is_salt_len n = nat_le 1 n && nat_le n 64
 abbrev pub new_hash : Format → Parameters → List ℕ → List ℕ → Result (List ℕ) ErrorLine
 new_hash Phc c password salt =
     if is_salt_len (length salt) then Ok (phc_text c password salt) else refuse (hash_error SaltInvalid)
-new_hash Mcf c password salt = Ok (mcf_text c salt (made_key c password salt))
+new_hash Mcf c password salt = Ok (mcf_text (made_hash c password salt))
 
 -- the line of a key: its hexadecimal digits, or its bytes and no newline
 abbrev pub key_line : Bool → List ℕ → List ℕ

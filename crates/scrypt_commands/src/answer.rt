@@ -15,10 +15,8 @@ use crate::command::{Command, Format, Making, Target};
 use crate::error::CliError;
 use crate::limit_options::LimitOptions;
 use password_hash::Error;
-use scrypt::laws::{hashers_are_accepted, made_hashes_are_accepted, texts_have_one_reading};
-use scrypt::{
-    CoreCount, LimitedError, Limits, Mixer, Params, Scrypt, StoredHash, mcf, phc, scrypt_by,
-};
+use scrypt::laws::mcf_texts_are_read;
+use scrypt::{CoreCount, LimitedError, Limits, Mixer, Params, StoredHash, mcf, phc, scrypt_by};
 use std::alloc::Global;
 
 /// The answer to a command.
@@ -188,10 +186,7 @@ fn make_hash<M: Mixer>(
 ) -> Result<String, CliError>
     ensures { Gives string_bytes (new_hash format params.now password.now salt.now) result }
 {
-    let hasher = Scrypt::new_with_params(*params);
-    hashers_are_accepted(&hasher);
-    made_hashes_are_accepted();
-    texts_have_one_reading();
+    mcf_texts_are_read();
     match format {
         Format::Phc => {
             let hash = phc::hash::<M>(alloc, password, salt, params)?;
