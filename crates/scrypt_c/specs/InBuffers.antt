@@ -11,7 +11,7 @@ abbrev pub buffers : List ℕ → List ℕ → List ℕ → Workspace
 buffers chunks table scratch =
     record { chunks = chunks; table = table; scratch = scratch; cores = record { seal = tt; all = 0; lanes = 0; compressions = 0 } }
 
--- this holds of these buffers, with some count
+-- this holds of these buffers with some count: the call discards its own, so nothing is said of the cores that it runs
 abbrev pub LeftIn : (Workspace → Type 0) → List ℕ → List ℕ → List ℕ → Type 0
 LeftIn IsLeft chunks table scratch = (w : Workspace) × IsLeft (workspace_of chunks table scratch w.cores)
 

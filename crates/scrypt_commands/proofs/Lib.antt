@@ -4,3 +4,5 @@ pub mod OptionsFacts
 pub mod CommandFacts
 -- Making hashes, carrying out a command, and the outcome of a run.
 pub mod OutcomeFacts
+-- The plan of a command without options.
+pub mod RunFacts

@@ -1,5 +1,5 @@
 -- How a run goes: what it prints, and what it reads and writes.
-use Rattle.std.specs.Prelude.{◌≡◌, ◌⊎◌, ℕ, Bool, false, true, if◌then◌else◌, List, [], take, Option, Result, Ok, Err, IfSome, IsTrue, ⊤}
+use Rattle.std.specs.Prelude.{◌≡◌, ◌⊎◌, ℕ, Bool, false, true, if◌then◌else◌, List, [], length, take, Option, Result, Ok, Err, IfSome, IsTrue, ⊤}
 use Rattle.std.specs.Bool.{then_some}
 use Rattle.std.specs.Result.{is_err}
 use Rattle.std.specs.Io.KnownBytes.{Appends, IsAtEnd, Keeps}
@@ -67,6 +67,11 @@ abbrev pub EndsUnread : Invocation → Ended → Type 0
 EndsUnread (Tell text) ended = ((ended.status ≡ 0) ⊎ (ended.status ≡ 4)) × ¬ IsTrue ended.input_failed
 EndsUnread (Refuse error) ended = ended.status ≡ status_of error
 EndsUnread (Command line) ended = ⊤
+
+-- a command is refused before the input is read, whichever salt is drawn
+abbrev pub IsRefusedUnread : Option (List ℕ) → Invocation → Type 0
+IsRefusedUnread file (Command line) = (salt : List ℕ) → length salt ≡ 16 → (plan_of salt file (Command line)).is_unread ≡ true
+IsRefusedUnread file others = ⊥
 
 -- a run has this outcome
 abbrev pub HasOutcome : Ended → Streams → Streams → Outcome → Type 0

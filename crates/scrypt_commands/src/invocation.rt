@@ -6,7 +6,7 @@ ghost use Rattle.std.specs.Option.{option_copied};
 ghost use Rattle.scrypt_commands.specs.Invocation.{draws_salt, hash_file_of, invocation_of, invocation_view, is_raw};
 ghost use Rattle.scrypt_commands.specs.Invocation.{text_of, text_of_words, wants_file};
 ghost use Rattle.scrypt_commands.specs.Options.{texts_of};
-ghost use Rattle.scrypt_commands.specs.Run.{EndsUnread, IsRun, unread_plan, plan_of};
+ghost use Rattle.scrypt_commands.specs.Run.{EndsUnread, IsRefusedUnread, IsRun, unread_plan, plan_of};
 ghost use Rattle.scrypt_commands.specs.Steps.{IsDrawn};
 
 use crate::command_line::CommandLine;
@@ -84,7 +84,7 @@ impl<'a> Invocation<'a> {
     }
 
     /// Runs the program on what is asked for, and on the text of the file of the hash if it names one. Without an option
-    /// it is `run`.
+    /// it is `run`, by the law [`run_has_no_options`](crate::laws::run_has_no_options).
     ///
     /// Prints what `--help` or `--version` ask for. Draws a salt of 16 bytes on `machine` if the options say so.
     ///
@@ -105,6 +105,8 @@ impl<'a> Invocation<'a> {
             (record { input = R.remaining reader.old; output = W.contents writer.old; faults = F.contents faults.old })
             (record { input = R.remaining reader.new; output = W.contents writer.new; faults = F.contents faults.new }) ended) }
         ensures without_input { IfOk result (EndsUnread (invocation_view self.entry)) }
+        ensures refused { IfOk result (λ ended. IsRefusedUnread (option_copied file_text.entry) (invocation_view self.entry)
+            → (ended.status ≡ 2) ⊎ (ended.status ≡ 3)) }
         ensures drawn { OnErr result (IsTrue (draws_salt (invocation_view self.entry))) }
         ensures unread { OnErr result (Keeps (R.remaining reader.old) (R.remaining reader.new)
             × Keeps (W.contents writer.old) (W.contents writer.new) × Keeps (F.contents faults.old) (F.contents faults.new)) }

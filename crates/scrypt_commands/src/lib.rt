@@ -9,6 +9,7 @@ mod command_name;
 mod decimals;
 mod error;
 pub mod invocation;
+pub mod laws;
 mod limit_options;
 mod options;
 pub mod run;

@@ -1,0 +1,14 @@
+//! Laws of the definitions. Each function does nothing at run time: its contract is the law.
+
+ghost use Rattle.std.specs.Prelude.{◌≡◌, ℕ, List, None, false};
+ghost use Rattle.scrypt_commands.specs.Invocation.{invocation_of, text_of_words, wants_file};
+ghost use Rattle.scrypt_commands.specs.Options.{no_options, options_of};
+ghost use Rattle.scrypt_commands.specs.Run.{plan_of, plan_of_words};
+
+/// Words of which the first is not an option, and that ask for no text about the program, ask for what `run` does with them: they
+/// have the same outcome on each input, and are refused without reading it in the same cases.
+#[tactic(auto, using(crate::proofs::RunFacts::without_options))]
+pub fn run_has_no_options()
+    ensures same { (salt : List ℕ) (words : List (List ℕ)) → text_of_words words ≡ None → options_of words ≡ (no_options, words)
+        → wants_file words ≡ false → plan_of salt None (invocation_of words) ≡ plan_of_words words }
+{}
