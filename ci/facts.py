@@ -33,7 +33,7 @@ FACTS = [
     ("the default limit on work", number(mirror.WORK), [HEADER, LIMITS]),
     # Not what a PHC text without parameters means, which never changes.
     ("the recommended parameters",
-     rf"(?i:log_?n|default_rounds)(?:: ?\w+)? ?={{0,2}} ?{LOG_N}(?! \+)|[Nr] ?= ?2 ?\*\* ?{LOG_N}|ln={LOG_N},r={R},p={P}"
+     rf"(?<!IMPLIED_)(?i:log_?n|default_rounds)(?:: ?\w+)? ?={{0,2}} ?{LOG_N}(?! \+)|[Nr] ?= ?2 ?\*\* ?{LOG_N}|ln={LOG_N},r={R},p={P}"
      rf"|(?<!to\x20)(?<!as\x20){LOG_N}, {R} and {P}|\| {LOG_N}, {R}, {P} \|[^\n]*recommended",
      [HEADER, "crates/scrypt/src/params.rt", "crates/scrypt/specs/Accepted.antt", "crates/scrypt_commands/specs/Command.antt",
       "docs/PARAMETERS.md"]),

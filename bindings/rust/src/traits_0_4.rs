@@ -64,8 +64,8 @@ impl TryFrom<&PasswordHash<'_>> for Params {
         if hash.version.is_some() {
             return Err(Error::Version);
         }
-        let recommended = Params::RECOMMENDED;
-        let (mut log_n, mut r, mut p) = (recommended.log_n(), recommended.r(), recommended.p());
+        // What a text without these parameters or without a key means, whatever is recommended for new hashes.
+        let (mut log_n, mut r, mut p, implied_len) = (17, 8, 1, 32);
         for (name, value) in hash.params.iter() {
             match name.as_str() {
                 "ln" => log_n = u8::try_from(value.decimal()?).map_err(|_| INVALID)?,
@@ -74,7 +74,7 @@ impl TryFrom<&PasswordHash<'_>> for Params {
                 _ => return Err(Error::ParamNameInvalid),
             }
         }
-        let len = hash.hash.map_or(recommended.key_len(), |it| it.len());
+        let len = hash.hash.map_or(implied_len, |it| it.len());
         let params = Params::new_with_output_len(log_n, r, p, len).map_err(|_| INVALID)?;
         if Bounds::USUAL.allow(&params) {
             Ok(params)

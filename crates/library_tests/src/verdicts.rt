@@ -76,7 +76,7 @@ const R: Error = ParamInvalid { name: "r" };
 
 // Other parameters, the verdict on `password`, and the reason for the row.
 static CHANGED: [(&str, Result<(), Error>, &str); 11] = [
-    ("scrypt$ln=16", Ok(()), "the others are recommended"),
+    ("scrypt$ln=16", Ok(()), "the others are 8 and 1"),
     ("scrypt$p=1,r=8,ln=16", Ok(()), "another order"),
     ("scrypt$v=1$ln=16,r=8,p=1", Err(Version), "a version"),
     ("scrypt$ln=256,r=8,p=1", Err(LN), "log_n is above 255"),

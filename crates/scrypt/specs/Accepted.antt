@@ -29,7 +29,7 @@ unfoldable pub is_stored_len : Option ℕ → Bool
 is_stored_len None = true
 is_stored_len (Some n) = nat_le 10 n && nat_le n 64
 
--- the recommended parameters: N = 2 ^ 17, r = 8, p = 1, and no length
+-- the parameters that are recommended for new hashes: N = 2 ^ 17, r = 8, p = 1, and no length
 abbrev pub recommended_parameters : Parameters
 recommended_parameters = record { log_n = 17; r = 8; p = 1; output_len = None }
 

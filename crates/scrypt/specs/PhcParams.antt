@@ -18,7 +18,8 @@ read_pairs log_n r p (pair ∷ pairs) =
     else if bytes_eq pair.0 (codes "p") then (below (2 ^ 32) and_then λ n. read_pairs log_n r n pairs)
     else Err ParamsInvalid
 
--- the parameters that the pairs of a hash encode: log_n, r and p begin as 17, 8 and 1
+-- The parameters that the pairs of a hash encode: log_n, r and p begin as 17, 8 and 1, which is what stored hashes without
+-- these pairs mean, whatever is recommended for new ones.
 abbrev pub params_of_pairs : List (List ℕ × List ℕ) → Result Parameters Refusal
 params_of_pairs pairs = read_pairs 17 8 1 pairs
 

@@ -62,7 +62,8 @@ impl Params {
     /// The recommended length of a key in bytes.
     pub const RECOMMENDED_LEN: usize = 32;
 
-    /// The recommended parameters, with no length.
+    /// The parameters that are recommended for new hashes, with no length. In another crate `Params::default()` is the same
+    /// value, and leaves no invariant to be proved, as this constant does wherever it is used.
     pub const RECOMMENDED: Params = Params {
         log_n: Params::RECOMMENDED_LOG_N,
         r: Params::RECOMMENDED_R,
@@ -123,7 +124,7 @@ impl Params {
     }
 
     /// Returns the recommended parameters.
-    #[deprecated]
+    #[deprecated(since = "0.12.0", note = "use `Params::RECOMMENDED`, or `Params::default()`")]
     pub fn recommended() -> Params
         ensures value { result ≡ recommended_parameters }
     {

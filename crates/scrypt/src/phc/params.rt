@@ -13,13 +13,23 @@ use crate::Params;
 use password_hash::phc::{ParamsString, PasswordHash, Value};
 use password_hash::{Error, Result};
 
+// What a text without `ln`, `r`, `p` or a key means. Stored hashes rest on it: it stays as it is if other parameters are
+// recommended for new ones.
+const IMPLIED_LOG_N: u8 = 17;
+
+const IMPLIED_R: u32 = 8;
+
+const IMPLIED_P: u32 = 1;
+
+const IMPLIED_KEY_LEN: usize = 32;
+
 impl TryFrom<&ParamsString> for Params {
     type Error = Error;
 
     ghost try_from_gives = { λ text answer. with_refusal answer ≡ params_of_pairs text.now };
 
-    /// Reads the parameters `ln`, `r` and `p`. A missing one has its recommended value, and the result
-    /// has no length of a stored key.
+    /// Reads the parameters `ln`, `r` and `p`. If one is missing, it is 17, 8 or 1, whatever is recommended for new
+    /// hashes. The result has no length of a stored key.
     ///
     /// Returns the error of the first pair that has one: `ParamInvalid` with the name, if `ln` is
     /// not a decimal of at most 255 or `r` or `p` is not a decimal, and `ParamsInvalid` for any
@@ -27,9 +37,9 @@ impl TryFrom<&ParamsString> for Params {
     /// parameters.
     #[tactic(auto, unfolding(crate::specs::PhcParams::read_pairs))]
     fn try_from(text: &ParamsString) -> Result<Params> {
-        let mut log_n = Params::RECOMMENDED_LOG_N;
-        let mut r = Params::RECOMMENDED_R;
-        let mut p = Params::RECOMMENDED_P;
+        let mut log_n = IMPLIED_LOG_N;
+        let mut r = IMPLIED_R;
+        let mut p = IMPLIED_P;
         'pairs: for (name, value) in text.iter() {
             match name.as_str() {
                 "ln" => log_n = log_n_of(value)?,
@@ -97,7 +107,7 @@ fn output_len_of(hash: &PasswordHash) -> usize
 {
     match &hash.hash {
         Some(key) => key.len(),
-        None => Params::RECOMMENDED_LEN,
+        None => IMPLIED_KEY_LEN,
     }
 }
 
