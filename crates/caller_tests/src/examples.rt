@@ -2,10 +2,13 @@
 
 use crate::holds;
 use password_hash::phc::PasswordHash;
+use scrypt::laws::conditions_are_inequalities;
 use scrypt::{CoreCount, Limits, Params};
 use scrypt_examples::bounded_login::log_in_counted;
 use scrypt_examples::by_traits::{derive, is_right};
-use scrypt_examples::derived_keys::{Deriver, key_in_a_thin_table, key_or_out_of_memory};
+use scrypt_examples::derived_keys::{
+    Deriver, key_in_a_thin_table, key_or_out_of_memory, recommended_key,
+};
 use scrypt_examples::hash::stored_text;
 use scrypt_examples::key_file::{Header, age_wrap_key};
 use scrypt_examples::login::LoginPolicy;
@@ -24,20 +27,21 @@ const PHC: &str =
 // libxcrypt's, at (4, 1, 1).
 const MCF: &str = "$7$2/..../....saltsalt$jkmZo0SWQYHT33y104X81uA.YmckoO6LcD4HDzN9sJ2";
 
-#[tactic(auto, using(std::proofs::lemmas::Bool::Decides::nat_tests), unfolding(scrypt::specs::Accepted::are_accepted, scrypt::specs::Accepted::is_output_len))]
 #[test]
 fn derived_keys(rt: HostRuntime) -> Result<(), Fail> {
+    conditions_are_inequalities();
     let (alloc, mut key, mut cores) = (rt.alloc(), [0u8; 32], CoreCount::new());
     key_or_out_of_memory(alloc, PASSWORD, &SALT, 1, 1, 1, &mut key, &mut cores)?;
     let params = Params::new(1, 1, 1)?;
     key_in_a_thin_table(alloc, PASSWORD, &SALT, &params, 1, &mut key, &mut cores)?;
     Deriver::new(alloc, params, 1024)?;
+    recommended_key(alloc, PASSWORD, &SALT)?;
     Ok(())
 }
 
-#[tactic(auto, using(std::proofs::lemmas::Bool::Decides::nat_tests), unfolding(scrypt::specs::Accepted::are_accepted, scrypt::specs::Accepted::is_output_len))]
 #[test]
 fn keys_by_thin_tables(rt: HostRuntime) -> Result<(), Fail> {
+    conditions_are_inequalities();
     let (alloc, mut cores) = (rt.alloc(), CoreCount::new());
     let (params, mut whole, mut key) = (Params::new(4, 1, 1)?, [0; 64], [0; 64]);
     key_or_out_of_memory(alloc, PASSWORD, &SALT, 4, 1, 1, &mut whole, &mut cores)?;

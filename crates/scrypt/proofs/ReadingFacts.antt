@@ -13,6 +13,8 @@ use Rattle.scrypt.proofs.KeyFacts.{length-key_by}
 use Rattle.std.proofs.lemmas.Bool.{false_from_ne_true, le-ltb}
 use Rattle.scrypt.specs.Reading.{◌and_then◌, NamesNoPassword, Stored, checked, is_below, is_right, mapped, verdict, weaker}
 use Rattle.scrypt.specs.InBuffers.{are_enough}
+use Rattle.scrypt.specs.Limits.{are_within, buffers_bytes, work}
+use Rattle.scrypt.specs.declared.limits.Limits.{Limits}
 use Rattle.scrypt.specs.Workspace.{Workspace, verdict_in}
 
 -- what is read in two steps
@@ -123,6 +125,11 @@ pub enough_decided : (c : Parameters) (chunks table scratch : List ℕ) → Deci
 unfolding are_enough
 enough_decided c chunks table scratch =
     Decides-and _ _ (leb_decided _ _) (Decides-and _ _ (leb_decided _ _) (leb_decided _ _))
+
+pub within_decided : (limits : Limits) (c : Parameters) → Decides (are_within limits c)
+    ((buffers_bytes c.log_n c.r c.p ≤ limits.most_bytes) × (work c.log_n c.r c.p ≤ limits.most_work))
+unfolding are_within
+within_decided limits c = Decides-and _ _ (leb_decided _ _) (leb_decided _ _)
 
 pub not_enough : (c : Parameters) (chunks table scratch : List ℕ) → ¬ IsTrue (are_enough c chunks table scratch)
     → are_enough c chunks table scratch ≡ false

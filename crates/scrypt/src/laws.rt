@@ -8,7 +8,8 @@ ghost use Rattle.password_hash.specs.Mcf.{IsMcfText, fields_of};
 ghost use Rattle.password_hash.specs.Phc.{IsHashText, IsSalt, hash_text};
 ghost use Rattle.password_hash.specs.Refusal.{Refusal, EncodingInvalid, PasswordInvalid};
 ghost use Rattle.password_hash.specs.declared.phc.hash.PasswordHash.{PasswordHash};
-ghost use Rattle.scrypt.specs.Accepted.{are_accepted, is_stored_len, Parameters, without_len};
+ghost use Rattle.scrypt_kernel.specs.Pbkdf2.{max_output_len};
+ghost use Rattle.scrypt.specs.Accepted.{are_accepted, is_output_len, is_stored_len, Parameters, without_len};
 ghost use Rattle.scrypt_kernel.specs.BlockMix.{block_mix};
 ghost use Rattle.scrypt_kernel.specs.Salsa.{salsa20_8};
 ghost use Rattle.scrypt.specs.ChunkOrder.{NamesEachOnce, mixed_in_order};
@@ -16,8 +17,9 @@ ghost use Rattle.scrypt.specs.KeyOfParams.{key_by};
 ghost use Rattle.scrypt_kernel.specs.Diagonal.{AreInverse, IsBlockMixBy, diagonal_core, diagonal_order, inverse_pivot, pivot, standard_order};
 ghost use Rattle.scrypt.specs.Key.{derived_key, mixed_chunks};
 ghost use Rattle.scrypt.specs.ThinKey.{thin_key};
-ghost use Rattle.scrypt.specs.Cost.{cost, hash_cost, lengths_cost, thin_cost};
-ghost use Rattle.scrypt.specs.Limits.{are_within, work};
+ghost use Rattle.scrypt.specs.Cost.{chunks_bytes, cost, hash_cost, lengths_cost, scratch_words, table_words, thin_cost};
+ghost use Rattle.scrypt.specs.InBuffers.{are_enough};
+ghost use Rattle.scrypt.specs.Limits.{are_within, buffers_bytes, work};
 ghost use Rattle.scrypt.specs.declared.limits.Limits.{Limits};
 ghost use Rattle.scrypt_kernel.specs.Table.{extra_rows};
 ghost use Rattle.scrypt.specs.McfParams.{params_letters, five_letter_number};
@@ -26,6 +28,7 @@ ghost use Rattle.scrypt.specs.PhcParams.{params_of_pairs, written_pairs};
 ghost use Rattle.scrypt.specs.PhcHash.{HashIsRefused, IsMadeHash, phc_params, read_phc};
 ghost use Rattle.scrypt.specs.Reading.{IsOfText, NamesNoPassword, Stored, verdict, weaker};
 ghost use Rattle.scrypt.specs.StoredHash.{is_mcf_text, is_stored_text, params_reading, reading};
+ghost use Rattle.scrypt.specs.declared.limits.Limits.{Limits};
 
 /// A shorter key is the beginning of a longer one, for any two lengths.
 #[tactic(auto, using(crate::proofs::KeyFacts::key_prefix))]
@@ -244,3 +247,16 @@ pub fn hashers_are_accepted(hasher: &crate::Scrypt)
     let params = hasher.params();
     params.expose_invariant();
 }
+
+/// Each condition that is computed, as the inequalities that it stands for: what calls require of parameters, of lengths, of
+/// buffers and of limits. With this law a caller shows them by arithmetic, of numbers too that are written out.
+pub fn conditions_are_inequalities()
+    ensures accepted { (log_n r p : ℕ) → IsTrue (are_accepted log_n r p)
+        ↔ ((0 < r) × (0 < p) × (128 * r * 2 ^ log_n < 2 ^ 64) × (r * p < 2 ^ 30)) }
+    ensures output { (n : ℕ) → IsTrue (is_output_len n) ↔ ((1 ≤ n) × (n ≤ max_output_len)) }
+    ensures stored { (n : ℕ) → IsTrue (is_stored_len (Some n)) ↔ ((10 ≤ n) × (n ≤ 64)) }
+    ensures enough { (c : Parameters) (chunks table scratch : List ℕ) → IsTrue (are_enough c chunks table scratch)
+        ↔ ((chunks_bytes c.r c.p ≤ length chunks) × (table_words c.log_n c.r ≤ length table) × (scratch_words c.r ≤ length scratch)) }
+    ensures within { (limits : Limits) (c : Parameters) → IsTrue (are_within limits c)
+        ↔ ((buffers_bytes c.log_n c.r c.p ≤ limits.most_bytes) × (work c.log_n c.r c.p ≤ limits.most_work)) }
+{}

@@ -1,7 +1,7 @@
 //! Derived keys: by numbers, in buffers that are kept, and in less memory.
 
 ghost use Rattle.std.specs.Prelude.{◌≡◌, ◌↔◌, ◌-◌, ◌*◌, ◌^◌, ◌≤◌, length, IfErr, IfOk, IsOk, OnErr, OnOk, IsTrue};
-ghost use Rattle.scrypt.specs.Accepted.{are_accepted, is_output_len};
+ghost use Rattle.scrypt.specs.Accepted.{are_accepted, is_output_len, recommended_parameters};
 ghost use Rattle.scrypt.specs.Cost.{chunks_bytes, cost, table_words, thin_cost, thin_scratch_words};
 ghost use Rattle.scrypt_kernel.specs.Count.{AreCounted};
 ghost use Rattle.scrypt.specs.Key.{derived_key};
@@ -9,9 +9,10 @@ ghost use Rattle.scrypt.specs.KeyOfParams.{key_by};
 ghost use Rattle.scrypt.specs.declared.errors.DeriveError.TheVariants.{OutOfMemory};
 
 use crate::buffers::Buffers;
+use scrypt::laws::conditions_are_inequalities;
 use scrypt::{
-    BufferLens, CoreCount, DeriveError, InvalidOutputLen, Params, scrypt_counted, scrypt_thin,
-    scrypt_with_buffers, wipe,
+    BufferLens, CoreCount, DeriveError, InvalidOutputLen, Params, scrypt, scrypt_counted,
+    scrypt_thin, scrypt_with_buffers, wipe,
 };
 use std::alloc::{AllocError, Global};
 use std::marker::Model;
@@ -39,6 +40,20 @@ pub fn key_or_out_of_memory(
 {
     let params = Params::new(log_n, r, p).unwrap();
     scrypt_counted(alloc, password, salt, &params, output, cores)
+}
+
+/// The key of 32 bytes that the recommended parameters derive.
+///
+/// Returns `OutOfMemory` if an allocation fails.
+pub fn recommended_key(alloc: Global, password: &[u8], salt: &[u8]) -> Result<[u8; 32], DeriveError>
+    ensures key { IfOk result (λ key. key ≡ key_by recommended_parameters password.now salt.now 32) }
+    ensures memory { IfErr result (λ e. e ≡ OutOfMemory) }
+{
+    // So 32 is the length of an output.
+    conditions_are_inequalities();
+    let mut key = [0u8; 32];
+    scrypt(alloc, password, salt, &Params::default(), &mut key)?;
+    Ok(key)
 }
 
 /// Derives keys with the same parameters, in buffers that are allocated once, and are zeros between the calls.

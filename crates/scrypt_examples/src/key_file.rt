@@ -11,7 +11,7 @@ ghost use Rattle.scrypt_examples.specs.KeyFile.{age_label};
 
 use password_hash::Error;
 use scrypt::hmac::hmac_sha256;
-use scrypt::laws::shorter_key_is_prefix;
+use scrypt::laws::{conditions_are_inequalities, shorter_key_is_prefix};
 use scrypt::{DeriveError, Params, scrypt};
 use std::alloc::Global;
 
@@ -38,7 +38,6 @@ impl Header {
     /// files of Tarsnap's `scrypt enc`. The first is also the derived key of 32 bytes.
     ///
     /// Returns `OutOfMemory` if an allocation fails.
-    #[tactic(auto, using(std::proofs::lemmas::Bool::Decides::nat_tests), unfolding(scrypt::specs::Accepted::is_output_len))]
     pub fn subkeys(&self, alloc: Global, password: &[u8]) -> Result<Subkeys, DeriveError>
         ensures encryption { IfOk result (λ keys.
             keys.encryption ≡ take 32 (key_by self.now.params password.now self.now.salt 64)) }
@@ -49,6 +48,7 @@ impl Header {
         ensures err { IfErr result (λ e. e ≡ OutOfMemory) }
     {
         shorter_key_is_prefix();
+        conditions_are_inequalities();
         let mut key = [0u8; 64];
         scrypt(alloc, password, &self.salt, &self.params, &mut key)?;
 
