@@ -135,8 +135,9 @@ int scrypt_buffer_lens(uint32_t log_n, uint32_t r, uint32_t p, uint8_t s, size_t
 
 /* Writes the same key, in the caller's buffers, each at least as long as scrypt_buffer_lens returns for s = 0. If the
  * table and the scratch are w times as long as that, up to w chunks are mixed at a time, and at most four. What the
- * buffers hold before the call does not matter. Afterwards the part that was used is unspecified, and the rest is
- * unchanged. Nothing is allocated. An error leaves the buffers unchanged too.
+ * buffers hold before the call does not matter. Afterwards the chunks hold the mixed blocks, with which passwords can be
+ * tried against the key at little cost (scrypt_wipe clears them), what was used of the others is unspecified, and the rest
+ * is unchanged. Nothing is allocated. An error leaves the buffers unchanged too.
  * SCRYPT_INVALID_PARAMS, SCRYPT_INVALID_OUTPUT_LEN, SCRYPT_BUFFER_SIZE if a buffer is too short. */
 SCRYPT_CHECKED
 int scrypt_key_with_buffers(const void *password, size_t password_len, const void *salt,

@@ -13,7 +13,10 @@ mixed_chunk b log_n r i = bytes_of (ro_mix (words_of (part (128 * r) b i)) log_n
 abbrev pub mixed_chunks : List ℕ → ℕ → ℕ → ℕ → List ℕ
 mixed_chunks b log_n r p = flat_map (mixed_chunk b log_n r) (range_with_len 0 p)
 
--- DK, n bytes long: PBKDF2 derives B (step 1), its chunks are mixed (step 2), and are the salt from which PBKDF2
--- derives DK (step 3)
+-- B after step 2: PBKDF2 derives B (step 1), and its chunks are mixed
+abbrev pub mixed_b : List ℕ → List ℕ → ℕ → ℕ → ℕ → List ℕ
+mixed_b password salt log_n r p = mixed_chunks (pbkdf2 password salt (p * (128 * r))) log_n r p
+
+-- DK, n bytes long, which PBKDF2 derives with the mixed B as salt (step 3)
 unfoldable pub derived_key : List ℕ → List ℕ → ℕ → ℕ → ℕ → ℕ → List ℕ
-derived_key password salt log_n r p n = pbkdf2 password (mixed_chunks (pbkdf2 password salt (p * (128 * r))) log_n r p) n
+derived_key password salt log_n r p n = pbkdf2 password (mixed_b password salt log_n r p) n

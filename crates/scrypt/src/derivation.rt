@@ -5,7 +5,7 @@ ghost use Rattle.scrypt_kernel.specs.Count.{AreCounted};
 ghost use Rattle.scrypt_kernel.specs.Pbkdf2.{max_output_len, pbkdf2};
 ghost use Rattle.scrypt.specs.Accepted.{is_output_len};
 ghost use Rattle.scrypt.specs.Cost.{chunks_bytes, cost, scratch_words, table_words, thin_cost, thin_scratch_words};
-ghost use Rattle.scrypt.specs.Key.{derived_key};
+ghost use Rattle.scrypt.specs.Key.{derived_key, mixed_b};
 ghost use Rattle.scrypt.specs.Mixing.{HasTables, IsKept, IsReady, IsSpent};
 ghost use Rattle.scrypt.specs.declared.errors.DeriveError.TheVariants.{InvalidOutputLen as BadLength, OutOfMemory};
 
@@ -141,7 +141,8 @@ pub fn scrypt_in_groups<W: Mixer>(
 /// `chunks` has exactly the length of [`BufferLens::of`] in bytes, and `table` and `scratch` have at
 /// least its lengths in words. As many chunks are mixed at a time as have a table and a scratch
 /// there, at most four ([`BufferLens::for_tables`]). It does not matter what the buffers hold before the
-/// call, and what they hold after it is unspecified. `cores` counts the `4 * N * r * p` cores. Does
+/// call. After it `chunks` holds B after step 2, with which passwords can be tried against the key without a core, and
+/// what the others hold is unspecified: [`wipe`](crate::wipe) them. `cores` counts the `4 * N * r * p` cores. Does
 /// not allocate.
 ///
 /// Returns `InvalidOutputLen`, and changes nothing, exactly if the length of `output` is
@@ -163,6 +164,7 @@ pub fn scrypt_with_buffers(
     ensures value { OnOk result (output.new ≡ derived_key password.now salt.now
         params.now.log_n params.now.r params.now.p (length output.old)) }
     ensures counted { OnOk result (AreCounted (cost params.now.log_n params.now.r params.now.p) cores.old cores.new) }
+    ensures mixed { OnOk result (chunks.new ≡ mixed_b password.now salt.now params.now.log_n params.now.r params.now.p) }
     ensures refused { OnErr result (output.new ≡ output.old) }
     ensures buffers { OnErr result ((chunks.new ≡ chunks.old) × (table.new ≡ table.old) × (scratch.new ≡ scratch.old)) }
     ensures uncounted { OnErr result (cores.new ≡ cores.old) }
@@ -191,6 +193,7 @@ pub fn scrypt_with_buffers_by<W: Mixer>(
     ensures value { OnOk result (output.new ≡ derived_key password.now salt.now
         params.now.log_n params.now.r params.now.p (length output.old)) }
     ensures counted { OnOk result (AreCounted (cost params.now.log_n params.now.r params.now.p) cores.old cores.new) }
+    ensures mixed { OnOk result (chunks.new ≡ mixed_b password.now salt.now params.now.log_n params.now.r params.now.p) }
     ensures refused { OnErr result (output.new ≡ output.old) }
     ensures buffers { OnErr result ((chunks.new ≡ chunks.old) × (table.new ≡ table.old) × (scratch.new ≡ scratch.old)) }
     ensures uncounted { OnErr result (cores.new ≡ cores.old) }
@@ -213,8 +216,8 @@ pub fn scrypt_with_buffers_by<W: Mixer>(
 /// `4 * N * r * p` cores: `cores` counts them. Does not allocate.
 ///
 /// The buffers have the lengths of [`BufferLens::thin`]: `chunks` in bytes, `table` and `scratch` in
-/// words. `s` is at most `log_n`. It does not matter what the buffers hold before the call, and what
-/// they hold after it is unspecified.
+/// words. `s` is at most `log_n`. It does not matter what the buffers hold before the call. After it `chunks` holds
+/// B after step 2, and what the others hold is unspecified.
 ///
 /// Returns `InvalidOutputLen`, and changes nothing, exactly if the length of `output` is
 /// not allowed ([`output_len_ok`](crate::output_len_ok)).
@@ -238,6 +241,7 @@ pub fn scrypt_thin(
         params.now.log_n params.now.r params.now.p (length output.old)) }
     ensures counted { OnOk result (AreCounted (thin_cost password.now salt.now params.now.log_n params.now.r params.now.p s)
         cores.old cores.new) }
+    ensures mixed { OnOk result (chunks.new ≡ mixed_b password.now salt.now params.now.log_n params.now.r params.now.p) }
     ensures refused { OnErr result (output.new ≡ output.old) }
     ensures buffers { OnErr result ((chunks.new ≡ chunks.old) × (table.new ≡ table.old) × (scratch.new ≡ scratch.old)) }
     ensures uncounted { OnErr result (cores.new ≡ cores.old) }
@@ -269,6 +273,7 @@ pub fn scrypt_thin_by<W: Mixer>(
         params.now.log_n params.now.r params.now.p (length output.old)) }
     ensures counted { OnOk result (AreCounted (thin_cost password.now salt.now params.now.log_n params.now.r params.now.p s)
         cores.old cores.new) }
+    ensures mixed { OnOk result (chunks.new ≡ mixed_b password.now salt.now params.now.log_n params.now.r params.now.p) }
     ensures refused { OnErr result (output.new ≡ output.old) }
     ensures buffers { OnErr result ((chunks.new ≡ chunks.old) × (table.new ≡ table.old) × (scratch.new ≡ scratch.old)) }
     ensures uncounted { OnErr result (cores.new ≡ cores.old) }
@@ -317,6 +322,7 @@ pub(crate) fn derive_in<M: TableMemory, W: Mixer>(
     ensures kept { IsKept M.room used.old used.new }
     ensures value { output.new ≡ derived_key password.now salt.now
         params.now.log_n params.now.r params.now.p (length output.old) }
+    ensures mixed { used.new.chunks.now ≡ mixed_b password.now salt.now params.now.log_n params.now.r params.now.p }
     ensures counted { AreCounted (thin_cost password.now salt.now params.now.log_n params.now.r params.now.p s)
         used.old.cores.now used.new.cores.now }
     ensures whole { s ≡ 0 → AreCounted (cost params.now.log_n params.now.r params.now.p) used.old.cores.now used.new.cores.now }
@@ -324,7 +330,14 @@ pub(crate) fn derive_in<M: TableMemory, W: Mixer>(
     derive_chunks(password, salt, params, used.chunks);
     let count = params.p() as usize;
     mix_all::<M, W>(params, s, count, used);
-    // Step 3: DK, with B as salt.
+    derive_output(password, used, output);
+}
+
+// Step 3: DK, with B as salt.
+fn derive_output<M>(password: &[u8], used: &InUse<'_, M>, output: &mut [u8])
+    requires length { length output.old ≤ max_output_len }
+    ensures value { output.new ≡ pbkdf2 password.now used.now.chunks.now (length output.old) }
+{
     pbkdf2_one(password, used.chunks, output);
 }
 

@@ -1,9 +1,10 @@
 //! Keys, in memory that is allocated, and in the caller's buffers.
 
-ghost use Rattle.std.specs.Prelude.{◌≡◌, ◌≢◌, ◌⊎◌, ◌↔◌, ◌≤◌, length, None, IsSome, IfSome, IsTrue};
+ghost use Rattle.std.specs.Prelude.{◌≡◌, ◌≢◌, ◌⊎◌, ◌↔◌, ◌≤◌, length, take, None, IsSome, IfSome, IsTrue};
 ghost use Rattle.scrypt.specs.Accepted.{are_accepted, is_output_len};
 ghost use Rattle.scrypt.specs.InBuffers.{are_enough};
-ghost use Rattle.scrypt.specs.Key.{derived_key};
+ghost use Rattle.scrypt.specs.Cost.{chunks_bytes};
+ghost use Rattle.scrypt.specs.Key.{derived_key, mixed_b};
 ghost use Rattle.scrypt.specs.Limits.{are_within};
 ghost use Rattle.scrypt.specs.Workspace.{AreUsed};
 ghost use Rattle.scrypt_c.specs.Buffers.{AreBuffers, IsSpacing};
@@ -168,8 +169,8 @@ pub extern "C" fn scrypt_buffer_lens(
 /// elements at the front of each buffer are used, or as many times as many of the table and the
 /// scratch as chunks are mixed at a time: at most four, at most `p`, and as many as both have room
 /// for. On arm64 two use the place of one. What the buffers hold before the call does not matter.
-/// After `OK`, what was used is unspecified, and nothing after it has changed. On an error the
-/// buffers and the output are unchanged.
+/// After `OK` the chunks hold B after step 2, what was used of the others is unspecified, and nothing
+/// after it has changed. On an error the buffers and the output are unchanged.
 #[unsafe(no_mangle)]
 pub extern "C" fn scrypt_kdf_with_buffers(
     password: &[u8],
@@ -185,6 +186,7 @@ pub extern "C" fn scrypt_kdf_with_buffers(
     ensures status { IsKeyStatus (IsTrue (are_accepted log_n r p))
         (IsTrue (are_enough (params_of log_n r p) chunks.old table.old scratch.old)) (length output.old) result }
     ensures value { result ≡ OK → output.new ≡ derived_key password.now salt.now log_n r p (length output.old) }
+    ensures mixed { result ≡ OK → take (chunks_bytes r p) chunks.new ≡ mixed_b password.now salt.now log_n r p }
     ensures rest { result ≡ OK → IsRestKept (params_of log_n r p)
         (buffers chunks.old table.old scratch.old) (buffers chunks.new table.new scratch.new) }
     ensures refused { result ≢ OK → output.new ≡ output.old }
@@ -219,6 +221,8 @@ fn derive_at_front(
     requires length { IsTrue (is_output_len (length output.old)) }
     requires used { AreUsed params.now used.now chunks.old table.old scratch.old }
     ensures value { output.new ≡ derived_key password.now salt.now params.now.log_n params.now.r params.now.p (length output.old) }
+    ensures mixed { take (chunks_bytes params.now.r params.now.p) chunks.new
+        ≡ mixed_b password.now salt.now params.now.log_n params.now.r params.now.p }
     ensures rest { IsRestKept params.now (buffers chunks.old table.old scratch.old) (buffers chunks.new table.new scratch.new) }
 {
     let chunks = &mut chunks[..used.chunks];
@@ -236,8 +240,8 @@ fn derive_at_front(
 ///
 /// Returns `OK`, or the first of these: `INVALID_PARAMS`, also if `s` is above `log_n`,
 /// `INVALID_OUTPUT_LEN`, and `BUFFER_SIZE` unless the three buffers have exactly the lengths of
-/// `scrypt_buffer_lens` with this `s`. What they hold after it is unspecified. On an error they and the
-/// output are unchanged.
+/// `scrypt_buffer_lens` with this `s`. After `OK` the chunks hold B after step 2, and what the others hold
+/// is unspecified. On an error they and the output are unchanged.
 #[unsafe(no_mangle)]
 pub extern "C" fn scrypt_kdf_thin(
     password: &[u8],
@@ -254,6 +258,7 @@ pub extern "C" fn scrypt_kdf_thin(
     ensures status { IsKeyStatus (IsTrue (are_accepted log_n r p) × IsSpacing log_n s)
         (AreBuffers log_n r p s (length chunks.old) (length table.old) (length scratch.old)) (length output.old) result }
     ensures value { result ≡ OK → output.new ≡ derived_key password.now salt.now log_n r p (length output.old) }
+    ensures mixed { result ≡ OK → chunks.new ≡ mixed_b password.now salt.now log_n r p }
     ensures refused { result ≢ OK → output.new ≡ output.old }
     ensures unchanged { result ≢ OK → (chunks.new ≡ chunks.old) × (table.new ≡ table.old) × (scratch.new ≡ scratch.old) }
 {
