@@ -1,4 +1,4 @@
-use Rattle.std.proofs.Common.{◌≡◌, ◌∙◌, ◌<◌, ◌≤◌, ◌+◌, ◌*◌, ◌^◌, ◌++◌, ℕ, List, length, take, drop, get_or, zero, suc, true, false, refl, sym, ap, ap₂, add-one, arith, append-nil, length-append}
+use Rattle.std.proofs.Common.{◌≡◌, ◌∙◌, ◌<◌, ◌≤◌, ◌+◌, ◌*◌, ◌^◌, ◌++◌, ℕ, List, length, take, drop, get_or, zero, suc, false, refl, sym, ap, ap₂, add-one, arith, append-nil, length-append}
 use Rattle.std.specs.Prelude.{Option, None, Some, Ok, Err, [], ◌∷◌, map, MatchBool, MatchOption, option_and_then, slice_set, IsTrue}
 use Rattle.std.proofs.Math.Nat.{mul-le-mul_right}
 use Rattle.std.proofs.Math.ListN.{get_or-map}

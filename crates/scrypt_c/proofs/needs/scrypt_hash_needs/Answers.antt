@@ -3,7 +3,7 @@ use Rattle.std.specs.Prelude.{IfOk, Result}
 use Rattle.password_hash.specs.Refusal.{Refusal}
 use Rattle.scrypt.specs.Accepted.{Parameters}
 use Rattle.scrypt.specs.Reading.{Stored}
-use Rattle.scrypt.specs.StoredHash.{params_reading, reading}
+use Rattle.scrypt.specs.StoredHash.{reading}
 use Rattle.scrypt_c.proofs.needs.scrypt_hash_needs.Goals as goal
 
 -- what is known of the parameters and the length that were returned holds of those that were read
