@@ -105,7 +105,7 @@ enum scrypt_status {
   SCRYPT_CLOSED = 17,             /* the hasher is closed */
   SCRYPT_TIMEOUT = 18,            /* a hasher did not begin with the call in its time, or before a signal */
   SCRYPT_CANCELLED = 19,          /* this is a child that a signal handler forked during the call */
-  SCRYPT_UNSUPPORTED = 20,        /* the system cannot fill memory with zeros in a child: Linux before 4.14 */
+  SCRYPT_UNSUPPORTED = 20,        /* Linux before 4.14, or an emulator: memory is not filled with zeros in a child */
   SCRYPT_OPTIONS_SIZE = 21        /* the size in the options of a hasher is not sizeof (scrypt_options) */
 };
 
@@ -458,7 +458,8 @@ SCRYPT_HELPER const char *scrypt_status_text(int status) {
     case SCRYPT_CLOSED: return "the hasher is closed";
     case SCRYPT_TIMEOUT: return "the hasher did not begin with it in time";
     case SCRYPT_CANCELLED: return "the process was forked meanwhile";
-    case SCRYPT_UNSUPPORTED: return "the system cannot fill memory with zeros in a child process (Linux before 4.14)";
+    case SCRYPT_UNSUPPORTED:
+      return "the system does not fill memory with zeros in a child process (Linux before 4.14, or an emulator such as qemu-user)";
     case SCRYPT_OPTIONS_SIZE: return "the size in the options of a hasher is not sizeof (scrypt_options)";
     default: return "unknown status";
   }

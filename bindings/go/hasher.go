@@ -58,7 +58,7 @@ type hasher struct {
 }
 
 // NewHasher returns a Hasher. Its errors name the options, and match (errors.Is) ErrInvalidParams, ErrSaltInvalid,
-// ErrInvalidOption, ErrTooCostly if new hashes need more than the bounds, ErrOutOfMemory or ErrUnsupported.
+// ErrInvalidOption, ErrTooCostly if new hashes need more than the bounds, or ErrOutOfMemory. ErrUnsupported names none.
 func NewHasher(options Options) (*Hasher, error) {
 	usual := Recommended()
 	options.LogN = orUsual(options.LogN, usual.LogN)
@@ -83,7 +83,7 @@ func NewHasher(options Options) (*Hasher, error) {
 	var status C.int
 	of := &hasher{c: C.scrypt_hasher_new(&with, &status)}
 	if of.c == nil {
-		return nil, fmt.Errorf("%w: %v: %+v", Error(status), options.Params.needs(), options)
+		return nil, refused(Error(status), options)
 	}
 	// For each that derives up to four are derived together, and as many wait in C, where the next group forms.
 	derive := C.scrypt_hasher_options(of.c).processors
@@ -96,6 +96,14 @@ func NewHasher(options Options) (*Hasher, error) {
 	of.inside = make(chan struct{}, 8*derive)
 	runtime.SetFinalizer(of, func(of *hasher) { C.scrypt_hasher_free(of.c) })
 	return &Hasher{of}, nil
+}
+
+// refused returns the error of a Hasher that was not made: with its options, unless no others would help.
+func refused(status Error, options Options) error {
+	if status == ErrUnsupported {
+		return status
+	}
+	return fmt.Errorf("%w: %v: %+v", status, options.Params.needs(), options)
 }
 
 // Options returns the options of the Hasher, each default replaced by its value; those of the zero value are zero.

@@ -96,6 +96,24 @@ func TestRefusedOptions(t *testing.T) {
 	}
 }
 
+// Memory is a matter of the options; no others would make a Hasher where the system has none.
+func TestRefusedByTheSystem(t *testing.T) {
+	for _, it := range []struct {
+		status Error
+		words  string
+		named  bool // whether the options are named
+	}{
+		{ErrOutOfMemory, "out of memory: LogN 4, R 8 and P 1 need", true},
+		{ErrUnsupported, "an emulator", false},
+	} {
+		err := refused(it.status, Options{Params: small()})
+		words := err.Error()
+		if !errors.Is(err, it.status) || !strings.Contains(words, it.words) || strings.Contains(words, "LogN") != it.named {
+			t.Error(err)
+		}
+	}
+}
+
 // Each default is replaced by its value.
 func TestOptions(t *testing.T) {
 	usual := newHasher(t, Options{}).Options()

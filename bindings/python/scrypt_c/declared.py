@@ -75,7 +75,7 @@ WORDS = {
     CLOSED: ("SCRYPT_CLOSED", "the hasher is closed"),
     TIMEOUT: ("SCRYPT_TIMEOUT", "the hasher did not begin with it in time"),
     CANCELLED: ("SCRYPT_CANCELLED", "the process was forked meanwhile"),
-    UNSUPPORTED: ("SCRYPT_UNSUPPORTED", "the system cannot fill memory with zeros in a child process (Linux before 4.14)"),
+    UNSUPPORTED: ("SCRYPT_UNSUPPORTED", "the system does not fill memory with zeros in a child process (Linux before 4.14, or an emulator such as qemu-user)"),
     OPTIONS_SIZE: ("SCRYPT_OPTIONS_SIZE", "the size in the options of a hasher is not sizeof (scrypt_options)"),
 }
 

@@ -1,5 +1,5 @@
 """The exceptions of this package. Others are Python's: MemoryError, TypeError for a wrong type, ValueError for a closed
-hasher, TimeoutError, and OSError if the system has no random bytes or is too old."""
+hasher, TimeoutError, and OSError if the system has no random bytes, is too old or is an emulator."""
 
 from __future__ import annotations
 

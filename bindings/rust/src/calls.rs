@@ -64,7 +64,7 @@ pub const WORDS: [(c_int, &str); 22] = [
     (CLOSED, "the hasher is closed"),
     (TIMEOUT, "the hasher did not begin with it in time"),
     (CANCELLED, "the process was forked meanwhile"),
-    (UNSUPPORTED, "the system cannot fill memory with zeros in a child process (Linux before 4.14)"),
+    (UNSUPPORTED, "the system does not fill memory with zeros in a child process (Linux before 4.14, or an emulator such as qemu-user)"),
     (OPTIONS_SIZE, "the size in the options of a hasher is not sizeof (scrypt_options)"),
 ];
 

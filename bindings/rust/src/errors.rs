@@ -57,7 +57,7 @@ pub enum Error {
     Timeout,
     /// This is a child process that a signal handler forked during the call.
     Cancelled,
-    /// The system is too old for a hasher: Linux before 4.14.
+    /// There is no hasher on this system: Linux before 4.14, or an emulator such as qemu-user.
     Unsupported,
     /// A status of a newer library.
     Status(i32),

@@ -112,7 +112,7 @@ impl Hasher {
     /// # Errors
     ///
     /// `SaltInvalid` unless the salt has 1 to 64 bytes, `TooCostly` if new hashes need more than the bounds, `OutOfMemory`,
-    /// and `Unsupported` before Linux 4.14.
+    /// and `Unsupported` before Linux 4.14 and in an emulator such as qemu-user.
     pub fn new(options: Options) -> Result<Hasher, Error> {
         let Options { params, format, salt_len, at_once, processors, bounds, .. } = options;
         if salt_len == 0 {
