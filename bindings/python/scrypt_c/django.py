@@ -22,7 +22,7 @@ from __future__ import annotations
 import base64
 from typing import Any
 
-from django.contrib.auth.hashers import BasePasswordHasher, mask_hash
+from django.contrib.auth.hashers import BasePasswordHasher, mask_hash, must_update_salt
 from django.utils.crypto import constant_time_compare
 from django.utils.translation import gettext_noop as _
 
@@ -76,7 +76,8 @@ class ScryptPasswordHasher(BasePasswordHasher):
 
     def must_update(self, encoded: str) -> bool:
         it = self.decode(encoded)
-        return any(it[name] < getattr(self, name) for name in ("work_factor", "block_size", "parallelism"))
+        weaker = any(it[name] < getattr(self, name) for name in ("work_factor", "block_size", "parallelism"))
+        return weaker or must_update_salt(it["salt"], self.salt_entropy)
 
     def safe_summary(self, encoded: str) -> dict[str, Any]:
         it = self.decode(encoded)
@@ -111,7 +112,13 @@ class PHCPasswordHasher(BasePasswordHasher):
         return self.algorithm + self.hasher.hash(password, salt=salt.encode())
 
     def decode(self, encoded: str) -> dict[str, Any]:
-        empty, scheme, params, salt, key = self._text(encoded).split("$")
+        """The parts, with the salt that `encode` was given; of another program's salt, each byte is a letter of Latin-1."""
+        scheme, *parts = self._text(encoded).split("$")[1:]
+        if scheme == "7":  # crypt(3) has the salt itself, after eleven letters of parameters
+            parts[:1] = parts[0][:11], parts[0][11:]
+        params, salt, key = parts
+        if scheme != "7":
+            salt = base64.b64decode(salt + "=" * (-len(salt) % 4)).decode("latin1")
         return {"algorithm": self.algorithm, "params": params, "salt": salt, "hash": key}
 
     def verify(self, password: str, encoded: str) -> bool:
@@ -121,10 +128,12 @@ class PHCPasswordHasher(BasePasswordHasher):
             return False
 
     def must_update(self, encoded: str) -> bool:
+        """Whether a login replaces the hash: it is weaker than new ones, or its salt is shorter than Django's 22 letters."""
         try:
-            return self.hasher.check_needs_rehash(self._text(encoded))
+            weaker = self.hasher.check_needs_rehash(self._text(encoded))
         except InvalidHashError:
             return True
+        return weaker or must_update_salt(self.decode(encoded)["salt"], self.salt_entropy)
 
     def safe_summary(self, encoded: str) -> dict[str, Any]:
         it = self.decode(encoded)

@@ -33,6 +33,19 @@ class Small(PHCPasswordHasher):
     hasher = scrypt_c.PasswordHasher(log_n=6)
 
 
+class OverMD5(Small):
+    """Django's recipe for hashes that nobody's login replaces: a hash of the old hash, with its salt."""
+
+    algorithm = "scrypt_over_md5"
+
+    def encode(self, password, salt):
+        return super().encode(hashers.MD5PasswordHasher().encode(password, salt), salt)
+
+    def verify(self, password, encoded):
+        old = hashers.MD5PasswordHasher().encode(password, self.decode(encoded)["salt"])
+        return super().verify(old, encoded)
+
+
 class Hashers(unittest.TestCase):
     def test_ours(self):
         stored = hashers.make_password("lètmein")
@@ -65,6 +78,32 @@ class Hashers(unittest.TestCase):
         kept = []
         hashers.check_password("lètmein", hashers.make_password("lètmein"), setter=kept.append)
         self.assertEqual(kept, [])
+
+    def test_salts(self):
+        """That of decode is the one that encode had, so that a hash of an old hash can be verified."""
+        for it, encoded, salt in [
+            (Small(), Small().encode("pw", "seasalt"), "seasalt"),
+            (Small(), Small().encode("pw", "sea$salt"), "sea$salt"),
+            (Small(), "scrypt_c$7$46..../....seasalt$" + 43 * ".", "seasalt"),
+            (Small(), "scrypt_c" + scrypt_c.PasswordHasher(log_n=4).hash("pw", salt=b"\xff\x00"), "\xff\x00"),
+            (ScryptPasswordHasher(), ScryptPasswordHasher().encode("pw", "seasalt", 16), "seasalt"),
+        ]:
+            self.assertEqual(it.decode(encoded)["salt"], salt, encoded)
+            self.assertTrue(it.safe_summary(encoded)["salt"].startswith(salt[:6]), encoded)
+        over = OverMD5()
+        encoded = over.encode("lètmein", "seasalt")
+        self.assertTrue(over.verify("lètmein", encoded))
+        self.assertFalse(over.verify("letmein", encoded))
+
+    def test_a_short_salt(self):
+        """A hash whose salt has fewer than the bits of Django's own is replaced, and one of Django's 22 letters is not."""
+        for it, encoded in [
+            (Small(), lambda salt: Small().encode("pw", salt)),
+            (Small(), ("scrypt_c$7$46..../....{}$" + 43 * ".").format),
+            (ScryptPasswordHasher(), "scrypt$131072${}$8$1$AAAA".format),
+        ]:
+            for salt, short in [("s", True), (21 * "s", True), (22 * "s", False), (it.salt(), False)]:
+                self.assertEqual(it.must_update(encoded(salt)), short, encoded(salt))
 
     def test_a_lone_surrogate(self):
         theirs = ScryptPasswordHasher()
