@@ -6,7 +6,8 @@
         ...
     ]
 
-The first in the list makes new hashes; a hash that another one made is replaced at the next login.
+The first in the list makes new hashes; a hash that another one made is replaced at the next login. docs/MIGRATION.md of the
+repository has classes that hash the hashes of PBKDF2 and bcrypt once more, for users who don't log in.
 
 Parameters and bounds are attributes. Put a subclass of your own into the list to change them:
 

@@ -3,6 +3,8 @@
 import base64
 import hashlib
 import importlib.util
+import os
+import re
 import time
 import unittest
 
@@ -13,8 +15,11 @@ settings.configure(
     PASSWORD_HASHERS=[
         "__main__.Small",
         "scrypt_c.django.ScryptPasswordHasher",
+        "__main__.OverPBKDF2",
+        "__main__.OverBCrypt",
         "django.contrib.auth.hashers.PBKDF2PasswordHasher",
         "django.contrib.auth.hashers.Argon2PasswordHasher",
+        "django.contrib.auth.hashers.BCryptSHA256PasswordHasher",
     ]
 )
 django.setup()
@@ -26,7 +31,13 @@ from scrypt_c.django import PHCPasswordHasher, ScryptPasswordHasher  # noqa: E40
 from test_hasher import refuse_a_lone_surrogate  # noqa: E402
 
 
-argon2 = importlib.util.find_spec("argon2")
+argon2, bcrypt = (importlib.util.find_spec(name) for name in ("argon2", "bcrypt"))
+
+# The classes of the page, as they stand there.
+with open(os.path.join(os.path.dirname(__file__), "../../../docs/MIGRATION.md"), encoding="utf-8") as page:
+    of_page = {}
+    exec(re.search(r"^```python\n(from django.*?)^```", page.read(), re.DOTALL | re.MULTILINE)[1], of_page)
+OverPBKDF2, OverBCrypt = of_page["OverPBKDF2"], of_page["OverBCrypt"]
 
 
 class Small(PHCPasswordHasher):
@@ -94,6 +105,27 @@ class Hashers(unittest.TestCase):
         encoded = over.encode("lètmein", "seasalt")
         self.assertTrue(over.verify("lètmein", encoded))
         self.assertFalse(over.verify("letmein", encoded))
+
+    def wrap(self, over, old):
+        """A hash of an old one is that of the same password, fits Django's column, and is replaced at the next login."""
+        encoded, new = over.wrap(old), []
+        self.assertTrue(encoded.startswith(over.algorithm + "$scrypt$ln=17,"), encoded)
+        self.assertLessEqual(len(encoded), 128, "Django's column")
+        self.assertFalse(hashers.check_password("letmein", encoded, setter=new.append))
+        self.assertEqual(new, [])
+        self.assertTrue(hashers.check_password("lètmein", encoded, setter=new.append))
+        self.assertEqual(new, ["lètmein"])
+
+    def test_over_pbkdf2(self):
+        theirs = hashers.PBKDF2PasswordHasher()
+        for iterations in (1000, 1001):
+            self.wrap(OverPBKDF2(), theirs.encode("lètmein", theirs.salt(), iterations))
+        encoded = OverPBKDF2().wrap(f"pbkdf2_sha256$1500000${theirs.salt()}${43 * 'A'}=")
+        self.assertLessEqual(len(encoded), 128, "Django's column, of the most iterations yet")
+
+    @unittest.skipUnless(bcrypt, "package python3-bcrypt")
+    def test_over_bcrypt(self):
+        self.wrap(OverBCrypt(), hashers.make_password("lètmein", hasher="bcrypt_sha256"))
 
     def test_a_short_salt(self):
         """A hash whose salt has fewer than the bits of Django's own is replaced, and one of Django's 22 letters is not."""
