@@ -73,7 +73,13 @@ test('a signal that no call listens to any more', async () => {
 test('the files that are packed', () => {
   const room = mkdtempSync(join(tmpdir(), 'packed-'));
   try {
-    const { files } = JSON.parse(readFileSync(new URL('../package.json', import.meta.url)));
+    const { exports, files, scripts } = JSON.parse(readFileSync(new URL('../package.json', import.meta.url)));
+    deepStrictEqual(scripts, undefined, 'no command, whose files would not be packed');
+    const exported = Object.values(exports).flatMap((it) => typeof it === 'string' ? it : Object.values(it));
+    deepStrictEqual(exported.filter((it) => ![...files, 'package.json'].includes(it.slice(2))), []);
+    for (const file of ['worker.js', 'scrypt.wasm']) {
+      deepStrictEqual(import.meta.resolve(`scrypt-proved/${file}`), new URL(`../${file}`, import.meta.url).href, 'for a bundler');
+    }
     for (const file of ['package.json', ...files.filter((it) => it !== 'NOTICES' && it !== 'PROVED.txt')]) copyFileSync(new URL(`../${file}`, import.meta.url), join(room, file));
     const program = `import { hash, verify } from '${room}/index.js'; console.log(await verify('a', await hash('a', { N: 2 })))`;
     const { stdout, stderr } = spawnSync(process.execPath, ['--input-type=module', '-e', program], { encoding: 'utf8' });
