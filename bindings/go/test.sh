@@ -41,6 +41,9 @@ refused 'undefined: scrypt_needs_cgo' env CGO_ENABLED=0 go build .
 refused 'undefined: scrypt_needs_cgo.*linux_amd64_or_arm64' env GOARCH=riscv64 go build .
 refused 'error.*the package needs Linux on amd64 or arm64' env CGO_CFLAGS=-U__linux__ go build .
 refused 'error.*the package needs Linux on amd64 or arm64' gcc -U__x86_64__ -fsyntax-only library.h
+refused 'undefined: scrypt_needs_cgo__CGO_ENABLED_1' env GOARCH=arm64 CC=aarch64-linux-gnu-gcc go build .
+refused 'C compiler "no-gcc" not found' env GOARCH=arm64 CC=no-gcc CGO_ENABLED=1 go build .
+if [ "$ARCH" = x86_64-linux-gnu ]; then refused 'no such instruction' env GOARCH=arm64 CC=gcc CGO_ENABLED=1 go build .; fi
 echo "a build without the library, without cgo, or for another system or processor says what is missing"
 
 # A program in a module of its own, which prints true.
@@ -78,6 +81,29 @@ rm -rf "$room/modules"
 in_program go build -mod=vendor -o program .
 test "$("$room/program/program")" = true
 echo "taken by go get and by go mod vendor, with no variable set"
+
+# The page's lines for images and for another processor.
+by_line() {
+  rm "$room/program/program"
+  line=$(grep "^    .*$1" bindings/go/README.md)
+  in_program env GOFLAGS=-mod=vendor sh -c "$line"
+}
+by_line -static
+mkdir "$room/empty"
+cp "$room/program/program" "$room/empty"
+if [ "$(id -u)" = 0 ]; then test "$(chroot "$room/empty" /program)" = true; else test "$("$room/empty/program")" = true; fi
+echo "run in an empty folder"
+if has musl-gcc musl-tools; then by_line musl-gcc; test "$("$room/program/program")" = true; fi
+arm64=build/aarch64-linux-gnu/lib/libscrypt_c.a
+if has aarch64-linux-gnu-gcc gcc-aarch64-linux-gnu; then
+  if [ -f $arm64 ]; then
+    cp $arm64 "$room/program/vendor/$module/libscrypt_c_arm64.a"
+    by_line aarch64-linux-gnu-gcc
+    readelf -h "$room/program/program" | grep -q AArch64
+    echo "built for arm64"
+    in_program go build -mod=vendor -o program .
+  else echo "$arm64 was not built (make lib ARCH=aarch64-linux-gnu): not run: a program for arm64"; fi
+fi
 
 if has pkg-config pkg-config; then
   refused 'scrypt_c' env PKG_CONFIG_LIBDIR="$room" PKG_CONFIG_PATH= go build -tags scrypt_system .
