@@ -1,6 +1,7 @@
-"""What the package exports, where the library is looked for, and what a missing one says."""
+"""What the package exports, its command, where the library is looked for, and what a missing one says."""
 
 import os
+import re
 import subprocess
 import sys
 import typing
@@ -45,6 +46,28 @@ class Library(unittest.TestCase):
             self.assertTrue(1 <= it.at_once <= 2 * it.processors)  # as many as the memory has room for
             ours = scrypt_c.MOST_BYTES, scrypt_c.MOST_WORK, scrypt_c.LEAST_KEY_LEN
             self.assertEqual((it.most_bytes, it.most_work, it.least_key_len), ours)
+
+    def test_command(self):
+        """`python -m scrypt_c` prints what a hash costs, one, and how long it takes to verify; or what is wrong, in words."""
+        for arguments, code, words, why in [
+            ("-n 2 --log-n 4 -r 3 -p 2 -l 20", 0, "log_n=4, r=3, p=2, key_len=20: 7680 bytes", "each option"),
+            ("-n 1", 0, f"key_len=32: {scrypt_c.RECOMMENDED.memory} bytes", "the recommended parameters"),
+            ("-n 1 --seconds 0.1", 0, "r=8, p=", "parameters for a time"),
+            ("--log-n 131072", 1, "python -m scrypt_c: invalid scrypt parameters", "N in place of its logarithm"),
+            ("--log-n 56 -r 1", 1, "need 9223372036854776192 bytes", "more memory than there is"),
+            ("--seconds 1e-6", 1, "even log_n=10, r=8, p=1 take more than 1e-06 seconds", "no time"),
+            ("--seconds nan", 1, "seconds is ", "no number"),
+            ("-n 0", 2, "-n is positive, not 0", "nothing to measure"),
+            ("-r x", 2, "invalid int value: 'x'", "no number"),
+        ]:
+            command = [sys.executable, "-W", "ignore", "-m", "scrypt_c", *arguments.split()]
+            run = subprocess.run(command, capture_output=True, text=True)
+            self.assertEqual((run.returncode, words in run.stdout + run.stderr), (code, True), f"{why}: {run}")
+            self.assertNotIn("Traceback", run.stderr, why)
+            if code == 0:
+                text, times = re.search(r"^a hash: (.*)\n\d+\.\d ms for a verification, of (\d)$", run.stdout, re.MULTILINE).groups()
+                self.assertTrue(scrypt_c.PasswordHasher().verify(text, "secret"), text)
+                self.assertEqual(times, arguments[3], why)
 
     def test_a_missing_one(self):
         for place in ("/nowhere", "/"):
