@@ -9,8 +9,6 @@ scrypt.wasm is the same with a 32-bit memory. It needs the kit, and the librarie
 """
 
 import re
-import shutil
-import subprocess
 import sys
 import tempfile
 from pathlib import Path
@@ -55,23 +53,6 @@ def prove(room, kept):
     return archive
 
 
-def optimizer():
-    """Binaryen's wasm-opt, if it is newer than version 108, which gets the lowering of some instructions wrong."""
-    found = shutil.which("wasm-opt")
-    said = subprocess.run([found, "--version"], capture_output=True, text=True, check=True).stdout if found else ""
-    version = re.search(r"version (\d+)", said)
-    return found if version and int(version[1]) > 108 else None
-
-
-def lower_memory(source, target):
-    """Makes the module with a 32-bit memory by wasm-opt, or by lower.py where that can't be. Returns by which."""
-    options = ["--enable-memory64", "--enable-simd", "--enable-bulk-memory", "--memory64-lowering", "-o", target]
-    if optimizer() and subprocess.run([optimizer(), source, *options], capture_output=True).returncode == 0:
-        return "wasm-opt"
-    lower.main(source, target)
-    return "lower.py"
-
-
 def main(kept):
     MADE.parent.mkdir(parents=True, exist_ok=True)
     # Not in the repository, in which rt refuses sources that are of no crate.
@@ -79,7 +60,9 @@ def main(kept):
         archive = prove(Path(room), kept)
         own = copies.kit.located()
         copies.run(f"{own}/bin/rattle-link", "--target", TARGET, "--toolchain", f"{own}/toolchain", "-o", MADE, archive)
-    print(f"{lower_memory(MADE, MODULE)} made {MODULE.stat().st_size} bytes of {MADE.stat().st_size}")
+    # Binaryen's wasm-opt can do this too, but what is packed must not depend on which version of it is installed, if any.
+    lower.main(MADE, MODULE)
+    print(f"{MODULE.stat().st_size} bytes of {MADE.stat().st_size}")
 
 
 if __name__ == "__main__":

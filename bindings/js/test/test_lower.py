@@ -8,7 +8,6 @@ import os
 import subprocess
 import tempfile
 import unittest
-import unittest.mock
 from pathlib import Path
 
 from bindings.js import build, lower
@@ -149,26 +148,9 @@ class Lower(unittest.TestCase):
             with self.subTest(reason), self.assertRaises(lower.Unknown):
                 lower.module(module)
 
-
-# What wasm-opt prints as its version, what it does with a module, and what makes the module.
-TOOLS = [
-    ("wasm-opt version 108", "echo new > \"$7\"", "lower.py", "Debian's, which gets it wrong"),
-    ("wasm-opt version 119 (version_119)", "echo new > \"$7\"", "wasm-opt", "a newer one"),
-    ("wasm-opt version 119 (version_119)", "exit 1", "lower.py", "one that refuses the module"),
-    ("wasm-opt", "exit 1", "lower.py", "one without a version"),
-]
-
-
-class Tool(unittest.TestCase):
-    def test_rows(self):
-        for version, does, wanted, reason in TOOLS:
-            with self.subTest(reason), tempfile.TemporaryDirectory() as room, unittest.mock.patch.dict(os.environ, PATH=f"{room}:{os.environ['PATH']}"):
-                tool, source, target = (Path(room, name) for name in ("wasm-opt", "source", "target"))
-                tool.write_text(f'#!/bin/sh\n[ "$1" != --version ] || exec echo "{version}"\n{does}\n')
-                tool.chmod(0o755)
-                source.write_bytes(made([]))
-                self.assertEqual(build.lower_memory(source, target), wanted)
-                self.assertEqual(target.read_bytes(), b"new\n" if wanted == "wasm-opt" else lower.module(made([])))
+    def test_packed(self):
+        """What is packed is what this made, whichever other tools are installed."""
+        self.assertEqual(build.MODULE.read_bytes(), lower.module(build.MADE.read_bytes()))
 
 
 if __name__ == "__main__":
