@@ -1,6 +1,6 @@
 //! Finds the library libscrypt_c: the file that SCRYPT_C_LIBRARY names, or the one in the folder that it names, or else, on
 //! x86-64, the static one of this crate, as its hash says, or else what pkg-config finds. It takes nothing from the folders
-//! around the crate, where another user may have put anything.
+//! around the crate, where another user may have put anything. For a target that the library isn't made for, it says so.
 
 use std::path::Path;
 use std::process::Command;
@@ -43,9 +43,17 @@ fn link_bundled(crate_folder: &Path) -> Result<(), String> {
     link(crate_folder)
 }
 
-/// Links what pkg-config finds.
+/// Links what pkg-config finds: that of the machine for its own programs, and for another target one that the caller names.
 fn link_by_pkg_config() -> Result<(), String> {
-    let program = std::env::var("PKG_CONFIG").unwrap_or_else(|_| "pkg-config".to_string());
+    let (host, target) = (std::env::var("HOST"), std::env::var("TARGET"));
+    let program = match std::env::var("PKG_CONFIG") {
+        Ok(program) => program,
+        Err(_) if host == target => "pkg-config".to_string(),
+        Err(_) => {
+            let target = target.unwrap_or_default();
+            return Err(format!("PKG_CONFIG does not name the pkg-config of {target}"));
+        }
+    };
     let found = Command::new(&program)
         .args(["--variable=libdir", "scrypt_c"])
         .output()
@@ -56,7 +64,23 @@ fn link_by_pkg_config() -> Result<(), String> {
     link(Path::new(String::from_utf8_lossy(&found.stdout).trim()))
 }
 
+/// Refuses a target that there is no library for.
+fn check_target() -> Result<(), String> {
+    let of = |name: &str| std::env::var(format!("CARGO_CFG_TARGET_{name}")).unwrap_or_default();
+    let (system, processor) = (of("OS"), of("ARCH"));
+    let is_known = ["x86_64", "aarch64"].contains(&processor.as_str());
+    if system == "linux" && is_known && of("ENDIAN") == "little" && of("POINTER_WIDTH") == "64" {
+        return Ok(());
+    }
+    let target = std::env::var("TARGET").unwrap_or_default();
+    Err(format!("scrypt_c is for Linux on x86_64 and on aarch64, not for {target} ({system} on {processor})"))
+}
+
 fn main() {
+    if let Err(why) = check_target() {
+        eprintln!("{why}");
+        std::process::exit(1);
+    }
     for name in ["SCRYPT_C_LIBRARY", "PKG_CONFIG", "PKG_CONFIG_PATH"] {
         println!("cargo:rerun-if-env-changed={name}");
     }

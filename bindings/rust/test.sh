@@ -72,11 +72,17 @@ refused 'is not the file whose hash is in SHA256SUMS' PKG_CONFIG=false
 rm SHA256SUMS
 refused 'SCRYPT_C_LIBRARY' PKG_CONFIG=false
 refused 'libscrypt-c-dev' PKG_CONFIG=false
+for target in x86_64-pc-windows-gnu aarch64-apple-darwin riscv64gc-unknown-linux-gnu x86_64-unknown-linux-gnux32 aarch64-linux-android; do
+  refused "on x86_64 and on aarch64, not for $target" CARGO_BUILD_TARGET=$target
+done
+arm64=CARGO_BUILD_TARGET=aarch64-unknown-linux-gnu
+refused 'false does not find scrypt_c' $arm64 PKG_CONFIG=false
 SCRYPT_C_LIBRARY="$lib" cargo run --quiet --example hash > "$room/log"
 cd "$OLDPWD"
 make -s install prefix="$room/usr" DESTDIR= > /dev/null
 cd "$room/elsewhere/around/crate"
 rm "$room/usr/lib/libscrypt_c.a"
+refused 'PKG_CONFIG does not name the pkg-config of aarch64' $arm64 PKG_CONFIG_PATH="$room/usr/lib/pkgconfig"
 PKG_CONFIG_PATH=$room/usr/lib/pkgconfig LD_LIBRARY_PATH=$room/usr/lib cargo test --quiet > "$room/log" 2>&1 ||
   { cat "$room/log"; exit 1; }
-echo "packaged, and built elsewhere by its own library, by SCRYPT_C_LIBRARY and by pkg-config; without them the error names what is missing"
+echo "packaged, and built elsewhere by its own library, by SCRYPT_C_LIBRARY and by pkg-config; else the error names what is missing, or the target"
