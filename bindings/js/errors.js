@@ -16,11 +16,11 @@ export class ScryptError extends Error {
 /** Another password, or: needs a new hash. */
 export const NO = MISMATCH;
 
-/** Of what a proved call returned. That a buffer is too short is a fault of this package. */
-export const errorOf = (status, options) => {
+/** Of what a proved call returned, with more words for people. That a buffer is too short is a fault of this package. */
+export const errorOf = (status, options, more = '') => {
   const [code, message] = WORDS.get(status) ?? [];
   const isFault = code === undefined || status === BUFFER_SIZE;
-  return isFault ? new ScryptError('INTERNAL', `the module returned ${status}`, options) : new ScryptError(code, message, options);
+  return isFault ? new ScryptError('INTERNAL', `the module returned ${status}`, options) : new ScryptError(code, message + more, options);
 };
 
 /** There is no memory for a copy or a table, or the stack ends: `cause` is what the engine threw. */

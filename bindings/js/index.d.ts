@@ -66,7 +66,7 @@ export type ErrorCode =
   | 'SHARED_BUFFER'
   /** Also where the stack ends: `cause` is what the engine threw. */
   | 'OUT_OF_MEMORY'
-  /** The parameters exceed the limit on memory or on work. */
+  /** The parameters exceed the limit on memory or on work: the message has what they need, and the limits. */
   | 'TOO_COSTLY'
   /** The key in the hash is shorter than the limit allows. */
   | 'KEY_TOO_SHORT'
@@ -91,7 +91,10 @@ export type ErrorCode =
   | 'UNSUPPORTED'
   /** The module was not found or not allowed to be compiled. The next call tries again. */
   | 'LOAD_FAILED'
-  /** A worker did not start, or ended. The next call starts another one. This thread may be one that cannot start workers: use `load()`. */
+  /**
+   * The worker at the address in the message did not start, or ended. The next call starts another one. This thread may be one that
+   * cannot start workers: use `load()`.
+   */
   | 'WORKER_FAILED'
   /** A fault of this package. */
   | 'INTERNAL';

@@ -1,5 +1,6 @@
 // An instance of the module: what is placed in its memory, and what is called there.
-import { OK } from './declared.js';
+import { NO_LIMIT } from './arguments.js';
+import { KEY_TOO_SHORT, OK, TOO_COSTLY } from './declared.js';
 import { NO, errorOf, outOfMemory } from './errors.js';
 
 const PAGE = 65536;
@@ -13,6 +14,7 @@ export class Instance {
   #base;
   #top;
   #isInside = false;
+  #needs = ''; // what the call needs, and its limits, in words
 
   constructor(exports) {
     this.#calls = exports;
@@ -36,6 +38,7 @@ export class Instance {
     this.#clear(0, STACK);
     this.#clear(this.#base, this.#top);
     this.#top = this.#base;
+    this.#needs = '';
   }
 
   // A slice is a pointer and a length to the module.
@@ -50,14 +53,18 @@ export class Instance {
   /** Calls the module, with numbers and with what was taken. */
   call(name, ...args) {
     const status = this.#status(name, args);
-    if (status !== OK) throw errorOf(status);
+    if (status !== OK) throw this.#refusal(status);
   }
 
   /** Of a call that also answers no. */
   isOk(name, ...args) {
     const status = this.#status(name, args);
-    if (status !== OK && status !== NO) throw errorOf(status);
+    if (status !== OK && status !== NO) throw this.#refusal(status);
     return status === OK;
+  }
+
+  #refusal(status) {
+    return errorOf(status, undefined, status === TOO_COSTLY || status === KEY_TOO_SHORT ? this.#needs : '');
   }
 
   /** Takes zeros above what is taken. */
@@ -104,7 +111,9 @@ export class Instance {
   /** The buffers of a derivation within limits. */
   buffersFor(params, mostBytes, mostWork) {
     const sizes = this.words(6);
-    this.call('scrypt_params_need', ...params, mostBytes, mostWork, ...places(sizes));
+    const status = this.#status('scrypt_params_need', [...params, mostBytes, mostWork, ...places(sizes)]);
+    this.#needs = inWords(sizes.slice(4).map((it) => this.big(it)), [mostBytes, mostWork]);
+    if (status !== OK) throw this.#refusal(status);
     return this.buffers(sizes);
   }
 
@@ -112,6 +121,7 @@ export class Instance {
   buffersOf(text, limits) {
     const [params, sizes] = [this.words(4), this.words(6)];
     const status = this.#status('scrypt_hash_needs', [text, ...limits, ...places(params), ...places(sizes)]);
+    this.#needs = inWords([...sizes.slice(4), params[3]].map((it) => this.big(it)), limits);
     return status === OK ? this.buffers(sizes) : [1, 4, 4].map((size) => this.take(0, size));
   }
 
@@ -136,6 +146,13 @@ export class Instance {
       new Uint8Array(this.#memory.buffer, at, Math.min(2 ** 30, to - at)).fill(0);
     }
   }
+}
+
+// What a call needs, which is a hash if it has a key, and its limits.
+function inWords([bytes, work, key], limits) {
+  const [most, mostWork, least] = limits.map((it) => (it === NO_LIMIT ? Infinity : it));
+  const ofHash = key === undefined ? '' : `, a key of ${key} bytes (minKeyLength is ${least})`;
+  return `: ${bytes} bytes (maxmem is ${most}), a work of ${work} (maxwork is ${mostWork})${ofHash}`;
 }
 
 /** Where words are. */

@@ -95,8 +95,11 @@ function give(worker, call) {
   }
 }
 
-// Browsers give no reason if the page's policy forbids workers, or the script is not there.
-const failed = (cause) => new ScryptError('WORKER_FAILED', `worker.js did not start, or ended: ${cause.message || 'is it allowed here?'}`, { cause });
+// Browsers give no reason if the page's policy forbids workers, or the script is not there. Its name is not written as where it starts,
+// since bundlers would look for it here too.
+const address = () => import.meta.url.replace(/[^/]*$/, 'worker.js');
+const failed = (cause) =>
+  new ScryptError('WORKER_FAILED', `${address()} did not start, or ended: ${cause.message || 'is it there, and allowed here?'}`, { cause });
 
 // Until the call is answered, refused or aborted: also while the module is fetched, and while the call waits for a worker.
 function answer(call, signal) {

@@ -130,16 +130,18 @@ function ownChecks(open, cases) {
     const costly = `$scrypt$ln=4,r=8,p=11000$AAAAAAAA$${KEY}`;
     await refused('TOO_COSTLY', () => own.verify('', costly));
     equal(own.verify('', costly, { N: 16, p: 11000, dkLen: 32 }), false, 'the parameters of new hashes');
-    await refused('TOO_COSTLY', () => own.verify('', costly, { maxwork: 4 * (16 + 32) * 8 * 11000 - 1 }));
+    await refused('TOO_COSTLY', () => own.verify('', costly, { maxmem: 2 ** 24, maxwork: 4 * (16 + 32) * 8 * 11000 - 1 }), 'the work',
+      ': 11282432 bytes (maxmem is 16777216), a work of 16896000 (maxwork is 16895999), a key of 32 bytes (minKeyLength is 16)');
     const { memory } = own;
-    await refused('TOO_COSTLY', () => own.scrypt('', '', { N: 2 ** 17, r: 8, p: 1, maxmem: 2 ** 20, dkLen: 2 ** 31 }));
+    await refused('TOO_COSTLY', () => own.scrypt('', '', { N: 2 ** 17, r: 8, p: 1, maxmem: 2 ** 20, dkLen: 2 ** 31 }), 'a long key',
+      ': 134220800 bytes (maxmem is 1048576), a work of 4195328 (maxwork is Infinity)');
     equal(own.memory, memory, 'memory, of which a long key takes none before');
     const little = own.hash('', { N: 16 });
     equal(own.verify('', little, { maxwork: 4 * (16 + 32) * 8 }), true, 'as much work');
     await refused('TOO_COSTLY', () => own.verify('', little, { maxwork: 4 * (16 + 32) * 8 - 1 }));
     equal(own.verify('', little, { maxwork: Infinity, maxmem: Infinity }), true, 'no limit');
     const short = own.hash('', { N: 2, dkLen: 10 });
-    await refused('KEY_TOO_SHORT', () => own.verify('', short));
+    await refused('KEY_TOO_SHORT', () => own.verify('', short), 'a key of 10 bytes', 'a key of 10 bytes (minKeyLength is 16)');
     equal(own.verify('', short, { dkLen: 10 }), true, 'a short key');
     // 128 * r * p bytes of chunks, 128 * r * N of a table, and 256 * r of scratch.
     const small = own.hash('', { N: 16, r: 1 });
@@ -201,7 +203,7 @@ function workerChecks() {
     const Silent = class { postMessage() { setTimeout(() => this.onerror({ message: 'blocked' })); } terminate() {} };
     for (const Kind of [Throws, Silent]) {
       await instead(globalThis, 'Worker', Kind, async () => {
-        await refused('WORKER_FAILED', () => scrypt('', '', OF));
+        await refused('WORKER_FAILED', () => scrypt('', '', OF), 'its address', `${new URL('../worker.js', import.meta.url)} did not start`);
         await Promise.all(Array.from({ length: 9 }, () => refused('WORKER_FAILED', () => hash('', OF))));
       });
     }

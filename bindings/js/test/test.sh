@@ -29,8 +29,25 @@ in_node() {
   module examples.key_page.test_key_page
 }
 
+# The line of README, in a folder that has the package as npm installs it, and what it makes without that.
+by_esbuild() {
+  app=$room/app
+  mkdir -p "$app/node_modules/scrypt-proved"
+  cp ../package.json ../*.js ../scrypt.wasm "$app/node_modules/scrypt-proved"
+  sed -n '/^esbuild /,/[^\\]$/p' ../README.md > "$app/line"
+  echo '{ "type": "module" }' > "$app/package.json"
+  echo "import { hash, verify } from 'scrypt-proved'; console.log(await verify('a', await hash('a', { N: 2 })))" > "$app/login.js"
+  (cd "$app" && sh -eu line 2> log) || { cat "$app/log"; exit 1; }
+  rm -r "$app/node_modules"
+  [ "$(node "$app/dist/login.js")" = true ]
+  echo "bundled by esbuild"
+}
+
 python3 -B cases.py > "$room/cases.json"
-if has "nodejs, from 20.16 on" node -e 'process.getBuiltinModule("node:fs")'; then in_node; fi
+if has "nodejs, from 20.16 on" node -e 'process.getBuiltinModule("node:fs")'; then
+  in_node
+  if has esbuild esbuild --version; then by_esbuild; fi
+fi
 if has node-typescript tsc --version; then tsc --project tsconfig.json; fi
 if has chromium-driver chromedriver --version && has chromium chromium --version &&
   has python3-selenium sh -c 'cd ../../.. && python3 -B -c "from tools import browser; assert browser.webdriver"'
