@@ -46,6 +46,7 @@ pub enum Error {
     /// The hash names a version, and scrypt has none.
     Version,
     /// The parameters need more memory or more work than is allowed. Nothing was derived.
+    /// [`Hasher::refusal`](crate::Hasher::refusal) has the numbers.
     TooCostly,
     /// The key in the hash is shorter than is allowed: too many wrong passwords match it. Nothing was derived.
     KeyTooShort,

@@ -253,6 +253,36 @@ impl Hasher {
         }
     }
 
+    /// In words, for a log: what the hash needs, and what the bounds are, if verifying it returns `TooCostly` or `KeyTooShort`, or else
+    /// what is wrong with the text. `None` if the hash is within the bounds. It needs no memory of the hasher, and works on a closed one.
+    ///
+    /// ```
+    /// # let hasher = scrypt_c::Hasher::default();
+    /// let text = "$scrypt$ln=30,r=8,p=1$c2FsdHNhbHQ$AAAAAAAAAAAAAAAAAAAAAAAAAAAAAAAAAAAAAAAAAAA";
+    /// if let Err(error) = hasher.verify(text, "hunter42") {
+    ///     eprintln!("{}", hasher.refusal(text).unwrap_or(error.to_string()));
+    /// }
+    /// ```
+    pub fn refusal(&self, text: &str) -> Option<String> {
+        let mut needs = RawNeeds::default();
+        // SAFETY: the hasher is there until this returns, its options do not change, and the pointer is that of a text of this length.
+        let (status, of) = unsafe {
+            let of = &*scrypt_hasher_options(self.raw());
+            let (bytes, work, len) = (of.most_bytes, of.most_work, of.least_key_len);
+            let text_at = text.as_ptr().cast();
+            (scrypt_hash_needs(text_at, text.len(), bytes, work, len, &mut needs), of)
+        };
+        match Error::check(status) {
+            Ok(()) => None,
+            Err(why @ (Error::TooCostly | Error::KeyTooShort)) => Some(format!(
+                "{why}: log_n={}, r={}, p={} need {} bytes and a work of {}, and the key has {} bytes; most_bytes is {}, \
+                 most_work is {}, and the least key has {} bytes",
+                needs.log_n, needs.r, needs.p, needs.bytes, needs.work, needs.key_len, of.most_bytes, of.most_work, of.least_key_len
+            )),
+            Err(why) => Some(why.to_string()),
+        }
+    }
+
     /// Frees the memory that the hasher and its clones keep. Calls that wait, and later ones, return `Closed`; a derivation
     /// that has begun goes on.
     pub fn close(&self) {

@@ -93,6 +93,43 @@ fn bounds() {
     assert_eq!(Hasher::new(large).unwrap().hash("").err(), Some(Error::OutOfMemory));
 }
 
+/// Why a hash is refused: the words of the error of `verify`, and the numbers of the hash and of the bounds.
+#[test]
+fn refusals() {
+    let bounds = Bounds { most_bytes: 128 * 8 * (16 + 1 + 2), most_work: 4 * (16 + 32) * 8 };
+    let hasher = Hasher::new(Options { bounds: Some(bounds), ..small() }).unwrap();
+    let of = |params: &str, key_len: usize| {
+        format!("$scrypt${params}$c2FsdHNhbHQ${}", "A".repeat((8 * key_len + 5) / 6))
+    };
+    let most = "; most_bytes is 19456, most_work is 1536, and the least key has 16 bytes";
+    for (text, error, numbers) in [
+        (
+            of("ln=5,r=8,p=1", 32),
+            Error::TooCostly,
+            "need 35840 bytes and a work of 2048, and the key has 32 bytes",
+        ),
+        (
+            of("ln=4,r=8,p=2", 64),
+            Error::TooCostly,
+            "need 20480 bytes and a work of 3072, and the key has 64 bytes",
+        ),
+        (
+            of("ln=4,r=8,p=1", 15),
+            Error::KeyTooShort,
+            "need 19456 bytes and a work of 1536, and the key has 15 bytes",
+        ),
+    ] {
+        assert_eq!(hasher.verify(&text, ""), Err(error));
+        let params = text.split('$').nth(2).unwrap().replace("ln=", "log_n=").replace(',', ", ");
+        let wanted = format!("{error}: {params} {numbers}{most}");
+        assert_eq!(hasher.refusal(&text), Some(wanted));
+    }
+    assert_eq!(hasher.refusal(PHC), None, "as much as is allowed");
+    assert_eq!(hasher.refusal("$scrypt$"), Some(Error::EncodingInvalid.to_string()));
+    hasher.close();
+    assert_eq!(hasher.refusal(PHC), None, "on a closed one too");
+}
+
 #[test]
 fn each_error_becomes_the_widest() {
     let large = Params::new(56, 1, 1).unwrap();
