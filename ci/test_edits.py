@@ -26,16 +26,21 @@ ROWS = [
 
 # A crate's file, the names and parts that are read or None if it is refused, and the reason for the row.
 FILES = [
-    ("[the gate]\n\nx\nfile: a\n\n[more]\n\ny\nfile: a\n", [("x", edits.GATE), ("y", edits.MORE)], "two parts"),
-    ("[the gate]\n\nx\nfile: a\n\n[more]\n\nx\nfile: a\n", None, "a name that occurs twice"),
-    ("[the gates]\n\nx\nfile: a\n", None, "an unknown part"),
-    ("x\nfile: a\n", None, "no part"),
-    ("[more]\n\nx\nfile: a\nolds: b\nnew: c\n", None, "an unknown word"),
+    ("[the gate]\n\nfile: a\nx\n\n[more]\n\nfile: a\ny\n", [("x", edits.GATE), ("y", edits.MORE)], "two parts"),
+    ("[more]\n\nfile: a\nx\nold: b\nnew: c\ny\nold: d\nnew: e\n", [("x", edits.MORE), ("y", edits.MORE)], "two edits of a file"),
+    ("[the gate]\n\nfile: a\nx\n\n[more]\n\nfile: a\nx\n", None, "a name that occurs twice"),
+    ("[the gates]\n\nfile: a\nx\n", None, "an unknown part"),
+    ("file: a\nx\n", None, "no part"),
+    ("[more]\n\nfile: a\nx\nolds: b\nnew: c\n", None, "an unknown word"),
+    ("[more]\n\nx\nold: b\nnew: c\n", None, "no file"),
+    ("[more]\n\nfile: a\n", None, "no edit"),
+    ("[more]\n\nfile: a\nold: b\nnew: c\n", None, "no name"),
 ]
 
 
 def edit(lines):
-    [found] = edits.read("one", f"[{edits.GATE}]\n\nx\n{lines}\n")
+    file, rest = lines.split("\n", 1)
+    [found] = edits.read("one", f"[{edits.GATE}]\n\n{file}\nx\n{rest}\n")
     return found
 
 

@@ -1,8 +1,8 @@
 """Copies of the repository, and edits that are applied to a copy and taken back.
 
-A crate's edits are in its file `wrong-bodies.txt`, in the parts that `PARTS` names, each under a heading in brackets. An edit
-is a paragraph: a line with its name, which says what is wrong; a line `file: PATH`, from the crate's folder; and then pairs
-of lines `old: TEXT` and `new: TEXT`. Each old text occurs once in that file, or, after a line `after: TEXT`, whose text occurs
+A crate's edits are in its file `wrong-bodies.txt`, in the parts that `PARTS` names, each under a heading in brackets. A
+paragraph has those of a file: a line `file: PATH`, from the crate's folder, and then edits, each a line with its name, which says
+what is wrong, and pairs of lines `old: TEXT` and `new: TEXT`. A line `file: PATH` within an edit is for the rest of that one. Each old text occurs once in that file, or, after a line `after: TEXT`, whose text occurs
 once, is the first one after that. A new text of several lines has a line `new: TEXT` for each. A wrong body may also answer
 goals of its function that it makes false, by lines `answer: ANSWER`, perhaps after `unfolding: NAME`, and `use: NAMES`.
 """
@@ -80,13 +80,17 @@ def read(crate, text):
     """The edits of a crate's file."""
     part, found = None, []
     for paragraph in text.split("\n\n"):
-        name, *lines = paragraph.strip("\n").split("\n")
-        if name.startswith("["):
-            part = name[1:-1]
+        first, *lines = paragraph.strip("\n").split("\n")
+        if first.startswith("["):
+            part = first[1:-1]
             if lines or part not in PARTS:
-                raise BadEdit(f"{crate}: {name} is no heading of a part")
+                raise BadEdit(f"{crate}: {first} is no heading of a part")
             continue
-        found.append(Edit(crate, part, name, tuple(line_of(line) for line in lines)))
+        if not first.startswith("file: ") or not lines or ":" in lines[0]:
+            raise BadEdit(f"{crate}: {first} begins no paragraph of a file")
+        starts = [at for at, line in enumerate(lines) if ":" not in line]
+        for start, end in zip(starts, [*starts[1:], len(lines)]):
+            found.append(Edit(crate, part, lines[start], tuple(map(line_of, [first, *lines[start + 1 : end]]))))
     names = [it.name for it in found]
     wrong = [it.name for it in found if it.part is None or names.count(it.name) > 1 or not {word for word, _ in it.lines} <= WORDS]
     if wrong:
