@@ -13,18 +13,18 @@
 #   CC, tools  the compiler, and how the names of the binutils begin
 #   emulator   the command that runs what is built, or nothing
 #   packages   the Debian packages that building and testing need, or nothing
-#   in_go      the name of the static library in the folder of the Go module
+#   bundled    the name of the static library in the folders of the Go module and of the Rust crate
 archs="x86_64-linux-gnu aarch64-linux-gnu"
 ARCH=${ARCH:-${archs%% *}}
 machine=${ARCH%%-*}
 case $ARCH in
   x86_64-linux-gnu)
     debian=amd64 build=build proved=out is_kits=1 oldest=x86-64-v2 newest=x86-64-v3 loader=/lib64/ld-linux-x86-64.so.2
-    in_go=libscrypt_c.a
+    bundled=libscrypt_c.a
     ;;
   aarch64-linux-gnu)
     debian=arm64 build=build/$ARCH proved=out/$debian is_kits= oldest=$debian newest= loader=/lib/ld-linux-aarch64.so.1
-    in_go=libscrypt_c_$debian.a
+    bundled=libscrypt_c_$debian.a
     ;;
   *)
     echo "ARCH=$ARCH: it can be one of $archs" >&2

@@ -122,9 +122,9 @@ mkdir -p "$build/bin"
 $CC -std=c99 -pedantic -O2 -Wall -Wextra $hardened -Wl,-z,relro -Wl,-z,now -Ibindings/c -o "$build/bin/scrypt_calibrate" \
   bindings/c/scrypt_calibrate.c "$out/libscrypt_c.a" -lpthread
 bindings/c/found.sh "$PWD/$out" "$PWD/$out" "$out" "$out"
-# The Go module and the Rust crate are whole with the header and the static library in their folders; the crate has that for
-# x86-64 alone.
-cp "$out/libscrypt_c.a" "bindings/go/$in_go"
+# The Go module and the Rust crate are whole with the header and the static library in their folders. The crate has here that for the
+# kit's own processor alone, since another one may be built while it is tested; that of a release has all.
+cp "$out/libscrypt_c.a" "bindings/go/$bundled"
 cp "$out/scrypt_c.h" bindings/go/
 if [ -n "$is_kits" ]; then
   cp "$out/libscrypt_c.a" "$out/scrypt_c.h" bindings/rust/

@@ -69,7 +69,8 @@ mkdir "$parts/$module"
 cp "$@" bindings/go/*.go bindings/go/library.h bindings/go/go.mod bindings/go/README.md "$parts/$module"
 for ARCH in $archs; do
   . bindings/arch.sh
-  cp "$parts/files/$ARCH/lib/libscrypt_c.a" "$parts/$module/$in_go"
+  cp "$parts/files/$ARCH/lib/libscrypt_c.a" "$parts/$module/$bundled"
+  cp "$parts/files/$ARCH/lib/libscrypt_c.a" "bindings/rust/$bundled"
 done
 cp build/lib/scrypt_c.h "$parts/$module"
 packed "$module"
@@ -87,8 +88,8 @@ mv "$dist/package.tar.gz" "$dist/$name.tgz"
 mkdir "$parts/cargo"
 cp release/cargo.toml "$parts/cargo/config.toml"
 export CARGO_HOME="$parts/cargo" CARGO_TARGET_DIR="$parts/cargo"
-cp release/NOTICES "$parts/PROVED.txt" "$parts/files/${archs%% *}/lib/libscrypt_c.a" build/lib/scrypt_c.h bindings/rust
-(cd bindings/rust && sha256sum libscrypt_c.a scrypt_c.h > SHA256SUMS)
+cp release/NOTICES "$parts/PROVED.txt" build/lib/scrypt_c.h bindings/rust
+(cd bindings/rust && sha256sum libscrypt_c*.a scrypt_c.h > SHA256SUMS)
 (cd bindings/rust && cargo package --quiet --offline --no-verify --allow-dirty)
 cp "$parts"/cargo/package/*.crate "$dist"
 

@@ -1,6 +1,7 @@
-//! Finds the library libscrypt_c: the file that SCRYPT_C_LIBRARY names, or the one in the folder that it names, or else, on
-//! x86-64, the static one of this crate, as its hash says, or else what pkg-config finds. It takes nothing from the folders
-//! around the crate, where another user may have put anything. For a target that the library isn't made for, it says so.
+//! Finds the library libscrypt_c: the file that SCRYPT_C_LIBRARY names, or the one in the folder that it names, or else the
+//! static one that this crate has for the processor, as its hash says, or else what pkg-config finds. It takes nothing from
+//! the folders around the crate, where another user may have put anything. For a target that the library isn't made for, it
+//! says so.
 
 use std::path::Path;
 use std::process::Command;
@@ -14,21 +15,47 @@ fn link(place: &Path) -> Result<(), String> {
         place.extension().map_or(false, |it| it == "a")
     };
     let name = if is_static { "libscrypt_c.a" } else { "libscrypt_c.so" };
+    if !place.exists() {
+        return Err(format!("there is no {}", place.display()));
+    }
+    link_named(folder, name)
+}
+
+/// Links the library of this name in this folder.
+fn link_named(folder: &Path, name: &str) -> Result<(), String> {
     let file = folder.join(name);
-    if !place.exists() || !file.exists() {
+    if !file.exists() {
         return Err(format!("there is no {}", file.display()));
     }
     println!("cargo:rerun-if-changed={}", file.display());
     println!("cargo:rustc-link-search=native={}", folder.display());
-    println!("cargo:rustc-link-lib={}=scrypt_c", if is_static { "static" } else { "dylib" });
-    if is_static {
+    let (short, ending) =
+        name.strip_prefix("lib").and_then(|it| it.split_once('.')).expect("lib..");
+    if ending == "a" {
+        println!("cargo:rustc-link-lib=static={short}");
         println!("cargo:rustc-link-lib=pthread");
+    } else {
+        println!("cargo:rustc-link-lib=dylib={short}");
     }
     Ok(())
 }
 
-/// Links the library of the crate, whose file SHA256SUMS has its hash.
-fn link_bundled(crate_folder: &Path) -> Result<(), String> {
+/// The name of the library that the crate has for a processor.
+fn bundled(processor: &str) -> &'static str {
+    match processor {
+        "aarch64" => "libscrypt_c_arm64.a",
+        _ => "libscrypt_c.a",
+    }
+}
+
+/// Whether the file SHA256SUMS of the crate, if there is one, has a hash of this name.
+fn is_listed(crate_folder: &Path, name: &str) -> bool {
+    let hashes = std::fs::read_to_string(crate_folder.join("SHA256SUMS")).unwrap_or_default();
+    hashes.lines().any(|line| line.split_whitespace().nth(1) == Some(name))
+}
+
+/// Links a library of the crate, if all of its files have their hashes.
+fn link_bundled(crate_folder: &Path, name: &str) -> Result<(), String> {
     println!("cargo:rerun-if-changed=SHA256SUMS");
     let checked = Command::new("sha256sum")
         .args(["--check", "--status", "--strict", "SHA256SUMS"])
@@ -36,11 +63,9 @@ fn link_bundled(crate_folder: &Path) -> Result<(), String> {
         .status()
         .map_err(|error| format!("sha256sum: {error}"))?;
     if !checked.success() {
-        return Err(
-            "libscrypt_c.a or scrypt_c.h is not the file whose hash is in SHA256SUMS".into()
-        );
+        return Err("a library or scrypt_c.h is not the file whose hash is in SHA256SUMS".into());
     }
-    link(crate_folder)
+    link_named(crate_folder, name)
 }
 
 /// Links what pkg-config finds: that of the machine for its own programs, and for another target one that the caller names.
@@ -86,11 +111,10 @@ fn main() {
     }
     let crate_folder = std::env::var_os("CARGO_MANIFEST_DIR").expect("cargo runs this");
     let crate_folder = Path::new(&crate_folder);
-    // The crate has the library for this processor alone.
-    let is_x86_64 = std::env::var("CARGO_CFG_TARGET_ARCH").as_deref() == Ok("x86_64");
+    let name = bundled(&std::env::var("CARGO_CFG_TARGET_ARCH").unwrap_or_default());
     let linked = match std::env::var_os("SCRYPT_C_LIBRARY") {
         Some(place) => link(Path::new(&place)),
-        None if is_x86_64 && crate_folder.join("SHA256SUMS").exists() => link_bundled(crate_folder),
+        None if is_listed(crate_folder, name) => link_bundled(crate_folder, name),
         None => link_by_pkg_config(),
     };
     if let Err(why) = linked {

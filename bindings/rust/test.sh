@@ -44,6 +44,12 @@ fi
 if cargo clippy --version > /dev/null 2>&1; then crate clippy --all-targets --all-features -- -D warnings; fi
 echo "no warning by cargo doc, rustfmt and clippy"
 
+# With the libraries that are built for other processors too, as a release has them.
+(for ARCH in $archs; do
+  . bindings/arch.sh
+  if [ -e "$build/lib/libscrypt_c.a" ]; then cp "$build/lib/libscrypt_c.a" "bindings/rust/$bundled"; fi
+done)
+(cd bindings/rust && sha256sum libscrypt_c*.a scrypt_c.h > SHA256SUMS)
 # The package, built elsewhere: whole, and refused if its library is another one, or if it has none. What another user put
 # around it is not taken.
 crate package --allow-dirty
@@ -65,6 +71,14 @@ refused() {
   fi
   grep -q "$words" "$room/log" || { cat "$room/log"; exit 1; }
 }
+arm64=CARGO_BUILD_TARGET=aarch64-unknown-linux-gnu
+# Without Rust's own library for arm64 that build ends after the choice.
+if [ -e "$OLDPWD/bindings/rust/libscrypt_c_arm64.a" ]; then
+  env $arm64 PKG_CONFIG=false cargo build --quiet 2> "$room/log" || grep -q E0463 "$room/log"
+  grep -q '^cargo:rustc-link-lib=static=scrypt_c_arm64$' "$CARGO_TARGET_DIR"/aarch64-*/debug/build/scrypt_c-*/output
+else
+  echo "the library for arm64 is not built: not packaged"
+fi
 echo >> libscrypt_c.a
 refused 'is not the file whose hash is in SHA256SUMS' PKG_CONFIG=false
 rm libscrypt_c.a
@@ -75,7 +89,6 @@ refused 'libscrypt-c-dev' PKG_CONFIG=false
 for target in x86_64-pc-windows-gnu aarch64-apple-darwin riscv64gc-unknown-linux-gnu x86_64-unknown-linux-gnux32 aarch64-linux-android; do
   refused "on x86_64 and on aarch64, not for $target" CARGO_BUILD_TARGET=$target
 done
-arm64=CARGO_BUILD_TARGET=aarch64-unknown-linux-gnu
 refused 'false does not find scrypt_c' $arm64 PKG_CONFIG=false
 SCRYPT_C_LIBRARY="$lib" cargo run --quiet --example hash > "$room/log"
 cd "$OLDPWD"
@@ -85,4 +98,4 @@ rm "$room/usr/lib/libscrypt_c.a"
 refused 'PKG_CONFIG does not name the pkg-config of aarch64' $arm64 PKG_CONFIG_PATH="$room/usr/lib/pkgconfig"
 PKG_CONFIG_PATH=$room/usr/lib/pkgconfig LD_LIBRARY_PATH=$room/usr/lib cargo test --quiet > "$room/log" 2>&1 ||
   { cat "$room/log"; exit 1; }
-echo "packaged, and built elsewhere by its own library, by SCRYPT_C_LIBRARY and by pkg-config; else the error names what is missing, or the target"
+echo "packaged, and built elsewhere by its own library, by SCRYPT_C_LIBRARY and by pkg-config; errors name the file or target"
