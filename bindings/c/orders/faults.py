@@ -37,8 +37,8 @@ def faults():
 
 
 def bound():
-    """Bounds the processor time of this process: there may be no end with a fault."""
-    resource.setrlimit(resource.RLIMIT_CPU, (120, 120))
+    """Bounds the processor time of this process: there may be no end with a fault. SIGXCPU ends it, before a later SIGKILL would."""
+    resource.setrlimit(resource.RLIMIT_CPU, (120, 130))
 
 
 def what_is_found(edit):
