@@ -17,8 +17,8 @@ hardened="-fstack-protector-strong -U_FORTIFY_SOURCE -D_FORTIFY_SOURCE=2"
 linked="-shared -Wl,-z,defs -Wl,-z,relro -Wl,-z,now -Wl,-Bsymbolic"
 version=$(cat VERSION)
 soname=libscrypt_c.so.0
-# What is written in C over the proved calls.
-over="calls salt hasher queue line lock tables groups processors calibrate"
+# What is written in C over the proved calls, and for the system.
+over="calls salt hasher queue line lock tables groups calibrate linux linux_processors"
 
 if [ "${1:-}" != built ]; then
   if [ -n "$is_kits" ]; then
@@ -116,7 +116,7 @@ cp bindings/c/scrypt_c.h "$out/"
 # The names of other libraries, in a library of their own. It isn't unloaded while threads have memory of it.
 $CC -O2 -Wall -Wextra $hardened -fPIC -fvisibility=hidden $linked -Wl,-soname,libscrypt_drop_in.so -Wl,--exclude-libs,ALL \
   -Wl,-z,nodelete -Ibindings/c -o "$out/libscrypt_drop_in.so" bindings/drop_in/drop_in.c bindings/drop_in/kept.c \
-  bindings/c/tables.c bindings/c/groups.c "$out/libscrypt_c.a" -lpthread
+  bindings/c/tables.c bindings/c/groups.c bindings/c/linux.c "$out/libscrypt_c.a" -lpthread
 # The program that chooses parameters needs no library beside it.
 mkdir -p "$build/bin"
 $CC -std=c99 -pedantic -O2 -Wall -Wextra $hardened -Wl,-z,relro -Wl,-z,now -Ibindings/c -o "$build/bin/scrypt_calibrate" \

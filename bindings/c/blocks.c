@@ -4,9 +4,9 @@
  * This file is compiled with -fno-plt, so that these functions are bound when a program is loaded. Otherwise a program
  * that is linked with the static library may bind one at its first call, and the dynamic linker then saves registers to
  * the stack, deeper than the proved calls use it. */
-#define _DEFAULT_SOURCE
+#define _GNU_SOURCE
 #include "clearing.h"
-#include "pages.h"
+#include "system.h"
 
 #include <stdint.h>
 #include <stdlib.h>
@@ -69,7 +69,7 @@ void clearing_free(void *block) {
   clear_registers(); /* those that the dynamic linker would save, if it binds what is called here */
   if (is.len >= LARGE) {
     if (*mark_of(block, is.len) == 0) (void)__atomic_add_fetch(&lost, 1, __ATOMIC_RELAXED);
-    if (munmap(is.start, is.len + BESIDE) != 0) overwrite((uint8_t *)block, is.len);
+    if (!unmap(is.start, is.len + BESIDE)) overwrite((uint8_t *)block, is.len);
     return;
   }
   overwrite((uint8_t *)block, is.len);
@@ -86,29 +86,23 @@ static uint8_t *with_head(uint8_t *block, uint8_t *start, size_t len) {
 
 /* Whether the first page, to which this writes, is a huge one: then its end is in memory too. */
 static int is_huge(uint8_t *block) {
-  unsigned char is_there = 0;
   *(volatile uint8_t *)block = 0;
-  return mincore(block + HUGE_PAGE - LARGEST_PAGE, 1, &is_there) == 0 && (is_there & 1) != 0;
+  return is_in_memory(block + HUGE_PAGE - LARGEST_PAGE);
 }
 
 static void *map_block(size_t len) {
   uint8_t *start, *block;
   if (len > SIZE_MAX - BESIDE) return NULL;
-  start = (uint8_t *)mmap(NULL, len + BESIDE, PROT_READ | PROT_WRITE, MAP_PRIVATE | MAP_ANONYMOUS, -1, 0);
-  if (start == MAP_FAILED) return NULL;
+  start = (uint8_t *)map_zeros(len + BESIDE);
+  if (start == NULL) return NULL;
   block = start + LARGEST_PAGE;
   block += (HUGE_PAGE - (uintptr_t)block % HUGE_PAGE) % HUGE_PAGE;
-#ifdef MADV_WIPEONFORK
-  /* Refused by Linux before 4.14: there the child has a copy. */
+  /* If it is refused, the child has a copy. */
   if (__atomic_load_n(&calls_with_long_text, __ATOMIC_RELAXED) == 0)
-    (void)madvise(block, (size_t)((uint8_t *)(mark_of(block, len) + 1) - block), MADV_WIPEONFORK);
-#endif
+    wipe_in_child(block, (size_t)((uint8_t *)(mark_of(block, len) + 1) - block));
   *mark_of(block, len) = 1;
   with_head(block, start, len);
-#ifdef MADV_POPULATE_WRITE
-  /* All at once, which saves time if pages are small, and takes more if they are huge. */
-  if (len <= MOST_POPULATED && !is_huge(block)) (void)madvise(block, len, MADV_POPULATE_WRITE);
-#endif
+  if (len <= MOST_POPULATED && !is_huge(block)) populate_pages(block, len); /* which takes longer if they are huge */
   return block;
 }
 

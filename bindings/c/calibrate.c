@@ -1,19 +1,14 @@
 /* scrypt_calibrate. Not proved. */
 #define _GNU_SOURCE
 #include "scrypt_c.h"
-
-#include <time.h>
+#include "system.h"
 
 enum { LEAST_LOG_N = 10, MOST_LOG_N = 40, R = 8, TRIES = 3 };
 
 /* The chunks of more would need more than 1 MiB beside the table. */
 #define MOST_P 1000
 
-static double now(void) {
-  struct timespec time;
-  (void)clock_gettime(CLOCK_MONOTONIC, &time);
-  return (double)time.tv_sec + (double)time.tv_nsec * 1e-9;
-}
+static double now(void) { return (double)now_ns() * 1e-9; }
 
 /* Measures one derivation in one table, which a hasher keeps: the least time of several, of which the first maps it. */
 static int measure(uint32_t log_n, double *seconds) {

@@ -22,12 +22,6 @@ static inline uint8_t in_8_bits(uint32_t log_n) { return log_n < 64 ? (uint8_t)l
 /* How many at once pay on this processor, at most SCRYPT_MOST_LOGINS. */
 size_t most_at_once(void);
 
-/* How many processors this process may use: those of its affinity, and at most its CPU quota, rounded up. At least 1. */
-size_t processors_of_process(void);
-
-/* How many bytes of memory this process may have: those of the machine, and at most what its control group allows. */
-size_t memory_of_process(void);
-
 /* The key in these buffers, of which the chunks and the scratch are zeros afterwards. */
 int key_in_buffers(const void *password, size_t password_len, const void *salt, size_t salt_len, uint32_t log_n, uint32_t r,
                    uint32_t p, uint8_t *output, size_t output_len, const struct buffers *of);

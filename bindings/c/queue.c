@@ -29,11 +29,7 @@
 #include "queue.h"
 
 #include <errno.h>
-#include <sched.h>
 #include <stdlib.h>
-#include <sys/mman.h>
-#include <sys/prctl.h>
-#include <time.h>
 
 #define CHILD_MS 1000 /* how often a thread that sleeps looks whether it is in a child, if no signal woke it there */
 #define MOST_LOOKED_AT 1000
@@ -191,11 +187,7 @@ static void dismiss(scrypt_hasher *hasher) {
 
 /* ---- A call, in its thread: with the lock, which is given back meanwhile ---- */
 
-static int64_t now_ms(void) {
-  struct timespec now;
-  (void)clock_gettime(CLOCK_MONOTONIC, &now);
-  return (int64_t)now.tv_sec * 1000 + now.tv_nsec / 1000000;
-}
+static int64_t now_ms(void) { return now_ns() / NS_OF_MS; }
 
 /* Until the call leads or is over, and no other thread touches it. */
 static void await(scrypt_hasher *hasher, struct call *call, int64_t begun, int64_t most_ms, int is_sliced) {
@@ -225,14 +217,14 @@ static void await(scrypt_hasher *hasher, struct call *call, int64_t begun, int64
 static int64_t moment_of(const scrypt_needs *needs) {
   size_t cores = needs->table_len / 8 * needs->p; /* 4 * N * r * p */
   int64_t ns = (int64_t)(cores / 5);
-  if (ns < LEAST_MOMENT_NS || (unsigned)prctl(PR_GET_TIMERSLACK) > SLACK_NS) return 0;
+  if (ns < LEAST_MOMENT_NS || timer_slack_ns() > SLACK_NS) return 0;
   return ns < MOST_MOMENT_NS ? ns : MOST_MOMENT_NS;
 }
 
 /* Frees what a turn keeps. */
 static void free_kept(scrypt_hasher *hasher, size_t turn) {
   struct tables kept = take(&hasher->queue->turn[turn].tables); /* none if it is taken */
-  if (kept.note != NULL) kept.note->user = (uintptr_t)pthread_self();
+  if (kept.note != NULL) kept.note->user = this_thread();
   unlock(hasher);
   tables_free(&kept);
   lock(hasher);
@@ -264,7 +256,7 @@ static size_t make_room(scrypt_hasher *hasher, struct call *call, size_t most) {
 
 /* Derives without the lock; for others also without any signal handler, which might take longer than they may wait. */
 static void derive_in_room(scrypt_hasher *hasher, struct call **group, size_t count, size_t width, int *statuses) {
-  const sigset_t unblocked = hasher->queue->unblocked;
+  const signals unblocked = hasher->queue->unblocked;
   const scrypt_needs *needs = &group[0]->needs;
   if (count > 1) add_all_but_faults(&hasher->queue->unblocked);
   unlock(hasher);
@@ -285,10 +277,10 @@ static void lead(scrypt_hasher *hasher, struct call *call) {
   int statuses[SCRYPT_MOST_LOGINS] = {SCRYPT_OUT_OF_MEMORY, SCRYPT_CANCELLED, SCRYPT_CANCELLED, SCRYPT_CANCELLED};
   int64_t moment = 0;
   size_t p = call->needs.p, width = width_of(hasher, call->turn), most = call->login.text != NULL ? width / p : 1, count;
-  hasher->notes[call->turn].user = (uintptr_t)pthread_self();
+  hasher->notes[call->turn].user = this_thread();
   if (most > 1) { /* for threads that are ready to run: it serves short derivations too */
     unlock(hasher);
-    (void)sched_yield();
+    let_others_run();
     moment = moment_of(&call->needs);
     lock(hasher);
   }
@@ -393,7 +385,7 @@ void scrypt_hasher_free(scrypt_hasher *hasher) {
   while (hasher->queue->calls > 0) (void)sleep_while(hasher, &hasher->queue->calls, hasher->queue->calls, NS_OF_MS * CHILD_MS);
   unlock(hasher);
   notes_unmap(hasher->notes, hasher->turns, 0); /* in a child there may be some of the parent */
-  (void)munmap(hasher->queue, sizeof *hasher->queue);
+  (void)unmap(hasher->queue, sizeof *hasher->queue);
   free(hasher->notes);
   free(hasher);
 }

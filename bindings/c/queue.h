@@ -2,10 +2,8 @@
 #ifndef QUEUE_H
 #define QUEUE_H
 
+#include "system.h"
 #include "tables.h"
-
-#include <pthread.h>
-#include <signal.h>
 
 #define MOST_TURNS 8192 /* as many processors as Linux can have */
 #define NS_OF_MS INT64_C(1000000)
@@ -36,10 +34,10 @@ struct line {
   size_t len;
 };
 
-/* Zeros are the beginning, also for the lock: PTHREAD_MUTEX_INITIALIZER is zeros in the C libraries of Linux. */
+/* Zeros are the beginning. */
 struct queue {
-  pthread_mutex_t lock;
-  sigset_t unblocked; /* the signals of the thread that has the lock, before it had it */
+  mutex lock;
+  signals unblocked;  /* of the thread that has the lock, before it had it */
   uint64_t epoch;     /* 0 until the lock is taken for the first time in this process */
   uint64_t places;    /* how many have been given */
   uint32_t calls;     /* that began in this process and have not returned */
@@ -69,19 +67,12 @@ struct scrypt_hasher {
 void lock(scrypt_hasher *hasher);
 void unlock(scrypt_hasher *hasher);
 
-/* Adds all signals except those that a fault of the thread itself causes. */
-void add_all_but_faults(sigset_t *blocked);
-
 /* Whether the call began in a process that this one was forked from. */
 int is_of_parent(const scrypt_hasher *hasher, const struct call *call);
 
 /* Gives the lock back and sleeps while the word is this one, until a signal comes, for at most so many nanoseconds. Returns
  * whether a signal came. */
 int sleep_while(scrypt_hasher *hasher, uint32_t *word, uint32_t is, int64_t ns);
-void wake(uint32_t *word);
-
-/* The priority of this thread: the greater, the sooner the system runs it. */
-int priority_of_thread(void);
 
 /* Completes a hasher whose options are all set: SCRYPT_OK, SCRYPT_OUT_OF_MEMORY or SCRYPT_UNSUPPORTED. */
 int queue_new(scrypt_hasher *hasher);

@@ -1,22 +1,11 @@
-/* Salts, and hashes with a random salt. Not proved. getrandom is called by its number, so that an older C library is
- * enough. */
-#define _DEFAULT_SOURCE
+/* Salts, and hashes with a random salt. Not proved. */
+#define _GNU_SOURCE
 #include "groups.h"
-
-#include <errno.h>
-#include <sys/syscall.h>
-#include <unistd.h>
+#include "system.h"
 
 int scrypt_draw_salt(uint8_t *salt, size_t len) {
-  size_t done = 0;
   if (is_null(salt, len)) return SCRYPT_NULL_POINTER;
-  while (done < len) {
-    long drawn = syscall(SYS_getrandom, salt + done, len - done, 0);
-    if (drawn < 0 && errno == EINTR) continue;
-    if (drawn <= 0) return SCRYPT_NO_RANDOM_BYTES;
-    done += (size_t)drawn;
-  }
-  return SCRYPT_OK;
+  return draw_bytes(salt, len) ? SCRYPT_OK : SCRYPT_NO_RANDOM_BYTES;
 }
 
 int scrypt_hash_new(const void *password, size_t password_len, char *text, size_t capacity) {

@@ -3,37 +3,7 @@
 #define _GNU_SOURCE
 #include "tables.h"
 
-#include "pages.h"
-
-#include <errno.h>
-#include <pthread.h>
-#include <sys/syscall.h>
-#include <unistd.h>
-
-static void *map_anonymous(size_t size, int flags) {
-  void *mapping = mmap(NULL, size, PROT_READ | PROT_WRITE, MAP_ANONYMOUS | MAP_NORESERVE | flags, -1, 0);
-  return mapping == MAP_FAILED ? NULL : mapping;
-}
-
-/* Whether advice is followed, or errno says why not. Some emulators accept all advice, and follow none. Others accept what Linux
- * doesn't know, and hand this advice to Linux, which refuses it for shared memory. */
-static int is_advice_followed(void) {
-  void *shared = map_anonymous(1, MAP_SHARED);
-  int is_refused = shared != NULL && madvise(shared, 1, MADV_WIPEONFORK) != 0;
-  if (shared == NULL) return 0;
-  (void)munmap(shared, 1);
-  errno = EINVAL;
-  return is_refused;
-}
-
-void *map_zeros_in_child(size_t size) {
-  /* Before the mapping, for which there may be just enough memory. */
-  void *mapping = is_advice_followed() ? map_anonymous(size, MAP_PRIVATE) : NULL;
-  if (mapping == NULL || madvise(mapping, size, MADV_WIPEONFORK) == 0) return mapping;
-  (void)munmap(mapping, size);
-  errno = EINVAL;
-  return NULL;
-}
+#include "system.h"
 
 static int has_huge(const scrypt_needs *one) { return 4 * one->table_len >= HUGE_PAGE; }
 
@@ -51,12 +21,12 @@ static void clear_note(struct note *note, void *at) {
 }
 
 void notes_unmap(struct note *notes, size_t count, int is_child) {
-  int has_forked = syscall(SYS_gettid) == getpid();
+  int has_forked = is_first_thread();
   struct note *it;
   for (it = notes; it < notes + count; it++) {
-    int may_be_used = is_child && it->user != 0 && (!has_forked || it->user == (uintptr_t)pthread_self());
+    int may_be_used = is_child && it->user != 0 && (!has_forked || it->user == this_thread());
     if (it->at == NULL || may_be_used) continue;
-    (void)munmap(it->at, it->size);
+    (void)unmap(it->at, it->size);
     it->at = NULL;
   }
 }
@@ -74,7 +44,7 @@ static void wipe(const struct tables *tables) {
 
 void tables_unmap(struct tables *tables) {
   if (tables->note != NULL && tables->mapping != NULL) clear_note(tables->note, tables->mapping);
-  if (tables->mapping != NULL && munmap(tables->mapping, tables->mapped) != 0) wipe(tables);
+  if (tables->mapping != NULL && !unmap(tables->mapping, tables->mapped)) wipe(tables);
   tables->mapping = NULL;
   tables->room = tables->used = 0;
 }
@@ -94,7 +64,7 @@ static int map(struct tables *tables, size_t bytes, int is_huge) {
   if (tables->mapping == NULL) return 0;
   tables->mapped = bytes + more;
   /* Not if another call has the turn: in a child, where this one was interrupted when it forked. */
-  if (tables->note != NULL && tables->note->user == (uintptr_t)pthread_self()) set_note(tables->note, tables->mapping, tables->mapped);
+  if (tables->note != NULL && tables->note->user == this_thread()) set_note(tables->note, tables->mapping, tables->mapped);
   before = is_huge ? (HUGE_PAGE - (uintptr_t)tables->mapping % HUGE_PAGE) % HUGE_PAGE : 0;
   tables->front = (uint8_t *)tables->mapping + before;
   tables->room = bytes;
@@ -130,11 +100,8 @@ struct buffers tables_buffers(struct tables *tables, const scrypt_needs *one, si
   of.chunks = (uint8_t *)(of.scratch + of.scratch_len);
   bytes = 4 * (of.table_len + of.scratch_len) + of.chunks_len;
   if (bytes > tables->used) {
-#ifdef MADV_POPULATE_WRITE
-    /* All at once, which saves time if pages are small; from the start of the page in which the used ones end. */
-    size_t begin = tables->used - tables->used % LARGEST_PAGE;
-    if (has_huge(one)) (void)madvise(tables->front + begin, bytes - begin, MADV_POPULATE_WRITE);
-#endif
+    size_t begin = tables->used - tables->used % LARGEST_PAGE; /* of the page in which the used ones end */
+    if (has_huge(one)) populate_pages(tables->front + begin, bytes - begin);
     tables->used = bytes;
   }
   __atomic_store_n(mark_of(tables), 1, __ATOMIC_RELAXED);

@@ -43,8 +43,4 @@ void tables_unmap(struct tables *tables);
 /* Gives back what is mapped there; in a child, except what a call of this thread uses that was interrupted when it forked. */
 void notes_unmap(struct note *notes, size_t count, int is_child);
 
-/* Memory that is zeros, also in a child that is forked later, whatever was written; or NULL, with EINVAL if the system cannot
- * do that. */
-void *map_zeros_in_child(size_t size);
-
 #endif

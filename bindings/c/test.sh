@@ -85,6 +85,9 @@ if [ -z "$emulator" ]; then
   "$room/test_advice"
   echo "a hasher only if the system fills its memory with zeros in a child"
 fi
+compiled test_system bindings/c/test_system.c
+$emulator "$room/test_system"
+echo "what the library asks of the system: threads, sleep, signals, time and memory"
 # Our own C for the kit's, which passes the same test on x86-64.
 kit_tests() {
   compiled test_kit bindings/c/test_kit.c "$@"
@@ -111,7 +114,7 @@ derives_once() {
   echo "one key is derived by each call that returns one, by the number of its instructions: $2"
 }
 if [ -z "$emulator" ] && has valgrind valgrind; then each "$built" derives_once; fi
-# The hasher's queue in every order of its threads, which are coroutines there: not with a checker. It takes 16 seconds.
+# The hasher's queue in every order of its threads, which are coroutines there: not with a checker. It takes 11 seconds.
 if [ -z "$emulator" ]; then
   $CC -std=gnu99 -O2 -Wall -Wextra -Werror -Wno-missing-field-initializers bindings/c/orders/test_orders.c -o "$room/orders"
   "$room/orders" > "$room/log"

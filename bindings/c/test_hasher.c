@@ -219,33 +219,6 @@ static void rows(void) {
     if (!is_nicest() || strchr(ROWS[i].script, '>') == NULL) run_row(&ROWS[i]);
 }
 
-/* Each policy of the system, from the lowest priority to the highest; real time only if it is allowed. */
-static void *set_priorities(void *unused) {
-  static const struct { const char *why; int policy, level, step; } POLICIES[] = {
-      {"nicer than usual", SCHED_OTHER, 1, -1}, {"a batch that is as nice", SCHED_BATCH, 1, 0},
-      {"the nicest", SCHED_OTHER, 19, -1},      {"SCHED_IDLE, however nice", SCHED_IDLE, 0, -1},
-      {"real time", SCHED_FIFO, 1, 1},          {"the other policy of it", SCHED_RR, 1, 0},
-      {"a higher priority in it", SCHED_RR, 2, 1}};
-  int before = priority_of_thread();
-  for (size_t i = 0; i < sizeof POLICIES / sizeof POLICIES[0]; i++) {
-    int is_real_time = POLICIES[i].policy == SCHED_FIFO || POLICIES[i].policy == SCHED_RR, now;
-    const struct sched_param level = {.sched_priority = is_real_time ? POLICIES[i].level : 0};
-    if (sched_setscheduler(0, POLICIES[i].policy | SCHED_RESET_ON_FORK, &level) != 0) break;
-    if (!is_real_time && POLICIES[i].level > 0) IS(setpriority(PRIO_PROCESS, 0, POLICIES[i].level), 0);
-    now = priority_of_thread();
-    expect((now > before) - (now < before) == POLICIES[i].step, "%s: %d after %d", POLICIES[i].why, now, before);
-    before = now;
-  }
-  return unused;
-}
-
-static void priorities(void) {
-  pthread_t thread;
-  if (getpriority(PRIO_PROCESS, 0) > 0 || is_nicest()) return; /* not usual */
-  pthread_create(&thread, NULL, set_priorities, NULL);
-  pthread_join(thread, NULL);
-}
-
 /* Without memory for the hasher, what is wrong with its options is found first. */
 static void options_without_memory(void) {
   static const struct { const char *why; scrypt_options with; int status; } OPTIONS[] = {
@@ -265,7 +238,6 @@ static void options_without_memory(void) {
 
 int main(void) {
   RUN(rows);
-  RUN(priorities);
   RUN(options_without_memory);
   return failed;
 }

@@ -1,24 +1,14 @@
 /* The hasher with derivations that can be stopped: its sources are included, and call functions of this file in place of
- * derive, most_at_once, calloc, mmap, munmap and syscall. */
+ * derive, most_at_once, calloc, and some of system.h. */
 #define _GNU_SOURCE
 #include "groups.c"
+#include "linux.c"
+#include "linux_processors.c"
 
 #include <errno.h>
-#include <linux/futex.h>
-#include <pthread.h>
-#include <sched.h>
-#include <signal.h>
-#include <stdarg.h>
-#include <stdio.h>
 #include <stdlib.h>
-#include <sys/mman.h>
-#include <sys/prctl.h>
-#include <sys/resource.h>
-#include <sys/syscall.h>
 #include <sys/time.h>
 #include <sys/wait.h>
-#include <time.h>
-#include <unistd.h>
 
 #define READ(it) __atomic_load_n(&(it), __ATOMIC_ACQUIRE)
 #define WRITE(it, value) __atomic_store_n(&(it), value, __ATOMIC_RELEASE)
@@ -40,22 +30,21 @@ static int failed;
 
 static size_t most_mapped = SIZE_MAX, most_in_all = SIZE_MAX, mapped; /* how much one mapping and all may be, and are */
 static int refusals;
-static void *test_mmap(void *at, size_t size, int protection, int flags, int file, off_t offset) {
-  if (size <= READ(most_mapped) && ADD(mapped, size) <= READ(most_in_all))
-    return mmap(at, size, protection, flags, file, offset);
+static void *test_map(size_t size) {
+  if (size <= READ(most_mapped) && ADD(mapped, size) <= READ(most_in_all)) return map_zeros_in_child(size);
   if (size <= READ(most_mapped)) (void)ADD(mapped, -size);
   (void)ADD(refusals, 1);
   errno = ENOMEM;
-  return MAP_FAILED;
+  return NULL;
 }
 
 static int is_calloc_refused;
 static void *test_calloc(size_t count, size_t size) { return is_calloc_refused ? NULL : calloc(count, size); }
 
-static int test_munmap(void *at, size_t size);
-static void before_syscall(long number, ...), without_lock(void);
+static int test_unmap(void *at, size_t size);
+static void before_sleep(uint32_t is, int64_t ns), before_wake(void), without_lock(void);
 static size_t widest = 4;
-static void (*hook)(int), (*munmap_hook)(int); /* called once, in the middle of a derivation, or before tables are unmapped */
+static void (*hook)(int), (*unmap_hook)(int); /* called once, in the middle of a derivation, or before tables are unmapped */
 static void call_hook(void (**which)(int)) {
   void (*now)(int) = READ(*which);
   WRITE(*which, NULL);
@@ -70,12 +59,15 @@ static void read_slowly(void) {
 }
 
 static __thread int group_calls;
+static int64_t slack_ns = 50000; /* of a thread's timers */
 
 #define calloc test_calloc
-#define mmap test_mmap
-#define munmap test_munmap
-#define syscall(...) (before_syscall(__VA_ARGS__), syscall(__VA_ARGS__))
-#define prctl(...) (without_lock(), prctl(__VA_ARGS__))
+#define map_zeros_in_child test_map
+#define unmap test_unmap
+#define sleep_on(word, is, ns) (before_sleep(is, ns), sleep_on(word, is, ns))
+#define wake(word) (before_wake(), wake(word))
+#define priority_of_thread() (without_lock(), priority_of_thread())
+#define timer_slack_ns() (without_lock(), slack_ns)
 #define most_at_once() READ(widest)
 #define derive watched
 #include "line.c"
@@ -89,27 +81,28 @@ static __thread int group_calls;
 #undef scrypt_hash_needs
 #undef scrypt_draw_salt
 #undef scrypt_verify_group_with_buffers
-#include "processors.c"
 #include "tables.c"
 #define now now_seconds
 #include "calibrate.c"
 #undef now
 #undef calloc
-#undef mmap
-#undef munmap
-#undef syscall
-#undef prctl
+#undef map_zeros_in_child
+#undef unmap
+#undef sleep_on
+#undef wake
+#undef priority_of_thread
+#undef timer_slack_ns
 #undef most_at_once
 
 /* What is given back is zeros, except for the queue. */
-static int test_munmap(void *at, size_t size) {
+static int test_unmap(void *at, size_t size) {
   size_t words = size / sizeof(size_t);
   if (size != sizeof(struct queue)) read_slowly();
-  if (size != sizeof(struct queue) && size > 1) call_hook(&munmap_hook); /* not where advice is tried */
+  if (size != sizeof(struct queue)) call_hook(&unmap_hook);
   while (words > 0 && ((size_t *)at)[words - 1] == 0) words--;
   expect(words == 0 || size == sizeof(struct queue), "memory is given back that is not wiped");
   (void)ADD(mapped, -size);
-  return munmap(at, size);
+  return unmap(at, size);
 }
 
 static pid_t parent;
@@ -169,23 +162,15 @@ void watched(const scrypt_hasher *hasher, struct call **group, size_t count, int
 static int forks_before_sleep, wakes;
 static void without_lock(void) { expect(BLOCKS_SIGNALS || !is_blocked(SIGTERM), "a system call with the lock"); }
 static void fork_in_handler(int number);
-static void before_syscall(long number, ...) {
-  const struct timespec *time;
-  uint32_t value;
-  int operation;
-  va_list rest;
-  if (number != SYS_futex) return number == SYS_sched_getscheduler ? without_lock() : (void)0;
-  va_start(rest, number);
-  (void)va_arg(rest, uint32_t *);
-  operation = va_arg(rest, int), value = va_arg(rest, uint32_t), time = va_arg(rest, const struct timespec *);
-  va_end(rest);
-  if (operation == FUTEX_WAKE_PRIVATE) (void)ADD(wakes, 1);
-  expect(BLOCKS_SIGNALS || operation == FUTEX_WAKE_PRIVATE || !is_blocked(SIGTERM), "no signals without the lock");
-  expect(operation != FUTEX_WAKE_PRIVATE || is_blocked(SIGTERM), "signals with the lock");
-  if (time == NULL) return;
-  expect(time->tv_sec > 0 || time->tv_nsec > 0, "a thread spins in place of sleeping");
+static void before_wake(void) {
+  (void)ADD(wakes, 1);
+  expect(is_blocked(SIGTERM), "signals with the lock");
+}
+static void before_sleep(uint32_t is, int64_t ns) {
+  expect(BLOCKS_SIGNALS || !is_blocked(SIGTERM), "no signals without the lock");
+  expect(ns > 0, "a thread spins in place of sleeping");
   if (READ(forks_before_sleep)) WRITE(forks_before_sleep, 0), fork_in_handler(0);
-  if (value != LEADS || time->tv_sec > 0) return;
+  if (is != LEADS || ns >= 1000 * NS_OF_MS) return;
   had_moment = 1;
   (void)ADD(in_moments, 1);
   while (READ(moments_last)) usleep(100);

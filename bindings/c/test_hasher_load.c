@@ -130,9 +130,9 @@ static void given_back(void) {
   tables_free(&hasher->queue->turn[0].tables);
   begun = 0;
   WRITE(most_in_all, READ(mapped) + hasher->needs.bytes + sizeof(uint32_t));
-  WRITE(munmap_hook, verify_another);
+  WRITE(unmap_hook, verify_another);
   IS(verify(hasher, text, "right", -1), SCRYPT_OK);
-  expect(READ(munmap_hook) == NULL, "nothing was given back");
+  expect(READ(unmap_hook) == NULL, "nothing was given back");
   pthread_join(another, NULL);
   for (int i = 0; i < 2; i++) expect(hasher->notes[i].at == hasher->queue->turn[i].tables.mapping, "the note of turn %d", i);
   WRITE(most_in_all, SIZE_MAX);

@@ -228,9 +228,9 @@ static void moments(void) {
     IS(scrypt_params_need(MOMENTS[i].log_n, 8, MOMENTS[i].p, SIZE_MAX, UINT64_MAX, &needs), SCRYPT_OK);
     expect(moment_of(&needs) == MOMENTS[i].ns, "a moment for (%d, 8, %u)", MOMENTS[i].log_n, MOMENTS[i].p);
   }
-  (void)prctl(PR_SET_TIMERSLACK, 50001);
+  slack_ns = 50001;
   expect(moment_of(&needs) == 0, "a moment where sleeps end later");
-  (void)prctl(PR_SET_TIMERSLACK, 0);
+  slack_ns = 50000;
 }
 
 /* Waits that end in a mixed order, and waits that come back to their places, take n * log n. */

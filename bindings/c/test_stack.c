@@ -7,7 +7,7 @@
 #define _GNU_SOURCE
 #include "check.h"
 #include "every_call.c"
-#include "pages.h"
+#include "system.h"
 
 #include <pthread.h>
 #include <sys/mman.h>

@@ -1,4 +1,5 @@
-"""Plants faults in a copy of the sources of a hasher's queue, one after another, and runs the test of every order over each.
+"""Plants faults in a copy of the sources of a hasher's queue, one after another, and runs the test of every order over each; for those
+of what it asks of the system, test_system.c.
 
     python3 -m bindings.c.orders.faults [NAME ..]
 
@@ -20,7 +21,9 @@ from pathlib import Path
 from tools import edits
 
 HERE = Path(__file__).parent
-COMPILE = ["gcc", "-std=gnu99", "-O1", "-w", "orders/test_orders.c", "-o", "test_orders"]
+COMPILE = ["gcc", "-std=gnu99", "-O1", "-w", "-o", "test"]
+TESTS = {"linux.c": "test_system.c"}  # by the file of a fault; of other files it is this one:
+ORDERS = "orders/test_orders.c"
 FAILED = "FAILED: "
 VERDICTS = ["found", "harmless", "unseen"]
 
@@ -49,9 +52,9 @@ def what_is_found(edit):
             copy.parent.mkdir(exist_ok=True)
             shutil.copy(path, copy)
         edits.write(edits.texts_after([edit], room))
-        subprocess.run(COMPILE, cwd=room, check=True)
-        test = subprocess.run(["nice", "./test_orders"], cwd=room, capture_output=True, text=True, check=False, preexec_fn=bound)
-    lines = [line.removeprefix(FAILED) for line in test.stderr.splitlines() if line.startswith(FAILED)]
+        subprocess.run([*COMPILE, TESTS.get(next(edit.pairs())[0], ORDERS)], cwd=room, check=True)
+        test = subprocess.run(["nice", "./test"], cwd=room, capture_output=True, text=True, check=False, preexec_fn=bound)
+    lines = [line[len(FAILED) :] for line in test.stderr.splitlines() if line.upper().startswith(FAILED)]
     status = "it does not end" if test.returncode == -signal.SIGXCPU else f"it ends with status {test.returncode}"
     return [*lines, status][0] if test.returncode else ""
 

@@ -3,7 +3,7 @@
 #ifndef INVARIANTS_H
 #define INVARIANTS_H
 
-#include "system.h"
+#include "simulation.h"
 
 static int is_of_here(const struct call *call) { return call != NULL && call->epoch != 0 && call->epoch == queue.epoch; }
 
@@ -168,7 +168,7 @@ static void remember_notes(struct thread *it) {
   for (size_t turn = 0; turn < turns; turn++) {
     const struct note *note = &world.notes[turn];
     int has_it = note->at != NULL || (it->call != NULL && it->call->tables.note == note);
-    it->uses[turn] = has_it && note->user == (uintptr_t)identity_of(it);
+    it->uses[turn] = has_it && note->user == identity_of(it);
   }
 }
 

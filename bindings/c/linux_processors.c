@@ -1,8 +1,8 @@
-/* How many processors and how much memory this process may use. Not proved. Without _FORTIFY_SOURCE, by which snprintf would
- * be a function that musl doesn't have. */
+/* How many processors and how much memory this process may use, on Linux. Not proved. Without _FORTIFY_SOURCE, by which snprintf
+ * would be a function that musl doesn't have. */
 #undef _FORTIFY_SOURCE
 #define _GNU_SOURCE
-#include "groups.h"
+#include "system.h"
 
 #include <pthread.h>
 #include <sched.h>

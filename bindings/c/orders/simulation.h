@@ -1,20 +1,10 @@
-/* The sources of the queue, and what is in place of the system below them: time, signals, the lock, sleep, memory, and the
- * derivation. */
-#ifndef SYSTEM_H
-#define SYSTEM_H
+/* The sources of the queue, and what is in place of the system below them: what they call of system.h, and the derivation. */
+#ifndef SIMULATION_H
+#define SIMULATION_H
 
 #include "world.h"
 
 #include <errno.h>
-#include <linux/futex.h>
-#include <sched.h>
-#include <stdarg.h>
-#include <sys/mman.h>
-#include <sys/prctl.h>
-#include <sys/resource.h>
-#include <sys/syscall.h>
-#include <time.h>
-#include <unistd.h>
 
 #define LEAST_MOMENT_NS 0
 #define TABLE_WORDS 40 /* with which a call waits for others for one nanosecond */
@@ -36,16 +26,18 @@ static void check_group(struct call **group, size_t count, const int *statuses);
 static int is_interruptible(const struct thread *it);
 static void become_child(struct thread *it);
 
-static int test_clock_gettime(clockid_t clock, struct timespec *now) {
-  (void)clock;
+/* ---- Time ---- */
+
+int64_t now_ns(void) {
   self()->is_timed = 1;
-  *now = (struct timespec){.tv_nsec = self()->is_expired ? SOME_MS * NS_OF_MS : 0};
-  return 0;
+  return self()->is_expired ? SOME_MS * NS_OF_MS : 0;
 }
+
+int64_t timer_slack_ns(void) { return 1; }
 
 /* ---- Memory ---- */
 
-static char memory[MOST_MAPPINGS][4 * 2 * TABLE_BYTES + 64], shared[1];
+static char memory[MOST_MAPPINGS][4 * 2 * TABLE_BYTES + 64];
 
 static struct mapping *mapping_at(const void *at) {
   const char *byte = (const char *)at;
@@ -78,13 +70,11 @@ static void fork_or_not(void) {
   world.is_fresh = 0;
 }
 
-static void *test_mmap(void *at, size_t size, int protection, int flags, int file, off_t offset) {
-  (void)at, (void)protection, (void)file, (void)offset;
+void *map_zeros_in_child(size_t size) {
   if (size == sizeof(struct queue)) return &queue;
-  if (flags & MAP_SHARED) return shared;
   CHECK(world.owner == NOBODY, "memory is mapped with the lock");
   fork_or_not();
-  if (is_refused(size)) return self()->was_refused = 1, errno = ENOMEM, MAP_FAILED;
+  if (is_refused(size)) return self()->was_refused = 1, errno = ENOMEM, NULL;
   for (int i = 0; i < MOST_MAPPINGS; i++) {
     if (world.mappings[i].size != 0) continue;
     world.mappings[i] = (struct mapping){size, 0, NOBODY, 0};
@@ -94,13 +84,12 @@ static void *test_mmap(void *at, size_t size, int protection, int flags, int fil
   fail("too many mappings");
 }
 
-static int test_munmap(void *at, size_t size) {
+int unmap(void *at, size_t size) {
   struct mapping *mapping = mapping_at(at);
-  if (at == shared) return 0;
   if (at == &queue) {
     CHECK(world.owner == NOBODY && size == sizeof queue, "the queue is unmapped with the lock");
     memset(&queue, 0xee, offsetof(struct queue, turn[turns]));
-    return world.is_unmapped = 1, 0;
+    return world.is_unmapped = 1;
   }
   fork_or_not();
   CHECK(mapping != NULL && mapping->size == size && at == memory[mapping - world.mappings], "what is unmapped is not mapped");
@@ -108,13 +97,11 @@ static int test_munmap(void *at, size_t size) {
   CHECK(mapping->dirty == 0, "memory is given back that is not wiped");
   *mapping = (struct mapping){0, 0, NOBODY, 0};
   self()->unmaps += size;
-  return 0;
+  return 1;
 }
 
-static int test_madvise(void *at, size_t size, int advice) {
-  (void)size, (void)advice;
-  return at == shared ? -1 : 0;
-}
+void ask_for_huge_pages(void *at, size_t size) { (void)at, (void)size; }
+void populate_pages(void *at, size_t size) { (void)at, (void)size; }
 
 void scrypt_wipe(uint8_t *chunks, size_t chunks_len, uint32_t *table, size_t table_len, uint32_t *scratch, size_t scratch_len) {
   struct mapping *mapping = mapping_at(table);
@@ -135,56 +122,58 @@ static void test_free(void *at) {
 /* ---- Threads, signals, the lock, sleep ---- */
 
 /* A handler is of the thread that it interrupts. */
-static pthread_t identity_of(const struct thread *it) {
+static uintptr_t identity_of(const struct thread *it) {
   int interrupts = plan_of(it)->interrupts;
-  return (pthread_t)(interrupts != 0 ? interrupts : number_of(it) + 1);
+  return (uintptr_t)(interrupts != 0 ? interrupts : number_of(it) + 1);
 }
-static pthread_t test_pthread_self(void) { return identity_of(self()); }
-static pid_t test_getpid(void) { return world.main + 1; }
+uintptr_t this_thread(void) { return identity_of(self()); }
+int is_first_thread(void) { return this_thread() == (uintptr_t)world.main + 1; }
+int priority_of_thread(void) { return -plan_of(self())->nice; }
+void let_others_run(void) {} /* which may be tried anywhere */
 
-/* A thread gives way before it takes the lock, if it has done anything since it was chosen; and after its last unlock, after
- * which it doesn't touch the hasher. */
-static int test_sigprocmask(int how, const sigset_t *set, sigset_t *before) {
-  struct thread *it = self();
-  int is_for_lock = before != NULL;
-  CHECK(how == SIG_SETMASK, "another change of the mask");
-  if (is_for_lock && !world.is_fresh) check_before_lock(), give_way();
-  if (is_for_lock) *before = it->blocked;
-  it->blocked = *set;
-  if (!is_for_lock && world.hasher.is_closed && queue.calls == 0) give_way();
-  return 0;
+/* A thread gives way before it takes the lock, if it has done anything since it was chosen. */
+void block_signals(signals *before) {
+  if (!world.is_fresh) check_before_lock(), give_way();
+  *before = self()->blocked;
+  (void)sigfillset(&self()->blocked);
 }
+
+/* And after its last unlock, after which it doesn't touch the hasher. */
+void restore_signals(const signals *before) {
+  self()->blocked = *before;
+  if (world.hasher.is_closed && queue.calls == 0) give_way();
+}
+
+void add_all_but_faults(signals *blocked) { (void)sigfillset(blocked); }
 
 /* If the first call in a child is of another thread than the one that forked, it leaves memory that its parent was using. */
 static void leave_what_was_used(void) {
-  if (queue.epoch != 0 || world.generation == 0 || test_pthread_self() == (pthread_t)test_getpid()) return;
+  if (queue.epoch != 0 || world.generation == 0 || is_first_thread()) return;
   for (size_t turn = 0; turn < turns; turn++)
     if (world.notes[turn].user != 0 && world.notes[turn].at != NULL) mapping_at(world.notes[turn].at)->is_left = 1;
 }
 
-static int test_mutex_lock(pthread_mutex_t *mutex) {
-  CHECK(!world.is_freed && mutex == &queue.lock, "a hasher is locked that is freed");
+void take_mutex(mutex *it) {
+  CHECK(!world.is_freed && it == &queue.lock, "a hasher is locked that is freed");
   CHECK(world.owner == NOBODY, "the lock is taken twice");
   world.owner = world.current;
   world.is_fresh = 0;
   leave_what_was_used();
   check_locked();
-  return 0;
 }
 
-static int test_mutex_unlock(pthread_mutex_t *mutex) {
-  CHECK(mutex == &queue.lock && world.owner == world.current, "the lock is given back twice");
+void give_mutex(mutex *it) {
+  CHECK(it == &queue.lock && world.owner == world.current, "the lock is given back twice");
   check_unlocked();
   world.owner = NOBODY;
-  return 0;
 }
 
-static long sleep_on(const uint32_t *word, uint32_t is, const struct timespec *time) {
+int sleep_on(uint32_t *word, uint32_t is, int64_t ns) {
   struct thread *it = self();
   CHECK(world.owner == NOBODY, "a thread sleeps with the lock");
-  if (*word != is) return errno = EAGAIN, -1;
-  it->ns = (int64_t)time->tv_sec * 1000 * NS_OF_MS + time->tv_nsec;
-  check_sleep(word, it->ns);
+  if (*word != is) return errno = EAGAIN, 0;
+  it->ns = ns;
+  check_sleep(word, ns);
   it->word = word;
   it->where = SLEEPS;
   it->is_signalled = it->is_late = 0;
@@ -193,45 +182,20 @@ static long sleep_on(const uint32_t *word, uint32_t is, const struct timespec *t
   it->word = NULL;
   it->ns = 0;
   errno = it->is_signalled ? EINTR : ETIMEDOUT;
-  return it->is_signalled || it->is_late ? -1 : 0;
+  return it->is_signalled;
 }
 
-static long wake_on(const uint32_t *word) {
+void wake(uint32_t *word) {
   check_wake(word);
-  FOR_THREADS(it)
-    if (it->where == SLEEPS && it->word == word) return it->where = READY, 1;
-  return 0;
-}
-
-static long test_syscall(long number, ...) {
-  va_list rest;
-  if (number == SYS_gettid) return (long)test_pthread_self();
-  if (number == SYS_sched_getscheduler) return plan_of(self())->nice == IDLE ? SCHED_IDLE : SCHED_OTHER;
-  CHECK(number == SYS_futex, "another system call");
-  va_start(rest, number);
-  const uint32_t *word = va_arg(rest, const uint32_t *);
-  int operation = va_arg(rest, int);
-  uint32_t is = va_arg(rest, uint32_t);
-  const struct timespec *time = va_arg(rest, const struct timespec *);
-  va_end(rest);
-  return operation == FUTEX_WAIT_PRIVATE ? sleep_on(word, is, time) : wake_on(word);
+  FOR_THREADS(it) {
+    if (it->where != SLEEPS || it->word != word) continue;
+    it->where = READY;
+    return;
+  }
 }
 
 /* ---- The sources ---- */
 
-#define clock_gettime test_clock_gettime
-#define getpid test_getpid
-#define getpriority(...) plan_of(self())->nice
-#define madvise test_madvise
-#define mmap test_mmap
-#define munmap test_munmap
-#define prctl(...) 1
-#define pthread_mutex_lock test_mutex_lock
-#define pthread_mutex_unlock test_mutex_unlock
-#define pthread_self test_pthread_self
-#define sched_yield() 0
-#define sigprocmask test_sigprocmask
-#define syscall test_syscall
 #define calloc test_calloc
 #define free test_free
 #include "../line.c"
