@@ -4,14 +4,35 @@
 #include "scrypt_c.h"
 #include "stack_lens.h" /* how much of the stack each proved call uses, measured by stack_lens.c */
 
-/* Hidden, so that its address doesn't come from the global offset table: there the linker for arm64 takes the start of .text
- * for it. */
+/* Hidden, so that its address doesn't come from the global offset table, which Windows doesn't have: there the linker for arm64
+ * takes the start of .text for it. */
+#ifdef _WIN32
+#define DIRECT
+#else
 #define DIRECT __attribute__((visibility("hidden")))
+#endif
 
 /* Writes zeros to the len bytes below the frame of its caller, or on x86-64 below the return address that is there, which is
  * where a call by the same caller had its frames. In assembly, since a frame of C has parts that C can't name. From the top
- * down, so that on a stack that is too short the guard page comes first. len is a multiple of 16, and not 0. */
+ * down, so that on a stack that is too short the guard page comes first. len is a multiple of 16, and not 0. On Windows each call
+ * has 32 bytes above its return address too, at the same place for all calls by a caller. */
 DIRECT void clear_stack(size_t len);
+#ifdef _WIN32
+__asm__(
+    ".text\n"
+    ".seh_proc clear_stack\n"
+    "clear_stack:\n"
+    "mov %rsp, %rdx\n"
+    ".seh_setframe %rdx, 0\n"
+    ".seh_endprologue\n"
+    "movq $0, 8(%rsp)\n movq $0, 16(%rsp)\n movq $0, 24(%rsp)\n movq $0, 32(%rsp)\n"
+    "0: push $0\n"
+    "sub $8, %rcx\n"
+    "jnz 0b\n"
+    "lea (%rdx), %rsp\n"
+    "ret\n"
+    ".seh_endproc\n");
+#else
 __asm__(
     ".text\n"
     ".type clear_stack, %function\n"
@@ -37,6 +58,7 @@ __asm__(
     "ret\n"
     ".cfi_endproc\n"
     ".size clear_stack, .-clear_stack\n");
+#endif
 
 /* The proved call, after which what it left is overwritten. Again, if a block was lost: then this is a child that a signal
  * handler forked, and what was derived is wrong. */

@@ -24,7 +24,8 @@
  *    lock, touches it. After its last unlock a call doesn't touch the hasher, so that it may be freed.
  * 6. In a child the kernel has filled the queue with zeros: the lock is free, so is each turn, no turn has tables, and nobody
  *    waits. Its epoch is another one, by which a call that a handler interrupted finds out that it is of the parent. What
- *    such a call reads of other threads may be old, as a fork copies one page after another: it uses none of it. */
+ *    such a call reads of other threads may be old, as a fork copies one page after another: it uses none of it. Windows has
+ *    neither forks nor signals. */
 #define _GNU_SOURCE
 #include "queue.h"
 

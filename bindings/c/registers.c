@@ -47,7 +47,23 @@ __attribute__((constructor)) static void look_for_zmm(void) {
   CLEAR(kind, 23) CLEAR(kind, 24) CLEAR(kind, 25) CLEAR(kind, 26) CLEAR(kind, 27) CLEAR(kind, 28) CLEAR(kind, 29)    \
   CLEAR(kind, 30) CLEAR(kind, 31)
 
-void clear_registers(void) {
+#ifdef _WIN32
+
+/* There xmm6 to xmm15, rdi and rsi are the caller's, but not the upper halves of ymm6 to ymm15. */
+static inline void clear_first(void) {
+#if X86_64_LEVEL >= 3
+  __asm__ volatile("vzeroupper" ::: "memory");
+#endif
+  __asm__ volatile(
+      "pxor %%xmm0, %%xmm0\n pxor %%xmm1, %%xmm1\n pxor %%xmm2, %%xmm2\n pxor %%xmm3, %%xmm3\n"
+      "pxor %%xmm4, %%xmm4\n pxor %%xmm5, %%xmm5\n"
+      "xor %%ecx, %%ecx\n xor %%r8d, %%r8d\n xor %%r9d, %%r9d\n xor %%r10d, %%r10d\n xor %%r11d, %%r11d\n" ::
+          : "xmm0", "xmm1", "xmm2", "xmm3", "xmm4", "xmm5", "rcx", "r8", "r9", "r10", "r11", "cc");
+}
+
+#else
+
+static inline void clear_first(void) {
 #if X86_64_LEVEL >= 3
   /* All of ymm0 to ymm15, of which the code below clears the lower halves. */
   __asm__ volatile("vzeroall" ::: "memory");
@@ -61,6 +77,12 @@ void clear_registers(void) {
       "xor %%r10d, %%r10d\n xor %%r11d, %%r11d\n" ::
           : "xmm0", "xmm1", "xmm2", "xmm3", "xmm4", "xmm5", "xmm6", "xmm7", "xmm8", "xmm9", "xmm10", "xmm11", "xmm12",
             "xmm13", "xmm14", "xmm15", "rcx", "rsi", "rdi", "r8", "r9", "r10", "r11", "cc");
+}
+
+#endif
+
+void clear_registers(void) {
+  clear_first();
   if (has_xmm) __asm__ volatile(CLEAR_16_TO_31("xmm"));
   else if (has_zmm) __asm__ volatile(CLEAR_16_TO_31("zmm"));
 }

@@ -1,23 +1,29 @@
-/* What the library asks of the system: linux.c and linux_processors.c answer for Linux. All else here names no system. Whoever
- * includes this defines _GNU_SOURCE. */
+/* What the library asks of the system: linux.c and linux_processors.c answer for Linux, and windows.c for Windows. All else here
+ * names no system, except for these types, and for the assembly of clearing.c and registers.c. Whoever includes this defines
+ * _GNU_SOURCE. Windows has no signals and no forks: there is none then in what is said of these. */
 #ifndef SYSTEM_H
 #define SYSTEM_H
 
-#include <pthread.h>
-#include <signal.h>
 #include <stddef.h>
 #include <stdint.h>
 
+#ifdef _WIN32
+typedef uint32_t mutex;
+typedef struct {
+  char none;
+} signals;
+#else
+#include <pthread.h>
+#include <signal.h>
+typedef pthread_mutex_t mutex; /* PTHREAD_MUTEX_INITIALIZER is zeros in the C libraries of Linux */
+typedef sigset_t signals;
+#endif
+
 /* ---- Threads ---- */
 
-/* Zeros are the beginning: PTHREAD_MUTEX_INITIALIZER is zeros in the C libraries of Linux. After give_mutex has let another thread
- * have it, nothing of the mutex is read: that thread may free it. */
-typedef pthread_mutex_t mutex;
+/* Zeros are the beginning. After give_mutex has let another thread have it, nothing of the mutex is read: that thread may free it. */
 void take_mutex(mutex *it);
 void give_mutex(mutex *it);
-
-/* Those that a thread has blocked. */
-typedef sigset_t signals;
 
 /* Blocks all signals in this thread, except that by which a sandbox answers system calls. Writes what was blocked before. */
 void block_signals(signals *before);
@@ -39,7 +45,7 @@ void let_others_run(void);
 /* Another number for each thread, and never 0. */
 uintptr_t this_thread(void);
 
-/* Whether its process began with this thread: in a child, the one that forked. */
+/* Whether its process began with this thread: in a child of a fork, the one that forked. */
 int is_first_thread(void);
 
 /* The priority of this thread: the greater, the sooner the system runs it. */
@@ -91,10 +97,11 @@ void populate_pages(void *at, size_t size);
 /* Writes random bytes. Returns 0 if the system has none. */
 int draw_bytes(uint8_t *bytes, size_t len);
 
-/* How many processors this process may use: those of its affinity, and at most its CPU quota, rounded up. At least 1. */
+/* How many processors this process may use: those of its affinity, and at most the quota of its control group or job, rounded up. At
+ * least 1. */
 size_t processors_of_process(void);
 
-/* How many bytes of memory this process may have: those of the machine, and at most what its control group allows. */
+/* How many bytes of memory this process may have: those of the machine, and at most what its control group or job allows. */
 size_t memory_of_process(void);
 
 #endif

@@ -2,7 +2,7 @@
  *
  *   test_orders                in 11 seconds: 352 million orders in 2 million states
  *   test_orders PREEMPTIONS    with another bound for the scenarios that have one; 0: without a bound, in three minutes and 1 GB:
- *                              53 million million orders in 21 million states
+ *                              53 million million orders in 15 million states
  *
  * A scenario is a row of the table below: threads, and what may happen to them. What they share they touch with the lock. So an
  * order is one in which they take it, with what happens before they do: a bound ends, a signal comes, memory is refused, a handler

@@ -1,0 +1,151 @@
+/* What system.h declares, on Windows 8 and later, which has no forks and no signals: not proved. */
+#include "system.h"
+
+#define WIN32_LEAN_AND_MEAN
+#include <windows.h>
+
+#include <bcrypt.h>
+#include <errno.h>
+
+#define NS_OF_SECOND INT64_C(1000000000)
+#define NS_OF_MILLISECOND INT64_C(1000000)
+
+/* ---- Threads ---- */
+
+/* Not an SRWLOCK: when that has let another thread have it, it may still be read. */
+enum { FREE_MUTEX, TAKEN_MUTEX, WANTED_MUTEX };
+
+void take_mutex(mutex *it) {
+  uint32_t is = FREE_MUTEX, wanted = WANTED_MUTEX;
+  if (__atomic_compare_exchange_n(it, &is, TAKEN_MUTEX, 0, __ATOMIC_ACQUIRE, __ATOMIC_RELAXED)) return;
+  while (__atomic_exchange_n(it, WANTED_MUTEX, __ATOMIC_ACQUIRE) != FREE_MUTEX)
+    (void)WaitOnAddress(it, &wanted, sizeof wanted, INFINITE);
+}
+
+void give_mutex(mutex *it) {
+  if (__atomic_exchange_n(it, FREE_MUTEX, __ATOMIC_RELEASE) == WANTED_MUTEX) WakeByAddressSingle(it);
+}
+
+void block_signals(signals *before) { before->none = 0; }
+
+void restore_signals(const signals *before) { (void)before; }
+
+void add_all_but_faults(signals *blocked) { (void)blocked; }
+
+/* In whole milliseconds, of which there is one at least: with none a thread would spin. */
+int sleep_on(uint32_t *word, uint32_t is, int64_t ns) {
+  (void)WaitOnAddress(word, &is, sizeof is, (DWORD)((ns + NS_OF_MILLISECOND - 1) / NS_OF_MILLISECOND));
+  return 0;
+}
+
+void wake(uint32_t *word) { WakeByAddressSingle(word); }
+
+void let_others_run(void) { (void)SwitchToThread(); }
+
+uintptr_t this_thread(void) { return GetCurrentThreadId(); }
+
+/* There is no child. */
+int is_first_thread(void) { return 0; }
+
+int priority_of_thread(void) { return GetThreadPriority(GetCurrentThread()); }
+
+/* ---- Time ---- */
+
+int64_t now_ns(void) {
+  LARGE_INTEGER now, each_second;
+  (void)QueryPerformanceCounter(&now);
+  (void)QueryPerformanceFrequency(&each_second);
+  return now.QuadPart / each_second.QuadPart * NS_OF_SECOND + now.QuadPart % each_second.QuadPart * NS_OF_SECOND / each_second.QuadPart;
+}
+
+/* A sleep ends with a tick of the system, of which there are 64 in a second unless the process asks for more. */
+int64_t timer_slack_ns(void) { return NS_OF_SECOND / 64; }
+
+/* ---- Memory ---- */
+
+/* The system promises all of it now, so that no write finds too little; each page is taken when it is first used. */
+void *map_zeros(size_t size) {
+  void *at = VirtualAlloc(NULL, size, MEM_RESERVE | MEM_COMMIT, PAGE_READWRITE);
+  if (at == NULL) errno = ENOMEM;
+  return at;
+}
+
+void *map_zeros_in_child(size_t size) { return map_zeros(size); }
+
+void wipe_in_child(void *at, size_t size) { (void)at, (void)size; }
+
+int unmap(void *at, size_t size) { return (void)size, VirtualFree(at, 0, MEM_RELEASE) != 0; }
+
+/* Large pages are for those alone who may lock memory, and are locked themselves. */
+void ask_for_huge_pages(void *at, size_t size) { (void)at, (void)size; }
+
+int is_in_memory(void *page) { return (void)page, 0; }
+
+void populate_pages(void *at, size_t size) { (void)at, (void)size; }
+
+/* ---- The rest ---- */
+
+int draw_bytes(uint8_t *bytes, size_t len) {
+  while (len > 0) {
+    ULONG some = len < (1 << 30) ? (ULONG)len : 1 << 30;
+    if (BCryptGenRandom(NULL, bytes, some, BCRYPT_USE_SYSTEM_PREFERRED_RNG) != 0) return 0;
+    bytes += some;
+    len -= some;
+  }
+  return 1;
+}
+
+static size_t all_processors(void) { return GetActiveProcessorCount(ALL_PROCESSOR_GROUPS); }
+
+/* Those of its affinity. A mask is of one group, of at most 64 processors; in several groups a process may use all of them. */
+static size_t processors_of_affinity(void) {
+  USHORT groups[64] = {0}, count = sizeof groups / sizeof *groups;
+  DWORD_PTR of_process, of_system;
+  size_t all = 0, i;
+  if (GetActiveProcessorGroupCount() == 1) count = 1;
+  else if (!GetProcessGroupAffinity(GetCurrentProcess(), &count, groups)) return all_processors();
+  if (count == 1 && GetProcessAffinityMask(GetCurrentProcess(), &of_process, &of_system) && of_process != 0)
+    return (size_t)__builtin_popcountll(of_process);
+  for (i = 0; i < count; i++) all += GetActiveProcessorCount(groups[i]);
+  return all;
+}
+
+/* What the job of this process, or of its container, says; of those around it nothing can be asked. */
+static int is_in_job(JOBOBJECTINFOCLASS which, void *limits, DWORD size) {
+  return QueryInformationJobObject(NULL, which, limits, size, NULL) != 0;
+}
+
+/* In parts of 10,000 of all processors. Older headers don't have MaxRate, in the upper half of CpuRate. */
+#define MIN_MAX_RATE 0x10
+static size_t quota_of_job(void) {
+  JOBOBJECT_CPU_RATE_CONTROL_INFORMATION rate = {0};
+  size_t parts = 0;
+  if (!is_in_job(JobObjectCpuRateControlInformation, &rate, sizeof rate)) return SIZE_MAX;
+  if (!(rate.ControlFlags & JOB_OBJECT_CPU_RATE_CONTROL_ENABLE)) return SIZE_MAX;
+  if (rate.ControlFlags & MIN_MAX_RATE) parts = rate.CpuRate >> 16;
+  else if (rate.ControlFlags & JOB_OBJECT_CPU_RATE_CONTROL_HARD_CAP) parts = rate.CpuRate;
+  return parts == 0 ? SIZE_MAX : (parts * all_processors() + 9999) / 10000;
+}
+
+size_t processors_of_process(void) {
+  size_t count = processors_of_affinity(), quota = quota_of_job();
+  if (quota < count) count = quota;
+  return count > 0 ? count : 1;
+}
+
+/* Also at most what the system would promise. */
+size_t memory_of_process(void) {
+  MEMORYSTATUSEX status = {.dwLength = sizeof status};
+  JOBOBJECT_EXTENDED_LIMIT_INFORMATION job = {0};
+  size_t least = SIZE_MAX;
+  DWORD flags;
+  if (GlobalMemoryStatusEx(&status)) {
+    least = status.ullTotalPhys;
+    if (status.ullTotalPageFile < least) least = status.ullTotalPageFile;
+  }
+  if (!is_in_job(JobObjectExtendedLimitInformation, &job, sizeof job)) return least;
+  flags = job.BasicLimitInformation.LimitFlags;
+  if ((flags & JOB_OBJECT_LIMIT_PROCESS_MEMORY) && job.ProcessMemoryLimit < least) least = job.ProcessMemoryLimit;
+  if ((flags & JOB_OBJECT_LIMIT_JOB_MEMORY) && job.JobMemoryLimit < least) least = job.JobMemoryLimit;
+  return least;
+}
