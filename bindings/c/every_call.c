@@ -2,7 +2,11 @@
 #include "arguments.h"
 #include "traces.h"
 
+#ifdef _WIN32
+#define dlsym(library, name) ((void)(library), (void)(name), NULL) /* there is no library with the names of others */
+#else
 #include <dlfcn.h>
+#endif
 
 enum { KEY_LEN = 64 };
 

@@ -85,9 +85,9 @@ if [ -z "$emulator" ]; then
   "$room/test_advice"
   echo "a hasher only if the system fills its memory with zeros in a child"
 fi
-compiled test_system bindings/c/test_system.c
+compiled test_system -DROOT="\"$room/root\"" bindings/c/test_system.c
 $emulator "$room/test_system"
-echo "what the library asks of the system: threads, sleep, signals, time and memory"
+echo "what the library asks of the system: threads, sleep, signals, time, memory, and limits on processors and memory"
 # Our own C for the kit's, which passes the same test on x86-64.
 kit_tests() {
   compiled test_kit bindings/c/test_kit.c "$@"
@@ -129,8 +129,7 @@ in_emulator() {
     $emulator "$room/$test" small
   done
   for test in test_hasher test_hasher_parts test_hasher_load; do
-    $CC -std=gnu99 -O2 -Wno-unused-function -Ibindings/c -DROOT="\"$room/root\"" bindings/c/$test.c -o "$room/$test" \
-      -L"$lib" -lscrypt_c -lpthread
+    $CC -std=gnu99 -O2 -Wno-unused-function -Ibindings/c bindings/c/$test.c -o "$room/$test" -L"$lib" -lscrypt_c -lpthread
     LD_LIBRARY_PATH=$lib $emulator "$room/$test" > /dev/null
   done
 }
@@ -269,8 +268,8 @@ if has gcc gcc && has valgrind valgrind; then each "$built" with_memcheck; fi
 # The hasher, with its sources in the test.
 hasher_test() {
   for test in test_hasher test_hasher_parts test_hasher_load; do
-    gcc -std=gnu99 -g -Wall -Wextra -Werror -Wno-unused-function -Ibindings/c -DROOT="\"$room/root\"" "$@" bindings/c/$test.c \
-      -o "$room/$test" -L"$lib" -lscrypt_c -Wl,-rpath,"$lib" -lpthread
+    gcc -std=gnu99 -g -Wall -Wextra -Werror -Wno-unused-function -Ibindings/c "$@" bindings/c/$test.c -o "$room/$test" \
+      -L"$lib" -lscrypt_c -Wl,-rpath,"$lib" -lpthread
     $checker "$room/$test" > /dev/null
   done
   echo "the hasher: $* $checker"
@@ -358,7 +357,8 @@ if has gcc gcc; then
     sed -n 's/^PROVED_[A-Z_]*(\([a-z_]*\),.*/\1/p' bindings/c/proved_calls.h > "$room/calls"
     sed 's/.*/& cleared_&/' "$room/calls" > "$room/renames"
     objcopy --redefine-syms="$room/renames" crates/scrypt_c/out/libscrypt_c.a "$room/proved.a"
-    over=$(sed -n 's/^over="\(.*\)"/\1/p' bindings/lib.sh | sed 's|[a-z]\{1,\}|bindings/c/&.c|g')
+    eval "$(grep '^over=' bindings/lib.sh)"
+    over=$(printf 'bindings/c/%s.c ' $over)
     gcc -O2 -Ibindings/c -DLIBRARY_VERSION='""' -DPROCESSOR='""' -DX86_64_LEVEL=2 bindings/c/test_traces.c bindings/c/version.c \
       bindings/c/at_once.c $over -o "$room/not_cleared" "$room/proved.a" "$(dirname "$(rt doc)")/c/liblibc_c.a" -lpthread
     if "$room/not_cleared" "$room/first" > /dev/null 2> "$room/traces"; then exit 1; fi

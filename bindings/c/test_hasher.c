@@ -87,7 +87,7 @@ static void *run(void *of) {
   int64_t most_ms = it->how == '-' ? 200 : it->how == '*' ? 100 : -1;
   uint8_t key[4] = {1, 1, 1, 1}, zeros[4] = {0, 0, 0, 0};
   int status;
-  if (it->how == '>') IS(setpriority(PRIO_PROCESS, 0, getpriority(PRIO_PROCESS, 0) + 1), 0); /* of this thread alone, on Linux */
+  if (it->how == '>') be_nicer();
   errno = EDOM;
   do
     status = it->kind == 'K' ? scrypt_hasher_key(it->hasher, it->password, 1, "", 0, key, 4, most_ms, its_place)
@@ -214,9 +214,13 @@ static void run_row(const struct row *row) {
 /* If this process is the nicest, no thread can be nicer. */
 static int is_nicest(void) { return priority_of_thread() <= -19; }
 
+static int can_run(const char *script) {
+  return (HAS_SIGNALS || strpbrk(script, "|^!&#@") == NULL) && (!is_nicest() || strchr(script, '>') == NULL);
+}
+
 static void rows(void) {
   for (size_t i = 0; i < sizeof ROWS / sizeof ROWS[0]; i++)
-    if (!is_nicest() || strchr(ROWS[i].script, '>') == NULL) run_row(&ROWS[i]);
+    if (can_run(ROWS[i].script)) run_row(&ROWS[i]);
 }
 
 /* Without memory for the hasher, what is wrong with its options is found first. */

@@ -2,13 +2,23 @@
  * derive, most_at_once, calloc, and some of system.h. */
 #define _GNU_SOURCE
 #include "groups.c"
+
+#ifdef _WIN32
+#include "windows.c"
+
+#include "test_windows.h"
+#define HAS_SIGNALS 0
+#else
 #include "linux.c"
 #include "linux_processors.c"
 
-#include <errno.h>
-#include <stdlib.h>
 #include <sys/time.h>
 #include <sys/wait.h>
+#define HAS_SIGNALS 1 /* and forks */
+#endif
+
+#include <errno.h>
+#include <stdlib.h>
 
 #define READ(it) __atomic_load_n(&(it), __ATOMIC_ACQUIRE)
 #define WRITE(it, value) __atomic_store_n(&(it), value, __ATOMIC_RELEASE)
@@ -37,6 +47,8 @@ static void *test_map(size_t size) {
   errno = ENOMEM;
   return NULL;
 }
+
+static size_t memory_there = SIZE_MAX; /* of this process */
 
 static int is_calloc_refused;
 static void *test_calloc(size_t count, size_t size) { return is_calloc_refused ? NULL : calloc(count, size); }
@@ -68,6 +80,7 @@ static int64_t slack_ns = 50000; /* of a thread's timers */
 #define wake(word) (before_wake(), wake(word))
 #define priority_of_thread() (without_lock(), priority_of_thread())
 #define timer_slack_ns() (without_lock(), slack_ns)
+#define memory_of_process() memory_there
 #define most_at_once() READ(widest)
 #define derive watched
 #include "line.c"
@@ -92,6 +105,7 @@ static int64_t slack_ns = 50000; /* of a thread's timers */
 #undef wake
 #undef priority_of_thread
 #undef timer_slack_ns
+#undef memory_of_process
 #undef most_at_once
 
 /* What is given back is zeros, except for the queue. */
@@ -110,16 +124,26 @@ static struct look { int calls, leading, is_closed, is_idle; scrypt_stats stats;
 
 /* The thread sanitizer blocks all signals while it calls a handler, and if another signal comes just then, it leaves them blocked
  * in this thread for ever (gcc 12). */
-#ifdef __SANITIZE_THREAD__
+#if defined __SANITIZE_THREAD__ || !HAS_SIGNALS
 #define BLOCKS_SIGNALS 1
 #else
 #define BLOCKS_SIGNALS 0
 #endif
+#if HAS_SIGNALS
 static int is_blocked(int number) {
   sigset_t blocked;
   (void)sigprocmask(SIG_BLOCK, NULL, &blocked);
   return sigismember(&blocked, number);
 }
+
+static void handle(int number, void (*handler)(int)) {
+  const struct sigaction action = {.sa_handler = handler};
+  sigaction(number, &action, NULL);
+}
+
+/* Gives this thread alone, on Linux, the next lower priority. */
+static void be_nicer(void) { IS(setpriority(PRIO_PROCESS, 0, getpriority(PRIO_PROCESS, 0) + 1), 0); }
+#endif
 
 /* ---- Derivations that are watched, and stopped ---- */
 
@@ -222,11 +246,6 @@ static int forks;
 static scrypt_hasher *of_signals;
 static void nothing_in_handler(int number) { (void)number; }
 static void close_in_handler(int number) { (void)number, scrypt_hasher_close(of_signals); }
-
-static void handle(int number, void (*handler)(int)) {
-  const struct sigaction action = {.sa_handler = handler};
-  sigaction(number, &action, NULL);
-}
 
 static void fork_in_handler(int number) {
   int before = errno;

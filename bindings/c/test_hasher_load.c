@@ -54,14 +54,14 @@ static void at_any_time(void) {
     expect(READ(running) == 16, "cancelled in a call, or not begun");
     if (READ(running) != 16) _exit(1); /* its threads would go on in the next test */
     for (int i = 0; i < 16; i++) usleep((useconds_t)(rand() % 500)), pthread_kill(all[i], SIGUSR2);
-    for (int i = 0; i < 16; i += 4) {
+    for (int i = 0; i < 16 && HAS_SIGNALS; i += 4) {
       int before = READ(forks);
       pthread_kill(all[i], SIGUSR1);
       until(READ(forks) != before);
     }
     fork_here(hasher);
     handle(SIGUSR2, close_in_handler);
-    if (round % 2 == 0) {
+    if (round % 2 == 0 && HAS_SIGNALS) {
       pthread_kill(all[0], SIGUSR2);
       until(look_at(hasher).is_closed);
       expect(BLOCKS_SIGNALS || look_at(hasher).is_closed, "not closed by a handler");
@@ -72,7 +72,7 @@ static void at_any_time(void) {
     expect(look_at(hasher).is_idle, "idle after load");
     scrypt_hasher_free(hasher);
   }
-  expect(READ(handled) > 200, "%d handlers have verified", handled);
+  expect(READ(handled) > 200 || !HAS_SIGNALS, "%d handlers have verified", handled);
 }
 
 static void *verify_one(void *hasher) {

@@ -140,6 +140,7 @@ static void refused_for_a_while(void) {
   WRITE(refusals, 0);
 }
 
+#if HAS_SIGNALS
 /* A child gives back what its parent had mapped: with its first call, or when it frees the hasher. */
 static int generation(scrypt_hasher *hasher, const char *text, int more) {
   size_t before = READ(mapped);
@@ -219,6 +220,8 @@ static void statuses_in_mid_call(void) {
   tables_free(&tables);
 }
 
+#endif
+
 /* A part of the derivation, at most a millisecond, and none below 50 microseconds. */
 static void moments(void) {
   static const struct { uint8_t log_n; uint32_t p; int64_t ns; } MOMENTS[] = {
@@ -273,58 +276,25 @@ static void many_waits(void) {
   free(all);
 }
 
-/* Files of control groups below a folder of this test, in place of the system's. */
-static void set_group(const char *line, const char *folder, const char *file) {
-  char command[1024];
-  snprintf(command, sizeof command,
-           "set -e; rm -rf '%s'; g='%s/sys/fs/cgroup%s'; mkdir -p '%s/proc/self' \"$g\"; "
-           "printf '%s\n' > '%s/proc/self/cgroup'; "
-           "set -- %s; f=$1; shift; echo \"$@\" > \"$g/$f\"; echo 100000 > \"$g/cpu.cfs_period_us\"",
-           ROOT, ROOT, folder, ROOT, line, ROOT, file);
-  IS(system(command), 0);
-}
-
-static void processors(void) {
-  static const struct { const char *line, *folder, *quota; size_t count; } GROUPS[] = {
-      {"0::/a/b", "/a/b", "cpu.max max 100000", 64},
-      {"0::/a/b", "/a/b", "cpu.max 250000 100000", 3},
-      {"0::/a/b", "/a", "cpu.max 100000 100000", 1}, /* a group around it */
-      {"0::/x/y", "", "cpu.max 200000 100000", 2},   /* in a container, with the path of the host */
-      {"0::/", "", "cpu.max 1000 100000", 1},
-      {"0::/", "", "cpu.max", 64},
-      {"4:cpu,cpuacct:/a", "/cpu/a", "cpu.cfs_quota_us -1", 64},
-      {"9:memory:/m\n4:cpu,cpuacct:/a\n0::/", "/cpu/a", "cpu.cfs_quota_us 150000", 2},
-      {"4:cpuset:/a", "/cpu/a", "cpu.cfs_quota_us 100000", 64}};
-  cpu_set_t set;
-  size_t all = sched_getaffinity(0, sizeof set, &set) == 0 ? (size_t)CPU_COUNT(&set) : 1;
-  for (size_t i = 0; i < sizeof GROUPS / sizeof GROUPS[0]; i++) {
-    set_group(GROUPS[i].line, GROUPS[i].folder, GROUPS[i].quota);
-    expect(processors_of_process() == (GROUPS[i].count < all ? GROUPS[i].count : all), "%s", GROUPS[i].quota);
-  }
-}
-
 /* How many tables a hasher with 64 processors may have, which its options show. */
 static void memory(void) {
-  static const struct { const char *line, *folder, *most; size_t most_bytes, at_once; } GROUPS[] = {
-      {"0::/a", "/a", "memory.max max", 1, 128},
-      {"0::/a", "/a", "memory.max 1073741824", 0, 3},              /* three of the default, and the rest of the process */
-      {"0::/a", "/a", "memory.max 1073741824", 129 << 20, 6},      /* or six */
-      {"0::/a", "", "memory.high 1073741824", 0, 3},               /* a group around it */
-      {"0::/a", "/a", "memory.max 268435456", 0, 1},               /* not one of the default, but one of a new hash */
-      {"0::/a", "/a", "memory.max 1073741824", SIZE_MAX, 6},       /* six of new hashes, as nobody has room for the largest */
-      {"0::/a", "/a", "memory.max 1000", 0, 1},
-      {"9:memory:/m\n4:cpu:/a", "/memory/m", "memory.limit_in_bytes 1073741824", 0, 3},
-      {"9:memory:/m", "/memory/m", "memory.limit_in_bytes 9223372036854771712", 1, 128},
-      {"9:cpu:/m", "/memory/m", "memory.limit_in_bytes 1000", 1, 128}};
-  for (size_t i = 0; i < sizeof GROUPS / sizeof GROUPS[0]; i++) {
-    scrypt_options with = {.size = sizeof with, .most_bytes = GROUPS[i].most_bytes, .processors = 64};
+  static const struct { const char *why; size_t memory, most_bytes, at_once; } ROWS[] = {
+      {"two for each processor", SIZE_MAX, 1 << 14, 128},
+      {"three of the default, and the rest of the process", (size_t)1 << 30, 0, 3},
+      {"or six", (size_t)1 << 30, 129 << 20, 6},
+      {"not one of the default, but one of a new hash", (size_t)1 << 28, 0, 1},
+      {"six of new hashes, as nobody has room for the largest", (size_t)1 << 30, SIZE_MAX, 6},
+      {"one at least", 1000, 0, 1}};
+  for (size_t i = 0; i < sizeof ROWS / sizeof ROWS[0]; i++) {
+    scrypt_options with = {.size = sizeof with, .most_bytes = ROWS[i].most_bytes, .processors = 64};
     scrypt_hasher *hasher;
-    if (with.most_bytes == 1) with.most_bytes = 1 << 14, with.log_n = 4, with.r = 1, with.p = 1;
-    set_group(GROUPS[i].line, GROUPS[i].folder, GROUPS[i].most);
+    if (with.most_bytes == 1 << 14) with.log_n = 4, with.r = 1, with.p = 1;
+    memory_there = ROWS[i].memory;
     hasher = scrypt_hasher_new(&with, NULL);
-    expect(hasher != NULL && scrypt_hasher_options(hasher)->at_once == GROUPS[i].at_once, "%s", GROUPS[i].most);
+    expect(hasher != NULL && scrypt_hasher_options(hasher)->at_once == ROWS[i].at_once, "%s", ROWS[i].why);
     scrypt_hasher_free(hasher);
   }
+  memory_there = SIZE_MAX;
 }
 
 static void calibrated(void) {
@@ -344,14 +314,15 @@ int main(void) {
   RUN(places_of_errors);
   RUN(room_for_one);
   RUN(refused_for_a_while);
+#if HAS_SIGNALS
   RUN(generations);
   RUN(interrupted_in_child);
 #ifndef __SANITIZE_THREAD__ /* which calls handlers later, also when the statuses are written */
   RUN(statuses_in_mid_call);
 #endif
+#endif
   RUN(moments);
   RUN(many_waits);
-  RUN(processors);
   RUN(memory);
   RUN(calibrated);
   return failed;

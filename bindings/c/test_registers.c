@@ -6,43 +6,66 @@
 #include "scrypt_c.h"
 #include "vectors.h"
 
-#include <dlfcn.h>
-#include <signal.h>
-#include <string.h>
-#include <ucontext.h>
-
-#define ALL_16                                                                                                         \
-  "xmm0", "xmm1", "xmm2", "xmm3", "xmm4", "xmm5", "xmm6", "xmm7", "xmm8", "xmm9", "xmm10", "xmm11", "xmm12", "xmm13", \
-      "xmm14", "xmm15"
-
-/* Ones in each bit that there is. */
-__attribute__((noinline)) static void fill(void) {
-  __asm__ volatile(VECTORS_0_TO_15 "pcmpeqd %%xmm\\n, %%xmm\\n\n .endr" ::: ALL_16);
+/* Ones in each bit that there is. The compiler isn't told of it: on Windows it would restore registers of the caller. */
+__attribute__((noipa)) static void fill(void) {
+  __asm__ volatile(VECTORS_0_TO_15 "pcmpeqd %xmm\\n, %xmm\\n\n .endr");
   if (__builtin_cpu_supports("avx2")) __asm__ volatile(VECTORS_0_TO_15 "vpcmpeqd %ymm\\n, %ymm\\n, %ymm\\n\n .endr");
   if (!has_zmm) return;
   __asm__ volatile(VECTORS_0_TO_15 "vpternlogd $0xff, %zmm\\n, %zmm\\n, %zmm\\n\n .endr");
   __asm__ volatile(VECTORS_16_TO_31 "vpternlogd $0xff, %zmm\\n, %zmm\\n, %zmm\\n\n .endr");
 }
 
-static size_t bytes_seen(uint8_t is, int from, int to, size_t len) {
+#define ALL_16                                                                                                         \
+  "xmm0", "xmm1", "xmm2", "xmm3", "xmm4", "xmm5", "xmm6", "xmm7", "xmm8", "xmm9", "xmm10", "xmm11", "xmm12", "xmm13", \
+      "xmm14", "xmm15"
+
+static void nothing(void) {}
+
+/* Looks at what a call leaves of ones in each register. */
+__attribute__((noipa)) static void look_after(void (*call)(void)) {
+  fill();
+  call();
+  look_at_vectors();
+  __asm__ volatile("" ::: ALL_16);
+}
+
+/* How many of these bytes of each register are so. */
+static size_t bytes_seen(uint8_t is, int from, int to, size_t at, size_t end) {
   size_t count = 0, i;
   for (; from < to; from++)
-    for (i = 0; i < len; i++) count += vectors[from][i] == is;
+    for (i = at; i < end; i++) count += vectors[from][i] == is;
   return count;
 }
+
+/* Of the first 16, those that a call may change. On Windows it keeps the lowest 128 bits of the others. */
+#ifdef _WIN32
+enum { CHANGED = 6 };
+#else
+enum { CHANGED = 16 };
+#endif
 
 /* The code for x86-64-v2 writes the lowest 128 bits of the first 16 alone; the C library clears the others that it uses. */
 static void cleared(void) {
   size_t len = X86_64_LEVEL == 2 ? 16 : 64, there = has_zmm ? 64 : __builtin_cpu_supports("avx2") ? 32 : 16;
-  fill();
-  look_at_vectors();
-  check(bytes_seen(0xff, 0, 16, there) == 16 * there && bytes_seen(0xff, 16, 32, 64) == (has_zmm ? 16 * 64 : 0), "filled");
-  fill();
-  clear_registers();
-  look_at_vectors();
-  check(bytes_seen(0, 0, 16, len) == 16 * len, "zeros in the first 16 registers");
-  check(bytes_seen(0, 16, 32, 64) == 16 * 64, "zeros in the other 16");
+  look_after(nothing);
+  check(bytes_seen(0xff, 0, 16, 0, there) == 16 * there && bytes_seen(0xff, 16, 32, 0, 64) == (has_zmm ? 16 * 64 : 0), "filled");
+  look_after(clear_registers);
+  check(bytes_seen(0, 0, CHANGED, 0, len) == CHANGED * len, "zeros in the first registers");
+  check(bytes_seen(0xff, CHANGED, 16, 0, 16) == (16 - CHANGED) * 16, "what a call keeps");
+  check(bytes_seen(0, CHANGED, 16, 16, len) == (16 - CHANGED) * (len - 16), "zeros above that");
+  check(bytes_seen(0, 16, 32, 0, 64) == 16 * 64, "zeros in the other 16");
 }
+
+#ifdef _WIN32
+
+static void stepped(void) {} /* the code is the same */
+
+#else
+
+#include <dlfcn.h>
+#include <signal.h>
+#include <string.h>
+#include <ucontext.h>
 
 /* After each instruction: whether the next one is on 512 bits. In 64-bit mode all that begin so have the prefix EVEX. */
 enum { TRAP_FLAG = 0x100, MOST_WIDE = 4096 };
@@ -90,6 +113,8 @@ static void stepped(void) {
   check(steps > 10000, "one instruction at a time");
   check(!has_xmm || of_this_library() == 0, "no instruction on 512 bits");
 }
+
+#endif
 
 int main(void) {
   cleared();

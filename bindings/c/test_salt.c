@@ -2,16 +2,10 @@
  * does scrypt_hash_new. */
 #define _DEFAULT_SOURCE
 #include "check.h"
-#include "child.h"
 #include "scrypt_c.h"
 
-#include <errno.h>
-#include <linux/filter.h>
-#include <linux/seccomp.h>
 #include <stddef.h>
 #include <string.h>
-#include <sys/prctl.h>
-#include <sys/syscall.h>
 
 static void drawn(void) {
   uint8_t one[18] = {0}, other[18] = {0}, none = 7;
@@ -30,6 +24,20 @@ static void many(void) {
   check(zeros > 200 && zeros < 600, "one byte in 256 is zero");
 }
 
+#ifdef _WIN32
+
+static void refused_by_the_system(void) {} /* nothing makes it refuse there */
+
+#else
+
+#include "child.h"
+
+#include <errno.h>
+#include <linux/filter.h>
+#include <linux/seccomp.h>
+#include <sys/prctl.h>
+#include <sys/syscall.h>
+
 /* In a child for which the system call fails. */
 static int refused(void) {
   struct sock_filter filter[] = {
@@ -47,9 +55,13 @@ static int refused(void) {
   return scrypt_hash_new("pw", 2, text, sizeof text) == SCRYPT_NO_RANDOM_BYTES && text[0] == '!' ? 0 : 5;
 }
 
+static void refused_by_the_system(void) { in_a_child(refused, "a system without random bytes"); }
+
+#endif
+
 int main(void) {
   drawn();
   many();
-  in_a_child(refused, "a system without random bytes");
+  refused_by_the_system();
   return failed;
 }

@@ -140,6 +140,25 @@ static size_t search_from(uintptr_t from, uintptr_t to, const char *where, size_
   return found;
 }
 
+#ifdef _WIN32
+#define WIN32_LEAN_AND_MEAN
+#include <windows.h>
+
+size_t traces_search(int is_expected) {
+  MEMORY_BASIC_INFORMATION part;
+  const char *at = NULL;
+  size_t found = 0;
+  for (; VirtualQuery(at, &part, sizeof part) != 0; at = (const char *)part.BaseAddress + part.RegionSize) {
+    const DWORD is_written = PAGE_READWRITE | PAGE_WRITECOPY | PAGE_EXECUTE_READWRITE;
+    uintptr_t from = (uintptr_t)part.BaseAddress;
+    if (part.State != MEM_COMMIT || (part.Protect & is_written) == 0 || (part.Protect & PAGE_GUARD) != 0) continue;
+    found = search_from(from, from + part.RegionSize, "memory", found, is_expected);
+  }
+  return found;
+}
+
+#else
+
 size_t traces_search(int is_expected) {
   static char line[512];
   FILE *maps = fopen("/proc/self/maps", "r");
@@ -154,3 +173,5 @@ size_t traces_search(int is_expected) {
   fclose(maps);
   return found;
 }
+
+#endif

@@ -21,7 +21,7 @@ from pathlib import Path
 from tools import edits
 
 HERE = Path(__file__).parent
-COMPILE = ["gcc", "-std=gnu99", "-O1", "-w", "-o", "test"]
+COMPILE = ["gcc", "-std=gnu99", "-O1", "-w", '-DROOT="root"', "-o", "test"]
 TESTS = {"linux.c": "test_system.c"}  # by the file of a fault; of other files it is this one:
 ORDERS = "orders/test_orders.c"
 FAILED = "FAILED: "

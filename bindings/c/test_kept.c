@@ -1,0 +1,84 @@
+/* The registers that a call keeps on Windows: xmm6 to xmm15, rbx, rbp, rdi, rsi and r12 to r15. */
+#include "check.h"
+#include "scrypt_c.h"
+
+#include <string.h>
+
+static const char TEXT[] = "$scrypt$ln=4,r=8,p=1$c2FsdHNhbHQ$AAAAAAAAAAAAAAAAAAAAAA";
+static scrypt_hasher *hasher;
+
+static int key(void) {
+  uint8_t of[64];
+  return scrypt_key("pw", 2, "salt", 4, 10, 8, 4, of, sizeof of);
+}
+static int large_key(void) {
+  uint8_t of[64];
+  return scrypt_key("pw", 2, "salt", 4, 15, 8, 1, of, sizeof of);
+}
+static int hash(void) {
+  char text[SCRYPT_PHC_CAPACITY];
+  return scrypt_hash_phc("pw", 2, "salt", 4, 4, 8, 1, 32, text, sizeof text);
+}
+static int verify(void) { return scrypt_verify("pw", 2, TEXT, sizeof TEXT - 1) == SCRYPT_MISMATCH ? SCRYPT_OK : -1; }
+static int by_hasher(void) {
+  int status = scrypt_hasher_verify(hasher, "pw", 2, TEXT, sizeof TEXT - 1, -1, NULL);
+  return status == SCRYPT_MISMATCH ? SCRYPT_OK : -1;
+}
+
+/* Calls with known values in them. Returns how many of the 18 are others afterwards, and 100 more if the call fails. */
+int changed_by(int (*call)(void));
+#define EACH_WORD(it) it(rbx) it(rbp) it(rdi) it(rsi) it(r12) it(r13) it(r14) it(r15)
+#define EACH_VECTOR(it)                                                                                        \
+  it(6, 32) it(7, 48) it(8, 64) it(9, 80) it(10, 96) it(11, 112) it(12, 128) it(13, 144) it(14, 160) it(15, 176)
+#define PUSH(name) "push %" #name "\n .seh_pushreg %" #name "\n"
+#define SAVE(n, at) "movups %xmm" #n ", " #at "(%rsp)\n .seh_savexmm %xmm" #n ", " #at "\n"
+#define SET(n, at) "movaps %xmm0, %xmm" #n "\n"
+#define SET_WORD(name) "mov $0x7654321, %" #name "\n"
+#define KNOWN "mov $0x1234567, %ecx\n movd %ecx, %xmm0\n pshufd $0, %xmm0, %xmm0\n"
+#define ADD_IF_OTHER "setne %cl\n movzbl %cl, %ecx\n add %ecx, %eax\n"
+#define COMPARE(n, at) "pcmpeqb %xmm0, %xmm" #n "\n pmovmskb %xmm" #n ", %ecx\n cmp $0xffff, %ecx\n" ADD_IF_OTHER
+#define COMPARE_WORD(name) "cmp $0x7654321, %" #name "\n" ADD_IF_OTHER
+#define RESTORE(n, at) "movups " #at "(%rsp), %xmm" #n "\n"
+__asm__(
+    ".text\n"
+    ".seh_proc changed_by\n"
+    "changed_by:\n"
+    EACH_WORD(PUSH)
+    "sub $200, %rsp\n"
+    ".seh_stackalloc 200\n"
+    EACH_VECTOR(SAVE)
+    ".seh_endprologue\n"
+    "mov %rcx, %rdx\n"
+    KNOWN
+    EACH_VECTOR(SET)
+    EACH_WORD(SET_WORD)
+    "call *%rdx\n"
+    "test %eax, %eax\n"
+    "setne %al\n"
+    "movzbl %al, %eax\n"
+    "imul $100, %eax, %eax\n"
+    KNOWN
+    EACH_VECTOR(COMPARE)
+    EACH_WORD(COMPARE_WORD)
+    EACH_VECTOR(RESTORE)
+    "add $200, %rsp\n"
+    "pop %r15\n pop %r14\n pop %r13\n pop %r12\n pop %rsi\n pop %rdi\n pop %rbp\n pop %rbx\n"
+    "ret\n"
+    ".seh_endproc\n");
+
+static int changes_two(void) {
+  __asm__ volatile("pxor %xmm6, %xmm6\n xor %edi, %edi"); /* without the compiler's knowing */
+  return SCRYPT_OK;
+}
+
+int main(void) {
+  hasher = scrypt_hasher_new(NULL, NULL);
+  check(changed_by(changes_two) == 2, "a change is found");
+  check(changed_by(key) == 0, "scrypt_key");
+  check(changed_by(large_key) == 0, "scrypt_key, in a block of its own");
+  check(changed_by(hash) == 0, "scrypt_hash_phc");
+  check(changed_by(verify) == 0, "scrypt_verify");
+  check(changed_by(by_hasher) == 0, "scrypt_hasher_verify");
+  scrypt_hasher_free(hasher);
+  return failed;
+}

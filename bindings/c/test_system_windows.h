@@ -1,0 +1,61 @@
+/* For test_system.c: what windows.c promises alone. Once in a job a process stays in it, so the jobs come last, each within the one
+ * before. */
+
+static void while_mapped(void) {}
+
+static void priorities(void) {
+  static const int LEVELS[] = {THREAD_PRIORITY_IDLE, THREAD_PRIORITY_LOWEST, THREAD_PRIORITY_BELOW_NORMAL, THREAD_PRIORITY_NORMAL};
+  size_t i;
+  int before = 0;
+  for (i = 0; i < sizeof LEVELS / sizeof *LEVELS; i++) {
+    check(SetThreadPriority(GetCurrentThread(), LEVELS[i]) != 0, "set");
+    check(i == 0 || priority_of_thread() > before, "a higher priority");
+    before = priority_of_thread();
+  }
+}
+
+static void affinity(void) {
+  DWORD_PTR before, all, one;
+  if (!GetProcessAffinityMask(GetCurrentProcess(), &before, &all)) return;
+  one = before & -before;
+  check(processors_of_process() == (size_t)__builtin_popcountll(before), "the processors of the affinity");
+  check(SetProcessAffinityMask(GetCurrentProcess(), one) != 0 && processors_of_process() == 1, "one processor");
+  check(SetProcessAffinityMask(GetCurrentProcess(), before) != 0, "set again");
+}
+
+/* Enters a job with a limit. If the system has none, what follows from it isn't tested. */
+static int enter(JOBOBJECTINFOCLASS which, void *limit, DWORD size, const char *what) {
+  HANDLE job = CreateJobObjectA(NULL, NULL);
+  int is_set = job != NULL && SetInformationJobObject(job, which, limit, size) && AssignProcessToJobObject(job, GetCurrentProcess());
+  memset(limit, 0, size);
+  if (is_set && QueryInformationJobObject(NULL, which, limit, size, NULL)) return 1;
+  printf("refused by this system (error %d), so not tested: %s\n", (int)GetLastError(), what);
+  return 0;
+}
+
+static void processors_of_a_job(void) {
+  JOBOBJECT_CPU_RATE_CONTROL_INFORMATION rate = {
+      .ControlFlags = JOB_OBJECT_CPU_RATE_CONTROL_ENABLE | JOB_OBJECT_CPU_RATE_CONTROL_HARD_CAP};
+  size_t all = GetActiveProcessorCount(ALL_PROCESSOR_GROUPS);
+  rate.CpuRate = (DWORD)(10000 / all + 1); /* a little more than one processor */
+  if (enter(JobObjectCpuRateControlInformation, &rate, sizeof rate, "a job's limit on processors"))
+    check(processors_of_process() == (all < 2 ? all : 2), "two processors of a job");
+}
+
+static void memory_of_a_job(void) {
+  static const size_t BYTES = (size_t)64 << 20; /* less than any machine has */
+  JOBOBJECT_EXTENDED_LIMIT_INFORMATION memory = {.JobMemoryLimit = BYTES};
+  memory.BasicLimitInformation.LimitFlags = JOB_OBJECT_LIMIT_JOB_MEMORY;
+  if (!enter(JobObjectExtendedLimitInformation, &memory, sizeof memory, "a job's limit on memory")) return;
+  if (memory.JobMemoryLimit != BYTES) printf("forgotten by this system, so not tested: a job's limit on memory\n");
+  else check(memory_of_process() == BYTES, "the memory of a job");
+}
+
+static void of_this_system(void) {
+  MEMORYSTATUSEX status = {.dwLength = sizeof status};
+  priorities();
+  affinity();
+  check(GlobalMemoryStatusEx(&status) && memory_of_process() <= status.ullTotalPhys && memory_of_process() > 0, "the memory there is");
+  processors_of_a_job();
+  memory_of_a_job();
+}
