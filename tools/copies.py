@@ -15,7 +15,11 @@ from tools import kit, prover_command
 TOP = Path(__file__).resolve().parents[1]
 
 # How chunks are mixed there (crates/scrypt/src/mixers.rt). The crates themselves have that for x86-64.
-MIXERS = {"aarch64-unknown-linux-gnu": "Words", "wasm64-unknown-unknown": "Pairs"}
+MIXERS = {
+    "x86_64-unknown-linux-gnu": "Vectors",
+    "aarch64-unknown-linux-gnu": "Words",
+    "wasm64-unknown-unknown": "Pairs",
+}
 
 
 def run(*words, cwd=None):
@@ -52,8 +56,9 @@ def leave_out(crate, function):
         shutil.rmtree(answers)
 
 
-def copy_toolchain(to, *flags):
-    """The kit's toolchain, with a compiler that has these flags."""
+def copy_toolchain(to, *flags, given=None):
+    """The kit's toolchain, with a compiler that has these flags. It keeps in a folder what it is given, if there is to
+    be one: its options, one a line, and module.bc. Then it is called once."""
     own = f"{kit.located()}/toolchain"
     (to / "bin").mkdir(parents=True)
     (to / "lib").symlink_to(f"{own}/lib")
@@ -61,7 +66,8 @@ def copy_toolchain(to, *flags):
         (to / "bin" / tool).symlink_to(f"{own}/bin/{tool}")
     compiler = to / "bin/clang"
     compiler.unlink()
-    compiler.write_text(f'#!/bin/sh\nexec "{own}/bin/clang" {" ".join(flags)} "$@"\n')
+    keep = f'mkdir "{given}"\ncp module.bc "{given}"\nprintf "%s\\n" "$@" > "{given}/options"\n' if given else ""
+    compiler.write_text(f'#!/bin/sh\nset -e\n{keep}exec "{own}/bin/clang" {" ".join(flags)} "$@"\n')
     compiler.chmod(0o755)
 
 

@@ -1,0 +1,121 @@
+#!/usr/bin/env python3
+"""Compiles the crate scrypt_c for Windows, a target that the kit doesn't have, from what the kit gave its clang for
+Linux: the same text of LLVM, by the same clang, with the same options. What it makes is in crates/scrypt_c/PROVED, for
+each level of x86-64.
+
+usage: python3 -m bindings.bitcode ARCH PROVED [MADE]
+
+ARCH and PROVED are as in bindings/arch.sh. MADE is a folder like crates/scrypt_c/out, with the library that the kit
+built for each level, and beside it the folder `given` with what its clang was given. Without MADE the crate is proved
+and built before, from the proofs that a check of it kept.
+
+First each text is compiled for Linux, and has to give the object of the kit byte by byte. For Windows the text differs
+in two attributes of functions. It needs the kit, and without MADE the libraries below the crate, which `make lib`
+proves.
+"""
+
+import os
+import re
+import subprocess
+import sys
+import tempfile
+from pathlib import Path
+
+from bindings.compilers import LEVELS
+from tools import copies, kit
+
+LINUX = "x86_64-unknown-linux-gnu"
+
+# What the kit's clang is given for Linux, by the names that the kit gives its own files.
+SOURCE, OBJECT = "module.bc", "module.o"
+
+# No section for each function: of two with one name, for two levels, the linker would keep one. No table of addresses
+# that are compared, which names symbols by their numbers: those change where they are renamed. That the target isn't
+# the one of the text is meant.
+FOR_WINDOWS = ["-fno-function-sections", "-fno-addrsig", "-Wno-override-module"]
+
+# The attributes of functions with code. `nounwind` they keep.
+ATTRIBUTES = re.compile(r'^attributes #(\d+) = \{ (.*)nounwind "probe-stack"="inline-asm" (.*"target-cpu"=.*)\}$', re.M)
+DEFINED = re.compile(r"^define .*", re.M)
+
+
+def prove(room):
+    """Proves and builds the crate for each level, and returns the folder MADE."""
+    crate, kept = room / "scrypt_c", "crates/scrypt_c/out/incremental"
+    copies.copy_crate("scrypt_c", crate, LINUX)
+    for level, place in LEVELS.items():
+        made, toolchain = (room / "made" / place).parent, room / f"toolchain-{level}"
+        made.mkdir(parents=True, exist_ok=True)
+        copies.copy_toolchain(toolchain, given=made / "given")
+        options = ["--toolchain", toolchain, "--backend", "llvm", "--cpu", level]
+        verdict = copies.build("scrypt_c", crate, room / "made" / place, *options, kept=kept)
+        print(f"== scrypt_c-{level}\n{verdict}", flush=True)
+        kept = None  # the second level begins with what the first one kept
+    return room / "made"
+
+
+def tool(name):
+    return f"{kit.located()}/toolchain/bin/{name}"
+
+
+def compile_as_given(given, text, made, *options):
+    """Compiles a text as the kit has its own compiled, with further options."""
+    words = (given / "options").read_text("utf-8").splitlines()
+    if [words.count(it) for it in (SOURCE, OBJECT)] != [1, 1]:
+        sys.exit(f"{given}: not one {SOURCE} and one {OBJECT}")
+    copies.run(tool("clang"), *[{SOURCE: text, OBJECT: made}.get(it, it) for it in words], *options)
+
+
+def for_windows(text):
+    """The text, in which each function with code has an entry in the table by which Windows unwinds the stack
+    (uwtable), and calls for a large frame what Windows calls, in place of instructions for Linux."""
+    changed = {it[1] for it in ATTRIBUTES.finditer(text)}
+    for line in DEFINED.findall(text):
+        found = re.search(r" #(\d+) \{$", line)
+        if not found or found[1] not in changed:
+            sys.exit(f"a function whose attributes are not known: {line[:200]}")
+    return ATTRIBUTES.sub(r"attributes #\1 = { \2nounwind uwtable \3}", text)
+
+
+def printed(given, room):
+    """The text of what the kit's clang was given, in a file. It has the order of uses too, by which clang compiles."""
+    text = room / "linux.ll"
+    options = ["-S", "-emit-llvm", "-Xclang", "-disable-llvm-passes", "-Xclang", "-emit-llvm-uselists", "-x", "ir"]
+    copies.run(tool("clang"), *options, given / SOURCE, "-o", text)
+    return text
+
+
+def check(archive, given, text, room):
+    """Ends unless the text compiled for Linux is the object that the kit made."""
+    compile_as_given(given, text, room / "linux.o")
+    if (room / "linux.o").read_bytes() != subprocess.check_output([tool("llvm-ar"), "p", archive]):
+        sys.exit(f"{given}: compiled for Linux, this isn't the object in {archive}")
+
+
+def build(arch, archive, output, room):
+    """Makes the archive for Windows of that for Linux."""
+    given = archive.parent / "given"
+    text = printed(given, room)
+    check(archive, given, text, room)
+    changed, made = room / "windows.ll", room / "scrypt_c.o"
+    changed.write_text(for_windows(text.read_text("utf-8")), "utf-8")
+    compile_as_given(given, changed, made, f"--target={arch}", *FOR_WINDOWS)
+    output.parent.mkdir(parents=True, exist_ok=True)
+    output.unlink(missing_ok=True)
+    copies.run(tool("llvm-ar"), "rcs", output, made)
+
+
+def main(arch, proved, made=None):
+    # Not in the repository, in which rt refuses sources that are of no crate.
+    with tempfile.TemporaryDirectory() as room:
+        folder = Path(made) if made else prove(Path(room))
+        for level, place in LEVELS.items():
+            build(arch, folder / place, Path("crates/scrypt_c", proved, place), Path(room))
+            print(f"{level}: for Linux it is what the kit built, byte by byte; compiled for {arch}", flush=True)
+
+
+if __name__ == "__main__":
+    os.chdir(copies.TOP)
+    if not sys.argv[2:]:
+        sys.exit(__doc__)
+    main(*sys.argv[1:])
