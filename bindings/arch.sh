@@ -2,6 +2,7 @@
 # What differs by the processor that is built for, which packages and tests take from here. ARCH names it as GNU and Debian do. For
 # another processor than the kit's own, Debian's cross compiler builds, and Debian's emulator runs what is built. Sets
 #   archs      what ARCH can be: first the kit's own processor, which is the default
+#   system     linux: the file of bindings/ that has what lib.sh does for it alone
 #   machine    what Linux, Python and the emulator call it
 #   debian     what Debian and Go call it
 #   build      the folder of what is built, which has lib and bin
@@ -14,9 +15,10 @@
 #   emulator   the command that runs what is built, or nothing
 #   packages   the Debian packages that building and testing need, or nothing
 #   bundled    the name of the static library in the folders of the Go module and of the Rust crate
+#   sources    the sources of bindings/c that name the system
 archs="x86_64-linux-gnu aarch64-linux-gnu"
 ARCH=${ARCH:-${archs%% *}}
-machine=${ARCH%%-*}
+machine=${ARCH%%-*} system=linux sources="linux linux_processors"
 case $ARCH in
   x86_64-linux-gnu)
     debian=amd64 build=build proved=out is_kits=1 oldest=x86-64-v2 newest=x86-64-v3 loader=/lib64/ld-linux-x86-64.so.2
