@@ -1,6 +1,8 @@
-/* Prints the key of each line of the standard input: TABLES S LOG_N R P LEN PASSWORD SALT, where the last two are in hexadecimal
- * after a dot. By scrypt_key with no tables, by scrypt_key_thin if S is not 0, or else by scrypt_key_with_buffers, whose table and
- * scratch are so many times as long as one chunk needs. The buffers are not zeros before. For random_keys.py. */
+/* Prints the key or the text of each line of the standard input: HOW S LOG_N R P LEN PASSWORD SALT, where the last two
+ * are in hexadecimal after a dot. A key if HOW is a number of tables: by scrypt_key with none, by scrypt_key_thin if S
+ * is not 0, or else by scrypt_key_with_buffers, whose table and scratch are so many times as long as one chunk needs.
+ * The buffers are not zeros before. If HOW is phc or mcf, the text with a key of LEN bytes, and how it is verified with
+ * its password and with another one. For random_keys.py. */
 #include "scrypt_c.h"
 
 #include <stdio.h>
@@ -8,6 +10,12 @@
 #include <string.h>
 
 enum { MOST = 512 };
+
+struct line {
+  unsigned s, log_n, r, p, len;
+  size_t password_len, salt_len;
+  uint8_t password[MOST], salt[MOST];
+};
 
 /* How many bytes the text has after its dot, which are written. */
 static size_t bytes_of(const char *text, uint8_t *bytes) {
@@ -23,30 +31,53 @@ static void *filled(size_t len) {
   return memset(buffer, 0xa5, len);
 }
 
+#define GIVEN of->password, of->password_len, of->salt, of->salt_len, of->log_n, of->r, of->p
+
+static int key_in_buffers(const struct line *of, size_t tables, uint8_t *key) {
+  size_t chunks_len, table_len, scratch_len;
+  int status = scrypt_buffer_lens(of->log_n, of->r, of->p, (uint8_t)of->s, &chunks_len, &table_len, &scratch_len);
+  uint8_t *chunks;
+  uint32_t *table, *scratch;
+  if (status != SCRYPT_OK) return status;
+  chunks = (uint8_t *)filled(chunks_len);
+  table = (uint32_t *)filled(4 * tables * table_len), scratch = (uint32_t *)filled(4 * tables * scratch_len);
+  if (of->s != 0)
+    status = scrypt_key_thin(GIVEN, (uint8_t)of->s, key, of->len, chunks, chunks_len, table, table_len, scratch, scratch_len);
+  else
+    status = scrypt_key_with_buffers(GIVEN, key, of->len, chunks, chunks_len, table, tables * table_len, scratch,
+                                     tables * scratch_len);
+  free(chunks);
+  free(table);
+  free(scratch);
+  return status;
+}
+
+static void print_key(const struct line *of, size_t tables) {
+  uint8_t key[MOST];
+  size_t i;
+  printf("%d ", tables != 0 ? key_in_buffers(of, tables, key) : scrypt_key(GIVEN, key, of->len));
+  for (i = 0; i < of->len; i++) printf("%02x", key[i]);
+  putchar('\n');
+}
+
+/* A zero after the password wouldn't be another one. */
+static void print_text(struct line *of, int is_mcf) {
+  char text[SCRYPT_MCF_CAPACITY(MOST)];
+  int status = (is_mcf ? scrypt_hash_mcf : scrypt_hash_phc)(GIVEN, of->len, text, sizeof text);
+  if (status != SCRYPT_OK) text[0] = 0;
+  of->password[of->password_len] = 1;
+  printf("%d %s %d %d\n", status, text, scrypt_verify(of->password, of->password_len, text, strlen(text)),
+         scrypt_verify(of->password, of->password_len + 1, text, strlen(text)));
+}
+
 int main(void) {
-  unsigned tables, s, log_n, r, p, len;
-  char password_text[2 * MOST + 2], salt_text[2 * MOST + 2];
-  uint8_t password[MOST], salt[MOST], key[MOST];
-  while (scanf("%u %u %u %u %u %u %1025s %1025s", &tables, &s, &log_n, &r, &p, &len, password_text, salt_text) == 8) {
-    size_t password_len = bytes_of(password_text, password), salt_len = bytes_of(salt_text, salt), i;
-    size_t chunks_len, table_len, scratch_len;
-    int status = scrypt_buffer_lens((uint8_t)log_n, r, p, (uint8_t)s, &chunks_len, &table_len, &scratch_len);
-    if (status == SCRYPT_OK && tables == 0)
-      status = scrypt_key(password, password_len, salt, salt_len, (uint8_t)log_n, r, p, key, len);
-    if (status == SCRYPT_OK && tables != 0) {
-      uint8_t *chunks = (uint8_t *)filled(chunks_len);
-      uint32_t *table = (uint32_t *)filled(4 * tables * table_len), *scratch = (uint32_t *)filled(4 * tables * scratch_len);
-      status = s != 0 ? scrypt_key_thin(password, password_len, salt, salt_len, (uint8_t)log_n, r, p, (uint8_t)s, key, len, chunks,
-                                        chunks_len, table, table_len, scratch, scratch_len)
-                      : scrypt_key_with_buffers(password, password_len, salt, salt_len, (uint8_t)log_n, r, p, key, len, chunks,
-                                                chunks_len, table, tables * table_len, scratch, tables * scratch_len);
-      free(chunks);
-      free(table);
-      free(scratch);
-    }
-    printf("%d ", status);
-    for (i = 0; i < len; i++) printf("%02x", key[i]);
-    putchar('\n');
+  struct line it;
+  char how[16], password[2 * MOST], salt[2 * MOST];
+  while (scanf("%15s %u %u %u %u %u", how, &it.s, &it.log_n, &it.r, &it.p, &it.len) == 6 &&
+         scanf("%1023s %1023s", password, salt) == 2) {
+    it.password_len = bytes_of(password, it.password), it.salt_len = bytes_of(salt, it.salt);
+    if (how[0] >= '0' && how[0] <= '9') print_key(&it, (size_t)atoi(how));
+    else print_text(&it, strcmp(how, "mcf") == 0);
   }
   return 0;
 }

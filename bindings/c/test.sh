@@ -101,7 +101,7 @@ fi
 echo "as their contracts say: the functions in C that the proved code calls"
 if [ -n "$emulator" ]; then
   compiled key_lines bindings/c/key_lines.c "$lib/libscrypt_c.a"
-  python3 -B bindings/c/random_keys.py 200 1 $emulator "$room/key_lines"
+  python3 -B -m bindings.c.random_keys 200 50 1 $emulator "$room/key_lines"
 fi
 # Calls that derive one key execute as many instructions as each other, within 4 per cent.
 derives_once() {
