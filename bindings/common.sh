@@ -6,6 +6,10 @@ set -eu
 lib=$PWD/$build/lib
 room=$(mktemp -d)
 trap 'chmod -R u+w "$room"; rm -rf "$room"' EXIT
+if [ "$system" = windows ]; then
+  export WINEPREFIX="${WINEPREFIX:-$room/wine}"
+  . bindings/wine.sh
+fi
 
 # Whether a command is here, or else which package brings it, and what was left out.
 has() {

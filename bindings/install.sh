@@ -10,6 +10,7 @@ unset CDPATH
 cd "$(dirname "$0")/.."
 action=$1
 . bindings/arch.sh
+if [ "$system" = windows ]; then echo "what is for Windows is not installed here: make dist packs it" >&2; exit 1; fi
 program=$build/bin/scrypt_tool
 room=$(mktemp -d)
 trap 'rm -rf "$room"' EXIT

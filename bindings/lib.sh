@@ -1,10 +1,10 @@
 #!/bin/sh
-# Builds the libraries for C into build/lib, of the crate scrypt_c: the static one, and the shared one under the name that
-# programs are linked by and the one that they load it by; the header, and files for pkg-config and CMake. For x86-64 the kit
-# proves the crate for two levels, and both libraries have code for both, of which dispatch.c chooses when a program starts.
-# For tests, build/tests has a shared library that never chooses the newer one. Builds the program scrypt_calibrate into build/bin.
-# With ARCH, which arch.sh describes, it builds for another processor into build/ARCH, and links the program too. What is for Linux
-# alone is in linux.sh.
+# Builds the libraries for C into build/lib, of the crate scrypt_c: the static one, and the shared one under the name
+# that programs are linked by and the one that they load it by; the header, and files for pkg-config and CMake. For
+# x86-64 the kit proves the crate for two levels, and both libraries have code for both, of which dispatch.c chooses
+# when a program starts. For tests, build/tests has a shared library that never chooses the newer one. Builds the
+# program scrypt_calibrate into build/bin. With ARCH, which arch.sh describes, it builds for another system or processor
+# into build/ARCH; for Linux it links the program too. What differs by the system is in linux.sh and in windows.sh.
 # Needs the kit and a C compiler with its binutils. With the word built, the crate's own libraries are there already.
 set -eu
 unset CDPATH
@@ -48,8 +48,8 @@ make_objects() {
   for part in blocks registers version at_once; do compiled $flags -c -o "$parts/$part.o" bindings/c/$part.c; done
   # How much of the stack each proved call uses is measured, and cleared by what is compiled then.
   compiled $flags -c -o "$parts/stack_lens.o" bindings/c/stack_lens.c
-  compiled $flags $bound -o "$parts/stack_lens" bindings/c/test.c "$parts"/*/*.o "$parts"/*.o "$common"/over/*.o $libraries
-  $emulator "$parts/stack_lens" small > "$parts/stack_lens.h"
+  compiled $flags $bound -o "$parts/stack_lens$exe" bindings/c/test.c "$parts"/*/*.o "$parts"/*.o "$common"/over/*.o $libraries
+  $emulator "$parts/stack_lens$exe" small > "$parts/stack_lens.h"
   rm "$parts/stack_lens.o"
   compiled $flags -c -o "$parts/clearing.o" bindings/c/clearing.c
   # The calls that are called by those over them.

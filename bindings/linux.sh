@@ -1,5 +1,5 @@
 # shellcheck shell=sh
-# What lib.sh does for Linux alone. Sets
+# What lib.sh does for Linux alone; windows.sh has the same for Windows. Sets
 #   hardened, generated   how C is compiled for a library
 #   bound                 how a program is linked whose functions are bound when it is loaded
 #   libraries             those of the system that programs need with the static library
@@ -40,8 +40,8 @@ add_heap() {
   fi
 }
 
-# join OBJECT NAMES OBJECTS.. makes one object of several, of which only the names of a list are seen from outside, and sets joined
-# to it.
+# join OBJECT NAMES OBJECTS.. makes one object of several, of which only the names of a list are seen from outside, and
+# sets joined to it.
 join() {
   joined=$1 names=$2
   shift 2
@@ -74,8 +74,8 @@ finish() {
   cp "$out/$shared" "$out/libscrypt_c.so" # not a link, which the kit refuses below the top of the repository
   link_drop_in
   bindings/c/found.sh "$PWD/$out" "$PWD/$out" "$out" "$out"
-  # The crate has here the library for the kit's own processor alone, since another one may be built while it is tested; that of a
-  # release has all.
+  # The crate has here the library for the kit's own processor alone, since another one may be built while it is tested;
+  # that of a release has all.
   if [ -n "$is_kits" ]; then
     cp "$out/libscrypt_c.a" "$out/scrypt_c.h" bindings/rust/
     (cd bindings/rust && sha256sum libscrypt_c.a scrypt_c.h > SHA256SUMS)

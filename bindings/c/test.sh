@@ -97,6 +97,9 @@ kit_tests bindings/c/kit_heap.c bindings/terminal/kit_os.c
 if [ -n "$is_kits" ] && command -v rt > /dev/null; then
   kit=$(dirname "$(rt doc)")
   kit_tests "$kit/c/libos_c.a" "$kit/c/liblibc_c.a"
+  # What Windows has of it, compiled for Linux, where C can call it.
+  "$kit/toolchain/bin/clang" -Wno-override-module -fPIC -c -x ir -o "$room/heap.o" bindings/c/kit_heap.ll
+  kit_tests "$room/heap.o" bindings/terminal/kit_os.c
 fi
 echo "as their contracts say: the functions in C that the proved code calls"
 if [ -n "$emulator" ]; then
