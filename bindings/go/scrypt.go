@@ -20,7 +20,6 @@ import (
 	"fmt"
 	"math"
 	"math/bits"
-	"syscall"
 	"time"
 )
 
@@ -121,20 +120,14 @@ func Key(password, salt []byte, N, r, p, keyLen int) ([]byte, error) {
 	return key, nil
 }
 
-// newKey returns n bytes, ErrInvalidOutputLen or ErrOutOfMemory. It tries mmap, because make crashes the process if memory
-// runs out.
+// newKey returns n bytes, ErrInvalidOutputLen or ErrOutOfMemory. It asks the system before, because make crashes the
+// process if memory runs out.
 func newKey(n int) ([]byte, error) {
 	if n < 1 || n > C.SCRYPT_MAX_OUTPUT_LEN {
 		return nil, ErrInvalidOutputLen
 	}
-	if n > 1<<20 {
-		tried, err := syscall.Mmap(-1, 0, n, syscall.PROT_READ|syscall.PROT_WRITE, syscall.MAP_ANON|syscall.MAP_PRIVATE)
-		if err != nil {
-			return nil, ErrOutOfMemory
-		}
-		if err := syscall.Munmap(tried); err != nil {
-			return nil, ErrOutOfMemory
-		}
+	if n > 1<<20 && !hasMemory(n) {
+		return nil, ErrOutOfMemory
 	}
 	return make([]byte, n), nil
 }

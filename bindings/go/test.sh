@@ -1,16 +1,23 @@
 #!/bin/sh
 # Tests the Go module with the library of build/lib, and installs it as go get and go mod vendor do. With the word short:
-# its own tests alone.
+# its own tests alone. With the ARCH of Windows: these in Wine.
 unset CDPATH
 cd "$(dirname "$0")/../.."
 . bindings/common.sh
-has go golang-go && has gcc gcc || exit 0
+package=${packages%% *}
+has go golang-go && has "$CC" "${package:-gcc}" || exit 0
 export GOPROXY=off GOFLAGS=-modcacherw GOCACHE="${GOCACHE:-$room/cache}" GOMODCACHE="$room/modules"
 module=nilomafy.example/scrypt
 version=v$(sed 's/+.*//' VERSION)
-cp "$lib/libscrypt_c.a" "$lib/scrypt_c.h" bindings/go/
+cp "$lib/libscrypt_c.a" "bindings/go/$bundled"
+cp "$lib/scrypt_c.h" bindings/go/
 
 in_module() { (cd bindings/go && "$@"); }
+if [ "$system" = windows ]; then
+  in_module env GOOS=windows CGO_ENABLED=1 CC="$CC" go test -count=1 -exec "$emulator" ./...
+  echo "called from Go, in Wine"
+  exit
+fi
 in_module go test -count=1 ./...
 echo "called from Go"
 if [ "${1:-}" = short ]; then exit; fi
@@ -103,6 +110,17 @@ if has aarch64-linux-gnu-gcc gcc-aarch64-linux-gnu; then
     echo "built for arm64"
     in_program go build -mod=vendor -o program .
   else echo "$arm64 was not built (make lib ARCH=aarch64-linux-gnu): not run: a program for arm64"; fi
+fi
+
+windows=build/x86_64-w64-mingw32/lib/libscrypt_c.a
+if has x86_64-w64-mingw32-gcc gcc-mingw-w64-x86-64-posix; then
+  if [ -f $windows ]; then
+    cp $windows "$room/program/vendor/$module/libscrypt_c_windows.a"
+    by_line x86_64-w64-mingw32-gcc
+    test "$(head -c 2 "$room/program/program.exe")" = MZ
+    echo "built for Windows"
+    in_program go build -mod=vendor -o program .
+  else echo "$windows was not built (make lib ARCH=x86_64-w64-mingw32): not run: a program for Windows"; fi
 fi
 
 if has pkg-config pkg-config; then
