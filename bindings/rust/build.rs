@@ -1,10 +1,15 @@
 //! Finds the library libscrypt_c: the file that SCRYPT_C_LIBRARY names, or the one in the folder that it names, or else the
-//! static one that this crate has for the processor, as its hash says, or else what pkg-config finds. It takes nothing from
+//! static one that this crate has for the target, as its hash says, or else what pkg-config finds. It takes nothing from
 //! the folders around the crate, where another user may have put anything. For a target that the library isn't made for, it
 //! says so.
 
 use std::path::Path;
 use std::process::Command;
+
+/// What cargo knows of the target by this name.
+fn target_has(name: &str) -> String {
+    std::env::var(format!("CARGO_CFG_TARGET_{name}")).unwrap_or_default()
+}
 
 /// Links the library of this folder, or this file: the static one, if both are there.
 fn link(place: &Path) -> Result<(), String> {
@@ -12,9 +17,14 @@ fn link(place: &Path) -> Result<(), String> {
     let is_static = if place.is_dir() {
         folder.join("libscrypt_c.a").exists()
     } else {
-        place.extension().map_or(false, |it| it == "a")
+        let name = place.to_string_lossy();
+        name.ends_with(".a") && !name.ends_with(".dll.a") // which is MinGW's library of a DLL
     };
-    let name = if is_static { "libscrypt_c.a" } else { "libscrypt_c.so" };
+    let name = match (is_static, target_has("OS").as_str()) {
+        (true, _) => "libscrypt_c.a",
+        (false, "windows") => "libscrypt_c.dll.a",
+        (false, _) => "libscrypt_c.so",
+    };
     if !place.exists() {
         return Err(format!("there is no {}", place.display()));
     }
@@ -33,17 +43,21 @@ fn link_named(folder: &Path, name: &str) -> Result<(), String> {
         name.strip_prefix("lib").and_then(|it| it.split_once('.')).expect("lib..");
     if ending == "a" {
         println!("cargo:rustc-link-lib=static={short}");
-        println!("cargo:rustc-link-lib=pthread");
+        let is_windows = target_has("OS") == "windows";
+        for needed in if is_windows { &["bcrypt", "synchronization"][..] } else { &["pthread"] } {
+            println!("cargo:rustc-link-lib={needed}");
+        }
     } else {
         println!("cargo:rustc-link-lib=dylib={short}");
     }
     Ok(())
 }
 
-/// The name of the library that the crate has for a processor.
-fn bundled(processor: &str) -> &'static str {
-    match processor {
-        "aarch64" => "libscrypt_c_arm64.a",
+/// The name of the library that the crate has for a system and a processor.
+fn bundled() -> &'static str {
+    match (target_has("OS").as_str(), target_has("ARCH").as_str()) {
+        ("windows", _) => "libscrypt_c_windows.a",
+        (_, "aarch64") => "libscrypt_c_arm64.a",
         _ => "libscrypt_c.a",
     }
 }
@@ -91,14 +105,20 @@ fn link_by_pkg_config() -> Result<(), String> {
 
 /// Refuses a target that there is no library for.
 fn check_target() -> Result<(), String> {
-    let of = |name: &str| std::env::var(format!("CARGO_CFG_TARGET_{name}")).unwrap_or_default();
-    let (system, processor) = (of("OS"), of("ARCH"));
-    let is_known = ["x86_64", "aarch64"].contains(&processor.as_str());
-    if system == "linux" && is_known && of("ENDIAN") == "little" && of("POINTER_WIDTH") == "64" {
+    let (system, processor) = (target_has("OS"), target_has("ARCH"));
+    let is_known = match system.as_str() {
+        "linux" => ["x86_64", "aarch64"].contains(&processor.as_str()),
+        "windows" => processor == "x86_64" && target_has("ENV") == "gnu",
+        _ => false,
+    };
+    if is_known && target_has("ENDIAN") == "little" && target_has("POINTER_WIDTH") == "64" {
         return Ok(());
     }
     let target = std::env::var("TARGET").unwrap_or_default();
-    Err(format!("scrypt_c is for Linux on x86_64 and on aarch64, not for {target} ({system} on {processor})"))
+    Err(format!(
+        "scrypt_c is for Linux on x86_64 and on aarch64, and for Windows on x86_64 with the GNU tools, not for {target} \
+         ({system} on {processor})"
+    ))
 }
 
 fn main() {
@@ -111,7 +131,7 @@ fn main() {
     }
     let crate_folder = std::env::var_os("CARGO_MANIFEST_DIR").expect("cargo runs this");
     let crate_folder = Path::new(&crate_folder);
-    let name = bundled(&std::env::var("CARGO_CFG_TARGET_ARCH").unwrap_or_default());
+    let name = bundled();
     let linked = match std::env::var_os("SCRYPT_C_LIBRARY") {
         Some(place) => link(Path::new(&place)),
         None if is_listed(crate_folder, name) => link_bundled(crate_folder, name),

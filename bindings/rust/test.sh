@@ -1,6 +1,7 @@
 #!/bin/sh
-# Tests the Rust crate over the library of build/lib, and its package in a folder of its own. Cargo resolves the optional
-# dependency password-hash in any case, which is Debian's. With the word short: its own tests alone.
+# Tests the Rust crate over the library of build/lib, and its package in a folder of its own. Cargo resolves the
+# optional dependency password-hash in any case, which is Debian's. With the word short: its own tests alone. With the
+# ARCH of Windows: these in Wine, by Debian's compiler, which has Rust's own library for that.
 unset CDPATH
 cd "$(dirname "$0")/../.."
 . bindings/common.sh
@@ -12,8 +13,9 @@ if ! ls -d $registry/password-hash-0.4* > /dev/null 2>&1; then
 fi
 export CARGO_TARGET_DIR="$room/target" CARGO_HOME="$room/cargo"
 unset SCRYPT_C_LIBRARY
-cp "$lib/libscrypt_c.a" "$lib/scrypt_c.h" bindings/rust/
-(cd bindings/rust && sha256sum libscrypt_c.a scrypt_c.h > SHA256SUMS)
+cp "$lib/libscrypt_c.a" "bindings/rust/$bundled"
+cp "$lib/scrypt_c.h" bindings/rust/
+(cd bindings/rust && sha256sum "$bundled" scrypt_c.h > SHA256SUMS)
 mkdir "$CARGO_HOME"
 cat > "$CARGO_HOME/config.toml" << CONFIG
 [net]
@@ -31,6 +33,21 @@ crate() {
 passed() { grep 'test result' "$room/log" | awk '{ passed += $4 } END { print passed " tests passed" }'; }
 tested() { crate test "$@" > "$room/log" 2>&1 || { cat "$room/log"; exit 1; }; echo "$* $(passed)"; }
 
+if [ "$system" = windows ]; then
+  target=x86_64-pc-windows-gnu
+  if [ ! -d /usr/lib/rustlib/$target ]; then
+    echo "Rust's library for Windows is not installed (package libstd-rust-dev-windows): not run"
+    exit
+  fi
+  # A backtrace crashes Wine, where tests panic on purpose.
+  export PATH=/usr/bin:$PATH CARGO_TARGET_X86_64_PC_WINDOWS_GNU_RUNNER=$emulator RUST_BACKTRACE=0
+  tested --target $target --all-features --tests
+  mkdir -p "$CARGO_TARGET_DIR/$target/debug/deps"
+  cp "$lib/scrypt_c.dll" "$CARGO_TARGET_DIR/$target/debug/deps"
+  SCRYPT_C_LIBRARY=$lib/libscrypt_c.dll.a tested --target $target --tests
+  echo "called from Rust, in Wine: the static library, and the DLL"
+  exit
+fi
 tested --all-features
 echo "called from Rust"
 if [ "${1:-}" = short ]; then exit; fi
@@ -86,8 +103,8 @@ refused 'is not the file whose hash is in SHA256SUMS' PKG_CONFIG=false
 rm SHA256SUMS
 refused 'SCRYPT_C_LIBRARY' PKG_CONFIG=false
 refused 'libscrypt-c-dev' PKG_CONFIG=false
-for target in x86_64-pc-windows-gnu aarch64-apple-darwin riscv64gc-unknown-linux-gnu x86_64-unknown-linux-gnux32 aarch64-linux-android; do
-  refused "on x86_64 and on aarch64, not for $target" CARGO_BUILD_TARGET=$target
+for target in x86_64-pc-windows-msvc i686-pc-windows-gnu aarch64-apple-darwin riscv64gc-unknown-linux-gnu x86_64-unknown-linux-gnux32 aarch64-linux-android; do
+  refused "with the GNU tools, not for $target" CARGO_BUILD_TARGET=$target
 done
 refused 'false does not find scrypt_c' $arm64 PKG_CONFIG=false
 SCRYPT_C_LIBRARY="$lib" cargo run --quiet --example hash > "$room/log"
