@@ -1,6 +1,6 @@
 """Puts the library into the package, with the licences.
 
-It is the file that SCRYPT_C_LIBRARY names, or that of this name in the folder that it names, or else the one that
+It is the file that SCRYPT_C_LIBRARY names, or that of a known name in the folder that it names, or else the one that
 `make lib` put into build/lib of the repository; a source archive has it in the package already, and takes no file from
 outside of itself, where another user may have put anything. What SCRYPT_C_PROVED names, if it is said, is a text about its
 proof, and goes beside the licences.
@@ -11,10 +11,25 @@ import pathlib
 
 from hatchling.builders.hooks.plugin.interface import BuildHookInterface
 
-SONAME = "libscrypt_c.so.0"
+# The names of the library, on Linux and on Windows.
+NAMES = ["libscrypt_c.so.0", "scrypt_c.dll"]
 
-# What a library says of its processor, in the header of the file, and what Python calls that.
+# What a library for Linux says of its processor, in the header of the file, and what Python calls that.
 MACHINES = {62: "x86_64", 183: "aarch64"}
+
+
+def found(folder):
+    """The library in a folder, or None."""
+    return next((folder / name for name in NAMES if (folder / name).exists()), None)
+
+
+def tag_of(library):
+    """The tag of a wheel with this library. The newest name that it takes from glibc is of 2.14, or of 2.17 for arm64,
+    and the tags for Linux ask for 2.17."""
+    if library[:2] == b"MZ":
+        return "py3-none-win_amd64"
+    machine = MACHINES[int.from_bytes(library[18:20], "little")]
+    return f"py3-none-manylinux_2_17_{machine}.manylinux2014_{machine}"
 
 
 class Library(BuildHookInterface):
@@ -23,13 +38,14 @@ class Library(BuildHookInterface):
         top = root if (root / "PKG-INFO").exists() else root / "../.."  # which each source archive has
         named = pathlib.Path(os.environ.get("SCRYPT_C_LIBRARY") or top / "build/lib")
         files = build_data["force_include"]
-        library, inside = named if named.is_file() else named / SONAME, root / "scrypt_c" / SONAME
-        if library.exists():
-            files[str(library.resolve())] = f"scrypt_c/{SONAME}"
-        elif inside.exists():
+        library, inside = named if named.is_file() else found(named), found(root / "scrypt_c")
+        if library:
+            name = NAMES[library.read_bytes()[:2] == b"MZ"]
+            files[str(library.resolve())] = f"scrypt_c/{name}"
+        elif inside:
             library = inside
         else:
-            raise SystemExit(f"no {SONAME} in {named}: build it by `make lib`, or name its folder in SCRYPT_C_LIBRARY")
+            raise SystemExit(f"no {NAMES[0]} in {named}: build it by `make lib`, or name its folder in SCRYPT_C_LIBRARY")
         is_wheel = self.target_name == "wheel"
         folder = f"{self.build_config.builder.artifact_project_id}.dist-info/" if is_wheel else ""
         texts = [place / it for place in (top, top / "release", root) for it in ("LICENSE", "NOTICES")]
@@ -37,6 +53,4 @@ class Library(BuildHookInterface):
             texts.append(pathlib.Path(os.environ["SCRYPT_C_PROVED"]))
         files |= {str(it): f"{folder}{it.name}" for it in texts if it.exists()}
         if is_wheel:
-            # The newest name that the library takes from glibc is of 2.14, or of 2.17 for arm64, and this tag asks for 2.17.
-            machine = MACHINES[int.from_bytes(library.read_bytes()[18:20], "little")]
-            build_data |= {"pure_python": False, "tag": f"py3-none-manylinux_2_17_{machine}.manylinux2014_{machine}"}
+            build_data |= {"pure_python": False, "tag": tag_of(library.read_bytes())}

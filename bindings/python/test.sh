@@ -1,10 +1,23 @@
 #!/bin/sh
-# Tests the Python package over the library of build/lib, with gevent, Django and passlib if they are here; installs it into
-# a fresh virtual environment, and builds its wheel. With the word short: its own tests of keys, hashes and the library.
+# Tests the Python package over the library of build/lib, with gevent, Django and passlib if they are here; installs it
+# into a fresh virtual environment, and builds its wheel. With the word short: its own tests of keys, hashes and the
+# library. With the ARCH of Windows, for which Debian has no Python, it builds the wheel alone.
 unset CDPATH
 cd "$(dirname "$0")/../.."
 . bindings/common.sh
 has python3 python3 || exit 0
+if [ "$system" = windows ]; then
+  if ! /usr/bin/python3 -c 'import hatchling' 2> /dev/null; then
+    echo "hatchling is not installed (package python3-hatchling): not run"
+    exit
+  fi
+  (cd bindings/python && SCRYPT_C_LIBRARY=$lib /usr/bin/python3 -B -m hatchling build -t wheel -d "$room" > "$room/log" 2>&1)
+  /usr/bin/python3 -m zipfile -e "$room"/scrypt_c-*-py3-none-win_amd64.whl "$room/unpacked"
+  cmp "$room/unpacked/scrypt_c/scrypt_c.dll" "$lib/scrypt_c.dll"
+  test -z "$(find "$room/unpacked" -name '*.so*')"
+  echo "the wheel for Windows has the DLL: nothing of it is run"
+  exit
+fi
 tests=$PWD/bindings/python/tests
 export SCRYPT_C_LIBRARY="$lib" PYTHONDONTWRITEBYTECODE=1
 

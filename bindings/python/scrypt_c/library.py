@@ -9,15 +9,15 @@ from typing import Any, Optional
 
 from . import declared
 
-SONAME = "libscrypt_c.so.0"
+FILE = "scrypt_c.dll" if sys.platform == "win32" else "libscrypt_c.so.0"
 
 
 def _place() -> str:
     named = os.environ.get("SCRYPT_C_LIBRARY")
     if named:
-        return os.path.join(named, SONAME) if os.path.isdir(named) else named
-    inside = os.path.join(os.path.dirname(os.path.abspath(__file__)), SONAME)
-    return inside if os.path.exists(inside) else SONAME
+        return os.path.join(named, FILE) if os.path.isdir(named) else named
+    inside = os.path.join(os.path.dirname(os.path.abspath(__file__)), FILE)
+    return inside if os.path.exists(inside) else FILE
 
 
 def _loaded() -> ctypes.CDLL:
@@ -26,7 +26,7 @@ def _loaded() -> ctypes.CDLL:
         return ctypes.CDLL(place)
     except OSError as error:
         raise ImportError(
-            f"scrypt_c needs the library {SONAME}, and {place} cannot be loaded ({error}). `make lib` in its repository "
+            f"scrypt_c needs the library {FILE}, and {place} cannot be loaded ({error}). `make lib` in its repository "
             "builds it, and `make install` installs it; or let SCRYPT_C_LIBRARY name the file, or its folder."
         ) from error
 
@@ -85,7 +85,8 @@ hasher_needs_rehash = _declared("scrypt_hasher_needs_rehash")
 hasher_close = _declared("scrypt_hasher_close")
 
 if sys.implementation.name == "cpython":
-    _untrack = _declared("PyObject_GC_UnTrack", ctypes.PyDLL(None))
+    # The interpreter's own calls: on Windows they are in a DLL, and elsewhere in the program.
+    _untrack = _declared("PyObject_GC_UnTrack", ctypes.PyDLL(None, handle=getattr(sys, "dllhandle", None)))
 
 
 def hasher_new(options: Optional[declared.Options], status: Optional[ctypes.c_int]) -> Hasher:

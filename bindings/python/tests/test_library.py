@@ -12,6 +12,21 @@ from scrypt_c import declared, errors, library
 
 TRY = "from scrypt_c import library; print(library._place())"
 
+# As on Windows: the library has another name, and the interpreter's calls are in a DLL. Only the names are those of
+# Windows here.
+ON_WINDOWS = """
+import ctypes, sys
+opened, library = [], sys.argv[1]
+class Opened(ctypes.CDLL):
+    def __init__(self, name):
+        opened.append(name)
+        super().__init__(library)
+sys.platform, sys.dllhandle, ctypes.CDLL = "win32", ctypes.CDLL(None)._handle, Opened
+import scrypt_c
+hasher = scrypt_c.PasswordHasher(log_n=4)
+print(*opened, hasher.verify(hasher.hash("pw"), "pw"))
+"""
+
 
 def tried(place):
     environment = {**os.environ, "SCRYPT_C_LIBRARY": place}
@@ -21,7 +36,7 @@ def tried(place):
 class Library(unittest.TestCase):
     def test_a_file_and_its_folder(self):
         folder = os.environ["SCRYPT_C_LIBRARY"]
-        file = os.path.join(folder, library.SONAME)
+        file = os.path.join(folder, library.FILE)
         for place in (folder, file):
             run = tried(place)
             self.assertEqual(run.stdout.strip(), file, run.stderr)
@@ -68,6 +83,13 @@ class Library(unittest.TestCase):
                 text, times = re.search(r"^a hash: (.*)\n\d+\.\d ms for a verification, of (\d)$", run.stdout, re.MULTILINE).groups()
                 self.assertTrue(scrypt_c.PasswordHasher().verify(text, "secret"), text)
                 self.assertEqual(times, arguments[3], why)
+
+    def test_on_windows(self):
+        folder = os.environ["SCRYPT_C_LIBRARY"]
+        for named, place in [(folder, os.path.join(folder, "scrypt_c.dll")), ("", "scrypt_c.dll")]:
+            command = [sys.executable, "-B", "-c", ON_WINDOWS, os.path.join(folder, library.FILE)]
+            run = subprocess.run(command, env={**os.environ, "SCRYPT_C_LIBRARY": named}, capture_output=True, text=True)
+            self.assertEqual(run.stdout.strip(), f"{place} True", run.stderr)
 
     def test_a_missing_one(self):
         for place in ("/nowhere", "/"):
