@@ -4,12 +4,13 @@
 #                  calls the library from C and Python
 # To use it:
 #   make lib       proves and builds the libraries for C into build/lib, with code for x86-64-v2 and for x86-64-v3
-#                  with ARCH, which bindings/arch.sh explains, those for another processor, and the program, into build/ARCH
+#                  with ARCH, which bindings/arch.sh explains, those for another processor, and the program, or those for
+#                  Windows, into build/ARCH
 #   make install   installs what is built below prefix=/usr/local, and honours DESTDIR
 #   make uninstall removes it, with the same variables
 #   make js        proves and builds the module for JavaScript into bindings/js, and tests it in Node and in Chromium
 #   make doc       makes pages for reading the proof, build/doc/index.html; it needs python3-jinja2 and python3-pygments
-#   make dist      makes packages for Debian, Python, Go, Rust and npm, an archive, the sources and their hashes in build/dist
+#   make dist      makes packages for Debian, Python, Go, Rust and npm, archives, the sources and their hashes in build/dist
 # To change it:
 #   make check     proves and tests what changed since the last check
 #   make mirror    writes what is made of the header of C, of the proved calls and of VERSION
@@ -135,7 +136,7 @@ oracle: lib
 	python3 -m compare.hostile build/lib/libscrypt_c.so
 	python3 -m compare.groups build/lib/libscrypt_c.so
 
-# For another processor the program is built too.
+# For another processor of Linux the program is built too.
 lib: kit
 	$(MAKE) -j$(SIDE_BY_SIDE) proved-scrypt$(if $(filter-out x86_64-%,$(ARCH)),_commands)
 	bindings/lib.sh
@@ -206,6 +207,7 @@ dist-test:
 	release/reproducible.sh
 	release/test.sh
 	release/test_emulated.sh
+	release/test_windows.sh
 	release/container.sh
 	release/arm64_machine.sh
 

@@ -1,6 +1,7 @@
 #!/bin/sh
-# Makes build/dist from what is built: Debian packages, the Python wheel, the Go module, the Rust crate, the package for npm,
-# an archive of everything, the sources and the hashes of all. It is the same byte by byte wherever and whenever it is made.
+# Makes build/dist from what is built: Debian packages, the Python wheels, the Go module, the Rust crate, the package
+# for npm, archives of everything for Linux and for Windows, the sources and the hashes of all. It is the same byte by
+# byte wherever and whenever it is made.
 set -eu
 unset CDPATH
 umask 022
@@ -23,6 +24,7 @@ for ARCH in $archs; do
   command -v "${tools}strip" > /dev/null || needed "${tools}strip" "binutils${tools:+-$ARCH}"
   for built in bin/scrypt_tool lib/libscrypt_c.so.0 ${newest:+tests/$oldest}; do is_built "$build/$built"; done
 done
+(ARCH=$windows && . bindings/arch.sh && is_built "$build/lib/scrypt_c.dll" && is_built "$build/bin/scrypt_calibrate.exe")
 is_built bindings/js/scrypt.wasm
 python3 -B release/proved.py check
 python3 -m tools.mirror --check
@@ -36,6 +38,7 @@ for ARCH in $archs; do
   rm "$parts/doc/installed" # or the next one would be an upgrade, and remove these
   ARCH=$ARCH release/strip.sh "$parts/files/$ARCH"
 done
+release/windows.sh "$parts/files/$windows"
 python3 -B -m doc.promises clauses > "$parts/doc/docs/CLAUSES.md"
 python3 -B release/proved.py text "$parts/files" > "$parts/PROVED.txt"
 # The newest glibc whose names a binary may take: the wheel's tag promises 2.17 for its libraries.
@@ -58,16 +61,18 @@ packed() {
     --pax-option=delete=atime,delete=ctime -cf - "$1" | gzip -9n > "$dist/$1.tar.gz"
 }
 export SCRYPT_C_PROVED="$parts/PROVED.txt"
+wheel() { (cd bindings/python && SCRYPT_C_LIBRARY="$1" $python -B -m hatchling build -t wheel -d "$dist"); }
 for ARCH in $archs; do
   dpkg-architecture -t "$ARCH" -f -c debian/rules clean binary > "$parts/log" 2>&1 || { cat "$parts/log"; exit 1; }
-  (cd bindings/python && SCRYPT_C_LIBRARY="$parts/files/$ARCH/lib" $python -B -m hatchling build -t wheel -d "$dist")
+  wheel "$parts/files/$ARCH/lib"
 done
+wheel "$parts/files/$windows/bin"
 
 set -- LICENSE release/NOTICES "$parts/PROVED.txt"
 module=scrypt-go-$version
 mkdir "$parts/$module"
 cp "$@" bindings/go/*.go bindings/go/library.h bindings/go/go.mod bindings/go/README.md "$parts/$module"
-for ARCH in $archs; do
+for ARCH in $archs $windows; do
   . bindings/arch.sh
   cp "$parts/files/$ARCH/lib/libscrypt_c.a" "$parts/$module/$bundled"
   cp "$parts/files/$ARCH/lib/libscrypt_c.a" "bindings/rust/$bundled"
@@ -93,14 +98,20 @@ cp release/NOTICES "$parts/PROVED.txt" build/lib/scrypt_c.h bindings/rust
 (cd bindings/rust && cargo package --quiet --offline --no-verify --allow-dirty)
 cp "$parts"/cargo/package/*.crate "$dist"
 
+documents() { cp -R "$parts/doc/README.md" "$parts/doc/SECURITY.md" "$parts/doc/docs" "$parts/doc/bindings" "$1"; }
 for ARCH in $archs; do
   packed=$name-linux-${ARCH%%-*}
   mkdir "$parts/$packed"
   mv "$parts/files/$ARCH" "$parts/$packed/files"
   cp "$@" release/install.sh "$dist"/*_"${ARCH%%-*}".whl "$parts/$packed"
-  cp -R "$parts/doc/README.md" "$parts/doc/SECURITY.md" "$parts/doc/docs" "$parts/doc/bindings" "$parts/$packed"
+  documents "$parts/$packed"
   packed "$packed"
 done
+packed=$name-windows-${windows%%-*}
+mv "$parts/files/$windows" "$parts/$packed"
+cp "$@" "$dist"/*win_amd64.whl "$parts/$packed"
+documents "$parts/$packed"
+python3 -B release/zipped.py "$parts/$packed" "$dist/$packed.zip"
 git archive --format=tar --prefix="$name/" HEAD | gzip -9n > "$dist/$name-source.tar.gz"
 chmod 644 "$dist"/*
 (cd "$dist" && sha256sum -- * > "$parts/SHA256SUMS")

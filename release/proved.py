@@ -21,7 +21,7 @@ KEPT = Path("build/proved.json")
 # What the kit built, and what was linked of it.
 PACKED = [
     *["crates/scrypt_c/out/**/libscrypt_c.a", "crates/scrypt_tool/out/scrypt_tool*", "crates/scrypt_tool/out/*/scrypt_tool.o"],
-    *["build/lib/**/*", "build/bin/*", "build/*-linux-gnu/**/*", "build/wasm/*", "bindings/js/scrypt.wasm"],
+    *["build/lib/**/*", "build/bin/*", "build/*-linux-gnu/**/*", "build/*-mingw32/**/*", "build/wasm/*", "bindings/js/scrypt.wasm"],
 ]
 UNPROVED = "There is no verdict here: `make dist UNPROVED=1` packed what was built, proved or not."
 GATE = """\
