@@ -6,8 +6,8 @@
   in an empty folder; the second, the module for JavaScript, and the wrong bodies of that crate, take from it what they leave
   unchanged. Then they are linked and called, and compared with those that Rattle's own compiler builds.
 - When the program is proved: its answers. It is linked with what asks at a terminal after that.
-- For arm64: the library and the program, with another mixer, whose calls and answers run in an emulator. A package that this needs
-  and isn't installed is named.
+- For arm64: the library and the program, with another mixer, whose calls and answers run in an emulator. For Windows: the library,
+  whose calls run in Wine. A package that these need and isn't installed is named.
 
 All else but the calls runs on the processors that `rt ci` leaves idle, at a lower priority, since its crates wait for one another.
 Each crate and each task is one line: when it ended, what it counted and how long it took. What it printed is in build/log/test.log,
@@ -20,6 +20,7 @@ import contextlib
 import heapq
 import itertools
 import os
+import pathlib
 import re
 import resource
 import shutil
@@ -30,8 +31,8 @@ import tempfile
 import threading
 import time
 
-from ci import step
-from tools import edits, kit, prover_command, sources
+from ci import machines, step
+from tools import copies, edits, kit, prover_command, sources
 
 # How many tasks run at once beside `rt ci`, and how many may have begun, with those that wait.
 LANES, MOST = 4, 20
@@ -61,12 +62,9 @@ LIBRARY_FOR_ARM64 = "the library for arm64"
 
 ARM64 = "callers for arm64"
 
-# What the build for arm64 and its tests need, commands and a file, and the Debian packages that have it.
-FOR_ARM64 = {
-    "aarch64-linux-gnu-gcc": "gcc-aarch64-linux-gnu",
-    "/usr/aarch64-linux-gnu/include/stdio.h": "libc6-dev-arm64-cross",
-    "qemu-aarch64-static": "qemu-user-static",
-}
+CALLERS = "callers of the library"
+
+WINDOWS = "the library for Windows"
 
 # The packages that a line on what was left out names.
 PACKAGES = re.compile(r"\bpackages? (.*?)(?:\)| is not)")
@@ -90,9 +88,10 @@ def clean():
     for name in sources.crates():
         if left_by_ci(name):
             shutil.rmtree(f"crates/{name}/out/rlib")
-        shutil.rmtree(f"crates/{name}/out/arm64", ignore_errors=True)
-    shutil.rmtree("build/lib", ignore_errors=True)
-    shutil.rmtree("build/aarch64-linux-gnu", ignore_errors=True)
+        for other in "arm64", "windows":
+            shutil.rmtree(f"crates/{name}/out/{other}", ignore_errors=True)
+    for built in "lib", "aarch64-linux-gnu", "x86_64-w64-mingw32":
+        shutil.rmtree(f"build/{built}", ignore_errors=True)
     with contextlib.suppress(FileNotFoundError):
         os.remove(f"{PROGRAM}.o")
 
@@ -212,15 +211,19 @@ class Tasks:
 
 def build(tasks, made, kept):
     """Builds the static libraries for C for both processors, not at a lower priority, since other tasks wait for them.
+    What the kit's clang is given for each is kept beside it.
 
     The verdict of the newer processor's is printed."""
     os.makedirs(f"{made}/{NEWER}")
     os.makedirs(kept)
-    command = [*prover_command.of("build", "scrypt_c"), "--toolchain", f"{kit.located()}/toolchain", "--backend", "llvm"]
-    command += ["--incremental", kept]
+    command = [*prover_command.of("build", "scrypt_c"), "--backend", "llvm", "--incremental", kept]
     lines = []
     for folder, options in [(f"{made}/{NEWER}", ["--cpu", NEWER]), (made, [])]:
-        is_well, text = tasks.run(*command, *options, "-o", f"{folder}/libscrypt_c.a", cwd="crates/scrypt_c", nice=0)
+        with tempfile.TemporaryDirectory() as room:
+            toolchain = pathlib.Path(room, "toolchain")
+            copies.copy_toolchain(toolchain, given=f"{folder}/given")
+            options += ["--toolchain", toolchain, "-o", f"{folder}/libscrypt_c.a"]
+            is_well, text = tasks.run(*command, *options, cwd="crates/scrypt_c", nice=0)
         if not is_well:
             return False, text
         lines += [line for line in text.splitlines() if line.startswith("logic=proved ") and f" cpu={NEWER} " in line]
@@ -265,11 +268,6 @@ def answer(tasks, is_built):
     return tasks.run(sys.executable, "-m", "ci.program", PROGRAM) if is_well else (is_well, text)
 
 
-def missing_for_arm64():
-    """The packages that the build for arm64 and its tests need, and that aren't installed."""
-    return [package for it, package in FOR_ARM64.items() if not shutil.which(it) and not os.path.exists(it)]
-
-
 def prove_for_arm64(tasks, *names):
     """Proves these crates for arm64."""
     return tasks.run(sys.executable, "-m", "bindings.cross", "aarch64-linux-gnu", "out/arm64", *names, nice=0)
@@ -289,6 +287,14 @@ def add_for_arm64(tasks, kept):
     tasks.add(ARM64, below, lambda: test_arm64(tasks), PROGRAM_FOR_ARM64, LIBRARY_FOR_ARM64)
 
 
+def test_windows(tasks, made):
+    """Compiles for Windows what the kit compiled for Linux, links that, and calls it in Wine."""
+    arch = "x86_64-w64-mingw32"
+    compiled = f"{sys.executable} -m bindings.bitcode {arch} out/windows {made}"
+    command = f". bindings/wine.sh && {compiled} && bindings/lib.sh built && bindings/callers.sh short"
+    return tasks.run("env", "-u", "CC", f"ARCH={arch}", "sh", "-c", command)
+
+
 def build_module(tasks, kept):
     """Builds the module for JavaScript over what the build of the libraries kept."""
     return tasks.run(sys.executable, "-m", "bindings.js.build", f"{kept}-unchanged")
@@ -306,10 +312,12 @@ def add_all(tasks, made, kept, is_built):
     tasks.add("counts of cores", [], lambda: tasks.run(sys.executable, "-m", "ci.must_not_compile", "sources"))
     if is_built:
         tasks.add(LIBRARY, prover_command.below("scrypt_c"), lambda: build(tasks, made, kept))
-        if not missing_for_arm64():
+        if not machines.missing("arm64"):
             add_for_arm64(tasks, kept)
-        tasks.add("callers of the library", prover_command.below("scrypt_c"), lambda: link_and_call(tasks, made), LIBRARY)
+        tasks.add(CALLERS, prover_command.below("scrypt_c"), lambda: link_and_call(tasks, made), LIBRARY)
         tasks.add(MODULE, prover_command.below("scrypt_c"), lambda: build_module(tasks, kept), LIBRARY)
+        if not machines.missing("Windows"):  # whose tests take from build/lib what calls must not leave in memory
+            tasks.add(WINDOWS, prover_command.below("scrypt_c"), lambda: test_windows(tasks, made), CALLERS)
         tasks.add("two compilers", prover_command.below("scrypt_c"), lambda: compare_compilers(tasks, made, kept), LIBRARY)
         tasks.add("callers of the module", prover_command.below("scrypt_c"), lambda: tasks.run("bindings/js/test/test.sh"), MODULE)
     for name in edits.crates_with(edits.GATE):
@@ -353,8 +361,7 @@ def left_out(is_built):
     """What is left out for want of what is not installed."""
     if not is_built:
         yield "a C compiler is not installed (package gcc): not run: the libraries for C and JavaScript, and what calls them"
-    if missing_for_arm64():
-        yield f"what builds for arm64 is not installed (packages {', '.join(missing_for_arm64())}): not run: all for arm64"
+    yield from machines.left_out()
 
 
 def main():

@@ -25,10 +25,11 @@ PACKED = [
 ]
 UNPROVED = "There is no verdict here: `make dist UNPROVED=1` packed what was built, proved or not."
 GATE = """\
-The gate proved each crate from nothing, in this commit's own clone, and what is packed was linked there. The library for C
-is proved once for both levels of x86-64, in a folder that was empty before, and the module for JavaScript begins with its
-proofs of what both have, so their lines have `incremental=trusted`, and so have those for other processors, whose copies of
-crates are in folders of their own."""
+The gate proved each crate from nothing, in this commit's own clone, and what is packed was linked there. The library
+for C is proved once for both levels of x86-64, in a folder that was empty before, and the module for JavaScript begins
+with its proofs of what both have, so their lines have `incremental=trusted`, and so have those for other processors,
+whose copies of crates are in folders of their own. What is for Windows has the verdicts of the library for C: it is
+compiled from what the kit gave its compiler for that."""
 
 
 def output(*command):
