@@ -116,6 +116,11 @@ class Lists(unittest.TestCase):
         naming = set(run("git", "grep", "-lE", "arm64|aarch64", "--", ":!CONTRIBUTING.md", ":!ci/test_facts.py", cwd=".").split())
         self.assertEqual(naming, self.listed("A new processor"))
 
+    def test_a_system(self):
+        words = "Windows|mingw32|_WIN32|win32|libscrypt_c_windows"
+        naming = set(run("git", "grep", "-lE", words, "--", ":!CONTRIBUTING.md", ":!ci/test_facts.py", cwd=".").split())
+        self.assertEqual(naming, self.listed("A new system"))
+
     def test_an_option(self):
         naming = set(run("git", "grep", "-l", "-e", "-strip-newline", "--", ":!ci/test_facts.py", cwd=".").split())
         self.assertEqual(naming, self.listed("An option of the program"))
