@@ -52,3 +52,21 @@ class Docs(unittest.TestCase):
         for line in lines:
             with self.subTest(line):
                 self.assertTrue(f'.It Li "{line}' in page, "docs/scrypt_tool.1 does not explain it")
+
+    def test_options_of_man_page(self):
+        """The man page has the options of the help, with the same values, and no others."""
+        listed = re.findall(r"^\.It (Fl .*)", docs.read("docs/scrypt_tool.1"), re.M)
+        page = " ".join(listed).replace(" Ns = Ns Ar ", "=").replace("Fl ", "-")
+        named = [set(re.findall(r"(?<!\S)--?[a-z][a-z-]*(?:=[A-Z]+)?", it)) for it in (page, docs.read("ci/help.txt"))]
+        self.assertGreater(len(named[0]), 10)
+        self.assertEqual(*named)
+
+    def test_commands_of_man_page(self):
+        """The first lines of the man page have the words of each command as in the help."""
+        synopsis = re.search(r"^\.Sh SYNOPSIS$(.*?)^\.Sh ", docs.read("docs/scrypt_tool.1"), re.M | re.S)[1]
+        synopsis = re.sub(r"^\.Op Ar OPTION \.\.\.$|^\.(?:Cm|Ar) ", "", synopsis.replace(" | ", "|"), flags=re.M)
+        synopsis = re.sub(r"^\.Op Ar (\w+)$", r"[\1]", synopsis, flags=re.M)
+        forms = [" ".join(it.split()) for it in synopsis.split(".Nm\n")]
+        wanted = re.findall(r"^  ([a-z]+ .*[A-Z].*)$", docs.read("ci/help.txt").split("The password")[0], re.M)
+        self.assertEqual(len(wanted), 4)
+        self.assertEqual([it for it in forms if it in wanted], wanted, forms)
