@@ -16,11 +16,18 @@ Parameters and bounds are attributes. Put a subclass of your own into the list t
 
     class OurDjangoHasher(ScryptPasswordHasher):
         work_factor, most_bytes = 2**16, 1 << 30
+
+Of a hash that is damaged or above the bounds, check_password raises an error. Where no view catches it, FalseIfRefused
+before the class makes it False, and logs the reason:
+
+    class OurPasswordHasher(FalseIfRefused, PHCPasswordHasher):
+        pass
 """
 
 from __future__ import annotations
 
 import base64
+import logging
 from typing import Any
 
 from django.contrib.auth.hashers import BasePasswordHasher, mask_hash, must_update_salt
@@ -29,10 +36,32 @@ from django.utils.translation import gettext_noop as _
 
 from .arguments import raw_password
 from .declared import RECOMMENDED_LOG_N, RECOMMENDED_P, RECOMMENDED_R
-from .errors import InvalidHashError, VerifyMismatchError
+from .errors import InvalidHashError, InvalidParamsError, KeyTooShortError, TooCostlyError, VerifyMismatchError
 from .hasher import PasswordHasher
 from .key import derive_within, log_of
 from .params import MOST_BYTES, MOST_WORK, Params
+
+# What is wrong with a hash, and not with a password, the memory or the time.
+REFUSALS = (InvalidHashError, InvalidParamsError, KeyTooShortError, TooCostlyError)
+
+LOG = logging.getLogger(__name__)
+
+
+class FalseIfRefused:
+    """Before one of the hashers below: no password has a hash that is refused, and the log has the reason."""
+
+    def verify(self, password: str, encoded: str) -> bool:
+        try:
+            return super().verify(password, encoded)  # type: ignore[misc]
+        except REFUSALS as error:
+            LOG.error("a stored hash is refused: %s", error)
+            return False
+
+    def must_update(self, encoded: str) -> bool:
+        try:
+            return super().must_update(encoded)  # type: ignore[misc]
+        except REFUSALS:
+            return True
 
 
 class ScryptPasswordHasher(BasePasswordHasher):
@@ -58,17 +87,14 @@ class ScryptPasswordHasher(BasePasswordHasher):
         return f"{self.algorithm}${n}${salt}${r}${p}${base64.b64encode(key).decode()}"
 
     def decode(self, encoded: str) -> dict[str, Any]:
-        algorithm, n, salt, r, p, key = encoded.split("$", 6)
+        try:
+            algorithm, n, salt, r, p, key = encoded.split("$", 6)
+            numbers = {"work_factor": int(n), "block_size": int(r), "parallelism": int(p)}
+        except ValueError:
+            raise InvalidHashError("SCRYPT_ENCODING_INVALID", "the text is not scrypt$N$SALT$r$p$KEY") from None
         if algorithm != self.algorithm:
             raise ValueError(f"{algorithm} is not {self.algorithm}")
-        return {
-            "algorithm": algorithm,
-            "work_factor": int(n),
-            "salt": salt,
-            "block_size": int(r),
-            "parallelism": int(p),
-            "hash": key,
-        }
+        return {"algorithm": algorithm, "salt": salt, "hash": key, **numbers}
 
     def verify(self, password: str, encoded: str) -> bool:
         it = self.decode(encoded)
@@ -117,6 +143,8 @@ class PHCPasswordHasher(BasePasswordHasher):
         scheme, *parts = self._text(encoded).split("$")[1:]
         if scheme == "7":  # crypt(3) has the salt itself, after eleven letters of parameters
             parts[:1] = parts[0][:11], parts[0][11:]
+        if len(parts) != 3:
+            raise InvalidHashError("SCRYPT_ENCODING_INVALID", "the text lacks its parameters, its salt or its key")
         params, salt, key = parts
         if scheme != "7":
             salt = base64.b64decode(salt + "=" * (-len(salt) % 4)).decode("latin1")

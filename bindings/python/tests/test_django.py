@@ -7,6 +7,7 @@ import os
 import re
 import time
 import unittest
+from unittest import mock
 
 import django
 from django.conf import settings
@@ -27,7 +28,7 @@ django.setup()
 from django.contrib.auth import hashers  # noqa: E402  after the settings
 
 import scrypt_c  # noqa: E402
-from scrypt_c.django import PHCPasswordHasher, ScryptPasswordHasher  # noqa: E402
+from scrypt_c.django import FalseIfRefused, PHCPasswordHasher, ScryptPasswordHasher  # noqa: E402
 from test_hasher import refuse_a_lone_surrogate  # noqa: E402
 
 
@@ -42,6 +43,14 @@ OverPBKDF2, OverBCrypt = of_page["OverPBKDF2"], of_page["OverBCrypt"]
 
 class Small(PHCPasswordHasher):
     hasher = scrypt_c.PasswordHasher(log_n=6)
+
+
+class SmallOrFalse(FalseIfRefused, Small):
+    pass
+
+
+class DjangoOrFalse(FalseIfRefused, ScryptPasswordHasher):
+    pass
 
 
 class OverMD5(Small):
@@ -147,6 +156,19 @@ class Hashers(unittest.TestCase):
             lambda password: hashers.check_password(password, stored),
         )
 
+    def refused(self, kind, stored, why):
+        """check_password raises, whichever hasher is preferred. With FalseIfRefused it is False, with one line in the log."""
+        for preferred in (Small(), ScryptPasswordHasher()):
+            with self.assertRaises(kind, msg=f"{stored}: {why}"):
+                hashers.check_password("pw", stored, preferred=preferred)
+        of_all = {it.algorithm: it for it in (SmallOrFalse(), DjangoOrFalse())}
+        with mock.patch.object(hashers, "get_hashers_by_algorithm", lambda: of_all):
+            for preferred in of_all.values():
+                with self.assertLogs("scrypt_c.django") as log:
+                    self.assertFalse(hashers.check_password("pw", stored, preferred=preferred), f"{stored}: {why}")
+                self.assertEqual(len(log.output), 1, log.output)
+                self.assertNotIn("AAAA", log.output[0], "the key")
+
     def test_damaged_hashes(self):
         """They raise: a broken database is not a wrong password."""
         for stored, why in [
@@ -157,8 +179,18 @@ class Hashers(unittest.TestCase):
             ("scrypt$x$seasalt$8$1$AAAA", "no number"),
             ("scrypt$15$seasalt$8$1$AAAA", "no power of two"),
         ]:
-            with self.assertRaises(ValueError, msg=f"{stored}: {why}"):
-                hashers.check_password("pw", stored)
+            self.refused(ValueError, stored, why)
+
+    def test_what_is_no_fault_of_a_hash(self):
+        """It raises with FalseIfRefused too, as it says nothing of the password."""
+        closed = type("Closed", (SmallOrFalse,), {"hasher": scrypt_c.PasswordHasher(log_n=6)})()
+        stored = closed.encode("pw", closed.salt())
+        self.assertTrue(closed.verify("pw", stored))
+        self.assertFalse(closed.verify("another", stored))
+        self.assertRaises(UnicodeError, closed.verify, "\ud800", stored)
+        closed.hasher.close()
+        with self.assertRaisesRegex(ValueError, "closed"):
+            closed.verify("pw", stored)
 
     @unittest.skipUnless(argon2, "package python3-argon2")
     def test_damaged_hashes_of_argon2(self):
@@ -175,8 +207,7 @@ class Hashers(unittest.TestCase):
             ("scrypt_c$scrypt$ln=13,r=1,p=8192$c2FsdHNhbHQ$AAAAAAAAAAAAAAAAAAAA", "16 times the recommended work"),
         ]:
             began = time.perf_counter()
-            with self.assertRaises(scrypt_c.TooCostlyError, msg=f"{stored}: {why}"):
-                hashers.check_password("pw", stored)
+            self.refused(scrypt_c.TooCostlyError, stored, why)
             self.assertLess(time.perf_counter() - began, 0.1, why)
 
     def test_bounds_exactly(self):
@@ -192,6 +223,7 @@ class Hashers(unittest.TestCase):
         for text in ("$7$46..../....saltsalt$..", "$scrypt$ln=6,r=8,p=1$c2FsdHNhbHQ$AAAAAAAAAAAAAAAAAAAA"):
             with self.assertRaises(scrypt_c.KeyTooShortError, msg=text):
                 hashers.check_password("pw", "scrypt_c" + text, setter=new.append)
+            self.refused(scrypt_c.KeyTooShortError, "scrypt_c" + text, "a short key")
         stored = ScryptPasswordHasher().encode("pw", "seasalt", 16)
         for cut in (stored[:-80], stored[:-88]):
             self.assertFalse(hashers.check_password("pw", cut, setter=new.append), cut)
