@@ -4,10 +4,13 @@ in another browser, which a command opens.
 
 usage: in_browser.py CASES [PICTURE]
        in_browser.py CASES -- COMMAND..     followed by the address, as firefox-esr --headless --profile FOLDER
+
+ONE_SCRIPT is a page with all in one script, which Chromium opens from the disk if it is there.
 """
 
 import functools
 import http.server
+import os
 import queue
 import subprocess
 import sys
@@ -83,12 +86,24 @@ def all_passed(said):
     return said is not None and said.endswith("all passed\n")
 
 
+def is_hashed(chromium, page):
+    """Whether a page that is opened from the disk makes a hash its title."""
+    chromium.open(f"file://{page}")
+    test_key_page.until(chromium, "document.title")
+    title = chromium.run("document.title")
+    print(f"a page with all in one script, from the disk: {title[:22]}")
+    return title.startswith("$scrypt$")
+
+
 def in_chromium(at, picture=None):
     chromium = browser.Browser()
     try:
         print("Chromium", chromium.driver.capabilities["browserVersion"])
         chromium.open(f"{at}{PAGE}")
-        return all_passed(answer()) and test_key_page.opens(chromium, at, picture)
+        if not all_passed(answer()):
+            return False
+        page = os.environ.get("ONE_SCRIPT", "")
+        return (not os.path.exists(page) or is_hashed(chromium, page)) and test_key_page.opens(chromium, at, picture)
     finally:
         chromium.close()
 

@@ -47,6 +47,35 @@ for (const [name, program, wanted] of PROGRAMS) {
   });
 }
 
+// A realm in which no bytes are compiled, without files, workers and fetch: edge runtimes are like that, and hand over the module.
+const EDGE = `
+import { readFileSync } from 'node:fs';
+import { SourceTextModule, createContext } from 'node:vm';
+const module = new WebAssembly.Module(readFileSync(new URL('./scrypt.wasm', '${PACKAGE}')));
+const classes = { AbortSignal, EventTarget, TextDecoder, TextEncoder, URL };
+const context = createContext({ ...classes, console, crypto, module }, { codeGeneration: { strings: false, wasm: false } });
+const made = new Map();
+const initializeImportMeta = (meta, { identifier }) => { meta.url = identifier; };
+const moduleOf = (text, identifier) => new SourceTextModule(text, { context, identifier, initializeImportMeta });
+function link(specifier, from) {
+  const { href } = new URL(specifier, from.identifier);
+  if (!made.has(href)) made.set(href, moduleOf(readFileSync(new URL(href), 'utf8'), href));
+  return made.get(href);
+}
+const main = moduleOf(\`import { load, needsRehash, verify } from '${PACKAGE}';
+  console.log(await load().catch(({ code }) => code));
+  const own = await load(module);
+  const text = own.hash('a', { N: 2 });
+  console.log(own.verify('a', text), await needsRehash(text, { N: 4 }), await verify('a', text).catch(({ code }) => code));\`, '${PACKAGE}');
+await main.link(link);
+await main.evaluate();
+`;
+test('where no bytes are compiled', () => {
+  const flags = ['--experimental-vm-modules', '--no-warnings', '--input-type=module'];
+  const { stdout, stderr } = spawnSync(process.execPath, [...flags, '-e', EDGE], { encoding: 'utf8' });
+  deepStrictEqual([stderr, stdout], ['', 'LOAD_FAILED\ntrue true WORKER_FAILED\n']);
+});
+
 // An engine keeps a signal of AbortSignal.any for as long as it has a listener, and its sources are kept.
 test('a signal that no call listens to any more', async () => {
   const of = { N: 2 ** 14 };

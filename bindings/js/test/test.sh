@@ -29,15 +29,18 @@ in_node() {
   module examples.key_page.test_key_page
 }
 
-# The line of README, in a folder that has the package as npm installs it, and what it makes without that.
+# The lines of README, in a folder that has the package as npm installs it, and what they make without that. in_browser.py opens the
+# page with all in one script.
 by_esbuild() {
   app=$room/app
   mkdir -p "$app/node_modules/scrypt-proved"
   cp ../package.json ../*.js ../scrypt.wasm "$app/node_modules/scrypt-proved"
-  sed -n '/^esbuild /,/[^\\]$/p' ../README.md > "$app/line"
+  sed -n '/^```sh$/,/^```$/{/^```/d; p}' ../README.md > "$app/lines"
+  sed -n '/^```javascript$/,/^```$/{/^```/d; p}' ../README.md > "$app/page.js"
+  echo '<!doctype html><script src="dist/page.js"></script>' > "$app/page.html"
   echo '{ "type": "module" }' > "$app/package.json"
   echo "import { hash, verify } from 'scrypt-proved'; console.log(await verify('a', await hash('a', { N: 2 })))" > "$app/login.js"
-  (cd "$app" && sh -eu line 2> log) || { cat "$app/log"; exit 1; }
+  (cd "$app" && sh -eu lines 2> log) || { cat "$app/log"; exit 1; }
   rm -r "$app/node_modules"
   [ "$(node "$app/dist/login.js")" = true ]
   echo "bundled by esbuild"
@@ -51,4 +54,4 @@ fi
 if has node-typescript tsc --version; then tsc --project tsconfig.json; fi
 if has chromium-driver chromedriver --version && has chromium chromium --version &&
   has python3-selenium sh -c 'cd ../../.. && python3 -B -c "from tools import browser; assert browser.webdriver"'
-then module bindings.js.test.in_browser "$room/cases.json"; fi
+then ONE_SCRIPT=$room/app/page.html module bindings.js.test.in_browser "$room/cases.json"; fi
