@@ -98,7 +98,7 @@ cp release/NOTICES "$parts/PROVED.txt" build/lib/scrypt_c.h bindings/rust
 (cd bindings/rust && cargo package --quiet --offline --no-verify --allow-dirty)
 cp "$parts"/cargo/package/*.crate "$dist"
 
-documents() { cp -R "$parts/doc/README.md" "$parts/doc/SECURITY.md" "$parts/doc/docs" "$parts/doc/bindings" "$1"; }
+documents() { for it in README.md SECURITY.md docs bindings release; do cp -R "$parts/doc/$it" "$1"; done; }
 for ARCH in $archs; do
   packed=$name-linux-${ARCH%%-*}
   mkdir "$parts/$packed"

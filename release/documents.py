@@ -1,6 +1,6 @@
 #!/usr/bin/env python3
-"""Writes the documents of a package: README.md, SECURITY.md, docs/ and bindings/README.md, without links to what is only in the
-sources.
+"""Writes the documents of a package: README.md, SECURITY.md, docs/, bindings/README.md and release/README.md, which says how to use
+it, without links to what is only in the sources.
 
 usage: documents.py FOLDER    with RELEASED=1, README has the status of a release
 
@@ -15,7 +15,7 @@ import shutil
 import sys
 
 ROOT = os.path.join(os.path.dirname(os.path.abspath(__file__)), "..")
-PAGES = ["README.md", "SECURITY.md", "docs/*.md", "bindings/README.md"]
+PAGES = ["README.md", "SECURITY.md", "docs/*.md", "bindings/README.md", "release/README.md"]
 BESIDE = ["docs/*.svg", "docs/*.1"]  # what the pages show or link to
 LAST = "\nA path such as `{path}` is one of the sources, `scrypt-proved-{version}-source.tar.gz`.\n"
 

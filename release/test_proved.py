@@ -49,6 +49,7 @@ ROWS = [
     ("a package has its own status", "RELEASED=1 python3 release/documents.py out; cat out/README.md", 0, "**Status: this is version"),
     ("a package has no other status", "echo > README.md; RELEASED=1 python3 release/documents.py out", 1, "README.md: 0 lines of the status"),
     ("what is built from the sources has theirs", "python3 release/documents.py out; cat out/README.md", 0, "**Status: there is\nno release.**"),
+    ("a package says how to use it", "RELEASED=1 python3 release/documents.py out; cat out/release/README.md", 0, "## Use it without the kit"),
     ("a failed gate leaves no earlier record", "keep; keep logic=failed; dist", 1, "nothing was proved"),
 ]
 
