@@ -18,9 +18,10 @@ import sys
 from pathlib import Path
 
 KEPT = Path("build/proved.json")
-# What the kit built, and what was linked of it.
+# What the kit built, and what was linked of it. Beside the program the kit leaves the one by Rattle's own compiler, which is compared
+# with it, and is not packed.
 PACKED = [
-    *["crates/scrypt_c/out/**/libscrypt_c.a", "crates/scrypt_tool/out/scrypt_tool*", "crates/scrypt_tool/out/*/scrypt_tool.o"],
+    *["crates/scrypt_c/out/**/libscrypt_c.a", "crates/scrypt_tool/out/scrypt_tool", "crates/scrypt_tool/out/**/scrypt_tool.o"],
     *["build/lib/**/*", "build/bin/*", "build/*-linux-gnu/**/*", "build/*-mingw32/**/*", "build/wasm/*", "bindings/js/scrypt.wasm"],
 ]
 UNPROVED = "There is no verdict here: `make dist UNPROVED=1` packed what was built, proved or not."

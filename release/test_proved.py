@@ -42,6 +42,7 @@ ROWS = [
     ("another module", "keep; change bindings/js/scrypt.wasm; dist", 1, "bindings/js/scrypt.wasm is not the file"),
     ("the module has its hash", "keep; dist", 0, "  bindings/js/scrypt.wasm"),
     ("a library more", "keep; change build/lib/other.so; dist", 1, "build/lib/other.so is not the file"),
+    ("the program by the other compiler", "keep; change crates/scrypt_tool/out/scrypt_tool.by-rattle; dist", 0, "low"),
     ("a library less", "keep; rm build/lib/libscrypt_c.a; dist", 1, "build/lib/libscrypt_c.a is not the file"),
     ("a crate that is not proved", "keep logic=failed", 1, "low is not proved"),
     ("a gate that failed", "keep '' '138 passed, 1 failed'", 1, "the gate did not pass"),
