@@ -75,10 +75,11 @@ class Library(unittest.TestCase):
             ("-n 0", 2, "-n is positive, not 0", "nothing to measure"),
             ("-r x", 2, "invalid int value: 'x'", "no number"),
         ]:
-            command = [sys.executable, "-W", "ignore", "-m", "scrypt_c", *arguments.split()]
+            command = [sys.executable, "-W", "always", "-m", "scrypt_c", *arguments.split()]
             run = subprocess.run(command, capture_output=True, text=True)
             self.assertEqual((run.returncode, words in run.stdout + run.stderr), (code, True), f"{why}: {run}")
-            self.assertNotIn("Traceback", run.stderr, why)
+            if code < 2:  # a warning that the machine is busy, too
+                self.assertEqual([it for it in run.stderr.splitlines() if not it.startswith("python -m scrypt_c: ")], [], why)
             if code == 0:
                 text, times = re.search(r"^a hash: (.*)\n\d+\.\d ms for a verification, of (\d)$", run.stdout, re.MULTILINE).groups()
                 self.assertTrue(scrypt_c.PasswordHasher().verify(text, "secret"), text)
