@@ -132,7 +132,7 @@ class Lists(unittest.TestCase):
         self.mirror()
         self.assertEqual(self.unmade(), set())
         made = Path(self.copy, "bindings/c/each_call.h").read_text("utf-8")
-        self.assertIn("CALL(scrypt_new, NEITHER, 1, (P(0, given.text), given.text_len, given.seconds))", made)
+        self.assertIn("CALL(scrypt_new, NEITHER, (P(given.text), given.text_len, given.seconds))", made)
 
     def test_a_proved_call(self):
         end = "/// Returns in `chunks_len` (bytes)"

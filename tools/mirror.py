@@ -166,20 +166,20 @@ def proved_calls():
 
 
 def each_call():
-    yield from (f"/* {NOTE}bindings/c/scrypt_c.h: each call that returns a status, as CALL(name, memory, pointers, arguments),",
+    yield from (f"/* {NOTE}bindings/c/scrypt_c.h: each call that returns a status, as CALL(name, memory, arguments),",
                 " * which whoever includes this list defines. The arguments are variables of arguments.h. The memory is HASHER, BUFFERS or",
-                " * NEITHER. P(i, argument) is a pointer that may not be NULL; there are so many. */")
+                " * NEITHER. P(argument) is a pointer that may not be NULL. */")
     unchecked = set(re.findall(r"SCRYPT_NONNULL\n\w+ (\w+)\(", header.TEXT))
     for _, name, given in (it for it in CALLS if it[0] == "int"):
-        words, pointers = [], 0
+        words = []
         for it in given:
             is_made = "*" in it and not it.startswith("const") and "scrypt_hasher" not in it
             words.append(("made." if is_made else "given.") + header.name_of(it))
             if "*" in it and name not in unchecked and words[-1] != "made.place":
-                words[-1], pointers = f"P({pointers}, {words[-1]})", pointers + 1
+                words[-1] = f"P({words[-1]})"
         text = ", ".join(words)
         memory = "HASHER" if "given.hasher" in text else "BUFFERS" if "made.chunks)" in text else "NEITHER"
-        yield from wrapped(f"CALL({name}, {memory}, {pointers}, ({text}))", 4)
+        yield from wrapped(f"CALL({name}, {memory}, ({text}))", 4)
 
 
 MADE = {

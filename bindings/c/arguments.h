@@ -32,8 +32,8 @@ static struct {
   scrypt_stats stats[1];
 } made;
 
-/* A pointer that may not be NULL, the one of this number. */
-#define P(number, pointer) pointer
+/* A pointer that may not be NULL. */
+#define P(pointer) pointer
 
 #define BUFFERS_MADE made.chunks, given.chunks_len, made.table, given.table_len, made.scratch, given.scratch_len
 

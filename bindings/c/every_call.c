@@ -54,7 +54,7 @@ static int wanted_of(const char *name) {
 #define AFTER_BUFFERS scrypt_wipe(BUFFERS_MADE);
 #define BEFORE_HASHER given.hasher = new_hasher();
 #define AFTER_HASHER close_hasher();
-#define CALL(name, memory, pointers, arguments)            \
+#define CALL(name, memory, arguments)                      \
   static int each_##name(void) {                           \
     int status;                                            \
     BEFORE_##memory                                        \
@@ -140,7 +140,7 @@ static const struct {
   int (*call)(void);
   void **library; /* NULL, or where the library is that has it */
 } CALLS[] = {
-#define CALL(name, memory, pointers, arguments) {#name, each_##name, NULL},
+#define CALL(name, memory, arguments) {#name, each_##name, NULL},
 #include "each_call.h"
     {"scrypt_key again, in memory that malloc kept", each_scrypt_key, NULL},
     {"scrypt_key_thin, in half a table", key_in_half_a_table, NULL},

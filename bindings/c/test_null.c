@@ -9,16 +9,29 @@ static void check_null(int status, int wanted, const char *why) {
   check(memcmp(&made, before, sizeof made) == 0, why);
 }
 
-/* Each pointer that may not be NULL. */
+/* How often a call was made before, the pointers that it is given now, and the one of them that is NULL. */
+static int turn, pointers;
+static const char *null = "";
+
+static int is_null(const char *pointer) {
+  if (pointers++ != turn) return 0;
+  null = pointer;
+  return 1;
+}
+
+/* Compilers refuse NULL for scrypt_buffer_lens. */
+static int has_pointers(const char *call) { return strcmp(call, "scrypt_buffer_lens") != 0; }
+
+/* Each pointer that may not be NULL, in a turn of its own. */
 static void each_pointer(void) {
-  int null;
 #undef P
-#define P(number, pointer) (number == null ? NULL : pointer)
-#define CALL(name, memory, pointers, arguments)                      \
-  for (null = 0; null < pointers; null++) {                          \
-    char why[64];                                                    \
-    snprintf(why, sizeof why, "%s, pointer %d", #name, null);        \
-    check_null(name arguments, SCRYPT_NULL_POINTER, why);            \
+#define P(pointer) (is_null(#pointer) ? NULL : pointer)
+#define CALL(name, memory, arguments)                                            \
+  for (turn = 0, pointers = has_pointers(#name); turn < pointers; turn++) {      \
+    const int status = (pointers = 0, name arguments);                           \
+    char why[64];                                                                \
+    snprintf(why, sizeof why, "%s, %s", #name, null);                            \
+    check_null(status, SCRYPT_NULL_POINTER, why);                                \
   }
 #include "each_call.h"
 }

@@ -122,7 +122,7 @@ static void arguments(const char *text) {
   take_text(text, LOGINS, 4);
   given.hasher = scrypt_hasher_new(&options, NULL);
   given.most_bytes = 5376, given.most_work = 1152;
-#define CALL(name, memory, pointers, arguments) check_call(#name, name arguments);
+#define CALL(name, memory, arguments) check_call(#name, name arguments);
 #include "each_call.h"
   check_call("scrypt_buffer_lens, of half a table",
              scrypt_buffer_lens(PARAMS, 1, made.chunks_len, made.table_len, made.scratch_len));
