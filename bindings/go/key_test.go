@@ -58,25 +58,27 @@ func TestAKeyThatNoMemoryHolds(t *testing.T) {
 	}
 }
 
-// Each status of the header has words, and is an error of this package unless it cannot come here.
+// Each status of the header has words, and is an error of this package of the same name unless it cannot come here.
 func TestStatusesOfTheHeader(t *testing.T) {
 	header, err := os.ReadFile("scrypt_c.h")
 	if err != nil {
 		t.Fatal(err)
 	}
-	of := map[string]Error{"MISMATCH": ErrMismatch, "INVALID_PARAMS": ErrInvalidParams,
-		"INVALID_OUTPUT_LEN": ErrInvalidOutputLen, "OUT_OF_MEMORY": ErrOutOfMemory, "ALGORITHM": ErrAlgorithm,
-		"ENCODING_INVALID": ErrEncodingInvalid, "OUTPUT_SIZE": ErrOutputSize, "HASH_PARAM_INVALID": ErrHashParamInvalid,
-		"HASH_PARAMS_INVALID": ErrHashParamsInvalid, "SALT_INVALID": ErrSaltInvalid, "VERSION": ErrVersion,
-		"TOO_COSTLY": ErrTooCostly, "NO_RANDOM_BYTES": ErrNoRandomBytes, "KEY_TOO_SHORT": ErrKeyTooShort,
-		"CLOSED": ErrClosed, "UNSUPPORTED": ErrUnsupported}
+	source, err := os.ReadFile("errors.go")
+	if err != nil {
+		t.Fatal(err)
+	}
 	const noErrors = " OK NEEDS_REHASH BUFFER_SIZE NULL_POINTER TIMEOUT CANCELLED OPTIONS_SIZE "
 	found := regexp.MustCompile(`(?m)^  SCRYPT_(\w+) = (\d+)`).FindAllStringSubmatch(string(header), -1)
 	for _, it := range found {
 		status, _ := strconv.Atoi(it[2])
-		e, isError := of[it[1]]
-		if isError == strings.Contains(noErrors, " "+it[1]+" ") || isError && int(e) != status {
-			t.Errorf("%s: %d", it[0], int(e))
+		name := "Err"
+		for _, word := range strings.Split(it[1], "_") {
+			name += word[:1] + strings.ToLower(word[1:])
+		}
+		isError := regexp.MustCompile(`\t` + name + ` +Error = C\.SCRYPT_` + it[1] + `\b`).Match(source)
+		if isError == strings.Contains(noErrors, " "+it[1]+" ") {
+			t.Errorf("%s is %s: %v", it[0], name, isError)
 		}
 		if words := Error(status).Error(); !strings.HasPrefix(words, "scrypt: ") || strings.Contains(words, "unknown") {
 			t.Errorf("%s: %s", it[0], words)
@@ -85,7 +87,7 @@ func TestStatusesOfTheHeader(t *testing.T) {
 			t.Errorf("%s is ErrInvalidHash: %v", it[0], !want)
 		}
 	}
-	if len(found) != len(of)+len(strings.Fields(noErrors)) {
+	if len(found) != strings.Count(string(source), "Error = C.SCRYPT_")+len(strings.Fields(noErrors)) {
 		t.Errorf("%d statuses", len(found))
 	}
 	if text := Error(99).Error(); !strings.Contains(text, "unknown status") {
