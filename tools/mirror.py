@@ -16,6 +16,7 @@ from tools import header
 NOTE = "Made by tools/mirror.py of "
 CALLS, STRUCTURES = header.calls_of(header.TEXT), header.structures_of(header.TEXT)
 STATUSES, NUMBERS = header.statuses_of(header.TEXT), header.NUMBERS
+OF_TEXT = header.errors_of_text(header.TEXT)
 # In place of what C has for the two statuses with the number 1.
 WORDS = header.words_of(header.TEXT) | {"MISMATCH": "the password does not match the hash"}
 
@@ -59,7 +60,7 @@ def python():
     yield from ("", f'VERSION_STRING = "{VERSION}"', *(f"{name} = {number}" for name, number in (NUMBERS | STATUSES).items()))
     yield from ("", "# The name and the words of each status.", "WORDS = {")
     yield from (f'    {name}: ("SCRYPT_{name}", "{words.replace("^", "**")}"),' for name, words in WORDS.items())
-    yield "}"
+    yield from ("}", "", "# Those by which a text is not a hash.", f"OF_TEXT = [{', '.join(OF_TEXT)}]")
     for name, fields in STRUCTURES.items():
         pairs = ", ".join(f'("{header.name_of(it)}", {in_python(it)})' for it in fields)
         yield from ("", "", f"class {inside(name)}(ctypes.Structure):", *wrapped(f"    _fields_ = [{pairs}]", 8))
@@ -89,7 +90,9 @@ def rust():
     yield from ("", *(f"pub const {name}: c_int = {number};" for name, number in STATUSES.items()))
     yield from ("", "/// The words of each status.", "#[rustfmt::skip]", f"pub const WORDS: [(c_int, &str); {len(WORDS)}] = [")
     yield from (f'    ({name}, "{words}"),' for name, words in WORDS.items())
-    yield from ("];", "", "/// `scrypt_hasher`, which the library alone looks into.", "#[repr(C)]", "pub struct RawHasher {",
+    yield from ("];", "", "/// Those by which a text is not a hash.", "#[rustfmt::skip]")
+    yield from wrapped(f"pub const OF_TEXT: [c_int; {len(OF_TEXT)}] = [{', '.join(OF_TEXT)}];", 4)
+    yield from ("", "/// `scrypt_hasher`, which the library alone looks into.", "#[repr(C)]", "pub struct RawHasher {",
                 "    _inside: [u8; 0],", "}")
     for name, fields in STRUCTURES.items():
         default = [] if any("*" in it for it in fields) else ["#[derive(Default)]"]

@@ -90,13 +90,15 @@ enum scrypt_status {
   SCRYPT_INVALID_PARAMS = 2,      /* log_n, r and p, or key_len, are not accepted */
   SCRYPT_INVALID_OUTPUT_LEN = 3,  /* output_len is 0, or above SCRYPT_MAX_OUTPUT_LEN */
   SCRYPT_OUT_OF_MEMORY = 4,       /* an allocation failed */
+  /* The text is not a hash that can be read: */
   SCRYPT_ALGORITHM = 5,           /* the hash names another algorithm */
   SCRYPT_ENCODING_INVALID = 6,    /* the text does not have the grammar of its format */
   SCRYPT_OUTPUT_SIZE = 7,         /* the key in the text has a length that is not allowed */
   SCRYPT_HASH_PARAM_INVALID = 8,  /* a parameter in the text is not a decimal in its range */
   SCRYPT_HASH_PARAMS_INVALID = 9, /* the parameters in the text are not accepted, or are not scrypt's */
-  SCRYPT_SALT_INVALID = 10,       /* the salt has a length that is not allowed */
   SCRYPT_VERSION = 11,            /* the hash names a version, and scrypt has none */
+  /* Others: */
+  SCRYPT_SALT_INVALID = 10,       /* the salt has a length that is not allowed */
   SCRYPT_BUFFER_SIZE = 12,        /* a buffer is too short or, for scrypt_key_thin, too long; or the text does not fit */
   SCRYPT_TOO_COSTLY = 13,         /* the parameters need more bytes or more work than the bounds allow */
   SCRYPT_NO_RANDOM_BYTES = 14,    /* the system has no random bytes */

@@ -40,8 +40,8 @@ ENCODING_INVALID = 6
 OUTPUT_SIZE = 7
 HASH_PARAM_INVALID = 8
 HASH_PARAMS_INVALID = 9
-SALT_INVALID = 10
 VERSION = 11
+SALT_INVALID = 10
 BUFFER_SIZE = 12
 TOO_COSTLY = 13
 NO_RANDOM_BYTES = 14
@@ -78,6 +78,9 @@ WORDS = {
     UNSUPPORTED: ("SCRYPT_UNSUPPORTED", "the system does not fill memory with zeros in a child process (Linux before 4.14, or an emulator such as qemu-user)"),
     OPTIONS_SIZE: ("SCRYPT_OPTIONS_SIZE", "the size in the options of a hasher is not sizeof (scrypt_options)"),
 }
+
+# Those by which a text is not a hash.
+OF_TEXT = [ALGORITHM, ENCODING_INVALID, OUTPUT_SIZE, HASH_PARAM_INVALID, HASH_PARAMS_INVALID, VERSION]
 
 
 class Login(ctypes.Structure):

@@ -46,17 +46,12 @@ class InvalidOutputLenError(ScryptError, ValueError):
 
 # The exceptions of the statuses that a call of this package can return.
 KINDS: dict[int, type[Exception]] = {
+    **dict.fromkeys(declared.OF_TEXT, InvalidHashError),
     declared.MISMATCH: VerifyMismatchError,
     declared.INVALID_PARAMS: InvalidParamsError,
     declared.INVALID_OUTPUT_LEN: InvalidOutputLenError,
     declared.OUT_OF_MEMORY: MemoryError,
-    declared.ALGORITHM: InvalidHashError,
-    declared.ENCODING_INVALID: InvalidHashError,
-    declared.OUTPUT_SIZE: InvalidHashError,
-    declared.HASH_PARAM_INVALID: InvalidHashError,
-    declared.HASH_PARAMS_INVALID: InvalidHashError,
     declared.SALT_INVALID: InvalidSaltError,
-    declared.VERSION: InvalidHashError,
     declared.TOO_COSTLY: TooCostlyError,
     declared.NO_RANDOM_BYTES: OSError,
     declared.KEY_TOO_SHORT: KeyTooShortError,

@@ -28,8 +28,8 @@ pub const ENCODING_INVALID: c_int = 6;
 pub const OUTPUT_SIZE: c_int = 7;
 pub const HASH_PARAM_INVALID: c_int = 8;
 pub const HASH_PARAMS_INVALID: c_int = 9;
-pub const SALT_INVALID: c_int = 10;
 pub const VERSION: c_int = 11;
+pub const SALT_INVALID: c_int = 10;
 pub const BUFFER_SIZE: c_int = 12;
 pub const TOO_COSTLY: c_int = 13;
 pub const NO_RANDOM_BYTES: c_int = 14;
@@ -67,6 +67,11 @@ pub const WORDS: [(c_int, &str); 22] = [
     (UNSUPPORTED, "the system does not fill memory with zeros in a child process (Linux before 4.14, or an emulator such as qemu-user)"),
     (OPTIONS_SIZE, "the size in the options of a hasher is not sizeof (scrypt_options)"),
 ];
+
+/// Those by which a text is not a hash.
+#[rustfmt::skip]
+pub const OF_TEXT: [c_int; 6] = [ALGORITHM, ENCODING_INVALID, OUTPUT_SIZE, HASH_PARAM_INVALID, HASH_PARAMS_INVALID,
+    VERSION];
 
 /// `scrypt_hasher`, which the library alone looks into.
 #[repr(C)]

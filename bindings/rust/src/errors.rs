@@ -114,11 +114,7 @@ impl Error {
 
     /// Whether the text is not a hash that this crate can read, so that neither the password nor the memory is at fault.
     pub fn is_invalid_hash(&self) -> bool {
-        use Error::*;
-        matches!(
-            self,
-            Algorithm | EncodingInvalid | OutputSize | ParamInvalid | ParamsInvalid | Version
-        )
+        OF_TEXT.iter().any(|status| Error::of(*status) == *self)
     }
 }
 
@@ -177,8 +173,7 @@ mod tests {
             let error = Error::of(status);
             assert_eq!(matches!(error, Error::Status(_)), cannot_come, "{words}");
             assert!(cannot_come || error.to_string() == words, "{error}");
-            let is_of_text = matches!(status, ALGORITHM..=HASH_PARAMS_INVALID | VERSION);
-            assert_eq!(error.is_invalid_hash(), is_of_text, "{words}");
+            assert_eq!(error.is_invalid_hash(), OF_TEXT.contains(&status), "{words}");
         }
     }
 }
