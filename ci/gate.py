@@ -307,7 +307,7 @@ def compare_compilers(tasks, made, kept):
 
 def add_all(tasks, made, kept, is_built):
     """Adds the tasks: those that may end the gate early, and then the longest first, with those that wait for them. The wrong
-    bodies of scrypt_c are tried over what the build of the libraries kept."""
+    bodies of the crate scrypt_c are tried over what the build of the libraries kept."""
     tasks.add("the documents", [], lambda: tasks.run("make", "--no-print-directory", "documents"))
     tasks.add("counts of cores", [], lambda: tasks.run(sys.executable, "-m", "ci.must_not_compile", "sources"))
     if is_built:
