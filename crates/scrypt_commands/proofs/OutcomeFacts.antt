@@ -71,11 +71,11 @@ appends_nothing (Some xs) None h = h
 appends_nothing (Some xs) (Some ys) h = rw h (sym (append-nil xs))
 
 -- words that are refused are refused on each input
-pub refused_args : (line : CommandLine) (known : Option (List ℕ)) (error : CliError)
-    → FailsWith (λ error. request_of line ≡ Err (error_line error)) error → status_of error ≡ 2
-    → OnInput known (λ input. reply_by line input ≡ Err (error_line error))
-refused_args line known error (inl h) two = let wrong : ◌≡◌ {A = ℕ} 3 2 = rw h at two in absurd cc
-refused_args line known error (inr (two, is)) _ = on_any_input known _ (λ input. rw is refl)
+pub refused_args : (command_line : CommandLine) (known : Option (List ℕ)) (error : CliError)
+    → FailsWith (λ error. request_of command_line ≡ Err (error_line error)) error → status_of error ≡ 2
+    → OnInput known (λ input. reply_by command_line input ≡ Err (error_line error))
+refused_args command_line known error (inl h) two = let wrong : ◌≡◌ {A = ℕ} 3 2 = rw h at two in absurd cc
+refused_args command_line known error (inr (two, is)) _ = on_any_input known _ (λ input. rw is refl)
 
 -- a command that is refused is refused on the input that was read
 pub refused_input : (reply_on : List ℕ → Result Reply ErrorLine) (known : Option (List ℕ)) (input : List ℕ) (error : CliError)

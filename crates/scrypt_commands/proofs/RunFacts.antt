@@ -2,7 +2,7 @@ use Rattle.std.proofs.Common.{◌≡◌, ℕ, false, List, [], ◌∷◌, None, 
 use Rattle.std.specs.Prelude.{Result}
 use Rattle.scrypt.specs.Reading.{◌and_then◌}
 use Rattle.std.specs.Option.{option_map_or}
-use Rattle.scrypt_commands.specs.Invocation.{Tell, asked_by, command_by, invocation_by, invocation_of, line_of, name_of, text_of_words, wants_file}
+use Rattle.scrypt_commands.specs.Invocation.{Tell, asked_by, command_by, invocation_by, invocation_of, command_line_of, name_of, text_of_words, wants_file}
 use Rattle.scrypt_commands.specs.Options.{no_options, options_of}
 use Rattle.scrypt_commands.specs.Run.{plan_of, plan_of_command, plan_of_words}
 use Rattle.scrypt_commands.specs.declared.command_name.Name.{Name}
@@ -16,7 +16,7 @@ of_command salt [] = refl
 of_command salt (word ∷ words) = of_name (name_of word)
   where
     of_name : (read : Result Name CliError)
-        → plan_of salt None (asked_by (read and_then line_of no_options words)) ≡ plan_of_command (read and_then line_of no_options words)
+        → plan_of salt None (asked_by (read and_then command_line_of no_options words)) ≡ plan_of_command (read and_then command_line_of no_options words)
     of_name (Ok Key) = refl
     of_name (Ok Hash) = refl
     of_name (Ok Verify) = refl

@@ -166,11 +166,12 @@ to_make making = making >>= λ making. Ok (ToMake making)
 -- What the words of a command ask for. No words stand for the recommended parameters of `hash`, for a salt that was drawn, and for a
 -- hash that is the text of a file.
 abbrev pub requested_by : CommandLine → Name → Result Request ErrorLine
-requested_by line names.Key = to_make (key_words line.options.is_raw line.words)
-requested_by line names.Hash = to_make (hash_words line.options.is_recommended line.salt line.words)
-requested_by line names.Verify = verify_words line.file_text line.words
-requested_by line names.Rehash = rehash_words line.salt line.file_text line.words
+requested_by command_line names.Key = to_make (key_words command_line.options.is_raw command_line.words)
+requested_by command_line names.Hash =
+    to_make (hash_words command_line.options.is_recommended command_line.salt command_line.words)
+requested_by command_line names.Verify = verify_words command_line.file_text command_line.words
+requested_by command_line names.Rehash = rehash_words command_line.salt command_line.file_text command_line.words
 
 -- what a command asks for
 abbrev pub request_of : CommandLine → Result Request ErrorLine
-request_of line = requested_by line line.name
+request_of command_line = requested_by command_line command_line.name

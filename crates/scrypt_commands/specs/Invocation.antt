@@ -28,7 +28,7 @@ pub record CommandLine : Type 0 where
 pub data Invocation : Type 0 where
   Tell : (text : List ℕ) → Invocation
   Refuse : (error : CliError) → Invocation
-  Command : (line : CommandLine) → Invocation
+  Command : (command_line : CommandLine) → Invocation
 
 -- the command of this name
 unfoldable pub name_of : List ℕ → Result Name CliError
@@ -52,14 +52,14 @@ misfit o Verify = then_some (o.draws_salt || o.is_raw) VerifyMisfit
 misfit o Rehash = then_some (o.is_recommended || o.is_raw) RehashMisfit
 
 -- this command by these options, if they fit it
-abbrev pub line_of : Options → List (List ℕ) → Name → Result CommandLine CliError
-line_of o words name = option_map_or Err (misfit o name)
+abbrev pub command_line_of : Options → List (List ℕ) → Name → Result CommandLine CliError
+command_line_of o words name = option_map_or Err (misfit o name)
     (Ok (record { name = name; options = o; words = words; salt = None; file_text = None }))
 
 -- the command of these words by these options
 abbrev pub command_by : Options → List (List ℕ) → Result CommandLine CliError
 command_by o [] = Err Usage
-command_by o (word ∷ words) = name_of word and_then line_of o words
+command_by o (word ∷ words) = name_of word and_then command_line_of o words
 
 -- whether the first word is `--hash-file`, which is no option without a file
 abbrev pub wants_file : List (List ℕ) → Bool
@@ -68,7 +68,7 @@ wants_file (word ∷ words) = bytes_eq word (codes "--hash-file")
 
 -- what a command asks for, or that it is refused
 abbrev pub asked_by : Result CommandLine CliError → Invocation
-asked_by (Ok line) = Command line
+asked_by (Ok command_line) = Command command_line
 asked_by (Err error) = Refuse error
 
 -- the text about the program that a word asks for, if it does
@@ -94,17 +94,17 @@ invocation_of words = option_map_or Tell (text_of_words words) (invocation_by (o
 
 -- whether a salt is drawn
 abbrev pub draws_salt : Invocation → Bool
-draws_salt (Command line) = line.options.draws_salt
+draws_salt (Command command_line) = command_line.options.draws_salt
 draws_salt others = false
 
 -- whether the bytes of a key are written
 abbrev pub is_raw : Invocation → Bool
-is_raw (Command line) = line.options.is_raw
+is_raw (Command command_line) = command_line.options.is_raw
 is_raw others = false
 
 -- the file whose text is the hash, if it is not a word
 abbrev pub hash_file_of : Invocation → Option (List ℕ)
-hash_file_of (Command line) = line.options.hash_file
+hash_file_of (Command command_line) = command_line.options.hash_file
 hash_file_of others = None
 
 -- the options, with the texts that they have
@@ -119,8 +119,8 @@ options_view it = record {
 }
 
 -- a command by its options
-abbrev pub line_view : CommandLineOf → CommandLine
-line_view it = record {
+abbrev pub command_line_view : CommandLineOf → CommandLine
+command_line_view it = record {
   name = it.name;
   options = options_view it.options;
   words = texts_of it.words.now;
@@ -132,4 +132,4 @@ line_view it = record {
 abbrev pub invocation_view : InvocationOf → Invocation
 invocation_view (typed.Tell text) = Tell text.now
 invocation_view (typed.Refuse error) = Refuse error
-invocation_view (typed.Command line) = Command (line_view line)
+invocation_view (typed.Command command_line) = Command (command_line_view command_line)

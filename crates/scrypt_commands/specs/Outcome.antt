@@ -115,6 +115,6 @@ reply_to limit_options (ToVerify text wanted) password = do
 
 -- the answer to a command by its options
 abbrev pub reply_by : CommandLine → List ℕ → Result Reply ErrorLine
-reply_by line input = do
-  request ← request_of line
-  reply_to line.options.limit_options request (password_of line.options.strips_newline input)
+reply_by command_line input = do
+  request ← request_of command_line
+  reply_to command_line.options.limit_options request (password_of command_line.options.strips_newline input)

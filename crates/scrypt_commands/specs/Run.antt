@@ -23,11 +23,12 @@ unread_plan outcome = record { outcome_on = λ _. outcome; is_unread = true }
 
 -- the plan of a command by its options: words that are refused are refused before the input is read
 abbrev pub plan_by : CommandLine → Plan
-plan_by line = record { outcome_on = λ input. outcome (reply_by line input); is_unread = is_err (request_of line) }
+plan_by command_line =
+    record { outcome_on = λ input. outcome (reply_by command_line input); is_unread = is_err (request_of command_line) }
 
 -- the plan of what may be a command
 abbrev pub plan_of_command : Result CommandLine CliError → Plan
-plan_of_command (Ok line) = plan_by line
+plan_of_command (Ok command_line) = plan_by command_line
 plan_of_command (Err error) = unread_plan (failure error)
 
 -- the plan of words without options
@@ -38,7 +39,8 @@ plan_of_words words = plan_of_command (command_by no_options words)
 abbrev pub plan_of : List ℕ → Option (List ℕ) → Invocation → Plan
 plan_of salt file (Tell text) = unread_plan (record { status = 0; line = text; error = [] })
 plan_of salt file (Refuse error) = unread_plan (failure error)
-plan_of salt file (Command line) = plan_by (record line { salt = then_some line.options.draws_salt salt; file_text = file })
+plan_of salt file (Command command_line) =
+    plan_by (record command_line { salt = then_some command_line.options.draws_salt salt; file_text = file })
 
 -- what is left of the input, and what was written to the output and to that of errors, where these bytes are known
 pub record Streams : Type 0 where
@@ -66,11 +68,12 @@ AppendsBeginning old new line = (n : ℕ) × Appends old new (take n line)
 abbrev pub EndsUnread : Invocation → Ended → Type 0
 EndsUnread (Tell text) ended = ((ended.status ≡ 0) ⊎ (ended.status ≡ 4)) × ¬ IsTrue ended.input_failed
 EndsUnread (Refuse error) ended = ended.status ≡ status_of error
-EndsUnread (Command line) ended = ⊤
+EndsUnread (Command command_line) ended = ⊤
 
 -- a command is refused before the input is read, whichever salt is drawn
 abbrev pub IsRefusedUnread : Option (List ℕ) → Invocation → Type 0
-IsRefusedUnread file (Command line) = (salt : List ℕ) → length salt ≡ 16 → (plan_of salt file (Command line)).is_unread ≡ true
+IsRefusedUnread file (Command command_line) =
+    (salt : List ℕ) → length salt ≡ 16 → (plan_of salt file (Command command_line)).is_unread ≡ true
 IsRefusedUnread file others = ⊥
 
 -- a run has this outcome

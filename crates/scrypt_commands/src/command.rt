@@ -6,7 +6,7 @@ ghost use Rattle.password_hash.specs.Decimal.{decimal_below};
 ghost use Rattle.scrypt_commands.specs.Command.{checked_params, end_of, first_word, format_word, hash_of, hash_word, hash_words};
 ghost use Rattle.scrypt_commands.specs.Command.{key_words, len_word, making_of, optional_len, params_words, rehash_words, request_of, salt_word};
 ghost use Rattle.scrypt_commands.specs.Command.{verify_words};
-ghost use Rattle.scrypt_commands.specs.Invocation.{line_view};
+ghost use Rattle.scrypt_commands.specs.Invocation.{command_line_view};
 ghost use Rattle.scrypt_commands.specs.Options.{texts_of};
 ghost use Rattle.scrypt_commands.specs.Steps.{Gives, before_words, making_view, request_view, salt_of};
 
@@ -87,8 +87,8 @@ impl<'a> Command<'a> {
     ///
     /// Returns the error of the first of these that is wrong: `Usage`, `SaltNotHex`,
     /// `InvalidParams`, `InvalidOutputLen`, and `EncodingInvalid`. Returns `OutOfMemory` if the allocation of the salt fails.
-    pub fn read(alloc: Global, line: CommandLine<'a>) -> Result<Command<'a>, CliError>
-        ensures command { Gives request_view (request_of (line_view line.entry)) result }
+    pub fn read(alloc: Global, command_line: CommandLine<'a>) -> Result<Command<'a>, CliError>
+        ensures command { Gives request_view (request_of (command_line_view command_line.entry)) result }
     {
         let CommandLine {
             name,
@@ -96,7 +96,7 @@ impl<'a> Command<'a> {
             words,
             drawn,
             file_text,
-        } = line;
+        } = command_line;
         match name {
             Name::Key => Ok(Command::Make(key_words(alloc, options.is_raw, words)?)),
             Name::Hash => Ok(Command::Make(hash_words(

@@ -3,7 +3,7 @@
 ghost use Rattle.std.specs.Prelude.{◌≡◌, IfErr};
 ghost use Rattle.scrypt.specs.Reading.{mapped};
 ghost use Rattle.scrypt_commands.specs.CliError.{status_of};
-ghost use Rattle.scrypt_commands.specs.Invocation.{command_by, line_view, options_view};
+ghost use Rattle.scrypt_commands.specs.Invocation.{command_by, command_line_view, options_view};
 ghost use Rattle.scrypt_commands.specs.Options.{texts_of};
 
 use crate::command_name::Name;
@@ -28,7 +28,7 @@ impl<'a> CommandLine<'a> {
     ///
     /// Returns `Usage` if there is no command, and the error of options that do not fit it.
     pub fn new(options: Options<'a>, words: &'a [String]) -> Result<CommandLine<'a>, CliError>
-        ensures value { mapped line_view result ≡ command_by (options_view options.entry) (texts_of words.now) }
+        ensures value { mapped command_line_view result ≡ command_by (options_view options.entry) (texts_of words.now) }
         ensures refused { IfErr result (λ error. status_of error ≡ 2) }
     {
         let Some((word, words)) = words.split_first() else {

@@ -12,7 +12,7 @@ ghost use Rattle.scrypt_commands.specs.Steps.{IsDrawn};
 use crate::command_line::CommandLine;
 use crate::error::CliError;
 use crate::options::parse_options;
-use crate::run::{Ended, answered, end, run_line, write_line};
+use crate::run::{Ended, answered, end, run_command, write_line};
 use crate::usage::{HELP, VERSION};
 use scrypt::Mixer;
 use std::alloc::Global;
@@ -57,7 +57,7 @@ impl<'a> Invocation<'a> {
             return Invocation::Refuse(CliError::NoHashFile);
         }
         match CommandLine::new(options, words) {
-            Ok(line) => Invocation::Command(line),
+            Ok(command_line) => Invocation::Command(command_line),
             Err(error) => Invocation::Refuse(error),
         }
     }
@@ -68,7 +68,7 @@ impl<'a> Invocation<'a> {
         ensures value { option_copied result ≡ hash_file_of (invocation_view self.now) }
     {
         match self {
-            Invocation::Command(line) => line.options.hash_file,
+            Invocation::Command(command_line) => command_line.options.hash_file,
             _ => None,
         }
     }
@@ -78,7 +78,7 @@ impl<'a> Invocation<'a> {
         ensures value { result ≡ is_raw (invocation_view self.now) }
     {
         match self {
-            Invocation::Command(line) => line.options.is_raw,
+            Invocation::Command(command_line) => command_line.options.is_raw,
             _ => false,
         }
     }
@@ -114,13 +114,13 @@ impl<'a> Invocation<'a> {
         match self {
             Invocation::Tell(text) => Ok(print(text, writer, faults)),
             Invocation::Refuse(error) => Ok(end(error, faults)),
-            Invocation::Command(line) => {
-                let line = CommandLine {
-                    drawn: draw(machine, line.options.draws_salt)?,
+            Invocation::Command(command_line) => {
+                let command_line = CommandLine {
+                    drawn: draw(machine, command_line.options.draws_salt)?,
                     file_text,
-                    ..line
+                    ..command_line
                 };
-                Ok(run_line::<M::Mixer, R, W, F>(alloc, line, reader, writer, faults))
+                Ok(run_command::<M::Mixer, R, W, F>(alloc, command_line, reader, writer, faults))
             }
         }
     }

@@ -4,7 +4,7 @@ ghost use Rattle.std.specs.Prelude.{◌≡◌, ◌⊎◌, ◌↔◌, IsTrue, IfO
 ghost use Rattle.std.specs.Io.KnownBytes.{Appends, IsAtEnd, Keeps};
 ghost use Rattle.scrypt_commands.specs.CliError.{error_line, status_of};
 ghost use Rattle.scrypt_commands.specs.Command.{request_of};
-ghost use Rattle.scrypt_commands.specs.Invocation.{line_view};
+ghost use Rattle.scrypt_commands.specs.Invocation.{command_line_view};
 ghost use Rattle.scrypt_commands.specs.Options.{texts_of};
 ghost use Rattle.scrypt_commands.specs.Outcome.{outcome, reply_by};
 ghost use Rattle.scrypt_commands.specs.Run.{AppendsBeginning, IsAnswer, IsRun, OnInput, plan_by, plan_of_words};
@@ -53,26 +53,32 @@ pub fn run<R: Read, W: Write, F: Write>(
     ensures refused { (plan_of_words (texts_of words.now)).is_unread ≡ true → (result.status ≡ 2) ⊎ (result.status ≡ 3) }
 {
     match CommandLine::new(NONE, words) {
-        Ok(line) => run_line::<Vectors, R, W, F>(alloc, line, reader, writer, faults),
+        Ok(command_line) => run_command::<Vectors, R, W, F>(
+            alloc,
+            command_line,
+            reader,
+            writer,
+            faults,
+        ),
         Err(usage) => end(usage, faults),
     }
 }
 
 /// The same of a command by its options.
 #[tactic(auto, using(crate::proofs::OutcomeFacts::ends))]
-pub(crate) fn run_line<M: Mixer, R: Read, W: Write, F: Write>(
+pub(crate) fn run_command<M: Mixer, R: Read, W: Write, F: Write>(
     alloc: Global,
-    line: CommandLine<'_>,
+    command_line: CommandLine<'_>,
     reader: &mut R,
     writer: &mut W,
     faults: &mut F,
 ) -> Ended
-    ensures run { IsRun (plan_by (line_view line.entry))
+    ensures run { IsRun (plan_by (command_line_view command_line.entry))
         (record { input = R.remaining reader.old; output = W.contents writer.old; faults = F.contents faults.old })
         (record { input = R.remaining reader.new; output = W.contents writer.new; faults = F.contents faults.new }) result }
-    ensures refused { IsErr (request_of (line_view line.entry)) → (result.status ≡ 2) ⊎ (result.status ≡ 3) }
+    ensures refused { IsErr (request_of (command_line_view command_line.entry)) → (result.status ≡ 2) ⊎ (result.status ≡ 3) }
 {
-    match execute::<M, R, W>(alloc, line, reader, writer) {
+    match execute::<M, R, W>(alloc, command_line, reader, writer) {
         Ok(status) => answered(status),
         Err(error) => end(error, faults),
     }
@@ -82,32 +88,34 @@ pub(crate) fn run_line<M: Mixer, R: Read, W: Write, F: Write>(
 #[tactic(auto, using(crate::proofs::OutcomeFacts::endings))]
 fn execute<M: Mixer, R: Read, W: Write>(
     alloc: Global,
-    line: CommandLine<'_>,
+    command_line: CommandLine<'_>,
     reader: &mut R,
     writer: &mut W,
 ) -> Result<u8, CliError>
-    ensures line { IfOk result (AppendsReply (reply_by (line_view line.entry)) (R.remaining reader.old)
+    ensures line { IfOk result (AppendsReply (reply_by (command_line_view command_line.entry)) (R.remaining reader.old)
         (W.contents writer.old) (W.contents writer.new)) }
     ensures ok { IfOk result IsAnswer }
     ensures read { OnOk result (IsAtEnd (R.remaining reader.new)) }
     ensures err { IfErr result (λ error. status_of error ≡ 2
-        → OnInput (R.remaining reader.old) (λ input. reply_by (line_view line.entry) input ≡ Err (error_line error))) }
+        → OnInput (R.remaining reader.old) (λ input.
+        reply_by (command_line_view command_line.entry) input ≡ Err (error_line error))) }
     ensures read_before_error { IfErr result (λ error. (error ≡ OutOfMemory) ⊎ (error ≡ InputFailed)
-        ⊎ IsErr (request_of (line_view line.entry)) ⊎ IsAtEnd (R.remaining reader.new)) }
+        ⊎ IsErr (request_of (command_line_view command_line.entry)) ⊎ IsAtEnd (R.remaining reader.new)) }
     ensures nothing { IfErr result (λ error. (error ≡ OutputFailed)
         ⊎ Keeps (W.contents writer.old) (W.contents writer.new)) }
     ensures begun { IfErr result (λ error. error ≡ OutputFailed → OnInput (R.remaining reader.old) (λ input.
-        AppendsBeginning (W.contents writer.old) (W.contents writer.new) (outcome (reply_by (line_view line.entry) input)).line)) }
-    ensures refused { IsErr (request_of (line_view line.entry))
+        AppendsBeginning (W.contents writer.old) (W.contents writer.new)
+        (outcome (reply_by (command_line_view command_line.entry) input)).line)) }
+    ensures refused { IsErr (request_of (command_line_view command_line.entry))
         → IfErr result (λ error. (error ≡ OutOfMemory) ⊎ (status_of error ≡ 2))
         × IsErr result × Keeps (R.remaining reader.old) (R.remaining reader.new) }
 {
-    let command = Command::read(alloc, line)?;
+    let command = Command::read(alloc, command_line)?;
     let input = read_all(alloc, reader)?;
     let answer = command.answer::<M>(
         alloc,
-        line.options.password(&input),
-        line.options.limit_options,
+        command_line.options.password(&input),
+        command_line.options.limit_options,
         &mut CoreCount::new(),
     )?;
     let (status, line) = answer.reply();

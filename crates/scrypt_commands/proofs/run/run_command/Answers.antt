@@ -2,7 +2,7 @@ use Rattle.std.proofs.Common.{◌∙◌, rules, arith, sym}
 use Rattle.std.proofs.lemmas.Bool.{false≢true}
 use Rattle.std.proofs.lemmas.Grind.{common_steps}
 use Rattle.scrypt_commands.proofs.OutcomeFacts.{end_outcome, output_failed}
-use Rattle.scrypt_commands.proofs.run.run_line.Goals as goal
+use Rattle.scrypt_commands.proofs.run.run_command.Goals as goal
 
 pub returns-in-Err-clause-run : goal.returns-in-Err-clause-run
 returns-in-Err-clause-run g c = record {
