@@ -141,15 +141,8 @@ pub extern "C" fn scrypt_hash_params(
 /// key in the text. All bytes of the two keys are compared.
 ///
 /// A text that is `$7` or begins with `$7$` is read as a `$7$` text, and any other as a PHC text.
-/// Returns `OK` if the key of the password is that of the hash, or the first of these. For a PHC text:
-/// `ENCODING_INVALID` unless the bytes are UTF-8 and have the grammar; `ALGORITHM` unless it is
-/// scrypt; `VERSION` if there is one; for the first pair that is refused `HASH_PARAM_INVALID`, or
-/// `HASH_PARAMS_INVALID` if it is not one of scrypt's, and `HASH_PARAMS_INVALID` unless the parameters
-/// are accepted; `MISMATCH` if there is no salt or no key; `OUT_OF_MEMORY` if an allocation fails;
-/// and `MISMATCH` if it is another key. For a `$7$` text: `ENCODING_INVALID` unless the bytes
-/// are UTF-8 and the first field encodes parameters; `HASH_PARAMS_INVALID` unless they are accepted;
-/// `ENCODING_INVALID` unless one field follows, of crypt Base64; `OUTPUT_SIZE` unless it encodes 1
-/// to 137438953440 bytes; `OUT_OF_MEMORY`; and `MISMATCH`.
+/// Returns `OK` if the key of the password is that of the hash, and otherwise `ENCODING_INVALID` if
+/// the bytes are not UTF-8, or the status of the error of `StoredHash::read` or `StoredHash::verify`.
 #[unsafe(no_mangle)]
 pub extern "C" fn scrypt_verify(alloc: Global, password: &[u8], text: &[u8]) -> i32
     ensures status { IsVerifyStatus password.now (bytes_reading text.now) result }
