@@ -11,7 +11,7 @@ from pathlib import Path
 
 from ci import facts
 from ci.facts import LEAST, LOG_N, MIB, P, R
-from tools import mirror
+from tools import header, mirror
 from tools.mirror import BYTES, VERSION, WORK
 
 # A fact, and what a page, a script or a program would say of it.
@@ -54,6 +54,29 @@ class Statuses(unittest.TestCase):
         page = Path("bindings/README.md").read_text("utf-8")
         for name, number in mirror.STATUSES.items():
             self.assertIn(f"\n| `SCRYPT_{name}` ({number}) |", page)
+
+    def test_codes(self):
+        """The types for JavaScript have each status of a proved call, except those that no caller gets."""
+        types = Path("bindings/js/index.d.ts").read_text("utf-8")
+        for name in re.findall(r"^export const (\w+) = \d+;", mirror.wanted()["bindings/js/declared.js"], re.M):
+            is_none = name in mirror.NUMBERS or name in ("OK", "MISMATCH", "NEEDS_REHASH", "BUFFER_SIZE")
+            self.assertEqual(f"\n  | '{name}'" in types, not is_none, name)
+
+
+STATUSES = "crates/scrypt_c/specs/Statuses.antt"
+
+
+def naming_each_error(folder):
+    """The files by hand that name each error of reading a hash: by its case of `Refusal`, or by its status."""
+    def text_of(path):
+        return Path(folder, path).read_text("utf-8", "replace")
+
+    cases = re.findall(r"^refusal_status \(?(\w+).* = pos (\d+)$", text_of(STATUSES), re.M)
+    case_of, statuses = {int(number): case for case, number in cases}, header.statuses_of(text_of(facts.HEADER))
+    errors = [(case_of[statuses[it]], it) for it in header.errors_of_text(text_of(facts.HEADER))]
+    forms = [re.compile(rf"\b{case}\b|(?<![A-Z]){status}\b") for case, status in errors]
+    paths = set(run("git", "ls-files", cwd=folder).split()) - mirror.MADE.keys() - {"ci/test_facts.py"}
+    return {path for path in paths if os.path.isfile(f"{folder}/{path}") and all(it.search(text_of(path)) for it in forms)}
 
 
 class Lists(unittest.TestCase):
@@ -124,6 +147,18 @@ class Lists(unittest.TestCase):
     def test_an_option(self):
         naming = set(run("git", "grep", "-l", "-e", "-strip-newline", "--", ":!ci/test_facts.py", cwd=".").split())
         self.assertEqual(naming, self.listed("An option of the program"))
+
+    def test_an_error(self):
+        """A file that names each error of reading a hash has to name a new one."""
+        listed = self.listed("A new error of reading a hash")
+        self.assertEqual(naming_each_error("."), listed)
+        self.change(STATUSES, "refusal_status Version", "refusal_status SaltMissing = pos 999\nrefusal_status Version")
+        self.change(facts.HEADER, "  SCRYPT_VERSION = ", "  SCRYPT_SALT_MISSING = 999,\n  SCRYPT_VERSION = ")
+        self.assertEqual(naming_each_error(self.copy), {STATUSES, facts.HEADER})
+        for path in listed:
+            with Path(self.copy, path).open("a", encoding="utf-8") as file:
+                file.write("SaltMissing")
+        self.assertEqual(naming_each_error(self.copy), listed)
 
     def test_a_call(self):
         end = "/* ---- Salts"
