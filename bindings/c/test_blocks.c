@@ -101,15 +101,27 @@ static void tables_of_keys_within(size_t at_once) {
   }
 }
 
+static const char PHC[] = "$scrypt$ln=14,r=8,p=4$c2FsdHNhbHQ$AAAAAAAAAAAAAAAAAAAAAA";
+#define OF_PHC "password", 8, PHC, sizeof PHC - 1
+
 static void one_table_of_hashes(void) {
-  static const char PHC[] = "$scrypt$ln=14,r=8,p=4$c2FsdHNhbHQ$AAAAAAAAAAAAAAAAAAAAAA";
-  const size_t len = sizeof PHC - 1;
   int status;
   check(tables_of(14, scrypt_hash_phc(SECRETS, 14, R, 4, 32, text, sizeof text)) == 1, "scrypt_hash_phc");
   check(tables_of(14, scrypt_hash_mcf(SECRETS, 14, R, 4, 32, text, sizeof text)) == 1, "scrypt_hash_mcf");
-  check(tables_of(14, scrypt_verify("password", 8, PHC, len)) == 1, "scrypt_verify");
-  check(tables_of(14, scrypt_verify_within("password", 8, PHC, len, SIZE_MAX, UINT64_MAX, 0)) == 1, "scrypt_verify_within");
+  check(tables_of(14, scrypt_verify(OF_PHC)) == 1, "scrypt_verify");
+  check(tables_of(14, scrypt_verify_within(OF_PHC, SIZE_MAX, UINT64_MAX, 0)) == 1, "scrypt_verify_within");
   check(status == SCRYPT_OUT_OF_MEMORY && text[0] == '\0', "a refusal");
+}
+
+/* A hash that exceeds a limit is refused before anything is derived. */
+static void no_table_of_costly_hashes(void) {
+  int status;
+  check(tables_of(14, scrypt_verify_within(OF_PHC, 1, UINT64_MAX, 0)) == 0, "too many bytes");
+  check(status == SCRYPT_TOO_COSTLY, "too many bytes are named");
+  check(tables_of(14, scrypt_verify_within(OF_PHC, SIZE_MAX, 1, 0)) == 0, "too much work");
+  check(status == SCRYPT_TOO_COSTLY, "too much work is named");
+  check(tables_of(14, scrypt_verify_within(OF_PHC, SIZE_MAX, UINT64_MAX, 17)) == 0, "a key of 16 bytes");
+  check(status == SCRYPT_KEY_TOO_SHORT, "a short key is named");
 }
 
 /* A table that the system does not take back is overwritten: what is left are where it begins, its length and a mark. */
@@ -129,6 +141,7 @@ int main(void) {
   tables_of_keys(at_once);
   tables_of_keys_within(at_once);
   one_table_of_hashes();
+  no_table_of_costly_hashes();
   not_unmapped();
   return failed;
 }
