@@ -135,7 +135,7 @@ def wrong_in_sources():
 
 def wrong_edits():
     """The edits that the compiler does not refuse."""
-    for edit, crate in edits.tried(edits.NOT_COMPILED, left_out=["out"]):
+    for [edit], crate in edits.tried(edits.NOT_COMPILED, left_out=["out"]):
         kind = refused_as(edit.crate, crate)
         print(f"must-not-compile {edit}: {f'refused, as {kind}' if kind else 'NOT REFUSED'}", flush=True)
         if not kind:

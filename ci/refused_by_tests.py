@@ -3,9 +3,13 @@
 No clause can say that an allocation succeeds, or how much a call allocates: a body that allocates once more, or that
 always returns `OutOfMemory`, is proved. Each edit for the tests in crates/NAME/wrong-bodies.txt is such a body. It is
 applied to a copy of the repository, where everything still has to be proved, and a test of the crate NAME has to fail.
-If every clause is exact, an edit may weaken one with its body. The tests of the program are the cases of ci/program.py.
+If every clause is exact, an edit may weaken one with its body. The tests of the program are the cases of
+ci/program.py, and the loops that bench/registers.py asks for.
 
-usage: python3 -m ci.refused_by_tests [NAME..]    the crates, or all that have such edits; minutes for each edit
+Edits that name all tests that fail by them share a build, if each names one that no other does. Then all these have to
+fail, and no other.
+
+usage: python3 -m ci.refused_by_tests [NAME..]    the crates, or all that have such edits; minutes for each build
 """
 
 import contextlib
@@ -15,6 +19,32 @@ import subprocess
 import sys
 
 from tools import edits
+
+# What runs the program, and what looks at its code.
+TRIED = ["-m", "ci.program"], ["bench/registers.py"]
+
+
+def own_tests(edit, group):
+    """The tests that an edit names, and no other edit of a group."""
+    others = [its for other in group if other is not edit for its in other.tests()]
+    return [it for it in edit.tests() if not any(it in its or its in it for its in others)]
+
+
+def share(group):
+    """Whether edits can share a build: each has a test of its own, and all can be applied."""
+    return all(own_tests(edit, group) for edit in group) and edits.fit(group, f"crates/{group[0].crate}")
+
+
+def groups(those):
+    """Edits of a crate in groups, each for one build. One that names no test is alone."""
+    made = []
+    for edit in those:
+        group = next((it for it in made if share([*it, edit])), None)
+        if group is None:
+            made.append([edit])
+        else:
+            group.append(edit)
+    return made
 
 
 def failed_tests(crate):
@@ -31,21 +61,44 @@ def failed_cases(crate):
     program = f"{crate}/out/scrypt_tool"
     with contextlib.suppress(FileNotFoundError):
         os.remove(program)
-    built = subprocess.run(["rt", "run", "--", "--version"], cwd=crate, stdin=subprocess.DEVNULL, capture_output=True, text=True)
+    how = {"capture_output": True, "text": True}
+    built = subprocess.run(["rt", "run", "--", "--version"], cwd=crate, stdin=subprocess.DEVNULL, **how)
     if not os.path.isfile(program):
         print((built.stdout + built.stderr)[-2000:])
         return None
-    ran = subprocess.run([sys.executable, "-m", "ci.program", program], capture_output=True, text=True)
-    return re.findall(r"^(.*): .*, and not ", ran.stdout, re.M)[:3]
+    ran, looked = (subprocess.run([sys.executable, "-B", *words, program], **how).stdout for words in TRIED)
+    return re.findall(r"^(.*?): .*, and not ", ran, re.M) + re.findall(r"(\S+, \d at once): no loop$", looked, re.M)
+
+
+def verdict(edit, failed):
+    """What the tests that failed say of an edit."""
+    if failed is None:
+        return "NOT PROVED"
+    named = edit.tests()
+    own = [it for it in failed if not named or any(part in it for part in named)]
+    passed = [part for part in named if not any(part in it for it in failed)]
+    if passed or not own:
+        return f"NOT REFUSED{' by ' * bool(passed)}{', '.join(passed)}"
+    return f"proved, and refused by {own[:3]}"
+
+
+def unnamed(group, failed):
+    """The tests that failed by edits that name their tests, and not these."""
+    named = [part for edit in group for part in edit.tests()]
+    return [it for it in failed or () if named and not any(part in it for part in named)]
 
 
 def main():
     wrong = 0
-    for edit, crate in edits.tried(edits.BY_TESTS, sys.argv[1:]):
+    for group, crate in edits.tried(edits.BY_TESTS, sys.argv[1:], in_groups=groups):
         failed = failed_cases(crate) if os.path.isfile(f"{crate}/src/main.rt") else failed_tests(crate)
-        verdict = "NOT PROVED" if failed is None else "NOT REFUSED"
-        print(f"{edit}: {f'proved, and refused by {failed}' if failed else verdict}", flush=True)
-        wrong += not failed
+        for edit in group:
+            said = verdict(edit, failed)
+            print(f"{edit}: {said}", flush=True)
+            wrong += not said.startswith("proved")
+        for test in unnamed(group, failed):
+            print(f"{', '.join(edit.name for edit in group)}: FAILED TOO, AND NOT NAMED: {test}", flush=True)
+            wrong += 1
     sys.exit(1 if wrong else 0)
 
 

@@ -63,7 +63,7 @@ class Edits(unittest.TestCase):
                 with self.subTest(reason):
                     found = None
                     try:
-                        with edits.applied(edit(lines), crate):
+                        with edits.applied([edit(lines)], crate):
                             found = tuple(it.read_text("utf-8") for it in paths)
                     except edits.BadEdit:
                         pass

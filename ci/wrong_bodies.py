@@ -59,13 +59,7 @@ def changed(edit, name, crate):
 
 def takes(tried, edit, its, folder):
     """Whether a round takes an edit: it changes other functions, and its old texts still occur once."""
-    if any(its & other for other in tried.values()):
-        return False
-    try:
-        edits.texts_after([*tried, edit], folder)
-    except edits.BadEdit:
-        return False
-    return True
+    return not any(its & other for other in tried.values()) and edits.fit([*tried, edit], folder)
 
 
 def rounds(name, *parts):

@@ -4,7 +4,8 @@ A crate's edits are in its file `wrong-bodies.txt`, in the parts that `PARTS` na
 paragraph has those of a file: a line `file: PATH`, from the crate's folder, and then edits, each a line with its name, which says
 what is wrong, and pairs of lines `old: TEXT` and `new: TEXT`. A line `file: PATH` within an edit is for the rest of that one. Each old text occurs once in that file, or, after a line `after: TEXT`, whose text occurs
 once, is the first one after that. A new text of several lines has a line `new: TEXT` for each. A wrong body may also answer
-goals of its function that it makes false, by lines `answer: ANSWER`, perhaps after `unfolding: NAME`, and `use: NAMES`.
+goals of its function that it makes false, by lines `answer: ANSWER`, perhaps after `unfolding: NAME`, and `use: NAMES`. One that
+only tests refuse may name all tests that fail by it, by lines `test: TEXT`, each a part of their names.
 """
 
 import contextlib
@@ -18,7 +19,7 @@ from pathlib import Path
 
 GATE, MORE, BY_TESTS, NOT_COMPILED = PARTS = ["the gate", "more", "refused by tests", "must not compile"]
 FILE = "wrong-bodies.txt"
-WORDS = {"file", "after", "old", "new", "answer", "unfolding", "use"}
+WORDS = {"file", "after", "old", "new", "answer", "unfolding", "use", "test"}
 
 
 class BadEdit(Exception):
@@ -75,6 +76,10 @@ class Edit:
                 unfolding = ""
         return given, uses
 
+    def tests(self):
+        """The tests that fail by it, if it names them: a part of the name of each."""
+        return [rest for word, rest in self.lines if word == "test"]
+
 
 def read(crate, text):
     """The edits of a crate's file."""
@@ -127,6 +132,15 @@ def texts_after(tried, crate):
     return after
 
 
+def fit(those, crate):
+    """Whether edits can be applied to a crate one after another."""
+    try:
+        texts_after(those, crate)
+    except BadEdit:
+        return False
+    return True
+
+
 def write(texts):
     """Writes texts to files, by their paths."""
     for path, text in texts.items():
@@ -134,9 +148,9 @@ def write(texts):
 
 
 @contextlib.contextmanager
-def applied(edit, crate):
-    """Applies an edit to a crate, and takes it back at the end."""
-    after = texts_after([edit], crate)
+def applied(those, crate):
+    """Applies edits to a crate, one after another, and takes them back at the end."""
+    after = texts_after(those, crate)
     before = {path: Path(path).read_text("utf-8") for path in after}
     try:
         write(after)
@@ -145,14 +159,19 @@ def applied(edit, crate):
         write(before)
 
 
-def tried(part, names=(), left_out=()):
-    """The edits of a part of these crates, or of all, while each is applied to a copy of the repository, in which a
-    crate's path is returned with it. The copy lacks files of the names that are left out."""
+def each_alone(those):
+    """Edits, none together with others."""
+    return [[edit] for edit in those]
+
+
+def tried(part, names=(), left_out=(), in_groups=each_alone):
+    """The edits of a part of these crates, or of all, in groups, while those of a group are applied to a copy of the
+    repository, in which a crate's path is returned with them. The copy lacks files of the names that are left out."""
     with tempfile.TemporaryDirectory() as room:
         copy = os.path.join(room, "copy")
         shutil.copytree(".", copy, ignore=shutil.ignore_patterns(".git", *left_out))
         for name in names or crates_with(part):
-            for edit in edits_of(name, part):
+            for group in in_groups(edits_of(name, part)):
                 crate = os.path.join(copy, "crates", name)
-                with applied(edit, crate):
-                    yield edit, crate
+                with applied(group, crate):
+                    yield group, crate
