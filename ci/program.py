@@ -4,7 +4,8 @@ The answer of a run is a line on the standard output for the statuses 0 and 1, a
 other one stays empty. The keys are those of RFC 7914, section 12, and of Python's hashlib; the hashes are those of
 tools/known.py.
 
-usage: python3 -m ci.program PROGRAM
+usage: python3 -m ci.program PROGRAM        prints the first wrong answers
+       python3 -m ci.program PROGRAM all    prints all of them
 """
 
 import hashlib
@@ -369,7 +370,8 @@ def terminal(program):
 def main():
     # What a program touches counts what this one has before, so that this is first.
     parts = [memory, rows, long_passwords, streams, cuts, faults, refused_memory, salts, hash_files, information, raw_keys, terminal]
-    _, wrong = runs.report("program", itertools.chain(*(part(sys.argv[1]) for part in parts)))
+    shown = {"shown": sys.maxsize} if sys.argv[2:] == ["all"] else {}
+    _, wrong = runs.report("program", itertools.chain(*(part(sys.argv[1]) for part in parts)), **shown)
     sys.exit(1 if wrong else 0)
 
 

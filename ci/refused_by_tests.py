@@ -20,9 +20,6 @@ import sys
 
 from tools import edits
 
-# What runs the program, and what looks at its code.
-TRIED = ["-m", "ci.program"], ["bench/registers.py"]
-
 
 def own_tests(edit, group):
     """The tests that an edit names, and no other edit of a group."""
@@ -66,7 +63,8 @@ def failed_cases(crate):
     if not os.path.isfile(program):
         print((built.stdout + built.stderr)[-2000:])
         return None
-    ran, looked = (subprocess.run([sys.executable, "-B", *words, program], **how).stdout for words in TRIED)
+    tried = ["-m", "ci.program", program, "all"], ["bench/registers.py", program]
+    ran, looked = (subprocess.run([sys.executable, "-B", *words], **how).stdout for words in tried)
     return re.findall(r"^(.*?): .*, and not ", ran, re.M) + re.findall(r"(\S+, \d at once): no loop$", looked, re.M)
 
 

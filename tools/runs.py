@@ -35,8 +35,8 @@ def failing_calls():
         yield library
 
 
-def report(title, cases):
-    """Prints the cases whose answer is not the wanted one, and returns how many are right and how many are wrong.
+def report(title, cases, shown=20):
+    """Prints the first cases whose answer is not the wanted one, and returns how many are right and how many are wrong.
 
     A case is a triple: what it is about, the answer, and the wanted answer.
     """
@@ -46,7 +46,7 @@ def report(title, cases):
             right += 1
             continue
         wrong += 1
-        if wrong < 20:
+        if wrong <= shown:
             print(f"{about}: {answer}, and not {wanted}")
     print(f"{title}: {right} of {right + wrong} as they should be", flush=True)
     return right, wrong
