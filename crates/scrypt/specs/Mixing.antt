@@ -4,7 +4,7 @@ use Rattle.scrypt_kernel.specs.Count.{AreCounted}
 use Rattle.scrypt.specs.Accepted.{Parameters}
 use Rattle.scrypt.specs.Cost.{chunks_bytes, cost, scratch_words, table_words, thin_scratch_words}
 use Rattle.scrypt.specs.Key.{mixed_chunks}
-use Rattle.scrypt.specs.Workspace.{chunks_at_once}
+use Rattle.scrypt.specs.Workspace.{IsRestKept, Workspace, chunks_at_once}
 use Rattle.scrypt.specs.declared.buffers.InUse.{InUse}
 
 -- the first i chunks of x are those of b after scryptROMix, and the others are those of b
@@ -66,3 +66,11 @@ pub record IsSpent {M : Type 0} (room_of : M → ℕ) (c : Parameters) (before a
   pub counted : AreCounted (cost c.log_n c.r c.p) before.cores.now after.cores.now
   pub chunks : after.chunks.now ≡ replicate (length before.chunks.now) 0
   pub scratch : after.scratch.now ≡ replicate (length before.scratch.now) 0
+
+-- A derivation with these parameters made `left` of `used`, which was the front of the buffers. It is now, and what is after it is
+-- unchanged.
+pub record IsAtFront {M : Type 0} (c : Parameters) (used left : InUse M) (before after : Workspace) : Type 0 where
+  pub counted_from : used.cores.now ≡ before.cores
+  pub counted_to : after.cores ≡ left.cores.now
+  pub chunks : take (chunks_bytes c.r c.p) after.chunks ≡ left.chunks.now
+  pub rest : IsRestKept c before after

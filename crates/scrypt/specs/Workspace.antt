@@ -41,6 +41,14 @@ pub record AreUsed (c : Parameters) (lens : BufferLens) (chunks table scratch : 
   pub room : table_words c.log_n c.r ≤ lens.table
   pub spare : scratch_words c.r ≤ lens.scratch
 
+-- what is after the part of each buffer that a derivation with these parameters used is unchanged
+pub record IsRestKept (c : Parameters) (before after : Workspace) : Type 0 where
+  pub chunks : drop (chunks_bytes c.r c.p) after.chunks ≡ drop (chunks_bytes c.r c.p) before.chunks
+  pub table : let used = tables_used c before.table before.scratch * table_words c.log_n c.r in
+      drop used after.table ≡ drop used before.table
+  pub scratch : let used = tables_used c before.table before.scratch * scratch_words c.r in
+      drop used after.scratch ≡ drop used before.scratch
+
 -- A derivation with these parameters was counted. What it used of the chunks and the scratch is zeros, and what is
 -- after the tables that it used is unchanged.
 pub record IsDone (c : Parameters) (before after : Workspace) : Type 0 where

@@ -5,7 +5,7 @@ ghost use Rattle.scrypt_kernel.specs.Memory.{allocated_room, buffer_room};
 ghost use Rattle.scrypt.specs.Cost.{chunks_bytes, scratch_words, table_words, thin_scratch_words};
 ghost use Rattle.scrypt.specs.InBuffers.{are_enough};
 ghost use Rattle.scrypt.specs.Limits.{tables_within};
-ghost use Rattle.scrypt.specs.Mixing.{HasTables, IsReady, IsSpent, IsWidth};
+ghost use Rattle.scrypt.specs.Mixing.{HasTables, IsAtFront, IsKept, IsReady, IsSpent, IsWidth};
 ghost use Rattle.scrypt.specs.Workspace.{AreUsed, IsDone, chunks_at_once, workspace_of};
 
 use crate::{CoreCount, Params};
@@ -109,10 +109,10 @@ impl BufferLens {
     }
 }
 
-/// Returns how many of `count` chunks are mixed at a time in a table and a scratch of so many words: at
-/// most four, and as many as have a table and a scratch there.
+// Returns how many of `count` chunks are mixed at a time in a table and a scratch of so many words: at
+// most four, and as many as have a table and a scratch there.
 #[tactic(auto, using(crate::proofs::CostFacts::rooms), unfolding(crate::specs::Workspace::chunks_at_once))]
-pub(crate) fn chunks_at_once(params: &Params, count: usize, table: usize, scratch: usize) -> usize
+fn chunks_at_once(params: &Params, count: usize, table: usize, scratch: usize) -> usize
     ensures exact { result ≡ chunks_at_once params.now.log_n params.now.r count table scratch }
     ensures some { (0 < result) ↔ ((0 < count)
         × (table_words params.now.log_n params.now.r ≤ table) × (scratch_words params.now.r ≤ scratch)) }
@@ -126,8 +126,8 @@ pub(crate) fn chunks_at_once(params: &Params, count: usize, table: usize, scratc
         .min(scratch / one.scratch)
 }
 
-/// Returns how many of `count` chunks are mixed at a time in these buffers, or `None` if a buffer is too
-/// short for them.
+// Returns how many of `count` chunks are mixed at a time in these buffers, or `None` if a buffer is too
+// short for them.
 #[tactic(auto, using(crate::proofs::CostFacts::width_of_part, std::proofs::lemmas::Bool::Decides::nat_tests), unfolding(crate::specs::InBuffers::are_enough))]
 fn width_in(
     params: &Params,
@@ -216,21 +216,24 @@ pub(crate) fn at_front<V, T, F: FnOnce(&mut InUse<'_, Buffer<'_>>, &mut [V]) -> 
     requires some { 0 < count }
     requires callable { (used : _) (shown : _) → IsReady buffer_room params.now.log_n 0 params.now.r count used.now
         → shown.now ≡ output.old → F.pre derive used shown }
-    requires spends { (used : _) (shown : _) (made : T) (after : _) (left : _)
+    requires keeps { (used : _) (shown : _) (made : T) (after : _) (left : _)
         → IsReady buffer_room params.now.log_n 0 params.now.r count used.now → F.post derive used shown made after left
-        → IsSpent buffer_room (record params.now { p = count }) used.now after.now }
+        → IsKept buffer_room used.now after.now }
     ensures exact { IsSome result ↔ IsTrue (are_enough (record params.now { p = count }) chunks.old table.old scratch.old) }
     ensures made { IfSome result (λ made. (used : _) × (shown : _) × (after : _) × (left : _)
         × IsReady buffer_room params.now.log_n 0 params.now.r count used.now
+        × IsAtFront (record params.now { p = count }) used.now after.now
+        (workspace_of chunks.old table.old scratch.old cores.old) (workspace_of chunks.new table.new scratch.new cores.new)
         × (shown.now ≡ output.old) × (left.now ≡ output.new) × F.post derive used shown made after left) }
-    ensures done { IsSome result → IsDone (record params.now { p = count })
+    ensures done { ((used : _) (shown : _) (made : T) (after : _) (left : _)
+        → IsReady buffer_room params.now.log_n 0 params.now.r count used.now → F.post derive used shown made after left
+        → IsSpent buffer_room (record params.now { p = count }) used.now after.now)
+        → IsSome result → IsDone (record params.now { p = count })
         (workspace_of chunks.old table.old scratch.old cores.old) (workspace_of chunks.new table.new scratch.new cores.new) }
     ensures unchanged { result ≡ None → (output.new ≡ output.old)
         × (workspace_of chunks.new table.new scratch.new cores.new ≡ workspace_of chunks.old table.old scratch.old cores.old) }
 {
-    let Some(width) = width_in(params, count, chunks, table, scratch) else {
-        return None;
-    };
+    let width = width_in(params, count, chunks, table, scratch)?;
     params.expose_invariant();
     let lens = BufferLens::for_tables(params, width);
     let (chunks, _) = chunks.split_at_mut(count as usize * (128 * params.r() as usize));

@@ -1,17 +1,19 @@
 // The derived key (RFC 7914, section 6).
 
-ghost use Rattle.std.specs.Prelude.{◌≡◌, ◌↔◌, ◌+◌, ◌-◌, ◌*◌, ◌^◌, ◌<◌, ◌≤◌, length, IfSome, IsOk, IsSome, IsTrue, IsErrOf, OnOk, OnErr};
+ghost use Rattle.std.specs.Prelude.{◌≡◌, ◌↔◌, ◌+◌, ◌-◌, ◌*◌, ◌^◌, ◌<◌, ◌≤◌, length, take, IfSome, IsOk, IsSome, IsTrue, IsErrOf, OnOk, OnErr};
 ghost use Rattle.scrypt_kernel.specs.Count.{AreCounted};
 ghost use Rattle.scrypt_kernel.specs.Pbkdf2.{max_output_len, pbkdf2};
 ghost use Rattle.scrypt.specs.Accepted.{is_output_len};
 ghost use Rattle.scrypt.specs.Cost.{chunks_bytes, cost, scratch_words, table_words, thin_cost, thin_scratch_words};
+ghost use Rattle.scrypt.specs.InBuffers.{are_enough};
 ghost use Rattle.scrypt.specs.Key.{derived_key, mixed_b};
 ghost use Rattle.scrypt.specs.Mixing.{HasTables, IsKept, IsReady, IsSpent};
+ghost use Rattle.scrypt.specs.Workspace.{IsRestKept, workspace_of};
 ghost use Rattle.scrypt.specs.declared.errors.DeriveError.TheVariants.{InvalidOutputLen as BadLength, OutOfMemory};
 
 pub(crate) mod mixing;
 
-use crate::buffers::{Buffers, InUse, chunks_at_once};
+use crate::buffers::{Buffers, InUse, at_front};
 use crate::derivation::mixing::mix_all;
 use crate::{CoreCount, DeriveError, InvalidOutputLen, Mixer, Params, Vectors};
 use scrypt_kernel::memory::{Allocated, Buffer, TableMemory};
@@ -175,7 +177,6 @@ pub fn scrypt_with_buffers(
 }
 
 /// Does what [`scrypt_with_buffers`] does, by the mixer `W`.
-#[tactic(auto, using(crate::proofs::AcceptedFacts::most_output_len))]
 pub fn scrypt_with_buffers_by<W: Mixer>(
     password: &[u8],
     salt: &[u8],
@@ -198,14 +199,64 @@ pub fn scrypt_with_buffers_by<W: Mixer>(
     ensures buffers { OnErr result ((chunks.new ≡ chunks.old) × (table.new ≡ table.old) × (scratch.new ≡ scratch.old)) }
     ensures uncounted { OnErr result (cores.new ≡ cores.old) }
 {
-    if !output_len_ok(output.len()) {
-        return Err(InvalidOutputLen);
+    let derived = scrypt_at_front::<W>(
+        password, salt, params, chunks, table, scratch, output, cores,
+    );
+    match derived {
+        Ok(()) => Ok(()),
+        Err(DeriveError::InvalidOutputLen) => Err(InvalidOutputLen),
+        Err(DeriveError::OutOfMemory) => unreachable!(),
     }
-    let width = chunks_at_once(params, params.p() as usize, table.len(), scratch.len());
-    let mut rows = Buffer::new(table);
-    let mut used = InUse::new(width, chunks, &mut rows, scratch, cores);
-    derive_in::<Buffer<'_>, W>(password, salt, params, 0, &mut used, output);
-    Ok(())
+}
+
+/// Does what [`scrypt_with_buffers_by`] does, in buffers that may all be longer. Only the first elements of each are
+/// used, as many as [`used_lens`](crate::used_lens) returns, and those after them are unchanged.
+///
+/// Returns `InvalidOutputLen` exactly if the length of `output` is not allowed, and otherwise `OutOfMemory` exactly if a
+/// buffer is too short. On an error nothing has changed.
+#[tactic(auto, using(crate::proofs::AcceptedFacts::most_output_len))]
+pub fn scrypt_at_front<W: Mixer>(
+    password: &[u8],
+    salt: &[u8],
+    params: &Params,
+    chunks: &mut [u8],
+    table: &mut [u32],
+    scratch: &mut [u32],
+    output: &mut [u8],
+    cores: &mut CoreCount,
+) -> Result<(), DeriveError>
+    ensures length { IsErrOf result BadLength ↔ ¬ IsTrue (is_output_len (length output.old)) }
+    ensures short { IsErrOf result OutOfMemory ↔ (IsTrue (is_output_len (length output.old))
+        × ¬ IsTrue (are_enough params.now chunks.old table.old scratch.old)) }
+    ensures value { OnOk result (output.new ≡ derived_key password.now salt.now
+        params.now.log_n params.now.r params.now.p (length output.old)) }
+    ensures counted { OnOk result (AreCounted (cost params.now.log_n params.now.r params.now.p) cores.old cores.new) }
+    ensures mixed { OnOk result (take (chunks_bytes params.now.r params.now.p) chunks.new
+        ≡ mixed_b password.now salt.now params.now.log_n params.now.r params.now.p) }
+    ensures rest { OnOk result (IsRestKept params.now
+        (workspace_of chunks.old table.old scratch.old cores.old) (workspace_of chunks.new table.new scratch.new cores.new)) }
+    ensures refused { OnErr result (output.new ≡ output.old) }
+    ensures unchanged { OnErr result (workspace_of chunks.new table.new scratch.new cores.new
+        ≡ workspace_of chunks.old table.old scratch.old cores.old) }
+{
+    if !output_len_ok(output.len()) {
+        return Err(DeriveError::InvalidOutputLen);
+    }
+    params.expose_invariant();
+    let derived = at_front(
+        params,
+        params.p(),
+        chunks,
+        table,
+        scratch,
+        cores,
+        output,
+        |used, output| derive_in::<Buffer<'_>, W>(password, salt, params, 0, used, output),
+    );
+    match derived {
+        Some(()) => Ok(()),
+        None => Err(DeriveError::OutOfMemory),
+    }
 }
 
 /// Writes the scrypt key of `password` and `salt` to `output`, with a smaller table

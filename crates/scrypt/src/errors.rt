@@ -44,7 +44,7 @@ impl Error for InvalidParams {}
 pub enum DeriveError {
     /// The output is empty, or has more than 137438953440 bytes.
     InvalidOutputLen,
-    /// An allocation failed.
+    /// An allocation failed, or a buffer of the caller is too short.
     OutOfMemory,
 }
 

@@ -97,11 +97,11 @@ pub(crate) fn verify_in_buffers<W: Mixer>(
     ensures verdict { with_refusal result
         ≡ verdict_in (workspace_of chunks.old table.old scratch.old cores.old) password.now (Ok (stored parts.now)) }
 {
-    parts.params.expose_invariant();
-    let count = parts.params.p();
+    let params = &parts.params;
+    params.expose_invariant();
     let same = at_front(
-        &parts.params,
-        count,
+        params,
+        params.p(),
         chunks,
         table,
         scratch,

@@ -6,9 +6,9 @@ ghost use Rattle.scrypt.specs.InBuffers.{are_enough};
 ghost use Rattle.scrypt.specs.Cost.{chunks_bytes};
 ghost use Rattle.scrypt.specs.Key.{derived_key, mixed_b};
 ghost use Rattle.scrypt.specs.Limits.{are_within};
-ghost use Rattle.scrypt.specs.Workspace.{AreUsed};
+ghost use Rattle.scrypt.specs.Workspace.{IsRestKept};
 ghost use Rattle.scrypt_c.specs.Buffers.{AreBuffers, IsSpacing};
-ghost use Rattle.scrypt_c.specs.InBuffers.{IsRestKept, buffers};
+ghost use Rattle.scrypt_c.specs.InBuffers.{buffers};
 ghost use Rattle.scrypt_c.specs.Limits.{bytes_that_pay, limits_of, params_of};
 ghost use Rattle.scrypt_c.specs.Statuses.{IsKeyStatus};
 
@@ -17,8 +17,8 @@ use crate::statuses::{
 };
 use crate::target::Target;
 use scrypt::{
-    BufferLens, CoreCount, DeriveError, Limits, Params, output_len_ok, scrypt_by, scrypt_thin_by,
-    scrypt_with_buffers_by, used_lens,
+    BufferLens, CoreCount, DeriveError, Limits, Params, output_len_ok, scrypt_at_front, scrypt_by,
+    scrypt_thin_by,
 };
 use std::alloc::Global;
 
@@ -195,44 +195,15 @@ pub extern "C" fn scrypt_kdf_with_buffers(
     let Ok(params) = Params::new(log_n, r, p) else {
         return INVALID_PARAMS;
     };
-    if !output_len_ok(output.len()) {
-        return INVALID_OUTPUT_LEN;
-    }
-    let Some(used) = used_lens(&params, chunks, table, scratch) else {
-        return BUFFER_SIZE;
-    };
-    derive_at_front(
-        password, salt, &params, &used, output, chunks, table, scratch,
-    );
-    OK
-}
-
-// Derives a key in the front of each buffer, as much as is used.
-fn derive_at_front(
-    password: &[u8],
-    salt: &[u8],
-    params: &Params,
-    used: &BufferLens,
-    output: &mut [u8],
-    chunks: &mut [u8],
-    table: &mut [u32],
-    scratch: &mut [u32],
-)
-    requires length { IsTrue (is_output_len (length output.old)) }
-    requires used { AreUsed params.now used.now chunks.old table.old scratch.old }
-    ensures value { output.new ≡ derived_key password.now salt.now params.now.log_n params.now.r params.now.p (length output.old) }
-    ensures mixed { take (chunks_bytes params.now.r params.now.p) chunks.new
-        ≡ mixed_b password.now salt.now params.now.log_n params.now.r params.now.p }
-    ensures rest { IsRestKept params.now (buffers chunks.old table.old scratch.old) (buffers chunks.new table.new scratch.new) }
-{
-    let chunks = &mut chunks[..used.chunks];
-    let table = &mut table[..used.table];
-    let scratch = &mut scratch[..used.scratch];
     let mut cores = CoreCount::new();
-    let derived = scrypt_with_buffers_by::<Target>(
-        password, salt, params, chunks, table, scratch, output, &mut cores,
+    let derived = scrypt_at_front::<Target>(
+        password, salt, &params, chunks, table, scratch, output, &mut cores,
     );
-    derived.unwrap();
+    match derived {
+        Ok(()) => OK,
+        Err(DeriveError::InvalidOutputLen) => INVALID_OUTPUT_LEN,
+        Err(DeriveError::OutOfMemory) => BUFFER_SIZE,
+    }
 }
 
 /// Does what `scrypt_kdf_with_buffers` does, with a table that keeps one row in `2^s`: it has `2^s` times

@@ -227,10 +227,9 @@ pub fn hash_with_buffers<W: Mixer>(
         return Err(Error::OutOfMemory);
     }
     params.expose_invariant();
-    let count = params.p();
     let made = at_front(
         params,
-        count,
+        params.p(),
         chunks,
         table,
         scratch,

@@ -137,10 +137,9 @@ pub fn hash_with_buffers<W: Mixer>(
     };
     params.expose_invariant();
     let letters = salt.as_bytes();
-    let count = params.p();
     let key = at_front(
         params,
-        count,
+        params.p(),
         chunks,
         table,
         scratch,

@@ -1,16 +1,38 @@
 use Rattle.std.proofs.Common.{refl, rules}
+use Rattle.std.proofs.lemmas.List.{take_at}
 use Rattle.std.proofs.lemmas.Slice.{drop-append-drop}
 use Rattle.scrypt_kernel.specs.Memory.{buffer_room}
 use Rattle.scrypt.specs.Mixing.{IsReady}
 use Rattle.scrypt.proofs.buffers.at_front.Goals as goal
 
 pub returns-clause-made : goal.returns-clause-made
-returns-clause-made g c = (_, _, _, _, search rules, refl, refl, c.derive.ensures)
+returns-clause-made g c =
+    let ready : IsReady buffer_room c.args.params.now.log_n 0 c.args.params.now.r c.args.count c.new-used.result = search rules in
+    let kept = c.requires.keeps _ _ _ _ _ ready c.derive.ensures in (
+      _,
+      _,
+      _,
+      _,
+      ready,
+      record {
+        counted_from = search rules;
+        counted_to = search rules;
+        chunks = search (rules, take_at);
+        rest = record {
+          chunks = search (rules, drop-append-drop);
+          table = search (rules, drop-append-drop);
+          scratch = search (rules, drop-append-drop);
+        };
+      },
+      refl,
+      refl,
+      c.derive.ensures,
+    )
 
 pub returns-clause-done : goal.returns-clause-done
-returns-clause-done g c = λ _.
+returns-clause-done g c = λ spends _.
     let ready : IsReady buffer_room c.args.params.now.log_n 0 c.args.params.now.r c.args.count c.new-used.result = search rules in
-    let spent = c.requires.spends _ _ _ _ _ ready c.derive.ensures in
+    let spent = spends _ _ _ _ _ ready c.derive.ensures in
     record {
       counted = search (rules, spent.counted);
       chunks = search (rules, spent.chunks);

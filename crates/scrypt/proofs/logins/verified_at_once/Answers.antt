@@ -12,3 +12,8 @@ returns-in-Some-verified-clause-verdicts g c = λ _.
     let before = workspace_of c.args.chunks.now c.args.table.now c.args.scratch.now c.args.cores.now in
     let at_once : map with_limited_refusal c.at_front-verified.new.output ≡ map (λ (a : Attempt). verdict a.0 a.1) (attempts c.args.logins.now) = search rules in
     at_once ∙ alone c.in-Some.params (attempts c.args.logins.now) c.in-Some.count before c.in-Some.ensures'.count (search rules)
+
+pub returns-in-Some-verified-clause-left : goal.returns-in-Some-verified-clause-left
+returns-in-Some-verified-clause-left g c = λ _.
+    let done = c.at_front-verified.ensures.done (λ used shown made after left ready ran. search rules) (search rules) in
+    search (rules, done)

@@ -1,0 +1,10 @@
+use Rattle.std.proofs.Common.{rules}
+use Rattle.std.specs.Prelude.{IsTrue}
+use Rattle.scrypt.specs.InBuffers.{are_enough}
+use Rattle.scrypt.proofs.verifying.verify_in_buffers.Goals as goal
+
+pub returns-in-Some-clause-left : goal.returns-in-Some-clause-left
+returns-in-Some-clause-left g c =
+    let done = c.at_front-same.ensures.done (λ used shown made after left ready ran. search rules) (search rules) in
+    let enough : IsTrue (are_enough c.args.parts.now.params c.args.chunks.now c.args.table.now c.args.scratch.now) = search rules in
+    rw enough (search (rules, done))
