@@ -15,7 +15,7 @@ out=$build/lib
 common=$out/parts
 version=$(cat VERSION)
 # What is written in C over the proved calls, and for the system.
-over="calls salt hasher queue line lock tables groups calibrate $sources"
+over="calls salt hasher queue line lock arena groups calibrate $sources"
 . "bindings/$system.sh"
 
 if [ "${1:-}" != built ]; then prove; fi
@@ -45,7 +45,7 @@ make_objects() {
   "${tools}objcopy" --redefine-syms="$parts/proved" "$parts"/libscrypt_c/*.o
   for object in "$parts"/*/*.o; do "${tools}objcopy" --redefine-syms="$common/clearing" "$object"; done
   # Functions of the C library are bound when a program is loaded, also with the static library, as blocks.c explains.
-  for part in blocks registers version at_once; do compiled $flags -c -o "$parts/$part.o" bindings/c/$part.c; done
+  for part in blocks registers version tables_that_pay; do compiled $flags -c -o "$parts/$part.o" bindings/c/$part.c; done
   # How much of the stack each proved call uses is measured, and cleared by what is compiled then.
   compiled $flags -c -o "$parts/stack_lens.o" bindings/c/stack_lens.c
   compiled $flags $bound -o "$parts/stack_lens$exe" bindings/c/test.c "$parts"/*/*.o "$parts"/*.o "$common"/over/*.o $libraries
@@ -54,7 +54,7 @@ make_objects() {
   compiled $flags -c -o "$parts/clearing.o" bindings/c/clearing.c
   # The calls that are called by those over them.
   sed 's/.*/cleared_&/' "$parts/proved.names" > "$parts/names"
-  printf '%s\n' scrypt_wipe scrypt_version most_at_once >> "$parts/names"
+  printf '%s\n' scrypt_wipe scrypt_version tables_that_pay >> "$parts/names"
   join "$parts/$level.o" "$parts/names" "$parts"/*/*.o "$parts"/*.o
 }
 # Gives the calls of a level, except those that are left out, the names that dispatch.c calls.

@@ -60,7 +60,7 @@ link_shared() {
 link_drop_in() {
   $CC -O2 -Wall -Wextra $hardened -fPIC -fvisibility=hidden $linked -Wl,-soname,libscrypt_drop_in.so -Wl,--exclude-libs,ALL \
     -Wl,-z,nodelete -Ibindings/c -o "$out/libscrypt_drop_in.so" bindings/drop_in/drop_in.c bindings/drop_in/kept.c \
-    bindings/c/tables.c bindings/c/groups.c bindings/c/linux.c "$out/libscrypt_c.a" $libraries
+    bindings/c/arena.c bindings/c/groups.c bindings/c/linux.c "$out/libscrypt_c.a" $libraries
 }
 
 # link_program SOURCE NAME links a program that needs no library beside it.

@@ -43,13 +43,13 @@ int scrypt_buffer_lens(uint32_t log_n, uint32_t r, uint32_t p, uint8_t s, size_t
 int scrypt_key(INPUTS, OUTPUT) {
   TAKE_OUTPUT;
   TAKE_INPUTS;
-  return cleared_scrypt_kdf(THE_INPUTS, most_at_once(), MOST_OF_SEVERAL, THE_OUTPUT);
+  return cleared_scrypt_kdf(THE_INPUTS, tables_that_pay(), MOST_OF_SEVERAL, THE_OUTPUT);
 }
 
 int scrypt_key_within(INPUTS, size_t most_bytes, uint64_t most_work, OUTPUT) {
   TAKE_OUTPUT;
   TAKE_INPUTS;
-  return cleared_scrypt_kdf_within(THE_INPUTS, most_at_once(), most_bytes, most_work, THE_OUTPUT);
+  return cleared_scrypt_kdf_within(THE_INPUTS, tables_that_pay(), most_bytes, most_work, THE_OUTPUT);
 }
 
 int scrypt_key_with_buffers(INPUTS, OUTPUT, BUFFERS) {

@@ -29,6 +29,6 @@ const char *v2_scrypt_version(void);
 const char *v3_scrypt_version(void);
 const char *scrypt_version(void) { return is_v3 ? v3_scrypt_version() : v2_scrypt_version(); }
 
-size_t v2_most_at_once(void);
-size_t v3_most_at_once(void);
-size_t most_at_once(void) { return is_v3 ? v3_most_at_once() : v2_most_at_once(); }
+size_t v2_tables_that_pay(void);
+size_t v3_tables_that_pay(void);
+size_t tables_that_pay(void) { return is_v3 ? v3_tables_that_pay() : v2_tables_that_pay(); }

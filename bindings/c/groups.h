@@ -19,8 +19,8 @@ static inline const uint8_t *bytes_of(const void *bytes) {
 /* For the proved calls, which accept no log_n above 56: a greater one mustn't become one that they accept. */
 static inline uint8_t in_8_bits(uint32_t log_n) { return log_n < 64 ? (uint8_t)log_n : UINT8_MAX; }
 
-/* How many at once pay on this processor, at most SCRYPT_MOST_LOGINS. */
-size_t most_at_once(void);
+/* How many tables pay on this processor, at most SCRYPT_MOST_LOGINS. */
+size_t tables_that_pay(void);
 
 /* The key in these buffers, of which the chunks and the scratch are zeros afterwards. */
 int key_in_buffers(const void *password, size_t password_len, const void *salt, size_t salt_len, uint32_t log_n, uint32_t r,

@@ -3,7 +3,7 @@
 #define MACHINE_H
 
 /* How many tables scrypt_key has at once if p is at least as much: by the measurements in docs/DECISIONS.md. */
-#define TABLES_AT_ONCE {{"x86-64-v2", 3}, {"x86-64-v3", 4}, {"arm64", 4}}
+#define TABLES_THAT_PAY {{"x86-64-v2", 3}, {"x86-64-v3", 4}, {"arm64", 4}}
 
 #define VECTORS_0_TO_15 ".irp n, 0, 1, 2, 3, 4, 5, 6, 7, 8, 9, 10, 11, 12, 13, 14, 15\n"
 #define VECTORS_16_TO_31 ".irp n, 16, 17, 18, 19, 20, 21, 22, 23, 24, 25, 26, 27, 28, 29, 30, 31\n"

@@ -22,7 +22,7 @@
  *    other handler may fork, and call all but scrypt_hasher_free.
  * 5. A thread that is woken takes the lock before it goes on. So a call stays where it is while another one, with the
  *    lock, touches it. After its last unlock a call doesn't touch the hasher, so that it may be freed.
- * 6. In a child the kernel has filled the queue with zeros: the lock is free, so is each turn, no turn has tables, and nobody
+ * 6. In a child the kernel has filled the queue with zeros: the lock is free, so is each turn, no turn has an arena, and nobody
  *    waits. Its epoch is another one, by which a call that a handler interrupted finds out that it is of the parent. What
  *    such a call reads of other threads may be old, as a fork copies one page after another: it uses none of it. Windows has
  *    neither forks nor signals. */
@@ -61,14 +61,14 @@ static void end(struct call *call, int status) {
 
 /* How many tables a turn has: the last ones have one more if they can't have the same. */
 static size_t width_of(const scrypt_hasher *hasher, size_t turn) {
-  size_t at_once = hasher->options.at_once, most = most_at_once();
+  size_t at_once = hasher->options.at_once, most = tables_that_pay();
   size_t width = at_once / hasher->turns + (turn >= hasher->turns - at_once % hasher->turns);
   return width < most ? width : most;
 }
 
-static struct tables take(struct tables *from) {
-  struct tables taken = *from;
-  *from = (struct tables){0};
+static struct arena take(struct arena *from) {
+  struct arena taken = *from;
+  *from = (struct arena){0};
   return taken;
 }
 
@@ -85,8 +85,8 @@ static void give(scrypt_hasher *hasher, size_t turn, struct call *call) {
   queue->turn[turn].state = TAKEN;
   queue->deriving++;
   call->turn = turn;
-  call->tables = take(&queue->turn[turn].tables);
-  call->tables.note = &hasher->notes[turn];
+  call->arena = take(&queue->turn[turn].arena);
+  call->arena.note = &hasher->notes[turn];
   go_on(call, LEADS);
 }
 
@@ -134,7 +134,7 @@ static void gather(struct queue *queue, struct call **group, size_t count) {
 }
 
 static void put_back(scrypt_hasher *hasher, struct call *call) {
-  hasher->queue->turn[call->turn].tables = take(&call->tables);
+  hasher->queue->turn[call->turn].arena = take(&call->arena);
   hasher->notes[call->turn].user = 0;
 }
 
@@ -207,7 +207,7 @@ static void await(scrypt_hasher *hasher, struct call *call, int64_t begun, int64
     is_interrupted = sleep_while(hasher, &call->state, call->state,
                                  NS_OF_MS * (left > 0 && left < CHILD_MS ? left : CHILD_MS));
     if (is_of_parent(hasher, call)) {
-      call->tables = (struct tables){0}; /* a thread of the parent may have been giving it some */
+      call->arena = (struct arena){0}; /* a thread of the parent may have been giving it some */
       end(call, SCRYPT_CANCELLED);
     }
   }
@@ -224,10 +224,10 @@ static int64_t moment_of(const scrypt_needs *needs) {
 
 /* Frees what a turn keeps. */
 static void free_kept(scrypt_hasher *hasher, size_t turn) {
-  struct tables kept = take(&hasher->queue->turn[turn].tables); /* none if it is taken */
+  struct arena kept = take(&hasher->queue->turn[turn].arena); /* none if it is taken */
   if (kept.note != NULL) kept.note->user = this_thread();
   unlock(hasher);
-  tables_free(&kept);
+  arena_free(&kept);
   lock(hasher);
 }
 
@@ -236,7 +236,7 @@ static void free_kept(scrypt_hasher *hasher, size_t turn) {
 static int give_back(scrypt_hasher *hasher, const struct call *call) {
   struct turn *all = hasher->queue->turn;
   size_t turn = 0;
-  while (turn < hasher->turns && (all[turn].state != FREE || all[turn].tables.mapping == NULL)) turn++;
+  while (turn < hasher->turns && (all[turn].state != FREE || all[turn].arena.mapping == NULL)) turn++;
   if (turn == hasher->turns) return 0;
   all[turn].state = EMPTIED;
   free_kept(hasher, turn);
@@ -249,7 +249,7 @@ static size_t make_room(scrypt_hasher *hasher, struct call *call, size_t most) {
   size_t width;
   do {
     unlock(hasher);
-    width = tables_room(&call->tables, &call->needs, most);
+    width = arena_room(&call->arena, &call->needs, most);
     lock(hasher);
   } while (width == 0 && !is_of_parent(hasher, call) && give_back(hasher, call));
   return width;
@@ -263,7 +263,7 @@ static void derive_in_room(scrypt_hasher *hasher, struct call **group, size_t co
   unlock(hasher);
   if (width > 0) {
     struct buffers of =
-        tables_buffers(&group[0]->tables, needs, width < count * needs->p ? width : count * needs->p, count);
+        arena_buffers(&group[0]->arena, needs, width < count * needs->p ? width : count * needs->p, count);
     derive(hasher, group, count, statuses, &of);
   }
   lock(hasher);
@@ -327,9 +327,9 @@ int queue_end(scrypt_hasher *hasher, struct call *call, int status, int64_t most
     } while (call->state == WAITS);
   }
   dismiss(hasher);
-  if (call->tables.mapping != NULL) { /* which nobody keeps */
+  if (call->arena.mapping != NULL) { /* which nobody keeps */
     unlock(hasher);
-    tables_free(&call->tables);
+    arena_free(&call->arena);
     lock(hasher);
   }
   if (!is_of_parent(hasher, call)) leave_hasher(hasher, call->status, place != NULL);

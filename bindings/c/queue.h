@@ -2,8 +2,8 @@
 #ifndef QUEUE_H
 #define QUEUE_H
 
+#include "arena.h"
 #include "system.h"
-#include "tables.h"
 
 #define MOST_TURNS 8192 /* as many processors as Linux can have */
 #define NS_OF_MS INT64_C(1000000)
@@ -17,7 +17,7 @@ struct call {
   struct call *next[LEVELS]; /* in the line */
   int priority;              /* of its thread, if groups are possible */
   size_t turn;               /* of a call that leads: its turn, and the memory of that turn */
-  struct tables tables;
+  struct arena arena;
 
   scrypt_needs needs;
   scrypt_login login; /* its text is NULL if this is no verification; then the call is derived alone */
@@ -46,7 +46,7 @@ struct queue {
   struct line line;
   struct turn {
     int state;
-    struct tables tables; /* while it isn't taken */
+    struct arena arena; /* while it isn't taken */
   } turn[MOST_TURNS];
 };
 

@@ -25,12 +25,12 @@ built="$lib/libscrypt_c.a ${older:-"$lib/libscrypt_c.so.0"}"
 shared="$lib/libscrypt_c.so.0 $older"
 # Builds and runs tests with a library that is for a processor. Its calls are bound before: that uses the stack too.
 short_tests() {
-  for test in test test_at_once test_stack; do
+  for test in test test_tables_that_pay test_stack; do
     $CC -std=gnu99 -O2 -Wall -Wextra -Werror -Wl,-z,now -I"$lib" -DPROCESSOR="\"$2\"" bindings/c/$test.c \
       -o "$room/$test" "$1" -lpthread
   done
   $emulator "$room/test" small
-  $emulator "$room/test_at_once"
+  $emulator "$room/test_tables_that_pay"
   $emulator "$room/test_stack" > /dev/null
   echo "called from C, also on a small stack: $2"
 }
@@ -363,7 +363,7 @@ if has gcc gcc; then
     eval "$(grep '^over=' bindings/lib.sh)"
     over=$(printf 'bindings/c/%s.c ' $over)
     gcc -O2 -Ibindings/c -DLIBRARY_VERSION='""' -DPROCESSOR='""' -DX86_64_LEVEL=2 bindings/c/test_traces.c bindings/c/version.c \
-      bindings/c/at_once.c $over -o "$room/not_cleared" "$room/proved.a" "$(dirname "$(rt doc)")/c/liblibc_c.a" -lpthread
+      bindings/c/tables_that_pay.c $over -o "$room/not_cleared" "$room/proved.a" "$(dirname "$(rt doc)")/c/liblibc_c.a" -lpthread
     if "$room/not_cleared" "$room/first" > /dev/null 2> "$room/traces"; then exit 1; fi
     for call in $(sed 's/scrypt_kdf/scrypt_key/; /_params_need$/d; /_limits_for_new$/d; /_buffer_lens$/d' "$room/calls"); do # these read numbers alone
       grep -q "traces of $call\b" "$room/traces" || { echo "no trace of $call without clearing.c" >&2; exit 1; }

@@ -54,7 +54,7 @@ static scrypt_needs needs_of(uint32_t log_n, uint32_t p) {
   return needs;
 }
 
-static void tables_of_keys(size_t at_once) {
+static void tables_of_keys(size_t that_pay) {
   static const struct {
     const char *why;
     uint32_t log_n, p;
@@ -76,13 +76,13 @@ static void tables_of_keys(size_t at_once) {
   int status;
   for (i = 0; i < sizeof KEYS / sizeof KEYS[0]; i++) {
     size_t tables = tables_of(KEYS[i].log_n, scrypt_key(SECRETS, KEYS[i].log_n, R, KEYS[i].p, key, sizeof key));
-    check(tables == fewer(KEYS[i].tables, at_once), KEYS[i].why);
+    check(tables == fewer(KEYS[i].tables, that_pay), KEYS[i].why);
     check(status == (KEYS[i].tables > 0 ? SCRYPT_OUT_OF_MEMORY : SCRYPT_INVALID_PARAMS), KEYS[i].why);
   }
 }
 
 /* All buffers together are within the bound. */
-static void tables_of_keys_within(size_t at_once) {
+static void tables_of_keys_within(size_t that_pay) {
   const scrypt_needs needs = needs_of(14, 4);
   const size_t each = 4 * (needs.table_len + needs.scratch_len), chunks = needs.chunks_len;
   const struct {
@@ -96,7 +96,7 @@ static void tables_of_keys_within(size_t at_once) {
   for (i = 0; i < sizeof BOUNDS / sizeof BOUNDS[0]; i++) {
     size_t most = BOUNDS[i].most_bytes;
     size_t tables = tables_of(14, scrypt_key_within(SECRETS, 14, R, 4, most, UINT64_MAX, key, sizeof key));
-    check(tables == fewer(BOUNDS[i].tables, at_once), BOUNDS[i].why);
+    check(tables == fewer(BOUNDS[i].tables, that_pay), BOUNDS[i].why);
     check(status == (BOUNDS[i].tables > 0 ? SCRYPT_OUT_OF_MEMORY : SCRYPT_TOO_COSTLY), BOUNDS[i].why);
   }
 }
@@ -137,9 +137,9 @@ static void not_unmapped(void) {
 }
 
 int main(void) {
-  const size_t at_once = strstr(scrypt_version(), "x86-64-v2") != NULL ? 3 : 4;
-  tables_of_keys(at_once);
-  tables_of_keys_within(at_once);
+  const size_t that_pay = strstr(scrypt_version(), "x86-64-v2") != NULL ? 3 : 4;
+  tables_of_keys(that_pay);
+  tables_of_keys_within(that_pay);
   one_table_of_hashes();
   no_table_of_costly_hashes();
   not_unmapped();

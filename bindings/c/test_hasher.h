@@ -1,5 +1,5 @@
 /* The hasher with derivations that can be stopped: its sources are included, and call functions of this file in place of
- * derive, most_at_once, calloc, and some of system.h. */
+ * derive, tables_that_pay, calloc, and some of system.h. */
 #define _GNU_SOURCE
 #include "groups.c"
 
@@ -56,14 +56,14 @@ static void *test_calloc(size_t count, size_t size) { return is_calloc_refused ?
 static int test_unmap(void *at, size_t size);
 static void before_sleep(uint32_t is, int64_t ns), before_wake(void), without_lock(void);
 static size_t widest = 4;
-static void (*hook)(int), (*unmap_hook)(int); /* called once, in the middle of a derivation, or before tables are unmapped */
+static void (*hook)(int), (*unmap_hook)(int); /* called once, in the middle of a derivation, or before an arena is unmapped */
 static void call_hook(void (**which)(int)) {
   void (*now)(int) = READ(*which);
   WRITE(*which, NULL);
   if (now != NULL) now(0);
 }
 
-static int is_reading_stopped, reading; /* of calls that read their text, draw their salt, or unmap tables */
+static int is_reading_stopped, reading; /* of calls that read their text, draw their salt, or unmap an arena */
 static void read_slowly(void) {
   (void)ADD(reading, 1);
   while (READ(is_reading_stopped)) usleep(100);
@@ -81,7 +81,7 @@ static int64_t slack_ns = 50000; /* of a thread's timers */
 #define priority_of_thread() (without_lock(), priority_of_thread())
 #define timer_slack_ns() (without_lock(), slack_ns)
 #define memory_of_process() memory_there
-#define most_at_once() READ(widest)
+#define tables_that_pay() READ(widest)
 #define derive watched
 #include "line.c"
 #include "lock.c"
@@ -94,7 +94,7 @@ static int64_t slack_ns = 50000; /* of a thread's timers */
 #undef scrypt_hash_needs
 #undef scrypt_draw_salt
 #undef scrypt_verify_group_with_buffers
-#include "tables.c"
+#include "arena.c"
 #define now now_seconds
 #include "calibrate.c"
 #undef now
@@ -106,7 +106,7 @@ static int64_t slack_ns = 50000; /* of a thread's timers */
 #undef priority_of_thread
 #undef timer_slack_ns
 #undef memory_of_process
-#undef most_at_once
+#undef tables_that_pay
 
 /* What is given back is zeros, except for the queue. */
 static int test_unmap(void *at, size_t size) {
@@ -230,7 +230,7 @@ static struct look look_at(scrypt_hasher *hasher) {
   at.is_closed = hasher->is_closed;
   for (size_t turn = 0; turn < hasher->turns; turn++) {
     at.leading += queue->turn[turn].state == TAKEN;
-    at.is_idle &= !(hasher->is_closed && queue->turn[turn].tables.mapping != NULL);
+    at.is_idle &= !(hasher->is_closed && queue->turn[turn].arena.mapping != NULL);
   }
   at.is_idle &= at.calls == 0 && at.leading == 0 && queue->line.first[0] == NULL;
   at.is_idle &= at.stats.waiting == 0 && at.stats.deriving == 0;

@@ -109,13 +109,13 @@ static void short_of_memory(void) {
 }
 
 /* While a call gives back what a free turn keeps, no other call is given this turn: both would write its note, by which a child
- * finds the tables of its parent. */
+ * finds the arena of its parent. */
 static pthread_t another;
 static void verify_another(int number) {
   (void)number;
   pthread_create(&another, NULL, verify_one, of_signals);
   until(look_at(of_signals).stats.waiting == 1 || READ(begun) == 1);
-  expect(READ(begun) == 0, "a turn is given whose tables are being unmapped");
+  expect(READ(begun) == 0, "a turn is given whose arena is being unmapped");
 }
 static void given_back(void) {
   char text[SCRYPT_PHC_CAPACITY];
@@ -127,14 +127,14 @@ static void given_back(void) {
   until(READ(inside) == 2);
   WRITE(is_stopped, 0);
   for (int i = 0; i < 2; i++) pthread_join(both[i], NULL);
-  tables_free(&hasher->queue->turn[0].tables);
+  arena_free(&hasher->queue->turn[0].arena);
   begun = 0;
   WRITE(most_in_all, READ(mapped) + hasher->needs.bytes + sizeof(uint32_t));
   WRITE(unmap_hook, verify_another);
   IS(verify(hasher, text, "right", -1), SCRYPT_OK);
   expect(READ(unmap_hook) == NULL, "nothing was given back");
   pthread_join(another, NULL);
-  for (int i = 0; i < 2; i++) expect(hasher->notes[i].at == hasher->queue->turn[i].tables.mapping, "the note of turn %d", i);
+  for (int i = 0; i < 2; i++) expect(hasher->notes[i].at == hasher->queue->turn[i].arena.mapping, "the note of turn %d", i);
   WRITE(most_in_all, SIZE_MAX);
   scrypt_hasher_free(hasher);
 }

@@ -50,7 +50,7 @@ static void calls(void) {
   char text[SCRYPT_PHC_CAPACITY], mcf[SCRYPT_MCF_CAPACITY(3)], good[SCRYPT_PHC_CAPACITY];
   scrypt_options with = {sizeof with, 4, 8, 2, 1, 0, 0, 0, 0, 0, 1, 1};
   scrypt_hasher *hasher = made(1, 1, 4), *of_mcf = scrypt_hasher_new(&with, NULL);
-  const struct tables *kept = &of_mcf->queue->turn[0].tables;
+  const struct arena *kept = &of_mcf->queue->turn[0].arena;
   uint8_t key[32];
   make_text(good, "right", 4, 8, 1);
   IS(verify(hasher, "", "", -1), SCRYPT_ENCODING_INVALID);
@@ -128,14 +128,14 @@ static void room_for_one(void) {
 /* What was refused for several tables is tried again, and not each time. */
 static void refused_for_a_while(void) {
   static const scrypt_needs ONE = {4, 8, 1, 32, 1, 1024, 16 * 256, 512, 1024 + 4 * (16 * 256 + 512), 0};
-  struct tables tables = {0};
+  struct arena arena = {0};
   size_t before = READ(mapped), tries = 1;
   WRITE(most_mapped, ONE.bytes + sizeof(uint32_t));
-  IS(tables_room(&tables, &ONE, 4), 1);
+  IS(arena_room(&arena, &ONE, 4), 1);
   WRITE(most_mapped, SIZE_MAX);
-  while (tables_room(&tables, &ONE, 4) == 1 && tries < 1000) tries++;
+  while (arena_room(&arena, &ONE, 4) == 1 && tries < 1000) tries++;
   expect(tries == SKIPPED + 1, "tried again after %zu times", tries);
-  tables_free(&tables);
+  arena_free(&arena);
   IS(READ(mapped), before);
   WRITE(refusals, 0);
 }
@@ -204,12 +204,12 @@ static void statuses_in_mid_call(void) {
   const struct itimerval often = {{0, 500}, {0, 500}}, never = {{0, 0}, {0, 0}};
   char text[SCRYPT_PHC_CAPACITY], small[SCRYPT_PHC_CAPACITY];
   scrypt_needs needs;
-  struct tables tables = {0};
+  struct arena arena = {0};
   make_text(text, "right", 13, 8, 1);
   make_text(small, "right", 4, 8, 1);
   IS(scrypt_hash_needs(text, strlen(text), SIZE_MAX, UINT64_MAX, 0, &needs), SCRYPT_OK);
-  IS(tables_room(&tables, &needs, 4), 4);
-  const struct buffers of = tables_buffers(&tables, &needs, 4, 4);
+  IS(arena_room(&arena, &needs, 4), 4);
+  const struct buffers of = arena_buffers(&arena, &needs, 4, 4);
   handle(SIGALRM, look_in_handler);
   IS(verify_group(small, &of), SCRYPT_OK); /* an emulator is slow where it is for the first time: not after the statuses */
   setitimer(ITIMER_REAL, &often, NULL);
@@ -217,7 +217,7 @@ static void statuses_in_mid_call(void) {
   setitimer(ITIMER_REAL, &never, NULL);
   for (int i = 0; i < 4; i++) IS(statuses_of_group[i], SCRYPT_OK);
   expect(looks > 0, "nobody looked");
-  tables_free(&tables);
+  arena_free(&arena);
 }
 
 #endif

@@ -40,7 +40,7 @@ compiled() {
 calls() {
   mkdir "$room/called"
   cp "$3/scrypt_c.dll" "$room/called/"
-  for test in test test_at_once test_null test_order test_words test_salt threads test_kept test_registers test_unwind; do
+  for test in test test_tables_that_pay test_null test_order test_words test_salt threads test_kept test_registers test_unwind; do
     compiled "$room/called/$test.exe" -I"$lib" -DPROCESSOR="\"$2\"" -DX86_64_LEVEL="${2##*-v}" bindings/c/$test.c "$1"
     $emulator "$room/called/$test.exe" $small
   done

@@ -35,26 +35,26 @@ static int overlap(const uint8_t *a, size_t a_len, const uint8_t *b, size_t b_le
  * keeps, or, for p of 2 or more, of this call; with p of 1 the calls of this library have one table themselves. A derivation
  * in it is made again if it is lost. */
 struct memory {
-  struct tables *tables, of_call; /* NULL if there is none */
+  struct arena *arena, of_call; /* NULL if there is none */
 };
 
 static void begin(struct memory *it, uint32_t p) {
   memset(it, 0, sizeof *it);
-  it->tables = kept_take();
-  if (it->tables == NULL && p > 1) it->tables = &it->of_call;
+  it->arena = kept_take();
+  if (it->arena == NULL && p > 1) it->arena = &it->of_call;
 }
 
 /* Buffers of no length if there is no room. */
 static struct buffers room(struct memory *it, uint32_t log_n, uint32_t r, uint32_t p) {
   struct buffers none = {NULL, NULL, NULL, 0, 0, 0};
   scrypt_needs needs;
-  if (it->tables == NULL || scrypt_params_need(log_n, r, p, SIZE_MAX, UINT64_MAX, &needs) != SCRYPT_OK) return none;
-  return tables_room(it->tables, &needs, 1) > 0 ? tables_buffers(it->tables, &needs, 1, 1) : none;
+  if (it->arena == NULL || scrypt_params_need(log_n, r, p, SIZE_MAX, UINT64_MAX, &needs) != SCRYPT_OK) return none;
+  return arena_room(it->arena, &needs, 1) > 0 ? arena_buffers(it->arena, &needs, 1, 1) : none;
 }
 
 static int end(struct memory *it, int status) {
-  if (it->tables != NULL && it->tables != &it->of_call) kept_give(it->tables);
-  tables_unmap(&it->of_call);
+  if (it->arena != NULL && it->arena != &it->of_call) kept_give(it->arena);
+  arena_unmap(&it->of_call);
   return status;
 }
 
@@ -68,7 +68,7 @@ static int derive_in_memory(const uint8_t *password, size_t password_len, const 
     if (of.table_len == 0)
       return end(&it, scrypt_key(password, password_len, salt, salt_len, log_n, r, p, output, output_len));
     status = key_in_buffers(password, password_len, salt, salt_len, log_n, r, p, output, output_len, &of);
-  } while (tables_are_lost(it.tables));
+  } while (arena_is_lost(it.arena));
   return end(&it, status);
 }
 
@@ -186,7 +186,7 @@ static int hash_in_memory(const char *password, size_t password_len, const uint8
       return end(&it, scrypt_hash_mcf(password, password_len, salt, SALT_LEN, log_n, r, p, KEY_LEN, text, TEXT_LEN + 1));
     status = scrypt_hash_mcf_with_buffers(password, password_len, salt, SALT_LEN, log_n, r, p, KEY_LEN, text, TEXT_LEN + 1,
                                           of.chunks, of.chunks_len, of.table, of.table_len, of.scratch, of.scratch_len);
-  } while (tables_are_lost(it.tables));
+  } while (arena_is_lost(it.arena));
   return end(&it, status);
 }
 
@@ -218,7 +218,7 @@ static int verify_in_memory(const char *password, size_t password_len, const cha
     if (of.table_len == 0) return end(&it, scrypt_verify(password, password_len, text, TEXT_LEN));
     status = scrypt_verify_with_buffers(password, password_len, text, TEXT_LEN, of.chunks, of.chunks_len, of.table,
                                         of.table_len, of.scratch, of.scratch_len);
-  } while (tables_are_lost(it.tables));
+  } while (arena_is_lost(it.arena));
   return end(&it, status);
 }
 

@@ -11,14 +11,14 @@ static pthread_once_t once = PTHREAD_ONCE_INIT;
 static pthread_key_t key;
 static int is_kept = 0;
 
-/* A signal handler that derives while its thread does must not have the same tables. */
+/* A signal handler that derives while its thread does must not have the same arena. */
 struct kept {
-  struct tables tables;
+  struct arena arena;
   volatile sig_atomic_t is_taken;
 };
 
 static void free_kept(void *kept) {
-  tables_free(&((struct kept *)kept)->tables);
+  arena_free(&((struct kept *)kept)->arena);
   free(kept);
 }
 
@@ -38,11 +38,11 @@ static struct kept *of_thread(void) {
   return NULL;
 }
 
-struct tables *kept_take(void) {
+struct arena *kept_take(void) {
   struct kept *kept = of_thread();
   if (kept == NULL || kept->is_taken) return NULL;
   kept->is_taken = 1;
-  return &kept->tables;
+  return &kept->arena;
 }
 
-void kept_give(struct tables *tables) { ((struct kept *)tables)->is_taken = 0; }
+void kept_give(struct arena *arena) { ((struct kept *)arena)->is_taken = 0; }

@@ -2,11 +2,11 @@
 #ifndef KEPT_H
 #define KEPT_H
 
-#include "tables.h"
+#include "arena.h"
 
-/* Takes the tables of this thread; NULL if the environment doesn't ask for any, if the system refuses them, or if a call that
- * a signal handler interrupted has taken them. They are wiped and unmapped when the thread ends. */
-struct tables *kept_take(void);
-void kept_give(struct tables *tables);
+/* Takes the arena of this thread; NULL if the environment doesn't ask for one, if the system refuses it, or if a call that a
+ * signal handler interrupted has taken it. It is wiped and unmapped when the thread ends. */
+struct arena *kept_take(void);
+void kept_give(struct arena *arena);
 
 #endif

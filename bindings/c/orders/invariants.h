@@ -128,7 +128,7 @@ static void a_place_is_kept(struct thread *it) {
 /* By which a child finds the memory that a turn keeps. */
 static void notes_say_what_is_kept(void) {
   for (size_t turn = 0; turn < turns; turn++) {
-    const struct tables *kept = &queue.turn[turn].tables;
+    const struct arena *kept = &queue.turn[turn].arena;
     const struct note *note = &world.notes[turn];
     if (queue.turn[turn].state == TAKEN || kept->mapping == NULL) continue;
     CHECK(mapping_at(kept->mapping)->size == kept->mapped, "a turn keeps memory that is not mapped");
@@ -167,7 +167,7 @@ static void remember_notes(struct thread *it) {
   memcpy(it->notes, world.notes, sizeof it->notes);
   for (size_t turn = 0; turn < turns; turn++) {
     const struct note *note = &world.notes[turn];
-    int has_it = note->at != NULL || (it->call != NULL && it->call->tables.note == note);
+    int has_it = note->at != NULL || (it->call != NULL && it->call->arena.note == note);
     it->uses[turn] = has_it && note->user == identity_of(it);
   }
 }
@@ -295,7 +295,7 @@ static void check_memory_at_end(void) {
   size_t kept = 0, all = 0;
   for (int i = 0; i < MOST_MAPPINGS; i++) all += world.mappings[i].is_left ? 0 : world.mappings[i].size;
   for (size_t turn = 0; turn < turns && !world.is_freed; turn++)
-    kept += queue.turn[turn].tables.mapping != NULL ? queue.turn[turn].tables.mapped : 0;
+    kept += queue.turn[turn].arena.mapping != NULL ? queue.turn[turn].arena.mapped : 0;
   CHECK(all == kept, "memory is mapped that no turn keeps");
   CHECK(all == 0 || !world.hasher.is_closed, "a closed hasher keeps memory");
 }

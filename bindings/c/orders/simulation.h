@@ -200,12 +200,12 @@ void wake(uint32_t *word) {
 #define free test_free
 #include "../line.c"
 #include "../lock.c"
-#include "../tables.c"
+#include "../arena.c"
 #include "../queue.c"
 #undef calloc
 #undef free
 
-size_t most_at_once(void) { return SCRYPT_MOST_LOGINS; }
+size_t tables_that_pay(void) { return SCRYPT_MOST_LOGINS; }
 
 int scrypt_params_need(uint32_t log_n, uint32_t r, uint32_t p, size_t most_bytes, uint64_t most_work, scrypt_needs *needs) {
   (void)log_n, (void)r, (void)p, (void)most_bytes, (void)most_work, (void)needs;

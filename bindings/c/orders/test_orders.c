@@ -1,4 +1,4 @@
-/* Every order in which the threads of a hasher can take its lock: queue.c, line.c, lock.c and tables.c, over a system of this test.
+/* Every order in which the threads of a hasher can take its lock: queue.c, line.c, lock.c and arena.c, over a system of this test.
  *
  *   test_orders                in 11 seconds: 352 million orders in 2 million states
  *   test_orders PREEMPTIONS    with another bound for the scenarios that have one; 0: without a bound, in three minutes and 1 GB:

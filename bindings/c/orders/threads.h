@@ -6,11 +6,11 @@
 
 /* ---- What they do ---- */
 
-/* Of the other threads nothing is left, and the queue and the tables are zeros. */
+/* Of the other threads nothing is left, and the queue and the arenas are zeros. */
 static void become_child(struct thread *it) {
   FOR_THREADS(other) {
     int is_here = other == it || (plan_of(other)->is_of_child && !other->has_begun);
-    struct mapping *mapping = other->is_of_parent && other->call != NULL ? mapping_at(other->call->tables.mapping) : NULL;
+    struct mapping *mapping = other->is_of_parent && other->call != NULL ? mapping_at(other->call->arena.mapping) : NULL;
     if (!is_here && mapping != NULL) mapping->is_left = 1; /* a turn has one note, and another call may have it */
     if (!is_here) *other = (struct thread){.where = DONE, .low = top_of(other)};
     other->refusals = other->is_deriving = 0;
@@ -206,7 +206,7 @@ static void fork_in_handler(struct thread *it, enum event event) {
   world.forks--;
   become_child(it);
   if (event != FORKS_BEFORE_SLEEP) interrupt(it);
-  if (event == FORKS_IN_GIVE) call->state = LEADS, call->tables = (struct tables){.mapping = memory[MOST_MAPPINGS - 1], .used = 1};
+  if (event == FORKS_IN_GIVE) call->state = LEADS, call->arena = (struct arena){.mapping = memory[MOST_MAPPINGS - 1], .used = 1};
   if (event == FORKS_IN_END) call->state = OVER, call->status = VERDICT + number_of(it);
 }
 

@@ -11,7 +11,7 @@
 static const struct {
   const char *processor;
   long tables;
-} ROWS[] = TABLES_AT_ONCE;
+} ROWS[] = TABLES_THAT_PAY;
 
 #define PARAMS 13, 8, 6 /* chunks, each in a table of 8 MiB: four and two, or three and three */
 enum { TABLE_KIB = 8192, KEY_LEN = 32 };

@@ -1,7 +1,7 @@
-/* Memory that a child of a fork finds filled with zeros: for the queue of a hasher, and for tables. So no block of a
+/* Memory that a child of a fork finds filled with zeros: for the queue of a hasher, and for arenas. So no block of a
  * derivation is ever in two processes, and a fork copies none of it. Not proved. */
 #define _GNU_SOURCE
-#include "tables.h"
+#include "arena.h"
 
 #include "system.h"
 
@@ -32,78 +32,78 @@ void notes_unmap(struct note *notes, size_t count, int is_child) {
 }
 
 /* Behind the room: 1 since the last buffers, or 0 in a child. */
-static uint32_t *mark_of(const struct tables *tables) { return (uint32_t *)(void *)(tables->front + tables->room); }
+static uint32_t *mark_of(const struct arena *arena) { return (uint32_t *)(void *)(arena->front + arena->room); }
 
-int tables_are_lost(const struct tables *tables) { return __atomic_load_n(mark_of(tables), __ATOMIC_RELAXED) == 0; }
+int arena_is_lost(const struct arena *arena) { return __atomic_load_n(mark_of(arena), __ATOMIC_RELAXED) == 0; }
 
-static void wipe(const struct tables *tables) {
+static void wipe(const struct arena *arena) {
   uint8_t none = 0;
-  if (tables->used > 0)
-    scrypt_wipe(&none, 0, (uint32_t *)(void *)tables->front, tables->used / 4, mark_of(tables), 1);
+  if (arena->used > 0)
+    scrypt_wipe(&none, 0, (uint32_t *)(void *)arena->front, arena->used / 4, mark_of(arena), 1);
 }
 
-void tables_unmap(struct tables *tables) {
-  if (tables->note != NULL && tables->mapping != NULL) clear_note(tables->note, tables->mapping);
-  if (tables->mapping != NULL && !unmap(tables->mapping, tables->mapped)) wipe(tables);
-  tables->mapping = NULL;
-  tables->room = tables->used = 0;
+void arena_unmap(struct arena *arena) {
+  if (arena->note != NULL && arena->mapping != NULL) clear_note(arena->note, arena->mapping);
+  if (arena->mapping != NULL && !unmap(arena->mapping, arena->mapped)) wipe(arena);
+  arena->mapping = NULL;
+  arena->room = arena->used = 0;
 }
 
-void tables_free(struct tables *tables) {
-  wipe(tables);
-  tables_unmap(tables);
+void arena_free(struct arena *arena) {
+  wipe(arena);
+  arena_unmap(arena);
 }
 
 /* Maps address space in place of what is mapped. Nothing of it is populated yet, so what a group needs beyond one derivation
  * costs nothing before there is a group. */
-static int map(struct tables *tables, size_t bytes, int is_huge) {
+static int map(struct arena *arena, size_t bytes, int is_huge) {
   size_t more = sizeof(uint32_t) + (is_huge ? HUGE_PAGE : 0), before;
-  tables_free(tables);
+  arena_free(arena);
   if (bytes > SIZE_MAX - more) return 0;
-  tables->mapping = map_zeros_in_child(bytes + more);
-  if (tables->mapping == NULL) return 0;
-  tables->mapped = bytes + more;
+  arena->mapping = map_zeros_in_child(bytes + more);
+  if (arena->mapping == NULL) return 0;
+  arena->mapped = bytes + more;
   /* Not if another call has the turn: in a child, where this one was interrupted when it forked. */
-  if (tables->note != NULL && tables->note->user == this_thread()) set_note(tables->note, tables->mapping, tables->mapped);
-  before = is_huge ? (HUGE_PAGE - (uintptr_t)tables->mapping % HUGE_PAGE) % HUGE_PAGE : 0;
-  tables->front = (uint8_t *)tables->mapping + before;
-  tables->room = bytes;
+  if (arena->note != NULL && arena->note->user == this_thread()) set_note(arena->note, arena->mapping, arena->mapped);
+  before = is_huge ? (HUGE_PAGE - (uintptr_t)arena->mapping % HUGE_PAGE) % HUGE_PAGE : 0;
+  arena->front = (uint8_t *)arena->mapping + before;
+  arena->room = bytes;
   /* The rest of the last huge page is left out, so that it takes no whole one. */
-  if (is_huge) ask_for_huge_pages(tables->front, bytes - bytes % HUGE_PAGE);
+  if (is_huge) ask_for_huge_pages(arena->front, bytes - bytes % HUGE_PAGE);
   return 1;
 }
 
 /* How many times room for several tables isn't tried after it was refused: to try it costs the one that there is. */
 #define SKIPPED 64
 
-size_t tables_room(struct tables *tables, const scrypt_needs *one, size_t most) {
+size_t arena_room(struct arena *arena, const scrypt_needs *one, size_t most) {
   size_t bytes = one->bytes, count;
-  if (tables->refused != 0 && most > 1 && tables->skipped++ == SKIPPED) tables->refused = tables->skipped = 0;
+  if (arena->refused != 0 && most > 1 && arena->skipped++ == SKIPPED) arena->refused = arena->skipped = 0;
   for (count = most; count > 0; count--) {
     size_t all = bytes > SIZE_MAX / count ? SIZE_MAX : count * bytes;
-    if (all <= tables->room) return count;
-    if (count > 1 && tables->refused != 0 && all >= tables->refused) continue;
-    if (map(tables, all, has_huge(one))) return count;
-    if (count > 1) tables->refused = all;
+    if (all <= arena->room) return count;
+    if (count > 1 && arena->refused != 0 && all >= arena->refused) continue;
+    if (map(arena, all, has_huge(one))) return count;
+    if (count > 1) arena->refused = all;
   }
   return 0;
 }
 
-struct buffers tables_buffers(struct tables *tables, const scrypt_needs *one, size_t count, size_t logins) {
+struct buffers arena_buffers(struct arena *arena, const scrypt_needs *one, size_t count, size_t logins) {
   struct buffers of;
   size_t bytes;
   of.table_len = count * one->table_len;
   of.scratch_len = count * one->scratch_len;
   of.chunks_len = logins * one->chunks_len;
-  of.table = (uint32_t *)(void *)tables->front;
+  of.table = (uint32_t *)(void *)arena->front;
   of.scratch = of.table + of.table_len;
   of.chunks = (uint8_t *)(of.scratch + of.scratch_len);
   bytes = 4 * (of.table_len + of.scratch_len) + of.chunks_len;
-  if (bytes > tables->used) {
-    size_t begin = tables->used - tables->used % LARGEST_PAGE; /* of the page in which the used ones end */
-    if (has_huge(one)) populate_pages(tables->front + begin, bytes - begin);
-    tables->used = bytes;
+  if (bytes > arena->used) {
+    size_t begin = arena->used - arena->used % LARGEST_PAGE; /* of the page in which the used ones end */
+    if (has_huge(one)) populate_pages(arena->front + begin, bytes - begin);
+    arena->used = bytes;
   }
-  __atomic_store_n(mark_of(tables), 1, __ATOMIC_RELAXED);
+  __atomic_store_n(mark_of(arena), 1, __ATOMIC_RELAXED);
   return of;
 }

@@ -1,6 +1,6 @@
 /* The memory of a turn, which is kept from call to call. */
-#ifndef TABLES_H
-#define TABLES_H
+#ifndef ARENA_H
+#define ARENA_H
 
 #include "groups.h"
 
@@ -12,7 +12,7 @@ struct note {
 };
 
 /* Zeros are the beginning. */
-struct tables {
+struct arena {
   struct note *note; /* of this mapping; or NULL, then a child doesn't find it */
   void *mapping; /* NULL if there is none */
   size_t mapped;
@@ -25,20 +25,20 @@ struct tables {
 
 /* Makes room for `most` tables with scratch and chunks, or for as many as the system allows, and returns how many: 0 if not
  * even one. What they held is lost. */
-size_t tables_room(struct tables *tables, const scrypt_needs *one, size_t most);
+size_t arena_room(struct arena *arena, const scrypt_needs *one, size_t most);
 
 /* Buffers for `logins` with the same needs, in `count` tables, for which there is room. */
-struct buffers tables_buffers(struct tables *tables, const scrypt_needs *one, size_t count, size_t logins);
+struct buffers arena_buffers(struct arena *arena, const scrypt_needs *one, size_t count, size_t logins);
 
-/* Whether a signal handler has forked since the last tables_buffers, and this is the child: the buffers were filled with zeros,
+/* Whether a signal handler has forked since the last arena_buffers, and this is the child: the buffers were filled with zeros,
  * and what was derived in them meanwhile is wrong. */
-int tables_are_lost(const struct tables *tables);
+int arena_is_lost(const struct arena *arena);
 
 /* Wipes what was used, and gives it back to the system. */
-void tables_free(struct tables *tables);
+void arena_free(struct arena *arena);
 
 /* Gives it back without that: the system wipes what it gives to others. What it refuses to take is wiped. */
-void tables_unmap(struct tables *tables);
+void arena_unmap(struct arena *arena);
 
 /* Gives back what is mapped there; in a child, except what a call of this thread uses that was interrupted when it forked. */
 void notes_unmap(struct note *notes, size_t count, int is_child);
