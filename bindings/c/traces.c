@@ -7,9 +7,13 @@
 
 enum { MOST_WINDOWS = 1 << 16, MOST_LEFT_OUT = 16, FILTER_BITS = 20, WINDOW = 8, NAME_LEN = 32, MOST_SECRETS = 32 };
 
-/* The complement of eight bytes that follow each other in a secret. */
+/* By which eight bytes of memory are looked for: their complement, rotated so that this of the complement of a secret is no secret
+ * either. The search meets complements where it keeps them, and what it looks for may stay on the stack. */
+#define KEY_OF(word) (~(word) << 13 | ~(word) >> 51)
+
+/* Eight bytes that follow each other in a secret, by their key. */
 struct window {
-  uint64_t complement;
+  uint64_t key;
   int secret;
 };
 
@@ -23,10 +27,10 @@ static struct {
 } left_out[MOST_LEFT_OUT];
 static size_t left_out_count;
 
-static size_t hash(uint64_t complement) { return (size_t)(complement * UINT64_C(0x9e3779b97f4a7c15) >> (64 - FILTER_BITS)); }
+static size_t hash(uint64_t key) { return (size_t)(key * UINT64_C(0x9e3779b97f4a7c15) >> (64 - FILTER_BITS)); }
 
-static int by_complement(const void *one, const void *other) {
-  uint64_t a = ((const struct window *)one)->complement, b = ((const struct window *)other)->complement;
+static int by_key(const void *one, const void *other) {
+  uint64_t a = ((const struct window *)one)->key, b = ((const struct window *)other)->key;
   return (a > b) - (a < b);
 }
 
@@ -56,10 +60,12 @@ static void add_secret(const char *name, const uint8_t *complements, size_t len)
   snprintf(names[secret_count], NAME_LEN, "%s", name);
   for (i = 0; i + WINDOW <= len && window_count < MOST_WINDOWS; i++) {
     struct window *it = &windows[window_count];
+    uint64_t complement;
     if (is_common(complements + i)) continue;
-    memcpy(&it->complement, complements + i, WINDOW);
+    memcpy(&complement, complements + i, WINDOW);
+    it->key = complement << 13 | complement >> 51; /* the key of its complement */
     it->secret = secret_count;
-    filter[hash(it->complement) / 8] |= (uint8_t)(1 << hash(it->complement) % 8);
+    filter[hash(it->key) / 8] |= (uint8_t)(1 << hash(it->key) % 8);
     window_count++;
   }
   secret_count++;
@@ -102,7 +108,7 @@ const struct traces_case *traces_read(const char *path, int number) {
   left_out_count = 0;
   memset(filter, 0, sizeof filter);
   read_case(&it, line);
-  qsort(windows, window_count, sizeof *windows, by_complement);
+  qsort(windows, window_count, sizeof *windows, by_key);
   traces_leave_out(it.password, sizeof it.password);
   return &it;
 }
@@ -124,14 +130,15 @@ static size_t search_from(uintptr_t from, uintptr_t to, const char *where, size_
   uintptr_t at;
   for (at = from; at + WINDOW <= to; at++) {
     struct window it = {0, 0}, *place;
-    memcpy(&it.complement, (const void *)at, WINDOW);
-    it.complement = ~it.complement;
-    if (it.complement == UINT64_MAX) { /* zeros: no secret begins with them */
+    uint64_t word;
+    memcpy(&word, (const void *)at, WINDOW);
+    it.key = KEY_OF(word);
+    if (word == 0) { /* no secret begins with zeros */
       at += WINDOW - 1;
       continue;
     }
-    if (!(filter[hash(it.complement) / 8] >> hash(it.complement) % 8 & 1)) continue;
-    place = bsearch(&it, windows, window_count, sizeof *windows, by_complement);
+    if (!(filter[hash(it.key) / 8] >> hash(it.key) % 8 & 1)) continue;
+    place = bsearch(&it, windows, window_count, sizeof *windows, by_key);
     if (place == NULL || is_left_out(at)) continue;
     if (++found <= 8 && !is_expected)
       fprintf(stderr, "  8 bytes of %s at %#zx in %s\n", names[place->secret], (size_t)at, where);
