@@ -64,8 +64,8 @@ static void *set_priorities(void *unused) {
                   {"the other policy of it", SCHED_RR, 0, 1, 0},
                   {"a higher priority in it", SCHED_RR, 0, 2, 1}};
   int before = priority_of_thread();
-  size_t i;
-  for (i = 0; i < sizeof POLICIES / sizeof *POLICIES; i++) {
+  size_t i = before > -18 ? 0 : 3; /* who can't be nicer twice is nearly the nicest */
+  for (; i < sizeof POLICIES / sizeof *POLICIES; i++) {
     const struct sched_param level = {.sched_priority = POLICIES[i].level};
     int nice = getpriority(PRIO_PROCESS, 0) + POLICIES[i].nice, now;
     if (sched_setscheduler(0, POLICIES[i].policy | SCHED_RESET_ON_FORK, &level) != 0) break;
@@ -79,7 +79,7 @@ static void *set_priorities(void *unused) {
 
 static void priorities(void) {
   pthread_t thread;
-  if (priority_of_thread() <= -18) return; /* it can't be nicer twice */
+  if (priority_of_thread() < -19) return; /* SCHED_IDLE already */
   (void)pthread_create(&thread, NULL, set_priorities, NULL);
   (void)pthread_join(thread, NULL);
 }
