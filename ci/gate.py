@@ -366,7 +366,7 @@ def left_out(is_built):
 
 def main():
     is_built = shutil.which(os.environ.get("CC", "cc")) is not None
-    print(f"Proves and tests everything, in about 17 minutes on four idle processors. What each step prints is in {LOG}.", flush=True)
+    print(f"Proves and tests everything, in about 18 minutes on four idle processors. What each step prints is in {LOG}.", flush=True)
     clean()
     step.LOGS.mkdir(parents=True, exist_ok=True)
     with tempfile.TemporaryDirectory(ignore_cleanup_errors=True) as room, open(LOG, "w+", encoding="utf-8") as log:
