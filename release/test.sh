@@ -6,8 +6,7 @@ set -euo pipefail
 unset CDPATH
 cd "$(dirname "$0")/.."
 dist=build/dist oldest=x86-64-v2 newest=x86-64-v3
-key=77d6576238657b203b19ca42c18a0497f16b4844e3074ae8dfdffa3fede21442
-key+=fcd0069ded0948f8326a753a0fc81f17e8d3e0fb2e0d3628cf35e20c38d18906
+key=$(cat crates/scrypt_tool/stdout) # the first of RFC 7914, section 12
 command="scrypt_tool key 4 1 1 64" # and an empty salt
 packages="scrypt-tool libscrypt-c0 libscrypt-c-dev libscrypt-drop-in"
 private=/usr/lib/x86_64-linux-gnu/scrypt_c

@@ -14,8 +14,7 @@ fi
 export ARCH=$1
 . bindings/common.sh
 dist=$PWD/build/dist root=$room/root private=usr/lib/$ARCH/scrypt_c
-key=77d6576238657b203b19ca42c18a0497f16b4844e3074ae8dfdffa3fede21442
-key+=fcd0069ded0948f8326a753a0fc81f17e8d3e0fb2e0d3628cf35e20c38d18906
+key=$(cat crates/scrypt_tool/stdout) # the first of RFC 7914, section 12
 command="key 4 1 1 64" # and an empty salt
 packages="scrypt-tool libscrypt-c0 libscrypt-c-dev libscrypt-drop-in"
 

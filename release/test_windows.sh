@@ -7,8 +7,7 @@ cd "$(dirname "$0")/.."
 ARCH=$(. bindings/arch.sh && echo "$windows")
 . bindings/common.sh
 dist=$PWD/build/dist
-key=77d6576238657b203b19ca42c18a0497f16b4844e3074ae8dfdffa3fede21442
-key+=fcd0069ded0948f8326a753a0fc81f17e8d3e0fb2e0d3628cf35e20c38d18906
+key=$(cat crates/scrypt_tool/stdout) # the first of RFC 7914, section 12
 expect() {
   if [ "$1" != "$2" ]; then echo "not as expected: $3 gave $1" >&2; exit 1; fi
   echo "$3"

@@ -67,8 +67,8 @@ pub record IsSpent {M : Type 0} (room_of : M → ℕ) (c : Parameters) (before a
   pub chunks : after.chunks.now ≡ replicate (length before.chunks.now) 0
   pub scratch : after.scratch.now ≡ replicate (length before.scratch.now) 0
 
--- A derivation with these parameters made `left` of `used`, which was the front of the buffers. It is now, and what is after it is
--- unchanged.
+-- A derivation with these parameters made `left` of `used`, the front of the buffers. The count went from that of `used` to
+-- that of `left`, the front of the chunks is now that of `left`, and what is after the front of each buffer is unchanged.
 pub record IsAtFront {M : Type 0} (c : Parameters) (used left : InUse M) (before after : Workspace) : Type 0 where
   pub counted_from : used.cores.now ≡ before.cores
   pub counted_to : after.cores ≡ left.cores.now

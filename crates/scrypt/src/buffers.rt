@@ -1,4 +1,5 @@
-// The workspace of a derivation: the lengths of its buffers, the caller's, allocated ones, and what is used of either.
+// The workspace of a derivation: the lengths of its buffers ([`BufferLens`]), the caller's, allocated ones ([`Buffers`]), and
+// what is used of either ([`InUse`]).
 
 ghost use Rattle.std.specs.Prelude.{◌≡◌, ◌⊎◌, ◌↔◌, ◌+◌, ◌-◌, ◌*◌, ◌<◌, ◌≤◌, length, IfOk, IfSome, IsSome, IsTrue, None};
 ghost use Rattle.scrypt_kernel.specs.Memory.{allocated_room, buffer_room};
@@ -150,7 +151,8 @@ fn width_in(
 }
 
 /// Returns how much of these buffers a derivation uses: the lengths of [`BufferLens::for_tables`] for as many
-/// tables as it uses, which are at most four and at most `p`. Returns `None` if a buffer is too short.
+/// tables as it uses, which are at most four and at most `p`. Returns `None` if a buffer is too short. No more has to be wiped
+/// after [`scrypt_at_front`](crate::scrypt_at_front).
 pub fn used_lens(
     params: &Params,
     chunks: &[u8],

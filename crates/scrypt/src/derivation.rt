@@ -171,35 +171,7 @@ pub fn scrypt_with_buffers(
     ensures buffers { OnErr result ((chunks.new ≡ chunks.old) × (table.new ≡ table.old) × (scratch.new ≡ scratch.old)) }
     ensures uncounted { OnErr result (cores.new ≡ cores.old) }
 {
-    scrypt_with_buffers_by::<Vectors>(
-        password, salt, params, chunks, table, scratch, output, cores,
-    )
-}
-
-/// Does what [`scrypt_with_buffers`] does, by the mixer `W`.
-pub fn scrypt_with_buffers_by<W: Mixer>(
-    password: &[u8],
-    salt: &[u8],
-    params: &Params,
-    chunks: &mut [u8],
-    table: &mut [u32],
-    scratch: &mut [u32],
-    output: &mut [u8],
-    cores: &mut CoreCount,
-) -> Result<(), InvalidOutputLen>
-    requires chunks { length chunks.old ≡ chunks_bytes params.now.r params.now.p }
-    requires table { table_words params.now.log_n params.now.r ≤ length table.old }
-    requires scratch { scratch_words params.now.r ≤ length scratch.old }
-    ensures allowed { IsOk result ↔ IsTrue (is_output_len (length output.old)) }
-    ensures value { OnOk result (output.new ≡ derived_key password.now salt.now
-        params.now.log_n params.now.r params.now.p (length output.old)) }
-    ensures counted { OnOk result (AreCounted (cost params.now.log_n params.now.r params.now.p) cores.old cores.new) }
-    ensures mixed { OnOk result (chunks.new ≡ mixed_b password.now salt.now params.now.log_n params.now.r params.now.p) }
-    ensures refused { OnErr result (output.new ≡ output.old) }
-    ensures buffers { OnErr result ((chunks.new ≡ chunks.old) × (table.new ≡ table.old) × (scratch.new ≡ scratch.old)) }
-    ensures uncounted { OnErr result (cores.new ≡ cores.old) }
-{
-    let derived = scrypt_at_front::<W>(
+    let derived = scrypt_at_front::<Vectors>(
         password, salt, params, chunks, table, scratch, output, cores,
     );
     match derived {
@@ -209,7 +181,7 @@ pub fn scrypt_with_buffers_by<W: Mixer>(
     }
 }
 
-/// Does what [`scrypt_with_buffers_by`] does, in buffers that may all be longer. Only the first elements of each are
+/// Does what [`scrypt_with_buffers`] does, by the mixer `W`, in buffers of any length. Only the first elements of each are
 /// used, as many as [`used_lens`](crate::used_lens) returns, and those after them are unchanged.
 ///
 /// Returns `InvalidOutputLen` exactly if the length of `output` is not allowed, and otherwise `OutOfMemory` exactly if a
@@ -253,10 +225,7 @@ pub fn scrypt_at_front<W: Mixer>(
         output,
         |used, output| derive_in::<Buffer<'_>, W>(password, salt, params, 0, used, output),
     );
-    match derived {
-        Some(()) => Ok(()),
-        None => Err(DeriveError::OutOfMemory),
-    }
+    derived.ok_or(DeriveError::OutOfMemory)
 }
 
 /// Writes the scrypt key of `password` and `salt` to `output`, with a smaller table

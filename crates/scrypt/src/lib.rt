@@ -38,7 +38,7 @@ pub use algorithm::Scrypt;
 pub use buffers::{BufferLens, used_lens};
 pub use derivation::{
     output_len_ok, scrypt, scrypt_at_front, scrypt_by, scrypt_counted, scrypt_in_groups,
-    scrypt_thin, scrypt_thin_by, scrypt_with_buffers, scrypt_with_buffers_by,
+    scrypt_thin, scrypt_thin_by, scrypt_with_buffers,
 };
 pub use errors::{DeriveError, InvalidOutputLen, InvalidParams, LimitedError};
 pub use limits::Limits;

@@ -237,10 +237,8 @@ pub fn hash_with_buffers<W: Mixer>(
         &mut text[..len],
         |used, text| fill_with_hash::<W>(password, salt, params, text, used),
     );
-    match made {
-        Some(()) => Ok(len),
-        None => Err(Error::OutOfMemory),
-    }
+    made.ok_or(Error::OutOfMemory)?;
+    Ok(len)
 }
 
 // Hashes a password. The text fills `text`.

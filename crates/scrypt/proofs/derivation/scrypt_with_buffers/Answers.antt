@@ -1,11 +1,11 @@
 use Rattle.std.proofs.Common.{◌≤◌, arith, length, rules}
 use Rattle.scrypt.specs.Cost.{chunks_bytes}
 use Rattle.scrypt.proofs.ReadingFacts.{enough_decided}
-use Rattle.scrypt.proofs.derivation.scrypt_with_buffers_by.Goals as goal
+use Rattle.scrypt.proofs.derivation.scrypt_with_buffers.Goals as goal
 
 -- each buffer is long enough
 pub unreachable-requires : goal.unreachable-requires
-unreachable-requires g c =
+unreachable-requires c =
     let params = c.args.params.now in
     let chunks : chunks_bytes params.r params.p ≤ length c.args.chunks.now = omega (arith, c.requires.chunks) in
     let short = c.scrypt_at_front-derived.ensures.short.0 (search rules) in
