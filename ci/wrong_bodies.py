@@ -145,12 +145,14 @@ def judged(name, tried, kept):
 
 
 def try_all(names, parts, kept=()):
-    """Tries the edits of crates, prints each that isn't refused with a goal, and returns how many these are."""
+    """Tries the edits of crates, prints each that isn't refused with a goal, and returns how many these are. If these are all
+    edits, their answers are tried on the right bodies too."""
     tried = wrong = 0
     # The longest begin first.
     all_rounds = [(name, tried) for name in names for tried in rounds(name, *parts)]
     all_rounds.sort(key=lambda job: -len(job[1]))
     with concurrent.futures.ThreadPoolExecutor(AT_ONCE) as lanes:
+        right = [lanes.submit(false_answers, name, parts) for name in names if MORE in parts]
         running = [lanes.submit(judged, *job, kept) for job in all_rounds]
         for done in concurrent.futures.as_completed(running):
             for edit, verdict in done.result().items():
@@ -158,8 +160,11 @@ def try_all(names, parts, kept=()):
                 if verdict != "refused":
                     wrong += 1
                     print(f"{edit}: {verdict}", flush=True)
+        false = [edit for done in right for edit in done.result()]
+    for edit in false:
+        print(f"{edit}: ITS ANSWERS REFUSE THE RIGHT BODY TOO")
     print(f"wrong bodies: {tried - wrong} of {tried} refused, each with an unproved goal of its own")
-    return wrong
+    return wrong + len(false)
 
 
 def untried(library, name):
@@ -207,11 +212,7 @@ def main():
     if names[:1] != ["all"]:
         sys.exit(1 if try_all(names or edits.crates_with(FIRST), [FIRST]) else 0)
     parts = [FIRST, MORE]
-    names = names[1:] or edits.crates_with(*parts)
-    false = [edit for name in names for edit in false_answers(name, parts)]
-    for edit in false:
-        print(f"{edit}: ITS ANSWERS REFUSE THE RIGHT BODY TOO", flush=True)
-    sys.exit(1 if try_all(names, parts) or false else 0)
+    sys.exit(1 if try_all(names[1:] or edits.crates_with(*parts), parts) else 0)
 
 
 if __name__ == "__main__":
