@@ -62,8 +62,11 @@ impl Params {
     /// The recommended length of a key in bytes.
     pub const RECOMMENDED_LEN: usize = 32;
 
-    /// The parameters that are recommended for new hashes, with no length. In another crate `Params::default()` is the same
-    /// value, and leaves no invariant to be proved, as this constant does wherever it is used.
+    /// The parameters that are recommended for new hashes, with no length.
+    ///
+    /// That they are accepted is computed wherever the constant is used. A function of another crate that uses it asks for
+    /// this by `#[tactic(auto, unfolding(scrypt::specs::Accepted::are_accepted, scrypt::specs::Accepted::is_stored_len))]`.
+    /// `Params::default()` is the same value, and needs no attribute.
     pub const RECOMMENDED: Params = Params {
         log_n: Params::RECOMMENDED_LOG_N,
         r: Params::RECOMMENDED_R,

@@ -45,6 +45,7 @@ pub fn key_or_out_of_memory(
 /// The key of 32 bytes that the recommended parameters derive.
 ///
 /// Returns `OutOfMemory` if an allocation fails.
+#[tactic(auto, unfolding(scrypt::specs::Accepted::are_accepted, scrypt::specs::Accepted::is_stored_len))]
 pub fn recommended_key(alloc: Global, password: &[u8], salt: &[u8]) -> Result<[u8; 32], DeriveError>
     ensures key { IfOk result (λ key. key ≡ key_by recommended_parameters password.now salt.now 32) }
     ensures memory { IfErr result (λ e. e ≡ OutOfMemory) }
@@ -52,7 +53,7 @@ pub fn recommended_key(alloc: Global, password: &[u8], salt: &[u8]) -> Result<[u
     // So 32 is the length of an output.
     conditions_are_inequalities();
     let mut key = [0u8; 32];
-    scrypt(alloc, password, salt, &Params::default(), &mut key)?;
+    scrypt(alloc, password, salt, &Params::RECOMMENDED, &mut key)?;
     Ok(key)
 }
 
