@@ -47,7 +47,8 @@ Want of memory is the error `OutOfMemory`, and the buffers are those of `scrypt_
 
 {verifying}
 
-The clauses count cores. That every core is counted, and computed for that count, is checked by reading.
+The clauses count cores, and the blocks that SHA-256 compresses. That each is counted, and each core computed for that
+count, is checked by reading.
 
 {not_promised}
 

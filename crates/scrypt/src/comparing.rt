@@ -14,16 +14,9 @@ use scrypt_kernel::pbkdf2::Blocks;
 const PIECE_LEN: usize = 96;
 
 /// Returns whether the stored key is the one that PBKDF2 derives from `password` with the mixed chunks
-/// as salt. Every piece is compared, also after a difference. Does not allocate.
-pub(crate) fn is_derived_key(password: &[u8], mixed: &[u8], parts: &StoredParts<'_>) -> bool
-    ensures exact { mixed.now ≡ mixed_of password.now (stored parts.now) → result ≡ is_right password.now (stored parts.now) }
-{
-    compare_counted(password, mixed, parts, &mut CoreCount::new())
-}
-
-// Does so, and counts the blocks that SHA-256 compresses: those of PBKDF2, which hashes the password and the chunks once,
-// however long the key is.
-fn compare_counted(
+/// as salt. Every piece is compared, also after a difference. PBKDF2 hashes the password and the chunks once, however
+/// long the key is. Does not allocate.
+pub(crate) fn is_derived_key(
     password: &[u8],
     mixed: &[u8],
     parts: &StoredParts<'_>,

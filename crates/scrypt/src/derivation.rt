@@ -1,10 +1,10 @@
 // The derived key (RFC 7914, section 6).
 
 ghost use Rattle.std.specs.Prelude.{◌≡◌, ◌↔◌, ◌+◌, ◌-◌, ◌*◌, ◌^◌, ◌<◌, ◌≤◌, length, take, IfSome, IsOk, IsSome, IsTrue, IsErrOf, OnOk, OnErr};
-ghost use Rattle.scrypt_kernel.specs.Count.{AreCounted};
+ghost use Rattle.scrypt_kernel.specs.Count.{AreCounted, AreHashed};
 ghost use Rattle.scrypt_kernel.specs.Pbkdf2.{max_output_len, pbkdf2};
 ghost use Rattle.scrypt.specs.Accepted.{is_output_len};
-ghost use Rattle.scrypt.specs.Cost.{chunks_bytes, cost, scratch_words, table_words, thin_cost, thin_scratch_words};
+ghost use Rattle.scrypt.specs.Cost.{chunks_bytes, cost, hash_cost, pbkdf2_cost, scratch_words, table_words, thin_cost, thin_scratch_words};
 ghost use Rattle.scrypt.specs.InBuffers.{are_enough};
 ghost use Rattle.scrypt.specs.Key.{derived_key, mixed_b};
 ghost use Rattle.scrypt.specs.Mixing.{HasTables, IsKept, IsReady, IsSpent};
@@ -17,7 +17,7 @@ use crate::buffers::{Buffers, InUse, at_front};
 use crate::derivation::mixing::mix_all;
 use crate::{CoreCount, DeriveError, InvalidOutputLen, Mixer, Params, Vectors};
 use scrypt_kernel::memory::{Allocated, Buffer, TableMemory};
-use scrypt_kernel::pbkdf2::pbkdf2_one;
+use scrypt_kernel::pbkdf2::pbkdf2_counted;
 use std::alloc::Global;
 
 /// The greatest length of an output in bytes (RFC 7914, section 6: `dkLen`).
@@ -57,7 +57,7 @@ pub fn scrypt(
     scrypt_counted(alloc, password, salt, params, output, &mut cores)
 }
 
-/// Does what [`scrypt`] does, and counts the `4 * N * r * p` Salsa20/8 cores.
+/// Does what [`scrypt`] does, and counts the `4 * N * r * p` Salsa20/8 cores and the blocks that SHA-256 compresses.
 ///
 /// On an error the count is unchanged too.
 pub fn scrypt_counted(
@@ -72,6 +72,8 @@ pub fn scrypt_counted(
     ensures value { OnOk result (output.new ≡ derived_key password.now salt.now
         params.now.log_n params.now.r params.now.p (length output.old)) }
     ensures counted { OnOk result (AreCounted (cost params.now.log_n params.now.r params.now.p) cores.old cores.new) }
+    ensures hashed { OnOk result (cores.new.compressions ≡ cores.old.compressions
+        + hash_cost (length password.now) (length salt.now) params.now.r params.now.p (length output.old)) }
     ensures refused { OnErr result (output.new ≡ output.old) }
     ensures uncounted { OnErr result (cores.new ≡ cores.old) }
 {
@@ -119,6 +121,8 @@ pub fn scrypt_in_groups<W: Mixer>(
     ensures value { OnOk result (output.new ≡ derived_key password.now salt.now
         params.now.log_n params.now.r params.now.p (length output.old)) }
     ensures counted { OnOk result (AreCounted (cost params.now.log_n params.now.r params.now.p) cores.old cores.new) }
+    ensures hashed { OnOk result (cores.new.compressions ≡ cores.old.compressions
+        + hash_cost (length password.now) (length salt.now) params.now.r params.now.p (length output.old)) }
     ensures refused { OnErr result (output.new ≡ output.old) }
     ensures uncounted { OnErr result (cores.new ≡ cores.old) }
 {
@@ -144,8 +148,8 @@ pub fn scrypt_in_groups<W: Mixer>(
 /// least its lengths in words. As many chunks are mixed at a time as have a table and a scratch
 /// there, at most four ([`BufferLens::for_tables`]). It does not matter what the buffers hold before the
 /// call. After it `chunks` holds B after step 2, with which passwords can be tried against the key without a core, and
-/// what the others hold is unspecified: [`wipe`](crate::wipe) them. `cores` counts the `4 * N * r * p` cores. Does
-/// not allocate.
+/// what the others hold is unspecified: [`wipe`](crate::wipe) them. `cores` counts the `4 * N * r * p` cores, and the
+/// blocks that SHA-256 compresses. Does not allocate.
 ///
 /// Returns `InvalidOutputLen`, and changes nothing, exactly if the length of `output` is
 /// not allowed ([`output_len_ok`](crate::output_len_ok)).
@@ -166,6 +170,8 @@ pub fn scrypt_with_buffers(
     ensures value { OnOk result (output.new ≡ derived_key password.now salt.now
         params.now.log_n params.now.r params.now.p (length output.old)) }
     ensures counted { OnOk result (AreCounted (cost params.now.log_n params.now.r params.now.p) cores.old cores.new) }
+    ensures hashed { OnOk result (cores.new.compressions ≡ cores.old.compressions
+        + hash_cost (length password.now) (length salt.now) params.now.r params.now.p (length output.old)) }
     ensures mixed { OnOk result (chunks.new ≡ mixed_b password.now salt.now params.now.log_n params.now.r params.now.p) }
     ensures refused { OnErr result (output.new ≡ output.old) }
     ensures buffers { OnErr result ((chunks.new ≡ chunks.old) × (table.new ≡ table.old) × (scratch.new ≡ scratch.old)) }
@@ -203,6 +209,8 @@ pub fn scrypt_at_front<W: Mixer>(
     ensures value { OnOk result (output.new ≡ derived_key password.now salt.now
         params.now.log_n params.now.r params.now.p (length output.old)) }
     ensures counted { OnOk result (AreCounted (cost params.now.log_n params.now.r params.now.p) cores.old cores.new) }
+    ensures hashed { OnOk result (cores.new.compressions ≡ cores.old.compressions
+        + hash_cost (length password.now) (length salt.now) params.now.r params.now.p (length output.old)) }
     ensures mixed { OnOk result (take (chunks_bytes params.now.r params.now.p) chunks.new
         ≡ mixed_b password.now salt.now params.now.log_n params.now.r params.now.p) }
     ensures rest { OnOk result (IsRestKept params.now
@@ -233,7 +241,7 @@ pub fn scrypt_at_front<W: Mixer>(
 ///
 /// The table keeps each row whose number is a multiple of `2^s`, and any other row is recomputed
 /// whenever it is needed. So the table has `2^s` times fewer words, and there may be more than
-/// `4 * N * r * p` cores: `cores` counts them. Does not allocate.
+/// `4 * N * r * p` cores: `cores` counts them, and the blocks that SHA-256 compresses. Does not allocate.
 ///
 /// The buffers have the lengths of [`BufferLens::thin`]: `chunks` in bytes, `table` and `scratch` in
 /// words. `s` is at most `log_n`. It does not matter what the buffers hold before the call. After it `chunks` holds
@@ -261,6 +269,8 @@ pub fn scrypt_thin(
         params.now.log_n params.now.r params.now.p (length output.old)) }
     ensures counted { OnOk result (AreCounted (thin_cost password.now salt.now params.now.log_n params.now.r params.now.p s)
         cores.old cores.new) }
+    ensures hashed { OnOk result (cores.new.compressions ≡ cores.old.compressions
+        + hash_cost (length password.now) (length salt.now) params.now.r params.now.p (length output.old)) }
     ensures mixed { OnOk result (chunks.new ≡ mixed_b password.now salt.now params.now.log_n params.now.r params.now.p) }
     ensures refused { OnErr result (output.new ≡ output.old) }
     ensures buffers { OnErr result ((chunks.new ≡ chunks.old) × (table.new ≡ table.old) × (scratch.new ≡ scratch.old)) }
@@ -293,6 +303,8 @@ pub fn scrypt_thin_by<W: Mixer>(
         params.now.log_n params.now.r params.now.p (length output.old)) }
     ensures counted { OnOk result (AreCounted (thin_cost password.now salt.now params.now.log_n params.now.r params.now.p s)
         cores.old cores.new) }
+    ensures hashed { OnOk result (cores.new.compressions ≡ cores.old.compressions
+        + hash_cost (length password.now) (length salt.now) params.now.r params.now.p (length output.old)) }
     ensures mixed { OnOk result (chunks.new ≡ mixed_b password.now salt.now params.now.log_n params.now.r params.now.p) }
     ensures refused { OnErr result (output.new ≡ output.old) }
     ensures buffers { OnErr result ((chunks.new ≡ chunks.old) × (table.new ≡ table.old) × (scratch.new ≡ scratch.old)) }
@@ -346,27 +358,31 @@ pub(crate) fn derive_in<M: TableMemory, W: Mixer>(
     ensures counted { AreCounted (thin_cost password.now salt.now params.now.log_n params.now.r params.now.p s)
         used.old.cores.now used.new.cores.now }
     ensures whole { s ≡ 0 → AreCounted (cost params.now.log_n params.now.r params.now.p) used.old.cores.now used.new.cores.now }
+    ensures hashed { used.new.cores.now.compressions ≡ used.old.cores.now.compressions
+        + hash_cost (length password.now) (length salt.now) params.now.r params.now.p (length output.old) }
 {
-    derive_chunks(password, salt, params, used.chunks);
+    derive_chunks(password, salt, params, used.chunks, used.cores);
     let count = params.p() as usize;
     mix_all::<M, W>(params, s, count, used);
-    derive_output(password, used, output);
-}
-
-// Step 3: DK, with B as salt.
-fn derive_output<M>(password: &[u8], used: &InUse<'_, M>, output: &mut [u8])
-    requires length { length output.old ≤ max_output_len }
-    ensures value { output.new ≡ pbkdf2 password.now used.now.chunks.now (length output.old) }
-{
-    pbkdf2_one(password, used.chunks, output);
+    // Step 3: DK, with B as salt. It is borrowed mutably, since the prover covers no shared borrow beside that of the count.
+    let mixed = &mut *used.chunks;
+    pbkdf2_counted(password, mixed, output, used.cores);
 }
 
 /// Step 1: `chunks` becomes B, which has `p` chunks.
 #[tactic(auto, using(crate::proofs::AcceptedFacts::small_lens))]
-pub(crate) fn derive_chunks(password: &[u8], salt: &[u8], params: &Params, chunks: &mut [u8])
+pub(crate) fn derive_chunks(
+    password: &[u8],
+    salt: &[u8],
+    params: &Params,
+    chunks: &mut [u8],
+    cores: &mut CoreCount,
+)
     requires chunks { length chunks.old ≡ chunks_bytes params.now.r params.now.p }
     ensures value { chunks.new ≡ pbkdf2 password.now salt.now (chunks_bytes params.now.r params.now.p) }
+    ensures counted { AreHashed (pbkdf2_cost (length password.now) (length salt.now) (chunks_bytes params.now.r params.now.p))
+        cores.old cores.new }
 {
     params.expose_invariant();
-    pbkdf2_one(password, salt, chunks);
+    pbkdf2_counted(password, salt, chunks, cores);
 }

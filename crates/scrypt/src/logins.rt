@@ -90,7 +90,13 @@ impl<'p, 't> Login<'p, 't> {
         ensures value { chunks.new ≡ own chunks_of (attempt_of self.now) }
     {
         if let Ok(parts) = self.parts() {
-            derive_chunks(self.password, parts.salt.as_bytes(), &parts.params, chunks);
+            derive_chunks(
+                self.password,
+                parts.salt.as_bytes(),
+                &parts.params,
+                chunks,
+                &mut CoreCount::new(),
+            );
         }
     }
 
@@ -100,7 +106,12 @@ impl<'p, 't> Login<'p, 't> {
         ensures { with_limited_refusal result ≡ verdict self.now.password.now (reading_of self.now) }
     {
         match self.parts() {
-            Ok(parts) => limited(verdict(is_derived_key(self.password, mixed, parts))),
+            Ok(parts) => limited(verdict(is_derived_key(
+                self.password,
+                mixed,
+                parts,
+                &mut CoreCount::new(),
+            ))),
             Err(error) => Err(error),
         }
     }

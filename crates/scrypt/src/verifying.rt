@@ -43,10 +43,17 @@ fn is_key_of<M: TableMemory, W: Mixer>(
     ensures exact { result ≡ is_right password.now (stored parts.now) }
     ensures spent { IsSpent M.room parts.now.params used.old used.new }
 {
-    derive_chunks(password, parts.salt.as_bytes(), &parts.params, used.chunks);
+    derive_chunks(
+        password,
+        parts.salt.as_bytes(),
+        &parts.params,
+        used.chunks,
+        used.cores,
+    );
     let count = parts.params.p() as usize;
     mix_all::<M, W>(&parts.params, 0, count, used);
-    let same = is_derived_key(password, used.chunks, parts);
+    let mixed = &mut *used.chunks;
+    let same = is_derived_key(password, mixed, parts, used.cores);
     used.chunks.fill(0);
     used.scratch.fill(0);
     same

@@ -1,15 +1,17 @@
 -- The count of Salsa20/8 cores, and of the blocks of 64 bytes that SHA-256 compresses.
-use Rattle.std.specs.Prelude.{◌≡◌, ℕ, ◌+◌, Bool, true, if◌then◌else◌}
+use Rattle.std.specs.Prelude.{◌≡◌, ℕ, ◌+◌, Bool, if◌then◌else◌}
 use Rattle.scrypt_kernel.specs.declared.cores.count.CoreCount.{CoreCount}
 
--- n more cores were run: all of them SIMD cores if simd is true, and none of them otherwise
+-- n more cores were run, each of them as a SIMD core
+pub record AreCounted (n : ℕ) (before after : CoreCount) : Type 0 where
+  pub all : after.all ≡ before.all + n
+  pub lanes : after.lanes ≡ before.lanes + n
+
+-- n more cores were run, all of them SIMD cores if simd is true and none of them otherwise, and no block was compressed
 pub record AreCountedAs (simd : Bool) (n : ℕ) (before after : CoreCount) : Type 0 where
   pub all : after.all ≡ before.all + n
   pub lanes : after.lanes ≡ before.lanes + (if simd then n else 0)
-
--- n more cores were run, each of them as a SIMD core
-abbrev pub AreCounted : ℕ → CoreCount → CoreCount → Type 0
-AreCounted n before after = AreCountedAs true n before after
+  pub compressions : after.compressions ≡ before.compressions
 
 -- n more blocks were compressed, and no core was run
 pub record AreHashed (n : ℕ) (before after : CoreCount) : Type 0 where

@@ -1,8 +1,8 @@
 //! scryptROMix (RFC 7914, section 5).
 
-ghost use Rattle.std.specs.Prelude.{◌≡◌, ℕ, ◌+◌, ◌-◌, ◌*◌, ◌/◌, ◌%◌, ◌^◌, ◌<◌, ◌≤◌, false, length};
+ghost use Rattle.std.specs.Prelude.{◌≡◌, ℕ, ◌+◌, ◌-◌, ◌*◌, ◌/◌, ◌%◌, ◌^◌, ◌<◌, ◌≤◌, false, length, true};
 ghost use Rattle.scrypt_kernel.specs.Words.{bytes_of, part, words_of};
-ghost use Rattle.scrypt_kernel.specs.Count.{AreCounted, AreCountedAs};
+ghost use Rattle.scrypt_kernel.specs.Count.{AreCountedAs};
 ghost use Rattle.scrypt_kernel.specs.RoMix.{ro_mix};
 ghost use Rattle.scrypt_kernel.specs.Diagonal.{permuted};
 ghost use Rattle.scrypt_kernel.specs.KeptRows.{AreWalkLens};
@@ -100,7 +100,7 @@ fn fill_and_walk<O: OrderedBlocks, M: TableMemory>(
 pub fn scrypt_ro_mix(b: &mut [u8], v: &mut [u32], t: &mut [u32], log_n: u8, cores: &mut CoreCount)
     requires lens { AreRoMixLens log_n (length b.old) (length v.old) (length t.old) }
     ensures value { b.new ≡ bytes_of (ro_mix (words_of b.old) log_n) }
-    ensures counted { AreCounted (ro_mix_cost log_n (length b.old / 128)) cores.old cores.new }
+    ensures counted { AreCountedAs true (ro_mix_cost log_n (length b.old / 128)) cores.old cores.new }
 {
     let r = b.len() / 128;
     mix_chunks::<Diagonal<u32x4>, Buffer<'_>>(b, r, &mut Buffer::new(v), t, log_n, 0, cores);
@@ -123,7 +123,7 @@ pub fn thin_ro_mix(
 )
     requires lens { AreThinLens log_n s (length b.old) (length v.old) (length t.old) }
     ensures value { b.new ≡ bytes_of (ro_mix (words_of b.old) log_n) }
-    ensures counted { AreCounted
+    ensures counted { AreCountedAs true
         (thin_ro_mix_cost (words_of b.old) log_n s (length b.old / 128)) cores.old cores.new }
 {
     let r = b.len() / 128;

@@ -1,7 +1,7 @@
 // Step 2 of a derivation (RFC 7914, section 6): each chunk becomes its scryptROMix.
 
 ghost use Rattle.std.specs.Prelude.{◌≡◌, ◌≢◌, ℕ, List, ◌+◌, ◌*◌, ◌<◌, ◌≤◌, length, true};
-ghost use Rattle.scrypt_kernel.specs.Count.{AreCounted, AreCountedAs};
+ghost use Rattle.scrypt_kernel.specs.Count.{AreCountedAs};
 ghost use Rattle.scrypt_kernel.specs.Table.{thin_ro_mix_cost};
 ghost use Rattle.scrypt_kernel.specs.Words.{part, words_of};
 ghost use Rattle.scrypt.specs.Cost.{chunks_bytes, cost, thin_chunks_cost};
@@ -28,8 +28,8 @@ pub(crate) fn mix_all<M: TableMemory, W: Mixer>(
     requires ready { IsReady M.room params.now.log_n s params.now.r count used.old }
     ensures kept { IsKept M.room used.old used.new }
     ensures value { used.new.chunks.now ≡ mixed_chunks used.old.chunks.now params.now.log_n params.now.r count }
-    ensures counted { AreCounted (thin_chunks_cost used.old.chunks.now params.now.log_n params.now.r count s) used.old.cores.now used.new.cores.now }
-    ensures whole { s ≡ 0 → AreCounted (cost params.now.log_n params.now.r count) used.old.cores.now used.new.cores.now }
+    ensures counted { AreCountedAs true (thin_chunks_cost used.old.chunks.now params.now.log_n params.now.r count s) used.old.cores.now used.new.cores.now }
+    ensures whole { s ≡ 0 → AreCountedAs true (cost params.now.log_n params.now.r count) used.old.cores.now used.new.cores.now }
 {
     let mut i = 0;
     'groups: while i < count {
@@ -90,7 +90,7 @@ fn mix_at_once<M: TableMemory, W: Mixer>(
     ensures mixed { (b : List ℕ) → AreMixed b params.now.log_n params.now.r i used.old.chunks.now
         → AreMixed b params.now.log_n params.now.r (i + n) used.new.chunks.now }
     ensures kept { IsKept M.room used.old used.new }
-    ensures counted { AreCounted (n
+    ensures counted { AreCountedAs true (n
         * thin_ro_mix_cost (words_of (part (128 * params.now.r) used.old.chunks.now i)) params.now.log_n s params.now.r) used.old.cores.now used.new.cores.now }
 {
     // A mixer's answers are constants, so that the compiler leaves out the groups that it never mixes.

@@ -1,7 +1,7 @@
 //! scryptBlockMix (RFC 7914, section 4) on words in diagonal order, four lanes at a time.
 
-ghost use Rattle.std.specs.Prelude.{◌≡◌, ◌+◌, ◌*◌, ◌/◌, ◌%◌, ◌<◌, length};
-ghost use Rattle.scrypt_kernel.specs.Count.{AreCounted};
+ghost use Rattle.std.specs.Prelude.{◌≡◌, ◌+◌, ◌*◌, ◌/◌, ◌%◌, ◌<◌, length, true};
+ghost use Rattle.scrypt_kernel.specs.Count.{AreCountedAs};
 ghost use Rattle.scrypt_kernel.specs.BlockMix.{block_mix};
 ghost use Rattle.scrypt_kernel.specs.Diagonal.{diagonal_order, standard_order};
 
@@ -23,7 +23,7 @@ pub fn scrypt_block_mix(input: &[u32], output: &mut [u32], cores: &mut CoreCount
     requires some { 0 < length input.now }
     requires whole { length input.now % 32 ≡ 0 }
     ensures value { output.new ≡ diagonal_order (block_mix (standard_order input.now)) }
-    ensures counted { AreCounted (2 * (length input.now / 32)) cores.old cores.new }
+    ensures counted { AreCountedAs true (2 * (length input.now / 32)) cores.old cores.new }
 {
     let len = input.len();
     mix::<Diagonal<u32x4>, Parts<'_>>(&Parts::of(input, len, 1), output, len, cores);

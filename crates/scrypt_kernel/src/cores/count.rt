@@ -45,7 +45,6 @@ impl CoreCount {
         requires lanes { one.2 ≡ _before.now.lanes + (if one.0 then 1 else 0) }
         requires compressions { one.3 ≡ _before.now.compressions }
         ensures counted { AreCountedAs one.0 1 _before.now result }
-        ensures kept { result.compressions ≡ _before.now.compressions }
     {
         CoreCount::of()
     }

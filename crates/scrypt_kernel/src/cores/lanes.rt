@@ -1,10 +1,10 @@
 //! The Salsa20/8 core (RFC 7914, section 3) on words in diagonal order, of one block or of several
 //! side by side. Each vector has four lanes of every block.
 
-ghost use Rattle.std.specs.Prelude.{◌≡◌, ◌≢◌, ℕ, ◌+◌, ◌*◌, ◌/◌, ◌<◌, ◌≤◌, ◌++◌, List, length};
+ghost use Rattle.std.specs.Prelude.{◌≡◌, ◌≢◌, ℕ, ◌+◌, ◌*◌, ◌/◌, ◌<◌, ◌≤◌, ◌++◌, List, length, true};
 ghost use Rattle.scrypt_kernel.specs.Words.{add_words, part, xor_words};
 ghost use Rattle.scrypt_kernel.specs.Salsa.{salsa20_8};
-ghost use Rattle.scrypt_kernel.specs.Count.{AreCounted};
+ghost use Rattle.scrypt_kernel.specs.Count.{AreCountedAs};
 ghost use Rattle.scrypt_kernel.specs.Diagonal.{diagonal_core, diagonal_order, standard_order};
 ghost use Rattle.scrypt_kernel.specs.Lanes.{AreFourEach, at, block_of, quarter_rounds, turned, turned_left, xor_rotated};
 ghost use Rattle.scrypt_kernel.specs.Parts.{AreParts, part_of};
@@ -22,7 +22,7 @@ use std::simd::{Simd, u32x4, u32x8};
 #[inline(always)]
 pub fn core(x: &mut [u32; 16], cores: &mut CoreCount)
     ensures value { x.new ≡ diagonal_order (salsa20_8 (standard_order x.old)) }
-    ensures counted { AreCounted 1 cores.old cores.new }
+    ensures counted { AreCountedAs true 1 cores.old cores.new }
 {
     *x = in_lanes(x).counted_core(cores).block(0);
 }
@@ -50,8 +50,8 @@ pub struct Diagonal<V> {
 }
 
 impl<V: Lanes> Diagonal<V> {
-    ghost use Rattle.std.specs.Prelude.{◌≡◌, ℕ, ◌<◌};
-    ghost use Rattle.scrypt_kernel.specs.Count.{AreCounted};
+    ghost use Rattle.std.specs.Prelude.{◌≡◌, ℕ, ◌<◌, true};
+    ghost use Rattle.scrypt_kernel.specs.Count.{AreCountedAs};
     ghost use Rattle.scrypt_kernel.specs.Diagonal.{diagonal_core, diagonal_round};
     ghost use Rattle.scrypt_kernel.specs.Lanes.{AreWhole};
 
@@ -59,7 +59,7 @@ impl<V: Lanes> Diagonal<V> {
     #[inline(always)]
     pub(crate) fn counted_core(self, cores: &mut CoreCount) -> Diagonal<V>
         ensures value { (k : ℕ) → k < V.count → block_of V.lanes result k ≡ diagonal_core (block_of V.lanes self k) }
-        ensures counted { AreCounted V.count cores.old cores.new }
+        ensures counted { AreCountedAs true V.count cores.old cores.new }
     {
         let mixed = self.salsa20_8();
         self.count(&mixed, cores);
@@ -70,7 +70,7 @@ impl<V: Lanes> Diagonal<V> {
     // removes it, since a count has no bytes.
     fn count(&self, mixed: &Diagonal<V>, cores: &mut CoreCount)
         requires { (k : ℕ) → k < V.count → block_of V.lanes mixed.now k ≡ diagonal_core (block_of V.lanes self.now k) }
-        ensures { AreCounted V.count cores.old cores.new }
+        ensures { AreCountedAs true V.count cores.old cores.new }
     {
         'each: for k in 0..V::count() {
             *cores = CoreCount::after_core(cores, &self.block(k), &mixed.block(k));

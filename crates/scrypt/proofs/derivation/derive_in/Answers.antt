@@ -5,7 +5,7 @@ use Rattle.scrypt.proofs.derivation.derive_in.Goals as goal
 pub returns-clause-value : goal.returns-clause-value
 unfolding derived_key
 returns-clause-value g c =
-    rw (c.derive_output.ensures.value, c.mix_all.ensures.value, c.derive_chunks.ensures.value, c.p-count.ensures.value) refl
+    rw (c.pbkdf2_counted.ensures.value, c.mix_all.ensures.value, c.derive_chunks.ensures.value, c.p-count.ensures.value) refl
 
 pub returns-clause-mixed : goal.returns-clause-mixed
 returns-clause-mixed g c =

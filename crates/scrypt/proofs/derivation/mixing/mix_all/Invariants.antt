@@ -1,5 +1,5 @@
-use Rattle.std.proofs.Common.{◌≤◌, ◌-◌}
-use Rattle.scrypt_kernel.specs.Count.{AreCounted}
+use Rattle.std.proofs.Common.{◌≤◌, ◌-◌, true}
+use Rattle.scrypt_kernel.specs.Count.{AreCountedAs}
 use Rattle.scrypt.specs.Cost.{thin_chunks_cost}
 use Rattle.scrypt.specs.Mixing.{IsKept, AreMixed}
 use Rattle.scrypt.proofs.derivation.mixing.mix_all.Given as goal
@@ -11,7 +11,7 @@ invariant-groups g l =
       kept : IsKept g.M.TableMemory.room before l.used;
       mixed : AreMixed before.chunks.now l.params.log_n l.params.r l.i l.used.chunks.now;
       some : l.i ≤ l.count;
-      counted : AreCounted (thin_chunks_cost before.chunks.now l.params.log_n l.params.r l.i l.s) before.cores.now l.used.cores.now;
+      counted : AreCountedAs true (thin_chunks_cost before.chunks.now l.params.log_n l.params.r l.i l.s) before.cores.now l.used.cores.now;
     }
 
 abbrev pub decreases-groups : goal.decreases-groups

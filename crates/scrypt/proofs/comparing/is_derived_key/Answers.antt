@@ -10,7 +10,7 @@ use Rattle.scrypt.specs.StoredKey.{key_bytes}
 use Rattle.scrypt.specs.StoredParts.{stored}
 use Rattle.scrypt.proofs.ComparingFacts.{compared_more}
 use Rattle.scrypt.proofs.ReadingFacts.{told_right}
-use Rattle.scrypt.proofs.comparing.compare_counted.Goals as goal
+use Rattle.scrypt.proofs.comparing.is_derived_key.Goals as goal
 
 pub loop-i-init : goal.loop-i-init
 loop-i-init c = record {
