@@ -26,7 +26,6 @@ HANDWRITTEN = ["crates/scrypt_kernel/proofs/cores/count/CoreCount/of/Proof.antt"
 NEW_COUNTS = {
     "crates/scrypt_kernel/src/hmac.rt": 1,
     "crates/scrypt_kernel/src/pbkdf2.rt": 1,
-    "crates/scrypt/src/logins.rt": 2,
     "crates/scrypt/src/derivation.rt": 2,
     "crates/scrypt/src/hashing.rt": 1,
     "crates/scrypt/src/mcf/verifying.rt": 1,

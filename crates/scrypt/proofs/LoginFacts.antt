@@ -1,10 +1,12 @@
 use Rattle.std.proofs.Common.{◌≡◌, ◌∙◌, ◌<◌, ◌≤◌, ◌+◌, ◌*◌, ◌^◌, ◌++◌, ℕ, List, length, take, drop, get_or, zero, suc, false, refl, sym, ap, ap₂, add-one, arith, append-nil, length-append}
 use Rattle.std.specs.Prelude.{Option, None, Some, Ok, Err, [], ◌∷◌, map, MatchBool, MatchOption, option_and_then, slice_set, IsTrue}
+use Rattle.std.specs.List.{sum_by}
 use Rattle.std.proofs.Math.Nat.{mul-le-mul_right}
 use Rattle.std.proofs.Math.ListN.{get_or-map}
 use Rattle.std.proofs.Math.Seq.{drop-append_seam, take-append_seam, take-suc-set}
 use Rattle.std.proofs.lemmas.Grind.{flat_map-append}
 use Rattle.std.proofs.lemmas.List.{drop_more, length-map, map-append, take-append-drop, take_all, take_more}
+use Rattle.std.proofs.lemmas.List.Sums.{sum_by-cons, sum_by_push}
 use Rattle.std.proofs.lemmas.Slice.{take-put_mid}
 use borrow.Rule.Slice.PartMut.{mid_of, put_mid, same_len_mid}
 use Rattle.std.proofs.lemmas.Option.{cond_some}
@@ -14,12 +16,12 @@ use Rattle.scrypt.specs.Accepted.{Parameters}
 use Rattle.scrypt.specs.Cost.{chunks_bytes}
 use Rattle.scrypt.specs.InBuffers.{are_enough}
 use Rattle.scrypt.specs.Key.{mixed_chunks}
-use Rattle.scrypt.specs.Logins.{Attempt, AreLeft, IsAlone, all_of, attempt_of, attempts, count_of, own, shared, verdict_on, with_more}
-use Rattle.scrypt.specs.Reading.{Stored, chunks_of, mixed_of, verdict}
+use Rattle.scrypt.specs.Logins.{Attempt, AreLeft, IsAlone, all_cost, all_of, attempt_of, attempts, chunks_cost, compare_cost, count_of, hashed_on, own, own_cost, shared, verdict_on, with_more}
+use Rattle.scrypt.specs.Reading.{Stored, chunks_of, mixed_of, verdict, verify_cost}
 use Rattle.scrypt.specs.Workspace.{IsDone, IsLeft, Workspace}
 use Rattle.scrypt.specs.declared.logins.Login.{Login}
 use Rattle.scrypt.proofs.KeyFacts.{both_mixed, length-mixed_chunks}
-use Rattle.scrypt.proofs.ReadingFacts.{enough_decided, same_verdict}
+use Rattle.scrypt.proofs.ReadingFacts.{enough_decided, same_hashed, same_verdict}
 
 -- n chunks, which are those of d and others
 pub record AreMore (c d : Parameters) (others : Option ℕ) (n : ℕ) : Type 0 where
@@ -94,6 +96,49 @@ same_verdicts w v chunks table scratch [] = refl
 same_verdicts w v chunks table scratch (a ∷ rest) =
     ap₂ (λ out outs. out ∷ outs) (same_verdict w v chunks table scratch a.0 a.1) (same_verdicts w v chunks table scratch rest)
 
+-- what SHA-256 compresses for all
+
+-- step 1 and step 3
+pub both_costs : (these : List Attempt) → all_cost chunks_cost these + all_cost compare_cost these ≡ all_cost verify_cost these
+both_costs [] = refl
+both_costs (a ∷ rest) =
+    omega (
+      arith,
+      sum_by-cons (own_cost chunks_cost) a rest,
+      sum_by-cons (own_cost compare_cost) a rest,
+      sum_by-cons (own_cost verify_cost) a rest,
+      each a,
+      both_costs rest,
+    )
+  where
+    each : (a : Attempt) → own_cost chunks_cost a + own_cost compare_cost a ≡ own_cost verify_cost a
+    each (password, Ok s) = refl
+    each (password, Err why) = refl
+
+-- where there is room for all, it is what each alone takes
+pub alone_costs : (c : Parameters) (these : List Attempt) (n : ℕ) (w : Workspace) → count_of c these ≡ Some n
+    → IsTrue (are_enough (record c { p = n }) w.chunks w.table w.scratch) → all_cost verify_cost these ≡ sum_by (hashed_on w) these
+alone_costs c [] n w counted room = refl
+alone_costs c ((password, Ok s) ∷ rest) n w counted room =
+    let more = are_more c s.params (count_of c rest) n counted in
+    let own = fewer_fit c s.params n w more.log_n more.r (omega (arith, more.sum)) room in
+    let others = fewer_fit c (record c { p = more.count }) n w refl refl (omega (arith, more.sum)) room in
+    sum_by-cons (own_cost verify_cost) (password, Ok s) rest
+    ∙ ap₂ (λ x y. x + y) (rw own refl) (alone_costs c rest more.count w more.counted others)
+    ∙ sym (sum_by-cons (hashed_on w) (password, Ok s) rest)
+alone_costs c ((password, Err why) ∷ rest) n w counted room =
+    sum_by-cons (own_cost verify_cost) (password, Err why) rest
+    ∙ ap (λ n. 0 + n) (alone_costs c rest n w counted room)
+    ∙ sym (sum_by-cons (hashed_on w) (password, Err why) rest)
+
+pub same_costs : (w v : Workspace) → length w.chunks ≡ length v.chunks → length w.table ≡ length v.table → length w.scratch ≡ length v.scratch
+    → (these : List Attempt) → sum_by (hashed_on w) these ≡ sum_by (hashed_on v) these
+same_costs w v chunks table scratch [] = refl
+same_costs w v chunks table scratch (a ∷ rest) =
+    sum_by-cons (hashed_on w) a rest
+    ∙ ap₂ (λ x y. x + y) (same_hashed w v chunks table scratch a.0 a.1) (same_costs w v chunks table scratch rest)
+    ∙ sym (sum_by-cons (hashed_on v) a rest)
+
 -- one after another
 
 -- those from the i-th on
@@ -152,6 +197,16 @@ own_at f logins i login below is =
     let before = all_of f (take i (attempts logins)) in
     ap (λ xs. take (length own) (drop (length before) xs)) (own_then f logins i login below is)
     ∙ ap (take (length own)) (drop-append_seam before _) ∙ take-append_seam own _
+
+-- f of the first i together, and of the next
+pub sum_more : (f : Attempt → ℕ) (logins : List Login) (i : ℕ) (login : Login) → i < length logins → login ≡ get_or logins i login
+    → sum_by f (take i (attempts logins)) + f (attempt_of login) ≡ sum_by f (take (i + 1) (attempts logins))
+sum_more f logins i login below is =
+    let these = attempts logins in
+    let a = attempt_of login in
+    let here = get_or-map attempt_of logins i login ∙ ap attempt_of (sym is) in
+    sym (ap (sum_by f) (take_more these i a (rw (length-map logins attempt_of) below) ∙ ap (λ x. take i these ++ x ∷ []) here)
+    ∙ sum_by_push f (take i these) a)
 
 -- the first alone, and then the others
 pub left_alone : (a : Attempt) (rest : List Attempt) (before between after : Workspace) → IsAlone (a ∷ rest) before → IsLeft a.1 before between

@@ -15,7 +15,7 @@ use Rattle.scrypt.specs.Reading.{◌and_then◌, NamesNoPassword, Stored, checke
 use Rattle.scrypt.specs.InBuffers.{are_enough}
 use Rattle.scrypt.specs.Limits.{are_within, buffers_bytes, work}
 use Rattle.scrypt.specs.declared.limits.Limits.{Limits}
-use Rattle.scrypt.specs.Workspace.{Workspace, verdict_in}
+use Rattle.scrypt.specs.Workspace.{Workspace, hashed_in, verdict_in}
 
 -- what is read in two steps
 
@@ -141,3 +141,10 @@ pub same_verdict : (w w' : Workspace) → length w.chunks ≡ length w'.chunks �
 unfolding are_enough
 same_verdict w w' chunks table scratch password (Ok s) = rw (chunks, table, scratch) refl
 same_verdict w w' chunks table scratch password (Err why) = refl
+
+pub same_hashed : (w w' : Workspace) → length w.chunks ≡ length w'.chunks → length w.table ≡ length w'.table
+    → length w.scratch ≡ length w'.scratch
+    → (password : List ℕ) (reading : Result Stored Refusal) → hashed_in w password reading ≡ hashed_in w' password reading
+unfolding are_enough
+same_hashed w w' chunks table scratch password (Ok s) = rw (chunks, table, scratch) refl
+same_hashed w w' chunks table scratch password (Err why) = refl

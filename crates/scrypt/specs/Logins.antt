@@ -1,13 +1,14 @@
 -- Verifying several passwords in one memory.
-use Rattle.std.specs.Prelude.{◌≡◌, ℕ, ◌+◌, ◌^◌, ◌&&◌, nat_eq, nat_lt, if◌then◌else◌, List, [], ◌∷◌, map, Option, None, Some, option_and_then, option_map, MatchBool, MatchOption, Result, Ok, Err, false, ⊤}
-use Rattle.std.specs.List.{flat_map}
+use Rattle.std.specs.Prelude.{◌≡◌, ℕ, ◌+◌, ◌^◌, ◌&&◌, nat_eq, nat_lt, if◌then◌else◌, List, [], ◌∷◌, length, map, Option, None, Some, option_and_then, option_map, MatchBool, MatchOption, Result, Ok, Err, false, ⊤}
+use Rattle.std.specs.List.{flat_map, sum_by}
 use Rattle.password_hash.specs.Refusal.{Refusal}
 use Rattle.scrypt.specs.Accepted.{Parameters}
 use Rattle.scrypt.specs.Reading.{◌and_then◌, Stored}
+use Rattle.scrypt.specs.Cost.{chunks_bytes, pbkdf2_cost}
 use Rattle.scrypt.specs.StoredHash.{reading}
 use Rattle.scrypt.specs.WithinLimits.{with_limited_refusal}
 use Rattle.scrypt.specs.InBuffers.{are_enough}
-use Rattle.scrypt.specs.Workspace.{Workspace, IsDone, IsLeft, verdict_in}
+use Rattle.scrypt.specs.Workspace.{Workspace, IsDone, IsLeft, hashed_in, verdict_in}
 use Rattle.scrypt.specs.declared.logins.Login.{Login}
 
 -- a password, and the reading of the hash that it is verified with
@@ -29,6 +30,10 @@ attempts = map attempt_of
 -- the verdict of verifying it alone in this memory
 abbrev pub verdict_on : Workspace → Attempt → Result ⊤ Refusal
 verdict_on w a = verdict_in w a.0 a.1
+
+-- the blocks that SHA-256 compresses then
+abbrev pub hashed_on : Workspace → Attempt → ℕ
+hashed_on w a = hashed_in w a.0 a.1
 
 -- the parameters of a derivation whose key is compared with that of the hash
 abbrev pub params_of : Result Stored Refusal → Option Parameters
@@ -59,6 +64,23 @@ own f (password, Err why) = []
 -- those of all, one after another
 abbrev pub all_of : (List ℕ → Stored → List ℕ) → List Attempt → List ℕ
 all_of f = flat_map (own f)
+
+-- the blocks that SHA-256 compresses in step 1 of its derivation
+abbrev pub chunks_cost : List ℕ → Stored → ℕ
+chunks_cost password s = pbkdf2_cost (length password) (length s.salt) (chunks_bytes s.params.r s.params.p)
+
+-- and in step 3, in which the key is compared
+abbrev pub compare_cost : List ℕ → Stored → ℕ
+compare_cost password s = pbkdf2_cost (length password) (chunks_bytes s.params.r s.params.p) (length s.key)
+
+-- f of a password and its hash, or 0 if the hash is refused
+abbrev pub own_cost : (List ℕ → Stored → ℕ) → Attempt → ℕ
+own_cost f (password, Ok s) = f password s
+own_cost f (password, Err why) = 0
+
+-- those of all together
+abbrev pub all_cost : (List ℕ → Stored → ℕ) → List Attempt → ℕ
+all_cost f = sum_by (own_cost f)
 
 -- the keys of these are not all derived at once in this memory
 abbrev pub IsAlone : List Attempt → Workspace → Type 0

@@ -5,7 +5,7 @@ use Rattle.std.specs.Str.{bytes_eq}
 use Rattle.password_hash.specs.Refusal.{Refusal, KeyTooShort, OutOfMemory, ParamsInvalid, PasswordInvalid, TooCostly}
 pub use Rattle.password_hash.specs.Refusal.{with_refusal}
 use Rattle.scrypt.specs.Accepted.{Parameters, are_accepted}
-use Rattle.scrypt.specs.Cost.{chunks_bytes}
+use Rattle.scrypt.specs.Cost.{chunks_bytes, hash_cost}
 use Rattle.scrypt.specs.Hashing.{key_len_or_default}
 use Rattle.scrypt.specs.Key.{derived_key, mixed_chunks}
 use Rattle.scrypt_kernel.specs.Pbkdf2.{pbkdf2}
@@ -34,6 +34,10 @@ chunks_of password s = pbkdf2 password s.salt (chunks_bytes s.params.r s.params.
 -- those chunks after scryptROMix (step 2)
 abbrev pub mixed_of : List ℕ → Stored → List ℕ
 mixed_of password s = mixed_chunks (chunks_of password s) s.params.log_n s.params.r s.params.p
+
+-- the blocks that SHA-256 compresses in comparing its key with that of a password: as many as in deriving a key of this length
+abbrev pub verify_cost : List ℕ → Stored → ℕ
+verify_cost password s = hash_cost (length password) (length s.salt) s.params.r s.params.p (length s.key)
 
 -- whether the hash accepts the password: the stored key is the key of its length that the parameters and the salt
 -- of the hash derive from the password

@@ -6,7 +6,7 @@ use Rattle.scrypt_kernel.specs.declared.cores.count.CoreCount.{CoreCount}
 use Rattle.scrypt.specs.Accepted.{Parameters}
 use Rattle.scrypt.specs.Cost.{chunks_bytes, cost, scratch_words, table_words}
 use Rattle.scrypt.specs.InBuffers.{IsWiped, are_enough}
-use Rattle.scrypt.specs.Reading.{◌and_then◌, Stored, verdict}
+use Rattle.scrypt.specs.Reading.{◌and_then◌, Stored, verdict, verify_cost}
 use Rattle.scrypt.specs.declared.buffers.BufferLens.{BufferLens}
 
 -- the caller's buffers, and the count of cores
@@ -61,6 +61,11 @@ pub record IsDone (c : Parameters) (before after : Workspace) : Type 0 where
 -- the verdict of verifying in this memory: `OutOfMemory` if keys would be compared, and a buffer is too short
 abbrev pub verdict_in : Workspace → List ℕ → Result Stored Refusal → Result ⊤ Refusal
 verdict_in w password reading = reading and_then λ s. if are_enough s.params w.chunks w.table w.scratch then verdict password reading else Err OutOfMemory
+
+-- the blocks that SHA-256 compresses in verifying in this memory: none unless keys are compared
+abbrev pub hashed_in : Workspace → List ℕ → Result Stored Refusal → ℕ
+hashed_in w password (Ok s) = if are_enough s.params w.chunks w.table w.scratch then verify_cost password s else 0
+hashed_in w password (Err why) = 0
 
 -- what verifying leaves: a derivation was done if keys were compared, and nothing changed if not
 abbrev pub IsLeft : Result Stored Refusal → Workspace → Workspace → Type 0

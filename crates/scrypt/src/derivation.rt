@@ -333,6 +333,8 @@ pub(crate) fn derive_and_wipe<M: TableMemory, W: Mixer>(
     ensures value { output.new ≡ derived_key password.now salt.now
         params.now.log_n params.now.r params.now.p (length output.old) }
     ensures spent { IsSpent M.room params.now used.old used.new }
+    ensures hashed { used.new.cores.now.compressions ≡ used.old.cores.now.compressions
+        + hash_cost (length password.now) (length salt.now) params.now.r params.now.p (length output.old) }
 {
     derive_in::<M, W>(password, salt, params, 0, used, output);
     used.chunks.fill(0);

@@ -1,12 +1,14 @@
 // Verifying several passwords in one memory, at once if possible.
 
 ghost use Rattle.std.specs.Prelude.{◌≡◌, ℕ, ◌∷◌, List, ◌+◌, ◌*◌, ◌<◌, length, map, IfSome, IsTrue, None, Some, true, false};
-ghost use Rattle.scrypt.specs.Logins.{AreLeft, Attempt, IsAlone, all_of, attempt_of, attempts, count_of, own, params_of, reading_of, shared, verdict_on};
+ghost use Rattle.std.specs.List.{sum_by};
+ghost use Rattle.scrypt.specs.Logins.{AreLeft, Attempt, IsAlone, all_cost, all_of, attempt_of, attempts, chunks_cost, compare_cost, count_of, hashed_on, own, own_cost, params_of, reading_of, shared, verdict_on};
 ghost use Rattle.scrypt.specs.Mixing.{IsReady, IsSpent};
-ghost use Rattle.scrypt.specs.Reading.{chunks_of, mapped, mixed_of, verdict, with_refusal};
+ghost use Rattle.scrypt.specs.Reading.{chunks_of, mapped, mixed_of, verdict, verify_cost, with_refusal};
 ghost use Rattle.scrypt.specs.StoredParts.{stored};
 ghost use Rattle.scrypt.specs.WithinLimits.{with_limited_refusal};
 ghost use Rattle.scrypt.specs.Workspace.{IsLeft, verdict_in, workspace_of};
+ghost use Rattle.scrypt_kernel.specs.Count.{AreHashed};
 ghost use Rattle.scrypt_kernel.specs.Memory.{buffer_room};
 
 use crate::buffers::{InUse, at_front};
@@ -85,9 +87,10 @@ impl<'p, 't> Login<'p, 't> {
 
     // Step 1: `chunks` becomes its chunks.
     #[tactic(auto, using(crate::proofs::LoginFacts::lens_of_chunks))]
-    fn derive_chunks(&self, chunks: &mut [u8])
+    fn derive_chunks(&self, chunks: &mut [u8], cores: &mut CoreCount)
         requires len { length chunks.old ≡ length (own chunks_of (attempt_of self.now)) }
         ensures value { chunks.new ≡ own chunks_of (attempt_of self.now) }
+        ensures counted { AreHashed (own_cost chunks_cost (attempt_of self.now)) cores.old cores.new }
     {
         if let Ok(parts) = self.parts() {
             derive_chunks(
@@ -95,23 +98,23 @@ impl<'p, 't> Login<'p, 't> {
                 parts.salt.as_bytes(),
                 &parts.params,
                 chunks,
-                &mut CoreCount::new(),
+                cores,
             );
         }
     }
 
     // Step 3: returns the verdict, given its mixed chunks.
-    fn compare(&self, mixed: &[u8]) -> Result<(), LimitedError>
+    #[tactic(auto, using(crate::proofs::LoginFacts::lens_of_chunks))]
+    fn compare(&self, mixed: &[u8], cores: &mut CoreCount) -> Result<(), LimitedError>
         requires mixed { mixed.now ≡ own mixed_of (attempt_of self.now) }
-        ensures { with_limited_refusal result ≡ verdict self.now.password.now (reading_of self.now) }
+        ensures counted { AreHashed (own_cost compare_cost (attempt_of self.now)) cores.old cores.new }
+        ensures verdict { with_limited_refusal result ≡ verdict self.now.password.now (reading_of self.now) }
     {
         match self.parts() {
-            Ok(parts) => limited(verdict(is_derived_key(
-                self.password,
-                mixed,
-                parts,
-                &mut CoreCount::new(),
-            ))),
+            Ok(parts) => {
+                parts.params.expose_invariant();
+                limited(verdict(is_derived_key(self.password, mixed, parts, cores)))
+            }
             Err(error) => Err(error),
         }
     }
@@ -127,6 +130,8 @@ impl<'p, 't> Login<'p, 't> {
         ensures verdict { with_limited_refusal result ≡ verdict_on (workspace_of chunks.old table.old scratch.old cores.old) (attempt_of self.now) }
         ensures left { IsLeft (reading_of self.now)
             (workspace_of chunks.old table.old scratch.old cores.old) (workspace_of chunks.new table.new scratch.new cores.new) }
+        ensures hashed { cores.new.compressions ≡ cores.old.compressions
+            + hashed_on (workspace_of chunks.old table.old scratch.old cores.old) (attempt_of self.now) }
     {
         match self.parts() {
             Ok(parts) => limited(verify_in_buffers::<W>(
@@ -150,7 +155,7 @@ impl<'p, 't> Login<'p, 't> {
 /// derivation with as many chunks as all have, their keys are derived at once: as many chunks are mixed at a time as
 /// have a table and a scratch there, at most four. Otherwise the first is verified alone, and then the others, likewise.
 /// Afterwards all that was used of `chunks` and `scratch` is zeros. `cores` counts the `4 * N * r * p` cores of each
-/// hash whose keys are compared.
+/// hash whose keys are compared, and the blocks that SHA-256 compresses, which are those of verifying each alone.
 pub fn verify_logins<W: Mixer>(
     logins: &[Login<'_, '_>],
     verdicts: &mut [Result<(), LimitedError>],
@@ -164,6 +169,8 @@ pub fn verify_logins<W: Mixer>(
         ≡ map (verdict_on (workspace_of chunks.old table.old scratch.old cores.old)) (attempts logins.now) }
     ensures left { AreLeft (attempts logins.now)
         (workspace_of chunks.old table.old scratch.old cores.old) (workspace_of chunks.new table.new scratch.new cores.new) }
+    ensures hashed { cores.new.compressions ≡ cores.old.compressions
+        + sum_by (hashed_on (workspace_of chunks.old table.old scratch.old cores.old)) (attempts logins.now) }
 {
     for i in 0..logins.len() {
         let (_, rest) = logins.split_at(i);
@@ -188,6 +195,8 @@ fn verified_at_once<W: Mixer>(
         ≡ map (verdict_on (workspace_of chunks.old table.old scratch.old cores.old)) (attempts logins.now) }
     ensures left { IsTrue result → AreLeft (attempts logins.now)
         (workspace_of chunks.old table.old scratch.old cores.old) (workspace_of chunks.new table.new scratch.new cores.new) }
+    ensures hashed { IsTrue result → cores.new.compressions ≡ cores.old.compressions
+        + sum_by (hashed_on (workspace_of chunks.old table.old scratch.old cores.old)) (attempts logins.now) }
     ensures alone { result ≡ false → IsAlone (attempts logins.now) (workspace_of chunks.old table.old scratch.old cores.old) }
     ensures kept { result ≡ false → verdicts.new ≡ verdicts.old }
     ensures unchanged { result ≡ false → (chunks.new ≡ chunks.old) × (table.new ≡ table.old) × (scratch.new ≡ scratch.old)
@@ -252,40 +261,50 @@ fn verify_at_once<W: Mixer>(
     requires ready { IsReady buffer_room params.now.log_n 0 params.now.r count used.old }
     ensures verdicts { map with_limited_refusal verdicts.new ≡ map (λ a. verdict a.0 a.1) (attempts logins.now) }
     ensures spent { IsSpent buffer_room (record params.now { p = count }) used.old used.new }
+    ensures hashed { used.new.cores.now.compressions ≡ used.old.cores.now.compressions + all_cost verify_cost (attempts logins.now) }
 {
     params.expose_invariant();
-    derive_all_chunks(logins, used.chunks);
+    derive_all_chunks(logins, used.chunks, used.cores);
     mix_all::<Buffer<'_>, W>(params, 0, count as usize, used);
-    compare(logins, used.chunks, verdicts);
+    // Borrowed mutably, as in `derive_in`.
+    let mixed = &mut *used.chunks;
+    compare(logins, mixed, verdicts, used.cores);
     used.chunks.fill(0);
     used.scratch.fill(0);
 }
 
 // Step 1: `chunks` becomes the chunks of all.
-fn derive_all_chunks(logins: &[Login<'_, '_>], chunks: &mut [u8])
+fn derive_all_chunks(logins: &[Login<'_, '_>], chunks: &mut [u8], cores: &mut CoreCount)
     requires len { length chunks.old ≡ length (all_of chunks_of (attempts logins.now)) }
     ensures value { chunks.new ≡ all_of chunks_of (attempts logins.now) }
+    ensures counted { AreHashed (all_cost chunks_cost (attempts logins.now)) cores.old cores.new }
 {
     let mut at = 0;
     for i in 0..logins.len() {
         let login = &logins[i];
         let end = at + login.chunks_len();
-        login.derive_chunks(&mut chunks[at..end]);
+        login.derive_chunks(&mut chunks[at..end], cores);
         at = end;
     }
 }
 
 // Step 3: compares each key with the one that its mixed chunks give.
-fn compare(logins: &[Login<'_, '_>], mixed: &[u8], verdicts: &mut [Result<(), LimitedError>])
+fn compare(
+    logins: &[Login<'_, '_>],
+    mixed: &[u8],
+    verdicts: &mut [Result<(), LimitedError>],
+    cores: &mut CoreCount,
+)
     requires len { length verdicts.old ≡ length logins.now }
     requires mixed { mixed.now ≡ all_of mixed_of (attempts logins.now) }
     ensures verdicts { map with_limited_refusal verdicts.new ≡ map (λ a. verdict a.0 a.1) (attempts logins.now) }
+    ensures counted { AreHashed (all_cost compare_cost (attempts logins.now)) cores.old cores.new }
 {
     let mut at = 0;
     for i in 0..logins.len() {
         let login = &logins[i];
         let end = at + login.chunks_len();
-        verdicts[i] = login.compare(&mixed[at..end]);
+        verdicts[i] = login.compare(&mixed[at..end], cores);
         at = end;
     }
 }

@@ -1,14 +1,14 @@
 // Stored hashes of either format.
 
-ghost use Rattle.std.specs.Prelude.{◌≡◌, ◌≢◌, ◌↔◌, Err, IfErr, IfOk, IsErrOf, IsOk, IsTrue, None, OnErr};
+ghost use Rattle.std.specs.Prelude.{◌≡◌, ◌≢◌, ◌↔◌, ◌+◌, Err, IfErr, IfOk, IsErrOf, IsOk, IsTrue, None, OnErr};
 ghost use Rattle.password_hash.specs.Refusal.{PasswordInvalid};
 ghost use Rattle.password_hash.specs.declared.error.Error.TheVariants.{EncodingInvalid, OutOfMemory};
 ghost use Rattle.scrypt_kernel.specs.Count.{AreCounted};
 ghost use Rattle.scrypt.specs.Cost.{chunks_bytes, cost, scratch_words, table_words};
-ghost use Rattle.scrypt.specs.Reading.{◌and_then◌, IsVerdict, mapped, weaker, with_refusal};
+ghost use Rattle.scrypt.specs.Reading.{◌and_then◌, IsVerdict, mapped, verify_cost, weaker, with_refusal};
 ghost use Rattle.scrypt.specs.StoredHash.{formatted, is_mcf_text, is_stored_text, key_len_or_zero, params_reading, reading};
 ghost use Rattle.scrypt.specs.StoredParts.{IsReadAs, stored};
-ghost use Rattle.scrypt.specs.Workspace.{IsLeft, verdict_in, workspace_of};
+ghost use Rattle.scrypt.specs.Workspace.{IsLeft, hashed_in, verdict_in, workspace_of};
 
 mod within;
 
@@ -142,7 +142,8 @@ impl<'a> StoredHash<'a> {
         self.verify_counted::<W>(alloc, password, &mut CoreCount::new())
     }
 
-    /// Does what [`StoredHash::verify_by`] does, and counts the `4 * N * r * p` cores of the hash's parameters.
+    /// Does what [`StoredHash::verify_by`] does, and counts the `4 * N * r * p` cores of the hash's parameters, and the blocks
+    /// that SHA-256 compresses, which are those of deriving a key of the stored one's length.
     ///
     /// Unless the keys are compared, the count is unchanged.
     pub fn verify_counted<W: Mixer>(
@@ -156,6 +157,8 @@ impl<'a> StoredHash<'a> {
         ensures memory { IsErrOf result OutOfMemory → cores.new ≡ cores.old }
         ensures counted { IfOk (reading self.now) (λ s. (¬ IsErrOf result OutOfMemory)
             → AreCounted (cost s.params.log_n s.params.r s.params.p) cores.old cores.new) }
+        ensures hashed { IfOk (reading self.now) (λ s. (¬ IsErrOf result OutOfMemory)
+            → cores.new.compressions ≡ cores.old.compressions + verify_cost password.now s) }
     {
         match self.parts() {
             Ok(parts) => verify_allocating::<W>(alloc, password, parts, cores),
@@ -204,7 +207,8 @@ impl<'a> StoredHash<'a> {
     /// mixed at a time as have a table and a scratch there, at most four. Only the first elements of
     /// each buffer are used, as many as [`used_lens`](crate::used_lens) returns. What they hold before
     /// the call does not matter. Afterwards those of `chunks` and `scratch` are zeros, and those of
-    /// `table` are unspecified. `cores` counts the `4 * N * r * p` cores of the hash's parameters.
+    /// `table` are unspecified. `cores` counts the `4 * N * r * p` cores of the hash's parameters, and
+    /// the blocks that SHA-256 compresses.
     ///
     /// Returns the same errors in the same order, `OutOfMemory` exactly if the hash can be read and
     /// a buffer is too short for it. Unless the keys are compared, the buffers and the count are
@@ -221,6 +225,8 @@ impl<'a> StoredHash<'a> {
             ≡ verdict_in (workspace_of chunks.old table.old scratch.old cores.old) password.now (reading self.now) }
         ensures left { IsLeft (reading self.now)
             (workspace_of chunks.old table.old scratch.old cores.old) (workspace_of chunks.new table.new scratch.new cores.new) }
+        ensures hashed { cores.new.compressions ≡ cores.old.compressions
+            + hashed_in (workspace_of chunks.old table.old scratch.old cores.old) password.now (reading self.now) }
     {
         match self.parts() {
             Ok(parts) => verify_in_buffers::<W>(password, parts, chunks, table, scratch, cores),

@@ -1,14 +1,14 @@
 // Verifying, in every format, with any source of memory.
 
-ghost use Rattle.std.specs.Prelude.{◌≡◌, length, replicate, if◌then◌else◌, Err, IsErrOf, Ok};
+ghost use Rattle.std.specs.Prelude.{◌≡◌, ◌+◌, length, replicate, if◌then◌else◌, Err, IsErrOf, Ok};
 ghost use Rattle.password_hash.specs.Refusal.{PasswordInvalid};
 ghost use Rattle.password_hash.specs.declared.error.Error.TheVariants.{OutOfMemory};
 ghost use Rattle.scrypt_kernel.specs.Count.{AreCounted};
 ghost use Rattle.scrypt.specs.Cost.{chunks_bytes, cost};
 ghost use Rattle.scrypt.specs.Mixing.{IsReady, IsSpent};
-ghost use Rattle.scrypt.specs.Reading.{IsVerdict, is_right, with_refusal};
+ghost use Rattle.scrypt.specs.Reading.{IsVerdict, is_right, verify_cost, with_refusal};
 ghost use Rattle.scrypt.specs.StoredParts.{stored};
-ghost use Rattle.scrypt.specs.Workspace.{IsLeft, verdict_in, workspace_of};
+ghost use Rattle.scrypt.specs.Workspace.{IsLeft, hashed_in, verdict_in, workspace_of};
 
 use crate::buffers::{Buffers, InUse, at_front};
 use crate::comparing::is_derived_key;
@@ -42,6 +42,8 @@ fn is_key_of<M: TableMemory, W: Mixer>(
     requires ready { IsReady M.room parts.now.params.log_n 0 parts.now.params.r parts.now.params.p used.old }
     ensures exact { result ≡ is_right password.now (stored parts.now) }
     ensures spent { IsSpent M.room parts.now.params used.old used.new }
+    ensures hashed { used.new.cores.now.compressions ≡ used.old.cores.now.compressions
+        + verify_cost password.now (stored parts.now) }
 {
     derive_chunks(
         password,
@@ -52,6 +54,7 @@ fn is_key_of<M: TableMemory, W: Mixer>(
     );
     let count = parts.params.p() as usize;
     mix_all::<M, W>(&parts.params, 0, count, used);
+    // Borrowed mutably, as in `derive_in`.
     let mixed = &mut *used.chunks;
     let same = is_derived_key(password, mixed, parts, used.cores);
     used.chunks.fill(0);
@@ -73,6 +76,8 @@ pub(crate) fn verify_allocating<W: Mixer>(
     ensures memory { IsErrOf result OutOfMemory → cores.new ≡ cores.old }
     ensures counted { (¬ IsErrOf result OutOfMemory)
         → AreCounted (cost parts.now.params.log_n parts.now.params.r parts.now.params.p) cores.old cores.new }
+    ensures hashed { (¬ IsErrOf result OutOfMemory)
+        → cores.new.compressions ≡ cores.old.compressions + verify_cost password.now (stored parts.now) }
 {
     // In no bytes a derivation takes one table.
     let (width, mut own) = Buffers::allocate_within(alloc, &parts.params, 0)?;
@@ -103,6 +108,8 @@ pub(crate) fn verify_in_buffers<W: Mixer>(
         (workspace_of chunks.old table.old scratch.old cores.old) (workspace_of chunks.new table.new scratch.new cores.new) }
     ensures verdict { with_refusal result
         ≡ verdict_in (workspace_of chunks.old table.old scratch.old cores.old) password.now (Ok (stored parts.now)) }
+    ensures hashed { cores.new.compressions ≡ cores.old.compressions
+        + hashed_in (workspace_of chunks.old table.old scratch.old cores.old) password.now (Ok (stored parts.now)) }
 {
     let params = &parts.params;
     params.expose_invariant();

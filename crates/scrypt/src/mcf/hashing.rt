@@ -6,6 +6,7 @@ ghost use Rattle.password_hash.specs.Crypt64.{crypt64_of, encoded_len};
 ghost use Rattle.password_hash.specs.Mcf.{IsMcf};
 ghost use Rattle.password_hash.specs.declared.error.Error.TheVariants.{OutOfMemory};
 ghost use Rattle.scrypt.specs.McfParams.{params_text};
+ghost use Rattle.scrypt.specs.Cost.{hash_cost};
 ghost use Rattle.scrypt.specs.Hashing.{key_len_or_default};
 ghost use Rattle.scrypt.specs.McfHash.{HashIsRefused, IsMadeHash, IsMcfOrNone, made_key, made_text_len};
 ghost use Rattle.password_hash.specs.Refusal.{refusal};
@@ -219,6 +220,8 @@ pub fn hash_with_buffers<W: Mixer>(
     ensures unwritten { OnErr result (text.new ≡ text.old) }
     ensures done { OnOk result (IsDone params.now
         (workspace_of chunks.old table.old scratch.old cores.old) (workspace_of chunks.new table.new scratch.new cores.new)) }
+    ensures hashed { OnOk result (cores.new.compressions ≡ cores.old.compressions
+        + hash_cost (length password.now) (length (crypt64_of salt.now)) params.now.r params.now.p (key_len_or_default params.now)) }
     ensures unchanged { OnErr result (workspace_of chunks.new table.new scratch.new cores.new
         ≡ workspace_of chunks.old table.old scratch.old cores.old) }
 {
@@ -255,6 +258,8 @@ fn fill_with_hash<W: Mixer>(
     ensures made { IsMadeHash params.now password.now salt.now text.new }
     ensures ascii { IsAscii text.new }
     ensures spent { IsSpent buffer_room params.now used.old used.new }
+    ensures hashed { used.new.cores.now.compressions ≡ used.old.cores.now.compressions
+        + hash_cost (length password.now) (length (crypt64_of salt.now)) params.now.r params.now.p (key_len_or_default params.now) }
 {
     let letters = &mut text[..Base64::Crypt.encoded_len(salt.len())];
     encode(salt, letters);

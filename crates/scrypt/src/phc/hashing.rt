@@ -1,6 +1,7 @@
 // Making PHC hashes.
 
-ghost use Rattle.std.specs.Prelude.{◌≡◌, ◌↔◌, ℕ, List, length, None, Some, IfErr, IfOk, IsErrOf, IsOk, OnErr, OnOk, IsTrue};
+ghost use Rattle.std.specs.Prelude.{◌≡◌, ◌↔◌, ◌+◌, ℕ, List, length, None, Some, IfErr, IfOk, IsErrOf, IsOk, OnErr, OnOk, IsTrue};
+ghost use Rattle.scrypt.specs.Cost.{hash_cost};
 ghost use Rattle.scrypt.specs.Hashing.{key_len_or_default};
 ghost use Rattle.scrypt.specs.KeyOfParams.{key_by};
 ghost use Rattle.scrypt.specs.PhcHash.{HashIsRefused, IsMadeHash, IsScryptOrNone, IsSaltLen};
@@ -129,6 +130,8 @@ pub fn hash_with_buffers<W: Mixer>(
         ↔ (IsSaltLen (length salt.now) × IsTrue (are_enough params.now chunks.old table.old scratch.old)) }
     ensures done { OnOk result (IsDone params.now
         (workspace_of chunks.old table.old scratch.old cores.old) (workspace_of chunks.new table.new scratch.new cores.new)) }
+    ensures hashed { OnOk result (cores.new.compressions ≡ cores.old.compressions
+        + hash_cost (length password.now) (length salt.now) params.now.r params.now.p (key_len_or_default params.now)) }
     ensures unchanged { OnErr result (workspace_of chunks.new table.new scratch.new cores.new
         ≡ workspace_of chunks.old table.old scratch.old cores.old) }
 {

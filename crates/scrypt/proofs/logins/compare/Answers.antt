@@ -1,10 +1,11 @@
 use Rattle.std.proofs.Common.{◌≡◌, ◌∙◌, ◌≤◌, ◌+◌, ◌-◌, ap, arith, length, length-append, rules, sym, take}
 use Rattle.std.proofs.Math.ListN.{get_or-map}
 use Rattle.std.proofs.lemmas.List.{length-map}
-use Rattle.scrypt.specs.Logins.{all_of, attempt_of, attempts, own}
+use Rattle.scrypt_kernel.proofs.CountFacts.{hashed_both}
+use Rattle.scrypt.specs.Logins.{all_of, attempt_of, attempts, compare_cost, own, own_cost}
 use Rattle.scrypt.specs.Reading.{mixed_of, verdict}
 use Rattle.scrypt.specs.WithinLimits.{with_limited_refusal}
-use Rattle.scrypt.proofs.LoginFacts.{one_more, own_at, own_fits, own_more}
+use Rattle.scrypt.proofs.LoginFacts.{one_more, own_at, own_fits, own_more, sum_more}
 use Rattle.scrypt.proofs.logins.compare.Goals as goal
 
 pub overflow_add-end : goal.overflow_add-end
@@ -42,5 +43,7 @@ loop-i-preserved c =
       long = search rules;
       compared = one_more with_limited_refusal (λ a. verdict a.0 a.1) c.loop-i.verdicts (attempts logins) c.loop-i.i c.compare.result (attempt_of login)
           (omega (arith, before.long, c.loop-i-test.true)) (omega (arith, length-map logins attempt_of, c.loop-i-test.true))
-          (get_or-map attempt_of logins c.loop-i.i login ∙ ap attempt_of (sym c.index-logins-i.is)) c.compare.ensures before.compared;
+          (get_or-map attempt_of logins c.loop-i.i login ∙ ap attempt_of (sym c.index-logins-i.is)) c.compare.ensures.verdict before.compared;
+      counted = hashed_both _ before.counted c.compare.ensures.counted
+          (sum_more (own_cost compare_cost) logins c.loop-i.i login c.loop-i-test.true c.index-logins-i.is);
     }

@@ -1,8 +1,9 @@
 use Rattle.std.proofs.Common.{◌∙◌, ◌≤◌, ◌+◌, ◌++◌, ap, ap₂, arith, length, length-append, rules, sym, take}
 use Rattle.std.proofs.lemmas.Slice.{take-put_mid}
-use Rattle.scrypt.specs.Logins.{all_of, attempt_of, attempts, own}
+use Rattle.scrypt_kernel.proofs.CountFacts.{hashed_both}
+use Rattle.scrypt.specs.Logins.{all_of, attempt_of, attempts, chunks_cost, own, own_cost}
 use Rattle.scrypt.specs.Reading.{chunks_of}
-use Rattle.scrypt.proofs.LoginFacts.{own_fits, own_more}
+use Rattle.scrypt.proofs.LoginFacts.{own_fits, own_more, sum_more}
 use Rattle.scrypt.proofs.logins.derive_all_chunks.Goals as goal
 
 pub overflow_add-end : goal.overflow_add-end
@@ -32,4 +33,6 @@ loop-i-preserved c =
       written = take-put_mid c.loop-i.at _ c.loop-i.chunks c.derive_chunks.new.chunks _ (omega (arith, c.chunks_len.ensures.value, ap length c.derive_chunks.ensures.value))
           (omega (arith, fits, before.at, before.long))
           ∙ ap₂ (λ x y. x ++ y) before.written c.derive_chunks.ensures.value ∙ sym more;
+      counted = hashed_both _ before.counted c.derive_chunks.ensures.counted
+          (sum_more (own_cost chunks_cost) c.args.logins.now c.loop-i.i c.index-logins-i.result c.loop-i-test.true c.index-logins-i.is);
     }

@@ -1,10 +1,10 @@
-use Rattle.std.proofs.Common.{◌≡◌, ◌∙◌, rules}
+use Rattle.std.proofs.Common.{◌≡◌, ◌∙◌, ◌+◌, ap, rules}
 use Rattle.std.specs.Prelude.{map}
-use Rattle.scrypt.specs.Logins.{Attempt, attempts}
-use Rattle.scrypt.specs.Reading.{verdict}
+use Rattle.scrypt.specs.Logins.{Attempt, all_cost, attempts}
+use Rattle.scrypt.specs.Reading.{verdict, verify_cost}
 use Rattle.scrypt.specs.WithinLimits.{with_limited_refusal}
 use Rattle.scrypt.specs.Workspace.{workspace_of}
-use Rattle.scrypt.proofs.LoginFacts.{alone}
+use Rattle.scrypt.proofs.LoginFacts.{alone, alone_costs}
 use Rattle.scrypt.proofs.logins.verified_at_once.Goals as goal
 
 pub returns-in-Some-verified-clause-verdicts : goal.returns-in-Some-verified-clause-verdicts
@@ -12,6 +12,14 @@ returns-in-Some-verified-clause-verdicts g c = λ _.
     let before = workspace_of c.args.chunks.now c.args.table.now c.args.scratch.now c.args.cores.now in
     let at_once : map with_limited_refusal c.at_front-verified.new.output ≡ map (λ (a : Attempt). verdict a.0 a.1) (attempts c.args.logins.now) = search rules in
     at_once ∙ alone c.in-Some.params (attempts c.args.logins.now) c.in-Some.count before c.in-Some.ensures'.count (search rules)
+
+pub returns-in-Some-verified-clause-hashed : goal.returns-in-Some-verified-clause-hashed
+returns-in-Some-verified-clause-hashed g c = λ _.
+    let before = workspace_of c.args.chunks.now c.args.table.now c.args.scratch.now c.args.cores.now in
+    let at_once : c.at_front-verified.new.cores.compressions
+    ≡ c.args.cores.now.compressions + all_cost verify_cost (attempts c.args.logins.now) = search rules in
+    at_once ∙ ap (λ n. c.args.cores.now.compressions + n)
+    (alone_costs c.in-Some.params (attempts c.args.logins.now) c.in-Some.count before c.in-Some.ensures'.count (search rules))
 
 pub returns-in-Some-verified-clause-left : goal.returns-in-Some-verified-clause-left
 returns-in-Some-verified-clause-left g c = λ _.

@@ -1,5 +1,6 @@
-use Rattle.std.proofs.Common.{◌≡◌, drop, length, map, take}
-use Rattle.scrypt.specs.Logins.{AreLeft, attempts, verdict_on}
+use Rattle.std.proofs.Common.{◌≡◌, ◌+◌, drop, length, map, take}
+use Rattle.std.specs.List.{sum_by}
+use Rattle.scrypt.specs.Logins.{AreLeft, attempts, hashed_on, verdict_on}
 use Rattle.scrypt.specs.WithinLimits.{with_limited_refusal}
 use Rattle.scrypt.specs.Workspace.{Workspace, workspace_of}
 use Rattle.scrypt.proofs.logins.verify_logins.Given as goal
@@ -15,5 +16,6 @@ invariant-loop-i g l =
       scratch : length l.scratch ≡ length before.scratch;
       long : length l.verdicts ≡ length l.logins;
       verified : map with_limited_refusal (take l.i l.verdicts) ≡ map (verdict_on before) (take l.i (attempts l.logins));
+      hashed : l.cores.compressions ≡ before.cores.compressions + sum_by (hashed_on before) (take l.i (attempts l.logins));
       left : (after : Workspace) → AreLeft (drop l.i (attempts l.logins)) now after → AreLeft (attempts l.logins) before after;
     }

@@ -1,8 +1,9 @@
-use Rattle.std.proofs.Common.{refl, rules}
-use Rattle.scrypt_kernel.proofs.CountFacts.{counted_between}
+use Rattle.std.proofs.Common.{◌≡◌, length, refl, rules}
+use Rattle.scrypt_kernel.proofs.CountFacts.{counted_between, hashed_around}
+use Rattle.scrypt.specs.Cost.{chunks_bytes}
 use Rattle.scrypt.proofs.verifying.is_key_of.Goals as goal
 
--- The search finds these too. They are here so that a body that compares or wipes less is refused by one of them.
+-- The search finds these too. They are here so that a body that compares or wipes less, or hashes more, is refused by one of them.
 pub returns-clause-exact : goal.returns-clause-exact
 returns-clause-exact g c = c.is_derived_key-same.ensures.exact (search rules)
 
@@ -14,3 +15,9 @@ returns-clause-spent g c = record {
   chunks = search rules;
   scratch = search rules;
 }
+
+pub returns-clause-hashed : goal.returns-clause-hashed
+returns-clause-hashed g c =
+    let params = c.args.parts.now.params in
+    let long : length c.mix_all.new.used.chunks.now ≡ chunks_bytes params.r params.p = search rules in
+    rw (long, c.as_bytes.ensures) at (hashed_around c.derive_chunks.ensures.counted c.mix_all.ensures.counted c.is_derived_key-same.ensures.counted)
