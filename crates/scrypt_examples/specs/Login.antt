@@ -1,10 +1,11 @@
 -- Enrolling and logging in.
-use Rattle.std.specs.Prelude.{◌≡◌, ℕ, List, Bool, true, false, Option, None, Some, Result, Ok, Err, string_bytes, ⊤, IsTrue}
+use Rattle.std.specs.Prelude.{◌≡◌, ℕ, ◌+◌, ◌*◌, ◌≤◌, List, Bool, true, false, Option, None, Some, Result, Ok, Err, string_bytes, ⊤, IsTrue}
 use Rattle.password_hash.specs.Refusal.{Refusal, PasswordInvalid}
 use Rattle.scrypt.specs.Accepted.{are_accepted, Parameters}
 use Rattle.scrypt.specs.PhcHash.{IsMadeText}
 use Rattle.scrypt.specs.Reading.{verdict, weaker}
 use Rattle.scrypt.specs.StoredHash.{reading}
+use Rattle.scrypt_kernel.specs.declared.cores.count.CoreCount.{CoreCount}
 use Rattle.scrypt_examples.specs.declared.login.LoginOutcome.{LoginOutcome}
 use Rattle.scrypt_examples.specs.declared.login.LoginOutcome.TheVariants.{In, InWithNewText, Refused}
 
@@ -38,3 +39,7 @@ abbrev pub let_in : Result ⊤ Refusal → Result Bool Refusal
 let_in (Ok u) = Ok true
 let_in (Err PasswordInvalid) = Ok false
 let_in (Err why) = Err why
+
+-- both counts together went up by n at most, where a block that SHA-256 compresses is nine cores
+abbrev pub CostsAtMost : ℕ → CoreCount → CoreCount → Type 0
+CostsAtMost n before after = after.all + 9 * after.compressions ≤ before.all + 9 * before.compressions + n

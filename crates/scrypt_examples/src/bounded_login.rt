@@ -1,14 +1,16 @@
 //! Logins by untrusted texts: one that is too costly is refused before any work.
 
-ghost use Rattle.std.specs.Prelude.{◌≡◌, ◌+◌, ◌≤◌, IfOk, IsErrOf, Ok, nat_le};
+ghost use Rattle.std.specs.Prelude.{◌≡◌, ◌+◌, ◌*◌, ◌≤◌, IfOk, IsErrOf, Ok, length, nat_le};
 ghost use Rattle.password_hash.specs.declared.error.Error.TheVariants.{OutOfMemory};
+ghost use Rattle.scrypt.specs.Cost.{lengths_cost};
 ghost use Rattle.scrypt.specs.Reading.{mapped, verdict, with_refusal};
 ghost use Rattle.scrypt.specs.StoredHash.{params_reading, reading};
 ghost use Rattle.scrypt.specs.WithinLimits.{with_limited_refusal, within};
 ghost use Rattle.scrypt.specs.Workspace.{IsLeft, verdict_in, workspace_of};
-ghost use Rattle.scrypt_examples.specs.Login.{let_in};
+ghost use Rattle.scrypt_examples.specs.Login.{CostsAtMost, let_in};
 
 use password_hash::Error;
+use scrypt::laws::work_bounds_both_counts;
 use scrypt::{CoreCount, LimitedError, Limits, StoredHash, Vectors};
 use std::alloc::Global;
 
@@ -17,6 +19,9 @@ use std::alloc::Global;
 /// Returns the error of reading the text, `TooCostly` if its parameters exceed the limit on memory or on work,
 /// `KeyTooShort` if its key is shorter than they allow, and `OutOfMemory` exactly if a text within the limits needs
 /// longer buffers, so never if these are long enough for the limits.
+///
+/// It runs at most as many cores as the limit on work. That bounds the cores together with nine for each block that SHA-256
+/// compresses too, except for the blocks of a long password, salt or key.
 #[tactic(auto, using(crate::proofs::LoginFacts::bounded))]
 pub fn log_in(
     stored: &str,
@@ -32,7 +37,11 @@ pub fn log_in(
     ensures left { IsLeft (within limits.now (reading stored.now))
         (workspace_of chunks.old table.old scratch.old cores.old) (workspace_of chunks.new table.new scratch.new cores.new) }
     ensures bounded { cores.new.all ≤ cores.old.all + limits.now.most_work }
+    ensures both_bounded { IfOk (reading stored.now) (λ s. CostsAtMost
+        (limits.now.most_work + 9 * lengths_cost (length password.now) (length s.salt) (length s.key)) cores.old cores.new) }
 {
+    // So the limit on work bounds both counts.
+    work_bounds_both_counts();
     let hash = match StoredHash::read(stored) {
         Ok(hash) => hash,
         Err(error) => return Err(LimitedError::from(error)),
