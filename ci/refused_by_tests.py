@@ -77,7 +77,8 @@ def verdict(edit, failed):
     passed = [part for part in named if not any(part in it for it in failed)]
     if passed or not own:
         return f"NOT REFUSED{' by ' * bool(passed)}{', '.join(passed)}"
-    return f"proved, and refused by {own[:3]}"
+    # The name of a case has its words, and one is a hash of thousands of letters.
+    return f"proved, and refused by {[it[:60] for it in own[:3]]}"
 
 
 def unnamed(group, failed):
