@@ -55,11 +55,11 @@ LIBRARIES = proved-password_hash proved-scrypt_kernel proved-scrypt proved-scryp
 HAS_ROOM = $(shell test $$(nproc) -ge 4 && awk '/^MemAvailable/ && $$2 > 12000000 { print "yes" }' /proc/meminfo)
 SIDE_BY_SIDE = $(if $(HAS_ROOM),2,1)
 proved-password_hash proved-scrypt_kernel: private JOBS = $(if $(HAS_ROOM),--jobs 3)
-.PHONY: $(LIBRARIES) proved-scrypt_tool
-$(LIBRARIES): proved-%: kit
+.PHONY: $(LIBRARIES) proved-scrypt_examples proved-scrypt_tool
+$(LIBRARIES) proved-scrypt_examples: proved-%: kit
 	@$(STEP) $* env -C crates/$* rt lib $(JOBS)
 proved-scrypt: proved-password_hash proved-scrypt_kernel
-proved-scrypt_commands: proved-scrypt
+proved-scrypt_commands proved-scrypt_examples: proved-scrypt
 proved-scrypt_tool: proved-scrypt_commands
 	@$(STEP) scrypt_tool env -C crates/scrypt_tool rt run -- key 4 1 1 64 "" < /dev/null
 
@@ -121,7 +121,7 @@ document-pages:
 	@if python3 -c "from tools import debian; debian.add_packages(); import jinja2, pygments" 2> /dev/null; \
 	then python3 -m doc.make; else echo "what makes pages is not installed (packages python3-jinja2, python3-pygments): not run: make doc"; fi
 
-wrong-bodies: $(LIBRARIES)
+wrong-bodies: $(LIBRARIES) proved-scrypt_examples
 	python3 -m ci.wrong_bodies all $(CRATES)
 
 # The examples are copied, so they import their own modules by name.
