@@ -38,7 +38,7 @@ def waits_of(library, params, at_once, clients, seconds):
 
     def client():
         while (start := time.perf_counter()) < end:
-            if library.scrypt_hasher_verify(hasher, PASSWORD, len(PASSWORD), text, len(text), -1, None):
+            if library.scrypt_hasher_verify(hasher, PASSWORD, len(PASSWORD), text, len(text), -1):
                 os._exit(1)
             if start > end - KEPT * seconds:
                 waits.append(time.perf_counter() - start)

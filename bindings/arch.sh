@@ -22,7 +22,7 @@
 archs="x86_64-linux-gnu aarch64-linux-gnu"
 windows=x86_64-w64-mingw32
 ARCH=${ARCH:-${archs%% *}}
-machine=${ARCH%%-*} system=linux sources="linux linux_processors" exe=
+machine=${ARCH%%-*} system=linux sources=linux exe=
 case $ARCH in
   x86_64-linux-gnu)
     debian=amd64 build=build proved=out is_kits=1 oldest=x86-64-v2 newest=x86-64-v3 loader=/lib64/ld-linux-x86-64.so.2

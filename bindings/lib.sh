@@ -15,7 +15,7 @@ out=$build/lib
 common=$out/parts
 version=$(cat VERSION)
 # What is written in C over the proved calls, and for the system.
-over="calls salt hasher queue line lock arena groups calibrate $sources"
+over="calls salt hasher arena groups calibrate $sources"
 . "bindings/$system.sh"
 
 if [ "${1:-}" != built ]; then prove; fi

@@ -11,7 +11,7 @@ hardened=-fstack-protector-strong
 generated="-mcmodel=small -D_WIN32_WINNT=0x0602 -D__USE_MINGW_ANSI_STDIO=1"
 # The compiler's own libraries are linked into what is built, which so needs those alone that each Windows has.
 bound="-static -Wl,--dynamicbase,--nxcompat,--high-entropy-va,--no-insert-timestamp"
-libraries="-lbcrypt -lsynchronization" shared=scrypt_c.dll
+libraries=-lbcrypt shared=scrypt_c.dll
 
 # Has the kit prove the crate, and compiles that for Windows.
 prove() { python3 -m bindings.bitcode "$ARCH" "$proved"; }

@@ -11,7 +11,7 @@ from pathlib import Path
 
 from tools import sources
 
-FOLDERS = ["bench", "bindings", "bindings/c", "bindings/c/orders", "bindings/js", "bindings/js/test", "ci", "compare", "doc", "examples/key_files", "examples/key_page", "examples/login_service", "examples/migration", "tools"]
+FOLDERS = ["bench", "bindings", "bindings/c", "bindings/js", "bindings/js/test", "ci", "compare", "doc", "examples/key_files", "examples/key_page", "examples/login_service", "examples/migration", "tools"]
 
 
 def home(crate, source, path):

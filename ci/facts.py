@@ -41,7 +41,7 @@ FACTS = [
      rf"(?:fewer than|shorter than|less than|at least|keys of|below|\() ?{LEAST} bytes|{LEAST} bytes of key"
      rf"|(?i:least_?key_?len)\)?(?: ==|:)? {LEAST}",
      [HEADER, LIMITS, "SECURITY.md"]),
-    ("how long a derivation waits for others", r"1/256 of (?:its|the)", ["bindings/c/queue.c", HASHER, "docs/DECISIONS.md"]),
+    ("how long a derivation waits for others", r"1/256 of (?:its|the)", ["bindings/c/hasher.c", HASHER, "docs/DECISIONS.md"]),
     ("the part of the memory that tables take", "7/8 of the memory", ["bindings/c/hasher.c", HEADER, HASHER]),
     ("the version", rf"{re.escape(mirror.VERSION)}|v{re.escape(mirror.VERSION.partition('+')[0])}", ["VERSION"]),
 ]

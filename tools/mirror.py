@@ -149,17 +149,14 @@ def proved():
     for path in sorted(Path("crates/scrypt_c/src").glob("*.rt")):
         for name, given, status in call.findall(read(path)):
             pairs = re.findall(r"(\w+): ((?:[^,\[]|\[[^\]]*\])+)", given)
-            is_text = {("alloc", "Global"), ("text", "&mut [u8]")} <= set(pairs)
-            kind = "TEXT_CALL" if is_text else "CALL" if status else "PROCEDURE"
+            kind = "CALL" if status else "PROCEDURE"
             yield kind, name, [it for pair in pairs for it in in_c(*pair)]
 
 
 def proved_calls():
     yield from (f"/* {NOTE}crates/scrypt_c/src: the proved calls, each as PROVED_CALL(name, parameters, arguments)",
                 " * if it returns a status, and else as PROVED_PROCEDURE, which whoever includes this list defines: clearing.c calls them",
-                " * and clears after them, stack_lens.c measures them, and dispatch.c chooses. PROVED_TEXT_CALL is a call that allocates",
-                " * a text, which is longer than the caller's salt. */",
-                "#ifndef PROVED_TEXT_CALL", "#define PROVED_TEXT_CALL PROVED_CALL", "#endif")
+                " * and clears after them, stack_lens.c measures them, and dispatch.c chooses. */")
     for kind, name, arguments in proved():
         if name != "scrypt_wipe":
             names = ", ".join(map(header.name_of, arguments))
@@ -178,7 +175,7 @@ def each_call():
         for it in given:
             is_made = "*" in it and not it.startswith("const") and "scrypt_hasher" not in it
             words.append(("made." if is_made else "given.") + header.name_of(it))
-            if "*" in it and name not in unchecked and words[-1] != "made.place":
+            if "*" in it and name not in unchecked:
                 words[-1] = f"P({words[-1]})"
         text = ", ".join(words)
         memory = "HASHER" if "given.hasher" in text else "BUFFERS" if "made.chunks)" in text else "NEITHER"

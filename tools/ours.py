@@ -16,7 +16,7 @@ def verifying(library, most_bytes, most_work):
     """A verification by a hasher, which keeps its memory, in one table, within these bounds."""
     options = Options(ctypes.sizeof(Options), 1, 1, 1, most_bytes=most_bytes, most_work=most_work, at_once=1, processors=1)
     hasher = library.scrypt_hasher_new(ctypes.byref(options), None)
-    return lambda *login: library.scrypt_hasher_verify(hasher, *login, -1, None)
+    return lambda *login: library.scrypt_hasher_verify(hasher, *login, -1)
 
 
 def buffers(library, params, tables, logins=1):

@@ -26,7 +26,7 @@ static struct {
   char text[SCRYPT_PHC_CAPACITY + SCRYPT_MCF_CAPACITY(64)];
   uint32_t *table, *scratch, log_n[1], r[1], p[1];
   size_t chunks_len[1], table_len[1], scratch_len[1], key_len[1], most_bytes[1], least_key_len[1];
-  uint64_t most_work[1], place[1];
+  uint64_t most_work[1];
   int statuses[SCRYPT_MOST_LOGINS];
   scrypt_needs needs[1];
   scrypt_stats stats[1];

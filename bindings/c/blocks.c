@@ -23,19 +23,8 @@ struct head {
 };
 static struct head *head_of(void *block) { return (struct head *)block - 1; }
 
-/* After a mapped block: 1, or 0 in a child that was forked meanwhile. */
-static uint64_t *mark_of(void *block, size_t len) {
-  return (uint64_t *)block + (len + sizeof(uint64_t) - 1) / sizeof(uint64_t);
-}
-
-/* What is mapped beside the block: a page for the head, which a child has too, what is left out before a huge page, and the mark. */
-#define BESIDE (LARGEST_PAGE + HUGE_PAGE + 2 * sizeof(uint64_t))
-
-static size_t lost;
-size_t lost_blocks(void) { return __atomic_load_n(&lost, __ATOMIC_RELAXED); }
-
-static int calls_with_long_text;
-void long_text(int more) { (void)__atomic_add_fetch(&calls_with_long_text, more, __ATOMIC_RELAXED); }
+/* What is mapped beside the block: the head, and what is left out before a huge page. */
+#define BESIDE (LARGEST_PAGE + HUGE_PAGE)
 
 /* Writes zeros, in a way that the compiler may not optimize away. Whole cache lines are written through the cache, where the
  * next call finds them: memset takes a third longer for the table of (14, 8, 1). */
@@ -68,7 +57,6 @@ void clearing_free(void *block) {
   is = *head_of(block);
   clear_registers(); /* those that the dynamic linker would save, if it binds what is called here */
   if (is.len >= LARGE) {
-    if (*mark_of(block, is.len) == 0) (void)__atomic_add_fetch(&lost, 1, __ATOMIC_RELAXED);
     if (!unmap(is.start, is.len + BESIDE)) overwrite((uint8_t *)block, is.len);
     return;
   }
@@ -97,10 +85,6 @@ static void *map_block(size_t len) {
   if (start == NULL) return NULL;
   block = start + LARGEST_PAGE;
   block += (HUGE_PAGE - (uintptr_t)block % HUGE_PAGE) % HUGE_PAGE;
-  /* If it is refused, the child has a copy. */
-  if (__atomic_load_n(&calls_with_long_text, __ATOMIC_RELAXED) == 0)
-    wipe_in_child(block, (size_t)((uint8_t *)(mark_of(block, len) + 1) - block));
-  *mark_of(block, len) = 1;
   with_head(block, start, len);
   if (len <= MOST_POPULATED && !is_huge(block)) populate_pages(block, len); /* which takes longer if they are huge */
   return block;

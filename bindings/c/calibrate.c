@@ -18,8 +18,7 @@ static int measure(uint32_t log_n, double *seconds) {
   scrypt_hasher *hasher = scrypt_hasher_new(&with, &status);
   for (i = 0; i < TRIES && status == SCRYPT_OK; i++) {
     double begun = now(), taken;
-    do status = scrypt_hasher_key(hasher, "", 0, "", 0, key, sizeof key, -1, NULL);
-    while (status == SCRYPT_CANCELLED); /* in a child */
+    status = scrypt_hasher_key(hasher, "", 0, "", 0, key, sizeof key, -1);
     taken = now() - begun;
     if (i == 0 || taken < *seconds) *seconds = taken;
   }

@@ -60,29 +60,16 @@ __asm__(
     ".size clear_stack, .-clear_stack\n");
 #endif
 
-/* The proved call, after which what it left is overwritten. Again, if a block was lost: then this is a child that a signal
- * handler forked, and what was derived is wrong. */
-#define CLEARED_CALL(name, parameters, arguments, around) \
-  int proved_##name parameters;                           \
-  int cleared_##name parameters;                          \
-  int cleared_##name parameters {                         \
-    size_t lost;                                          \
-    int status;                                           \
-    do {                                                  \
-      lost = lost_blocks();                               \
-      around(1);                                          \
-      status = proved_##name arguments;                   \
-      around(-1);                                         \
-      clear_registers();                                  \
-      clear_stack(STACK_##name);                          \
-    } while (lost_blocks() != lost);                      \
-    return status;                                        \
+/* The proved call, after which what it left is overwritten. */
+#define PROVED_CALL(name, parameters, arguments) \
+  int proved_##name parameters;                  \
+  int cleared_##name parameters;                 \
+  int cleared_##name parameters {                \
+    int status = proved_##name arguments;        \
+    clear_registers();                           \
+    clear_stack(STACK_##name);                   \
+    return status;                               \
   }
-#define NOTHING(more)
-#define PROVED_CALL(name, parameters, arguments) CLEARED_CALL(name, parameters, arguments, NOTHING)
-/* A text is a third longer than its salt. */
-#define TEXT(more) long_text(salt_len >= LARGE / 2 ? more : 0)
-#define PROVED_TEXT_CALL(name, parameters, arguments) CLEARED_CALL(name, parameters, arguments, TEXT)
 #define PROVED_PROCEDURE(name, parameters, arguments) \
   void proved_##name parameters;                      \
   void cleared_##name parameters;                     \

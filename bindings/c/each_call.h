@@ -42,11 +42,11 @@ CALL(scrypt_params_need, NEITHER, (given.log_n, given.r, given.p, given.most_byt
 CALL(scrypt_limits_for_new, NEITHER, (given.log_n, given.r, given.p, given.key_len, P(made.most_bytes),
     P(made.most_work), P(made.least_key_len)))
 CALL(scrypt_hasher_verify, HASHER, (P(given.hasher), P(given.password), given.password_len, P(given.text),
-    given.text_len, given.most_ms, made.place))
+    given.text_len, given.most_ms))
 CALL(scrypt_hasher_hash, HASHER, (P(given.hasher), P(given.password), given.password_len, P(given.salt), given.salt_len,
-    P(made.text), given.capacity, given.most_ms, made.place))
+    P(made.text), given.capacity, given.most_ms))
 CALL(scrypt_hasher_key, HASHER, (P(given.hasher), P(given.password), given.password_len, P(given.salt), given.salt_len,
-    P(made.key), given.key_len, given.most_ms, made.place))
+    P(made.key), given.key_len, given.most_ms))
 CALL(scrypt_hasher_needs_rehash, HASHER, (P(given.hasher), P(given.text), given.text_len))
 CALL(scrypt_hasher_stats, HASHER, (P(given.hasher), P(made.stats)))
 CALL(scrypt_calibrate, NEITHER, (given.seconds, given.most_bytes, P(made.log_n), P(made.r), P(made.p)))

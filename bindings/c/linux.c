@@ -1,71 +1,21 @@
-/* What system.h declares, on Linux, except for the processors and the memory of the process, which linux_processors.c has. Not
- * proved. System calls that an older C library doesn't have are called by their numbers. */
+/* What system.h declares, on Linux: not proved. Without _FORTIFY_SOURCE, by which snprintf would be a function that musl doesn't
+ * have. */
+#undef _FORTIFY_SOURCE
 #define _GNU_SOURCE
 #include "system.h"
 
 #include <errno.h>
-#include <linux/futex.h>
 #include <sched.h>
+#include <stdio.h>
+#include <string.h>
 #include <sys/mman.h>
-#include <sys/prctl.h>
-#include <sys/resource.h>
 #include <sys/syscall.h>
 #include <time.h>
 #include <unistd.h>
 
 #define NS_OF_SECOND INT64_C(1000000000)
 
-/* ---- Threads ---- */
-
-void take_mutex(mutex *it) { (void)pthread_mutex_lock(it); }
-
-void give_mutex(mutex *it) { (void)pthread_mutex_unlock(it); }
-
-void block_signals(signals *before) {
-  sigset_t all;
-  (void)sigfillset(&all);
-  (void)sigdelset(&all, SIGSYS); /* if that of a sandbox is blocked when it comes, Linux ends the process */
-  (void)sigprocmask(SIG_SETMASK, &all, before); /* of this thread alone, on Linux */
-}
-
-void restore_signals(const signals *before) { (void)sigprocmask(SIG_SETMASK, before, NULL); }
-
-void add_all_but_faults(signals *blocked) {
-  static const int FAULTS[] = {SIGBUS, SIGFPE, SIGILL, SIGSEGV, SIGSYS, SIGTRAP};
-  const sigset_t before = *blocked;
-  size_t i;
-  (void)sigfillset(blocked);
-  for (i = 0; i < sizeof FAULTS / sizeof *FAULTS; i++)
-    if (!sigismember(&before, FAULTS[i])) (void)sigdelset(blocked, FAULTS[i]);
-}
-
-/* A futex has no lock that a thread of the parent could have had at a fork, and is no cancellation point. */
-int sleep_on(uint32_t *word, uint32_t is, int64_t ns) {
-  const struct timespec time = {.tv_sec = (time_t)(ns / NS_OF_SECOND), .tv_nsec = (long)(ns % NS_OF_SECOND)};
-  return syscall(SYS_futex, word, FUTEX_WAIT_PRIVATE, is, &time, NULL, 0) == -1 && errno == EINTR;
-}
-
-void wake(uint32_t *word) { (void)syscall(SYS_futex, word, FUTEX_WAKE_PRIVATE, 1, NULL, NULL, 0); }
-
-void let_others_run(void) { (void)sched_yield(); }
-
-uintptr_t this_thread(void) { return (uintptr_t)pthread_self(); }
-
-int is_first_thread(void) { return syscall(SYS_gettid) == getpid(); }
-
-/* Not by the functions of <sched.h>, which always fail in musl. */
-int priority_of_thread(void) {
-  struct sched_param of = {0};
-  switch (syscall(SYS_sched_getscheduler, 0) & ~(long)SCHED_RESET_ON_FORK) {
-    case SCHED_IDLE: return -100;
-    case SCHED_FIFO:
-    case SCHED_RR: (void)syscall(SYS_sched_getparam, 0, &of); return 100 + of.sched_priority;
-    case SCHED_DEADLINE: return 1000;
-    default: return -getpriority(PRIO_PROCESS, 0);
-  }
-}
-
-/* ---- Time ---- */
+/* ---- Threads, and time ---- */
 
 int64_t now_ns(void) {
   struct timespec now;
@@ -73,41 +23,52 @@ int64_t now_ns(void) {
   return (int64_t)now.tv_sec * NS_OF_SECOND + now.tv_nsec;
 }
 
-int64_t timer_slack_ns(void) { return (unsigned)prctl(PR_GET_TIMERSLACK); }
+int can_sleep_shortly(void) { return 1; }
+
+void take_mutex(mutex *it) { (void)pthread_mutex_lock(it); }
+
+void give_mutex(mutex *it) { (void)pthread_mutex_unlock(it); }
+
+/* A thread that is cancelled would stay in the line. */
+void sleep_until(condition *it, mutex *with, int64_t ns) {
+  const struct timespec time = {.tv_sec = (time_t)(ns / NS_OF_SECOND), .tv_nsec = (long)(ns % NS_OF_SECOND)};
+  int before;
+  (void)pthread_setcancelstate(PTHREAD_CANCEL_DISABLE, &before);
+  if (ns == FOR_EVER) (void)pthread_cond_wait(it, with);
+  else (void)pthread_cond_timedwait(it, with, &time);
+  (void)pthread_setcancelstate(before, NULL);
+}
+
+void begin_condition(condition *it) {
+  pthread_condattr_t attributes;
+  (void)pthread_condattr_init(&attributes);
+  (void)pthread_condattr_setclock(&attributes, CLOCK_MONOTONIC);
+  (void)pthread_cond_init(it, &attributes);
+  (void)pthread_condattr_destroy(&attributes);
+}
+
+void wake(condition *it) { (void)pthread_cond_signal(it); }
+
+void end_condition(condition *it) { (void)pthread_cond_destroy(it); }
+
+void let_others_run(void) { (void)sched_yield(); }
 
 /* ---- Memory ---- */
 
-static void *map_anonymous(size_t size, int flags) {
-  void *mapping = mmap(NULL, size, PROT_READ | PROT_WRITE, MAP_ANONYMOUS | flags, -1, 0);
+void *map_zeros(size_t size) {
+  void *mapping = mmap(NULL, size, PROT_READ | PROT_WRITE, MAP_ANONYMOUS | MAP_PRIVATE, -1, 0);
   return mapping == MAP_FAILED ? NULL : mapping;
 }
 
-void *map_zeros(size_t size) { return map_anonymous(size, MAP_PRIVATE); }
-
-/* Whether advice is followed, or errno says why not. Some emulators accept all advice, and follow none. Others accept what Linux
- * doesn't know, and hand this advice to Linux, which refuses it for shared memory. */
-static int is_advice_followed(void) {
-  void *shared = map_anonymous(1, MAP_SHARED | MAP_NORESERVE);
-  int is_refused = shared != NULL && madvise(shared, 1, MADV_WIPEONFORK) != 0;
-  if (shared == NULL) return 0;
-  (void)munmap(shared, 1);
-  errno = EINVAL;
-  return is_refused;
-}
-
-void *map_zeros_in_child(size_t size) {
-  /* Before the mapping, for which there may be just enough memory. */
-  void *mapping = is_advice_followed() ? map_anonymous(size, MAP_PRIVATE | MAP_NORESERVE) : NULL;
-  if (mapping == NULL || madvise(mapping, size, MADV_WIPEONFORK) == 0) return mapping;
-  (void)munmap(mapping, size);
-  errno = EINVAL;
-  return NULL;
-}
+int unmap(void *at, size_t size) { return munmap(at, size) == 0; }
 
 /* Refused by Linux before 4.14. */
 void wipe_in_child(void *at, size_t size) { (void)madvise(at, size, MADV_WIPEONFORK); }
 
-int unmap(void *at, size_t size) { return munmap(at, size) == 0; }
+/* What is refused is left, so that a child has both a table and what says where it is, or neither. */
+void leave_out_of_child(void *at, size_t size) {
+  if (madvise(at, size, MADV_WIPEONFORK) == 0) (void)madvise(at, size, MADV_DONTFORK);
+}
 
 void ask_for_huge_pages(void *at, size_t size) {
 #ifdef MADV_HUGEPAGE
@@ -141,4 +102,56 @@ int draw_bytes(uint8_t *bytes, size_t len) {
     done += (size_t)drawn;
   }
   return 1;
+}
+
+#ifndef ROOT /* tests have another */
+#define ROOT ""
+#endif
+
+/* What a file of a control group allows, which may be "max" or, of version 1, -1; SIZE_MAX if it does not limit. A quota is
+ * rounded up to processors. */
+static size_t limit_of(const char *folder, const char *name, const char *period_name) {
+  char path[1024];
+  long number = 0, period = 0;
+  FILE *file;
+  if (snprintf(path, sizeof path, ROOT "/sys/fs/cgroup%s/%s", folder, name) >= (int)sizeof path) return SIZE_MAX;
+  file = fopen(path, "re");
+  if (file == NULL) return SIZE_MAX;
+  if (fscanf(file, "%ld %ld", &number, &period) < 1) number = 0;
+  (void)fclose(file);
+  if (number <= 0) return SIZE_MAX;
+  if (period_name != NULL) period = (long)limit_of(folder, period_name, NULL);
+  return period > 0 ? (size_t)((number - 1) / period + 1) : (size_t)number;
+}
+
+static size_t least(size_t one, size_t other) { return one < other ? one : other; }
+
+/* The least limit of the control group of this process, and of those around it: of version 2, whose path is in the line "0::PATH".
+ * In a container the path may be one of the host; then what is mounted is the group of the container. */
+static size_t least_of_groups(const char *name) {
+  char line[1024] = "", *path = line + 3, *slash;
+  size_t most = limit_of("", name, NULL);
+  FILE *file = fopen(ROOT "/proc/self/cgroup", "re");
+  while (file != NULL && fgets(line, sizeof line, file) != NULL && strncmp(line, "0::", 3) != 0) line[0] = '\0';
+  if (file != NULL) (void)fclose(file);
+  if (strncmp(line, "0::", 3) != 0) return most;
+  path[strcspn(path, "\n")] = '\0';
+  for (; (slash = strrchr(path, '/')) != NULL; *slash = '\0') most = least(most, limit_of(path, name, NULL));
+  return most;
+}
+
+size_t processors_of_process(void) {
+  size_t quota = least(least_of_groups("cpu.max"), limit_of("/cpu", "cpu.cfs_quota_us", "cpu.cfs_period_us")), count = 0;
+  cpu_set_t set;
+  if (sched_getaffinity(0, sizeof set, &set) == 0) count = (size_t)CPU_COUNT(&set);
+  else if (sysconf(_SC_NPROCESSORS_ONLN) > 0) count = (size_t)sysconf(_SC_NPROCESSORS_ONLN);
+  count = least(count, quota);
+  return count > 0 ? count : 1;
+}
+
+size_t memory_of_process(void) {
+  size_t most = least(least_of_groups("memory.max"), least_of_groups("memory.high"));
+  most = least(most, limit_of("/memory", "memory.limit_in_bytes", NULL));
+  if (sysconf(_SC_PHYS_PAGES) > 0) most = least(most, (size_t)sysconf(_SC_PHYS_PAGES) * (size_t)sysconf(_SC_PAGESIZE));
+  return most;
 }

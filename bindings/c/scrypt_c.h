@@ -21,8 +21,7 @@
  *   the version of the library                       scrypt_version                           no
  *
  * A call that is marked yes is a proved function, and a few lines of C that check for NULL and for N in place of log_n,
- * terminate the text, clear what the function leaves in memory, and call it again where a fork in the middle has lost that
- * memory. The others are written in C over them. All C is tested. Parameters are accepted if r > 0, p > 0,
+ * terminate the text, and clear what the function leaves in memory. The others are written in C over them. All C is tested. Parameters are accepted if r > 0, p > 0,
  * 128 * r * 2^log_n < 2^64 and r * p < 2^30. log_n is the logarithm of N: N in its place is refused from 64 on.
  *
  * Lengths are in bytes unless words are named; a word has 4 bytes. A password, a salt, a text or an output may be NULL with
@@ -81,8 +80,8 @@ extern "C" {
 #endif
 
 /* What the calls return. If several errors apply, it is the one that the call's comment names first. With any status but
- * SCRYPT_OK the outputs are unchanged, except for the salt of scrypt_draw_salt, what scrypt_hash_needs and
- * scrypt_params_need write, *place of a hasher's call, and zeros with SCRYPT_CANCELLED. */
+ * SCRYPT_OK the outputs are unchanged, except for the salt of scrypt_draw_salt, and what scrypt_hash_needs and
+ * scrypt_params_need write. */
 enum scrypt_status {
   SCRYPT_OK = 0,
   SCRYPT_MISMATCH = 1,            /* the password is wrong, or the hash has no salt or no key */
@@ -105,10 +104,8 @@ enum scrypt_status {
   SCRYPT_KEY_TOO_SHORT = 15,      /* the key in the text is shorter than the bounds allow */
   SCRYPT_NULL_POINTER = 16,       /* a pointer that may not be NULL is NULL */
   SCRYPT_CLOSED = 17,             /* the hasher is closed */
-  SCRYPT_TIMEOUT = 18,            /* a hasher did not begin with the call in its time, or before a signal */
-  SCRYPT_CANCELLED = 19,          /* this is a child that a signal handler forked during the call */
-  SCRYPT_UNSUPPORTED = 20,        /* Linux before 4.14, or an emulator: memory is not filled with zeros in a child */
-  SCRYPT_OPTIONS_SIZE = 21        /* the size in the options of a hasher is not sizeof (scrypt_options) */
+  SCRYPT_TIMEOUT = 18,            /* a hasher did not begin with the call in its time */
+  SCRYPT_OPTIONS_SIZE = 19        /* the size in the options of a hasher is not sizeof (scrypt_options) */
 };
 
 /* ---- Keys ---- */
@@ -306,15 +303,26 @@ SCRYPT_CHECKED
 int scrypt_limits_for_new(uint32_t log_n, uint32_t r, uint32_t p, size_t key_len, size_t *most_bytes, uint64_t *most_work,
                           size_t *least_key_len);
 
-/* ---- Hashers: password hashes for a service. Not proved: they use the calls above ---- */
-
-/* Makes and verifies password hashes for any number of threads, within bounds. At most one call for each processor derives
- * at a time; the others wait in line, first come, first served. Of the first 1000 that wait, up to four verifications with the
- * same log_n, r and p are derived at once, on some processors in less time than one after another: one in each table of a processor, and
- * at most its share of all calls. While all processors are taken, a derivation waits for others to join it, at most 1 ms. An
- * error of one affects no other. A hasher keeps its memory for later calls: at most at_once
- * tables of most_bytes, whatever p is. It maps them when they are needed. A call for which the system has no memory while
- * another one derives waits for it, at its place in the line. */
+/* ---- Hashers: password hashes for a service. Not proved: they use the calls above ----
+ *
+ * A hasher makes and verifies password hashes for any number of threads, within bounds. At most one call for each processor derives
+ * at a time; the others wait in line, first come, first served. Of the first 1000 that wait, up to four verifications with the same
+ * log_n, r and p are derived at once, on some processors in less time than one after another: one in each table of a processor, and at
+ * most its share of all calls. While all processors are taken, a derivation waits for others to join it, at most 1 ms. An error of one
+ * affects no other. A hasher keeps its memory for later calls: at most at_once tables of most_bytes, whatever p is. It maps them when
+ * they are needed.
+ *
+ * Threads: any number may call a hasher at once, but for scrypt_hasher_free, which comes after all other calls have returned.
+ * Signals: no call of a hasher is for a signal handler, as those of malloc and crypt are not; nor may a handler leave a call by longjmp,
+ *   or a child that it forks go back to one. A signal that is handled in a thread that waits or derives ends neither.
+ * Cancellation of threads: no call that waits or derives is a point of it.
+ * fork: the child has the hasher too, whatever other threads were doing with it: there nobody waits or derives, and it has no memory
+ *   of its parent. In the few systems that don't fill memory with zeros in a child (Linux before 4.14, some emulators), a child must
+ *   not use a hasher that was in use when it was forked.
+ * Others' threads: a verification may be derived by the thread of another one, which reads the password and the text; so these must not
+ *   be in memory that only one thread may read (protection keys), and a thread of low priority, or with handlers of signals that take
+ *   long, may keep others waiting.
+ * Memory: tables hold secrets until scrypt_hasher_close or the end of the process; they are wiped when they are given back. */
 typedef struct scrypt_hasher scrypt_hasher;
 
 /* Default bounds: on bytes, a little more than a table of 256 MiB; on work, four times that of the recommended parameters; and
@@ -342,53 +350,35 @@ typedef struct scrypt_options {
 /* Creates a hasher; if options is NULL, with the default of each. The caller frees it. If status is not NULL, writes the
  * status there, which is SCRYPT_OK unless the result is NULL. SCRYPT_OPTIONS_SIZE, SCRYPT_INVALID_PARAMS (also for key_len
  * and least_key_len), SCRYPT_SALT_INVALID for a salt_len above 64, SCRYPT_TOO_COSTLY if new hashes exceed the bounds,
- * SCRYPT_OUT_OF_MEMORY, SCRYPT_UNSUPPORTED. */
+ * SCRYPT_OUT_OF_MEMORY. */
 SCRYPT_CHECKED
 scrypt_hasher *scrypt_hasher_new(const scrypt_options *options, int *status);
 
 /* The options of a hasher, each default replaced by its value, until the hasher is freed; or NULL for NULL. */
 const scrypt_options *scrypt_hasher_options(const scrypt_hasher *hasher);
 
-/* Verifies a password against the text of a hash, like scrypt_verify, within the bounds of the hasher. Any thread may call
- * this and the next two calls, and a signal handler, except that of SIGSYS, which may answer the system calls of a hasher.
- * They wait for a processor of the hasher for at most most_ms milliseconds, without a bound if that is negative, and then
- * return SCRYPT_TIMEOUT; time that a derivation takes does not count. A verification is derived by its own thread, or by the
- * thread of another verification if that has the same or a higher priority: one of lower priority (niceness, SCHED_IDLE) might be
- * kept from running for long. It would still hold its processor of the hasher while it derives, so give all threads of a hasher
- * the same priority. The thread that derives reads the password and the text, which therefore must not be in memory that only one
- * thread may read (protection keys).
- * While a thread derives for others too, its signals are blocked, except those of faults, so that nobody waits for a signal
- * handler.
- * If place is not NULL, a signal that the thread handles while it sleeps ends the wait too, also one that the C library sends
- * itself, as when another thread calls setresuid. A signal that is handled just before the thread sleeps does not: who waits
- * for signals needs a small most_ms. *place, which is 0 at first, is the place in the line with SCRYPT_TIMEOUT, and otherwise
- * 0. The same call with the same *place waits there again, so that a caller can look meanwhile whether it still wants the
- * answer; one that doesn't just makes no further call. Between the calls nobody begins with it. A place is not checked: a
- * later call with an old one goes before all that came since.
- * fork: in a child nobody waits or derives, and a hasher works as in its parent. A call during which a signal handler forked
- * returns SCRYPT_CANCELLED in the child, where what it would have written is zeros; or, if it was just returning, what it
- * returns in the parent.
- * A handler must not leave a call by siglongjmp, which would lose a processor for ever. If it waits without a bound while its
- * own thread waits or derives in a call, it may wait for ever, because that call has the processor or gets it first.
- * SCRYPT_NULL_POINTER; the errors of scrypt_hash_needs, without waiting; SCRYPT_CLOSED, SCRYPT_TIMEOUT, SCRYPT_CANCELLED,
- * SCRYPT_OUT_OF_MEMORY, and last SCRYPT_MISMATCH if the password is wrong. */
+/* Verifies a password against the text of a hash, like scrypt_verify, within the bounds of the hasher. This and the next two calls
+ * wait for a processor of the hasher for at most most_ms milliseconds, without a bound if that is negative, and then return
+ * SCRYPT_TIMEOUT; time that a derivation takes does not count.
+ * SCRYPT_NULL_POINTER; the errors of scrypt_hash_needs, without waiting; SCRYPT_CLOSED, SCRYPT_TIMEOUT, SCRYPT_OUT_OF_MEMORY, and last
+ * SCRYPT_MISMATCH if the password is wrong. */
 SCRYPT_CHECKED
 int scrypt_hasher_verify(scrypt_hasher *hasher, const void *password, size_t password_len, const char *text,
-                         size_t text_len, int64_t most_ms, uint64_t *place);
+                         size_t text_len, int64_t most_ms);
 
 /* Writes the text of a new hash, NUL-terminated. A salt that is NULL, with length 0, is random and has salt_len bytes. The
  * capacity is at least SCRYPT_PHC_CAPACITY, or SCRYPT_MCF_CAPACITY of the salt's length for a $7$ text.
  * SCRYPT_NULL_POINTER, SCRYPT_SALT_INVALID if the salt of a PHC text does not have 1 to 64 bytes, SCRYPT_BUFFER_SIZE,
- * SCRYPT_NO_RANDOM_BYTES, SCRYPT_CLOSED, SCRYPT_TIMEOUT, SCRYPT_CANCELLED, SCRYPT_OUT_OF_MEMORY. */
+ * SCRYPT_NO_RANDOM_BYTES, SCRYPT_CLOSED, SCRYPT_TIMEOUT, SCRYPT_OUT_OF_MEMORY. */
 SCRYPT_CHECKED
 int scrypt_hasher_hash(scrypt_hasher *hasher, const void *password, size_t password_len, const void *salt,
-                       size_t salt_len, char *text, size_t capacity, int64_t most_ms, uint64_t *place);
+                       size_t salt_len, char *text, size_t capacity, int64_t most_ms);
 
 /* Writes the scrypt key of password and salt with the parameters of new hashes, key_len bytes long.
- * SCRYPT_NULL_POINTER, SCRYPT_INVALID_OUTPUT_LEN, SCRYPT_CLOSED, SCRYPT_TIMEOUT, SCRYPT_CANCELLED, SCRYPT_OUT_OF_MEMORY. */
+ * SCRYPT_NULL_POINTER, SCRYPT_INVALID_OUTPUT_LEN, SCRYPT_CLOSED, SCRYPT_TIMEOUT, SCRYPT_OUT_OF_MEMORY. */
 SCRYPT_CHECKED
 int scrypt_hasher_key(scrypt_hasher *hasher, const void *password, size_t password_len, const void *salt,
-                      size_t salt_len, uint8_t *key, size_t key_len, int64_t most_ms, uint64_t *place);
+                      size_t salt_len, uint8_t *key, size_t key_len, int64_t most_ms);
 
 /* Compares a hash with the parameters of new hashes, like scrypt_needs_rehash, also after scrypt_hasher_close.
  * SCRYPT_NULL_POINTER, then the statuses of scrypt_needs_rehash. */
@@ -399,25 +389,24 @@ int scrypt_hasher_needs_rehash(const scrypt_hasher *hasher, const char *text, si
 typedef struct scrypt_stats {
   size_t waiting;   /* calls in the line */
   size_t deriving;  /* calls that derive, each one of a group too */
-  uint64_t refused; /* how many calls returned SCRYPT_OUT_OF_MEMORY, or without a place SCRYPT_TIMEOUT, until now */
+  uint64_t refused; /* how many calls returned SCRYPT_OUT_OF_MEMORY or SCRYPT_TIMEOUT until now */
 } scrypt_stats;
 
-/* Writes it. A signal handler may call this. SCRYPT_NULL_POINTER. */
+/* Writes it. SCRYPT_NULL_POINTER. */
 SCRYPT_CHECKED
 int scrypt_hasher_stats(scrypt_hasher *hasher, scrypt_stats *stats);
 
 /* Calls that wait, and later ones, return SCRYPT_CLOSED; those that derive go on. The memory is wiped and given back. Does
- * nothing for NULL. A signal handler may call this. */
+ * nothing for NULL. */
 void scrypt_hasher_close(scrypt_hasher *hasher);
 
-/* Closes a hasher, waits for the calls that have begun, and frees it. No call may begin meanwhile. Does nothing for NULL. Not
- * in a signal handler. */
+/* Closes a hasher, and frees it. All other calls have returned, and none follows. Does nothing for NULL. */
 void scrypt_hasher_free(scrypt_hasher *hasher);
 
 /* Finds parameters by measuring how long a hasher takes on this machine, now: the greatest log_n whose table has at most
  * most_bytes bytes, and then the greatest p, with which one derivation in one table takes at most so many seconds; r is 8. It
  * takes some four times as long. SCRYPT_NULL_POINTER, SCRYPT_TOO_COSTLY if even log_n = 10 with p = 1 takes longer, or needs
- * more; SCRYPT_OUT_OF_MEMORY, SCRYPT_UNSUPPORTED. */
+ * more; SCRYPT_OUT_OF_MEMORY. */
 SCRYPT_CHECKED
 int scrypt_calibrate(double seconds, size_t most_bytes, uint32_t *log_n, uint32_t *r, uint32_t *p);
 
@@ -459,9 +448,6 @@ SCRYPT_HELPER const char *scrypt_status_text(int status) {
     case SCRYPT_NULL_POINTER: return "a pointer that may not be NULL is NULL";
     case SCRYPT_CLOSED: return "the hasher is closed";
     case SCRYPT_TIMEOUT: return "the hasher did not begin with it in time";
-    case SCRYPT_CANCELLED: return "the process was forked meanwhile";
-    case SCRYPT_UNSUPPORTED:
-      return "the system does not fill memory with zeros in a child process (Linux before 4.14, or an emulator such as qemu-user)";
     case SCRYPT_OPTIONS_SIZE: return "the size in the options of a hasher is not sizeof (scrypt_options)";
     default: return "unknown status";
   }

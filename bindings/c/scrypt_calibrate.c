@@ -31,7 +31,7 @@ static void warn_if_busy(uint32_t log_n, uint32_t r) {
   for (i = 0; i < 3 && hasher != NULL; i++) {
     uint8_t key[SCRYPT_KEY_LEN];
     double begun = now(), taken;
-    if (scrypt_hasher_key(hasher, "", 0, "", 0, key, sizeof key, -1, NULL) != SCRYPT_OK) break;
+    if (scrypt_hasher_key(hasher, "", 0, "", 0, key, sizeof key, -1) != SCRYPT_OK) break;
     taken = now() - begun;
     if (i == 1 || (i > 1 && taken < least)) least = taken;
     if (i > 0 && taken > greatest) greatest = taken;

@@ -1,6 +1,5 @@
-/* What the library asks of the system: linux.c and linux_processors.c answer for Linux, and windows.c for Windows. All else here
- * names no system, except for these types, and for the assembly of clearing.c and registers.c. Whoever includes this defines
- * _GNU_SOURCE. Windows has no signals and no forks: there is none then in what is said of these. */
+/* What the library asks of the system: linux.c answers for Linux, and windows.c for Windows. All else here names no system, except
+ * for these types, and for the assembly of clearing.c and registers.c. Whoever includes this defines _GNU_SOURCE. */
 #ifndef SYSTEM_H
 #define SYSTEM_H
 
@@ -8,56 +7,38 @@
 #include <stdint.h>
 
 #ifdef _WIN32
-typedef uint32_t mutex;
-typedef struct {
-  char none;
-} signals;
+#define WIN32_LEAN_AND_MEAN
+#include <windows.h>
+typedef SRWLOCK mutex;
+typedef CONDITION_VARIABLE condition;
 #else
 #include <pthread.h>
-#include <signal.h>
 typedef pthread_mutex_t mutex; /* PTHREAD_MUTEX_INITIALIZER is zeros in the C libraries of Linux */
-typedef sigset_t signals;
+typedef pthread_cond_t condition;
 #endif
 
-/* ---- Threads ---- */
+/* ---- Threads, and time ---- */
 
-/* Zeros are the beginning. After give_mutex has let another thread have it, nothing of the mutex is read: that thread may free it. */
-void take_mutex(mutex *it);
-void give_mutex(mutex *it);
-
-/* Blocks all signals in this thread, except that by which a sandbox answers system calls. Writes what was blocked before. */
-void block_signals(signals *before);
-void restore_signals(const signals *before);
-
-/* Adds all signals, except those that a fault of the thread itself causes. */
-void add_all_but_faults(signals *blocked);
-
-/* Sleeps while the word is this one, until it is woken or a signal comes, for at most so many nanoseconds; or wakes for no reason.
- * Returns whether a signal came. */
-int sleep_on(uint32_t *word, uint32_t is, int64_t ns);
-
-/* Wakes one thread that sleeps on the word, which isn't read. */
-void wake(uint32_t *word);
-
-/* Lets threads run that are ready. */
-void let_others_run(void);
-
-/* Another number for each thread, and never 0. */
-uintptr_t this_thread(void);
-
-/* Whether its process began with this thread: in a child of a fork, the one that forked. */
-int is_first_thread(void);
-
-/* The priority of this thread: the greater, the sooner the system runs it. */
-int priority_of_thread(void);
-
-/* ---- Time ---- */
+#define FOR_EVER INT64_MAX
 
 /* By a clock that nobody sets. */
 int64_t now_ns(void);
 
-/* How late a sleep of this thread may end. */
-int64_t timer_slack_ns(void);
+/* Whether a sleep ends less than a millisecond late. */
+int can_sleep_shortly(void);
+
+/* Zeros are the beginning of a mutex. */
+void take_mutex(mutex *it);
+void give_mutex(mutex *it);
+
+/* Gives the mutex back until it is woken, or until so many nanoseconds of the clock, or for no reason. No point of cancellation. */
+void sleep_until(condition *it, mutex *with, int64_t ns);
+void begin_condition(condition *it);
+void wake(condition *it); /* one thread */
+void end_condition(condition *it);
+
+/* Lets threads run that are ready. */
+void let_others_run(void);
 
 /* ---- Memory ---- */
 
@@ -73,15 +54,12 @@ int64_t timer_slack_ns(void);
 /* Memory that is zeros, or NULL. */
 void *map_zeros(size_t size);
 
-/* Memory that is zeros, also in a child that is forked later, whatever was written; or NULL, with EINVAL if the system cannot
- * do that. */
-void *map_zeros_in_child(size_t size);
-
-/* Lets a child find zeros there, if the system can do that. */
-void wipe_in_child(void *at, size_t size);
-
 /* Gives back all that was mapped. Returns 0 if the system refuses to take it. */
 int unmap(void *at, size_t size);
+
+/* Lets a child find zeros there, or nothing at all, if the system can let it find zeros; otherwise it finds a copy. */
+void wipe_in_child(void *at, size_t size);
+void leave_out_of_child(void *at, size_t size);
 
 /* May be refused. */
 void ask_for_huge_pages(void *at, size_t size);

@@ -74,20 +74,14 @@ if [ -z "$emulator" ]; then
   grep -qE '^this machine is busy: the same derivation took [0-9.e+]+ and [0-9.e+]+ seconds$' "$room/log"
 fi
 echo "scrypt_calibrate prints parameters, warns if the machine is busy, and refuses other words"
-# What the system does with advice, for a program with its own madvise.
 compiled() {
   program=$1
   shift
   $CC -std=gnu99 -O2 -Wall -Wextra -Werror -I"$lib" -o "$room/$program" "$@" -lpthread
 }
-if [ -z "$emulator" ]; then
-  compiled test_advice bindings/c/test_advice.c "$lib/libscrypt_c.a"
-  "$room/test_advice"
-  echo "a hasher only if the system fills its memory with zeros in a child"
-fi
 compiled test_system -DROOT="\"$room/root\"" bindings/c/test_system.c
 $emulator "$room/test_system"
-echo "what the library asks of the system: threads, sleep, signals, time, memory, and limits on processors and memory"
+echo "what the library asks of the system: threads, sleep, time, memory, and limits on processors and memory"
 # Our own C for the kit's, which passes the same test on x86-64.
 kit_tests() {
   compiled test_kit bindings/c/test_kit.c "$@"
@@ -117,12 +111,6 @@ derives_once() {
   echo "one key is derived by each call that returns one, by the number of its instructions: $2"
 }
 if [ -z "$emulator" ] && has valgrind valgrind; then each "$built" derives_once; fi
-# The hasher's queue in every order of its threads, which are coroutines there: not with a checker. It takes 11 seconds.
-if [ -z "$emulator" ]; then
-  $CC -std=gnu99 -O2 -Wall -Wextra -Werror -Wno-missing-field-initializers bindings/c/orders/test_orders.c -o "$room/orders"
-  "$room/orders" > "$room/log"
-  tail -n 1 "$room/log"
-fi
 if [ "${1:-}" = short ]; then exit; fi
 
 # The tests that need no checker, and the hasher. Not test_salt: the emulator refuses no system calls.
@@ -262,9 +250,6 @@ if has gcc gcc; then
   gcc -O2 -Wall -Wextra -Wl,-z,now -I"$lib" bindings/c/test_out_of_memory.c -o "$room/out_of_memory" "$lib/libscrypt_c.a"
   "$room/out_of_memory"
   echo "a table that is refused: little memory is touched before"
-  gcc -std=gnu99 -O2 -Wall -Wextra -Werror -I"$lib" bindings/c/test_sandbox.c -o "$room/sandbox" "$lib/libscrypt_c.a" -lpthread
-  "$room/sandbox"
-  echo "a hasher in a sandbox that answers system calls in a signal handler"
 fi
 if has gcc gcc && has valgrind valgrind; then each "$built" with_memcheck; fi
 
@@ -284,7 +269,7 @@ if has gcc gcc; then
   hasher_test -O1 -fsanitize=address,undefined -fno-sanitize-recover=all
   if has valgrind valgrind; then
     checker="valgrind -q --error-exitcode=1"
-    hasher_test -O1
+    hasher_test -O1 -DMOST_FORKS=0
   fi
 fi
 

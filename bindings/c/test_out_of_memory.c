@@ -32,9 +32,9 @@ static int mcf(void) { return scrypt_hash_mcf(SECRETS, PARAMS, 32, text, sizeof 
 static int verify_phc(void) { return scrypt_verify("pw", 2, OF(PHC)); }
 static int verify_mcf(void) { return scrypt_verify("pw", 2, OF(MCF)); }
 static int verify_within(void) { return scrypt_verify_within("pw", 2, OF(PHC_IN_BOUNDS), SIZE_MAX, UINT64_MAX, 16); }
-static int hasher_key(void) { return scrypt_hasher_key(hasher, SECRETS, key, 32, -1, NULL); }
-static int hasher_hash(void) { return scrypt_hasher_hash(hasher, SECRETS, text, sizeof text, -1, NULL); }
-static int hasher_verify(void) { return scrypt_hasher_verify(hasher, "pw", 2, OF(PHC_IN_BOUNDS), -1, NULL); }
+static int hasher_key(void) { return scrypt_hasher_key(hasher, SECRETS, key, 32, -1); }
+static int hasher_hash(void) { return scrypt_hasher_hash(hasher, SECRETS, text, sizeof text, -1); }
+static int hasher_verify(void) { return scrypt_hasher_verify(hasher, "pw", 2, OF(PHC_IN_BOUNDS), -1); }
 static int hash_new(void) { return scrypt_hash_new("pw", 2, text, sizeof text); }
 
 static const struct {

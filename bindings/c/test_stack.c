@@ -108,7 +108,7 @@ static void draw_text(const char *text, size_t len) {
   while (changes-- > 0) drawn[draw(drawn_len)] = BYTES[draw(sizeof BYTES - 1)];
 }
 
-static int verify_drawn(void) { return scrypt_hasher_verify(given.hasher, PASSWORD, drawn, drawn_len, -1, NULL); }
+static int verify_drawn(void) { return scrypt_hasher_verify(given.hasher, PASSWORD, drawn, drawn_len, -1); }
 static int rehash_drawn(void) { return scrypt_needs_rehash(drawn, drawn_len, 1, 1, 1, 32); }
 
 static void drawn_texts(void) {

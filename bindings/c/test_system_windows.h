@@ -3,17 +3,6 @@
 
 static void while_mapped(void) {}
 
-static void priorities(void) {
-  static const int LEVELS[] = {THREAD_PRIORITY_IDLE, THREAD_PRIORITY_LOWEST, THREAD_PRIORITY_BELOW_NORMAL, THREAD_PRIORITY_NORMAL};
-  size_t i;
-  int before = 0;
-  for (i = 0; i < sizeof LEVELS / sizeof *LEVELS; i++) {
-    check(SetThreadPriority(GetCurrentThread(), LEVELS[i]) != 0, "set");
-    check(i == 0 || priority_of_thread() > before, "a higher priority");
-    before = priority_of_thread();
-  }
-}
-
 static void affinity(void) {
   DWORD_PTR before, all, one;
   if (!GetProcessAffinityMask(GetCurrentProcess(), &before, &all)) return;
@@ -53,7 +42,6 @@ static void memory_of_a_job(void) {
 
 static void of_this_system(void) {
   MEMORYSTATUSEX status = {.dwLength = sizeof status};
-  priorities();
   affinity();
   check(GlobalMemoryStatusEx(&status) && memory_of_process() <= status.ullTotalPhys && memory_of_process() > 0, "the memory there is");
   processors_of_a_job();

@@ -16,7 +16,7 @@ awk '/^scrypt_/ { print $1 }' bindings/c/abi | sort > "$room/wanted"
 "${tools}objdump" -p "$lib/scrypt_c.dll" > "$room/headers"
 sed -n '/Name Pointer. Table/,/^$/ s/^[[:space:]]*\[ *[0-9]*\] //p' "$room/headers" | sort | diff "$room/wanted" -
 "${tools}nm" -g --defined-only "$lib/libscrypt_c.a" | awk 'NF == 3 && $3 !~ /^scrypt_c__/ { print $3 }' | sort | diff "$room/wanted" -
-printf '%s\n' advapi32.dll api-ms-win-core-synch-l1-2-0.dll bcrypt.dll kernel32.dll msvcrt.dll > "$room/wanted"
+printf '%s\n' advapi32.dll bcrypt.dll kernel32.dll msvcrt.dll > "$room/wanted"
 sed -n 's/.*DLL Name: //p' "$room/headers" | tr '[:upper:]' '[:lower:]' | sort | diff "$room/wanted" -
 for word in HIGH_ENTROPY_VA DYNAMIC_BASE NX_COMPAT; do grep -q $word "$room/headers"; done
 echo "exported: the calls of the list alone; needed: libraries that each Windows has; mapped anywhere, and no data is run"
@@ -34,7 +34,7 @@ compiled() {
   program=$1
   shift
   $CC -std=gnu99 -O2 -Wall -Wextra -Werror -D_WIN32_WINNT=0x0602 -D__USE_MINGW_ANSI_STDIO=1 -o "$program" "$@" -static -lbcrypt \
-    -lsynchronization -lpthread -lpsapi
+    -lpthread -lpsapi
 }
 # calls LIBRARY PROCESSOR FOLDER.. tests a library whose DLL is in the last folder.
 calls() {

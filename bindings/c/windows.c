@@ -1,55 +1,12 @@
-/* What system.h declares, on Windows 8 and later, which has no forks and no signals: not proved. */
+/* What system.h declares, on Windows 8 and later, which has no forks: not proved. */
 #include "system.h"
 
-#define WIN32_LEAN_AND_MEAN
-#include <windows.h>
-
 #include <bcrypt.h>
-#include <errno.h>
 
 #define NS_OF_SECOND INT64_C(1000000000)
 #define NS_OF_MILLISECOND INT64_C(1000000)
 
-/* ---- Threads ---- */
-
-/* Not an SRWLOCK: when that has let another thread have it, it may still be read. */
-enum { FREE_MUTEX, TAKEN_MUTEX, WANTED_MUTEX };
-
-void take_mutex(mutex *it) {
-  uint32_t is = FREE_MUTEX, wanted = WANTED_MUTEX;
-  if (__atomic_compare_exchange_n(it, &is, TAKEN_MUTEX, 0, __ATOMIC_ACQUIRE, __ATOMIC_RELAXED)) return;
-  while (__atomic_exchange_n(it, WANTED_MUTEX, __ATOMIC_ACQUIRE) != FREE_MUTEX)
-    (void)WaitOnAddress(it, &wanted, sizeof wanted, INFINITE);
-}
-
-void give_mutex(mutex *it) {
-  if (__atomic_exchange_n(it, FREE_MUTEX, __ATOMIC_RELEASE) == WANTED_MUTEX) WakeByAddressSingle(it);
-}
-
-void block_signals(signals *before) { before->none = 0; }
-
-void restore_signals(const signals *before) { (void)before; }
-
-void add_all_but_faults(signals *blocked) { (void)blocked; }
-
-/* In whole milliseconds, of which there is one at least: with none a thread would spin. */
-int sleep_on(uint32_t *word, uint32_t is, int64_t ns) {
-  (void)WaitOnAddress(word, &is, sizeof is, (DWORD)((ns + NS_OF_MILLISECOND - 1) / NS_OF_MILLISECOND));
-  return 0;
-}
-
-void wake(uint32_t *word) { WakeByAddressSingle(word); }
-
-void let_others_run(void) { (void)SwitchToThread(); }
-
-uintptr_t this_thread(void) { return GetCurrentThreadId(); }
-
-/* There is no child. */
-int is_first_thread(void) { return 0; }
-
-int priority_of_thread(void) { return GetThreadPriority(GetCurrentThread()); }
-
-/* ---- Time ---- */
+/* ---- Threads, and time ---- */
 
 int64_t now_ns(void) {
   LARGE_INTEGER now, each_second;
@@ -59,22 +16,36 @@ int64_t now_ns(void) {
 }
 
 /* A sleep ends with a tick of the system, of which there are 64 in a second unless the process asks for more. */
-int64_t timer_slack_ns(void) { return NS_OF_SECOND / 64; }
+int can_sleep_shortly(void) { return 0; }
+
+void take_mutex(mutex *it) { AcquireSRWLockExclusive(it); }
+
+void give_mutex(mutex *it) { ReleaseSRWLockExclusive(it); }
+
+/* For a day at most, in whole milliseconds, of which there is one at least: with none a thread would spin. */
+void sleep_until(condition *it, mutex *with, int64_t ns) {
+  int64_t ms = ns == FOR_EVER ? 86400000 : (ns - now_ns()) / NS_OF_MILLISECOND + 1;
+  (void)SleepConditionVariableSRW(it, with, (DWORD)(ms < 1 ? 1 : ms > 86400000 ? 86400000 : ms), 0);
+}
+
+void begin_condition(condition *it) { InitializeConditionVariable(it); }
+
+void wake(condition *it) { WakeConditionVariable(it); }
+
+void end_condition(condition *it) { (void)it; }
+
+void let_others_run(void) { (void)SwitchToThread(); }
 
 /* ---- Memory ---- */
 
 /* The system promises all of it now, so that no write finds too little; each page is taken when it is first used. */
-void *map_zeros(size_t size) {
-  void *at = VirtualAlloc(NULL, size, MEM_RESERVE | MEM_COMMIT, PAGE_READWRITE);
-  if (at == NULL) errno = ENOMEM;
-  return at;
-}
+void *map_zeros(size_t size) { return VirtualAlloc(NULL, size, MEM_RESERVE | MEM_COMMIT, PAGE_READWRITE); }
 
-void *map_zeros_in_child(size_t size) { return map_zeros(size); }
+int unmap(void *at, size_t size) { return (void)size, VirtualFree(at, 0, MEM_RELEASE) != 0; }
 
 void wipe_in_child(void *at, size_t size) { (void)at, (void)size; }
 
-int unmap(void *at, size_t size) { return (void)size, VirtualFree(at, 0, MEM_RELEASE) != 0; }
+void leave_out_of_child(void *at, size_t size) { (void)at, (void)size; }
 
 /* Large pages are for those alone who may lock memory, and are locked themselves. */
 void ask_for_huge_pages(void *at, size_t size) { (void)at, (void)size; }

@@ -32,8 +32,7 @@ static int overlap(const uint8_t *a, size_t a_len, const uint8_t *b, size_t b_le
 }
 
 /* The memory of a call: one table, as the libraries of these names have, and not more that might not be there. What its thread
- * keeps, or, for p of 2 or more, of this call; with p of 1 the calls of this library have one table themselves. A derivation
- * in it is made again if it is lost. */
+ * keeps, or, for p of 2 or more, of this call; with p of 1 the calls of this library have one table themselves. */
 struct memory {
   struct arena *arena, of_call; /* NULL if there is none */
 };
@@ -49,12 +48,12 @@ static struct buffers room(struct memory *it, uint32_t log_n, uint32_t r, uint32
   struct buffers none = {NULL, NULL, NULL, 0, 0, 0};
   scrypt_needs needs;
   if (it->arena == NULL || scrypt_params_need(log_n, r, p, SIZE_MAX, UINT64_MAX, &needs) != SCRYPT_OK) return none;
-  return arena_room(it->arena, &needs, 1) > 0 ? arena_buffers(it->arena, &needs, 1, 1) : none;
+  return arena_room(it->arena, &needs, 1, 1) > 0 ? arena_buffers(it->arena, &needs, 1, 1) : none;
 }
 
 static int end(struct memory *it, int status) {
   if (it->arena != NULL && it->arena != &it->of_call) kept_give(it->arena);
-  arena_unmap(&it->of_call);
+  arena_free(&it->of_call);
   return status;
 }
 
@@ -62,13 +61,11 @@ static int derive_in_memory(const uint8_t *password, size_t password_len, const 
                             uint8_t log_n, uint32_t r, uint32_t p, uint8_t *output, size_t output_len) {
   struct memory it;
   int status;
+  struct buffers of;
   begin(&it, p);
-  do {
-    struct buffers of = room(&it, log_n, r, p);
-    if (of.table_len == 0)
-      return end(&it, scrypt_key(password, password_len, salt, salt_len, log_n, r, p, output, output_len));
-    status = key_in_buffers(password, password_len, salt, salt_len, log_n, r, p, output, output_len, &of);
-  } while (arena_is_lost(it.arena));
+  of = room(&it, log_n, r, p);
+  if (of.table_len == 0) status = scrypt_key(password, password_len, salt, salt_len, log_n, r, p, output, output_len);
+  else status = key_in_buffers(password, password_len, salt, salt_len, log_n, r, p, output, output_len, &of);
   return end(&it, status);
 }
 
@@ -179,14 +176,14 @@ static int hash_in_memory(const char *password, size_t password_len, const uint8
                           uint32_t r, uint32_t p, char text[TEXT_LEN + 1]) {
   struct memory it;
   int status;
+  struct buffers of;
   begin(&it, p);
-  do {
-    struct buffers of = room(&it, log_n, r, p);
-    if (of.table_len == 0)
-      return end(&it, scrypt_hash_mcf(password, password_len, salt, SALT_LEN, log_n, r, p, KEY_LEN, text, TEXT_LEN + 1));
+  of = room(&it, log_n, r, p);
+  if (of.table_len == 0)
+    status = scrypt_hash_mcf(password, password_len, salt, SALT_LEN, log_n, r, p, KEY_LEN, text, TEXT_LEN + 1);
+  else
     status = scrypt_hash_mcf_with_buffers(password, password_len, salt, SALT_LEN, log_n, r, p, KEY_LEN, text, TEXT_LEN + 1,
                                           of.chunks, of.chunks_len, of.table, of.table_len, of.scratch, of.scratch_len);
-  } while (arena_is_lost(it.arena));
   return end(&it, status);
 }
 
@@ -212,13 +209,13 @@ static int verify_in_memory(const char *password, size_t password_len, const cha
   size_t key_len;
   struct memory it;
   int status = scrypt_hash_params(text, TEXT_LEN, &log_n, &r, &p, &key_len);
+  struct buffers of;
   begin(&it, p);
-  do {
-    struct buffers of = room(&it, log_n, r, p);
-    if (of.table_len == 0) return end(&it, scrypt_verify(password, password_len, text, TEXT_LEN));
-    status = scrypt_verify_with_buffers(password, password_len, text, TEXT_LEN, of.chunks, of.chunks_len, of.table,
-                                        of.table_len, of.scratch, of.scratch_len);
-  } while (arena_is_lost(it.arena));
+  of = room(&it, log_n, r, p);
+  if (of.table_len == 0) status = scrypt_verify(password, password_len, text, TEXT_LEN);
+  else
+    status = scrypt_verify_with_buffers(password, password_len, text, TEXT_LEN, of.chunks, of.chunks_len, of.table, of.table_len,
+                                        of.scratch, of.scratch_len);
   return end(&it, status);
 }
 

@@ -25,7 +25,6 @@ const (
 	ErrNoRandomBytes     Error = C.SCRYPT_NO_RANDOM_BYTES     // the system has no random bytes for a salt
 	ErrKeyTooShort       Error = C.SCRYPT_KEY_TOO_SHORT       // the key in the hash is shorter than is allowed
 	ErrClosed            Error = C.SCRYPT_CLOSED              // the Hasher is closed, or was not made by NewHasher
-	ErrUnsupported       Error = C.SCRYPT_UNSUPPORTED         // there is no Hasher: Linux before 4.14, or an emulator
 )
 
 // Error returns the error in words.

@@ -8,14 +8,14 @@ import (
 	"fmt"
 	"runtime"
 	"sync/atomic"
+	"time"
 	"unsafe"
 )
 
-// sliceMs is how long a call waits in C before it looks at its context: milliseconds.
-const sliceMs = 50
-
 // mostInside is how many goroutines may wait in C, whatever the options are: Go ends a program that has 10,000 threads.
 const mostInside = 4096
+
+type milliseconds = C.int64_t // which tests can't name by C
 
 // Options are the options of a Hasher. For an option that is zero, and for each zero field of Params, the default is used
 // that its comment names.
@@ -42,9 +42,8 @@ type Options struct {
 // wait, verifications with the same LogN, R and P are derived together if there are tables for them, which on some
 // processors takes less time than one after another. No error or context of one affects another.
 //
-// A Hasher holds at most AtOnce tables, whatever P is, and keeps their memory for later calls until Close. A call for which
-// the system has no memory while another one derives waits for it. Create one with
-// NewHasher: on the zero value every method but Close returns ErrClosed.
+// A Hasher holds at most AtOnce tables, whatever P is, and keeps their memory for later calls until Close. Create one
+// with NewHasher: on the zero value every method but Close returns ErrClosed.
 type Hasher struct {
 	of *hasher
 }
@@ -58,7 +57,7 @@ type hasher struct {
 }
 
 // NewHasher returns a Hasher. Its errors name the options, and match (errors.Is) ErrInvalidParams, ErrSaltInvalid,
-// ErrInvalidOption, ErrTooCostly if new hashes need more than the bounds, or ErrOutOfMemory. ErrUnsupported names none.
+// ErrInvalidOption, ErrTooCostly if new hashes need more than the bounds, or ErrOutOfMemory.
 func NewHasher(options Options) (*Hasher, error) {
 	usual := Recommended()
 	options.LogN = orUsual(options.LogN, usual.LogN)
@@ -83,7 +82,7 @@ func NewHasher(options Options) (*Hasher, error) {
 	var status C.int
 	of := &hasher{c: C.scrypt_hasher_new(&with, &status)}
 	if of.c == nil {
-		return nil, refused(Error(status), options)
+		return nil, fmt.Errorf("%w: %v: %+v", Error(status), options.Params.needs(), options)
 	}
 	// For each that derives up to four are derived together, and as many wait in C, where the next group forms.
 	derive := C.scrypt_hasher_options(of.c).processors
@@ -96,14 +95,6 @@ func NewHasher(options Options) (*Hasher, error) {
 	of.inside = make(chan struct{}, 8*derive)
 	runtime.SetFinalizer(of, func(of *hasher) { C.scrypt_hasher_free(of.c) })
 	return &Hasher{of}, nil
-}
-
-// refused returns the error of a Hasher that was not made: with its options, unless no others would help.
-func refused(status Error, options Options) error {
-	if status == ErrUnsupported {
-		return status
-	}
-	return fmt.Errorf("%w: %v: %+v", status, options.Params.needs(), options)
 }
 
 // Options returns the options of the Hasher, each default replaced by its value; those of the zero value are zero.
@@ -165,9 +156,8 @@ func (h *Hasher) HashWithSalt(ctx context.Context, password, salt []byte) (strin
 // hash draws a salt if the pointer is NULL.
 func (h *Hasher) hash(ctx context.Context, password []byte, salt unsafe.Pointer, saltLen C.size_t) (string, error) {
 	text := make([]byte, C.text_capacity(saltLen))
-	err := h.run(ctx, func(ms int64, place *uint64) Error {
-		return Error(C.scrypt_hasher_hash(h.of.c, pointer(password), size(password), salt, saltLen, chars(text), size(text),
-			C.int64_t(ms), (*C.uint64_t)(place)))
+	err := h.run(ctx, func(ms milliseconds) Error {
+		return Error(C.scrypt_hasher_hash(h.of.c, pointer(password), size(password), salt, saltLen, chars(text), size(text), ms))
 	})
 	if err != nil {
 		return "", err
@@ -180,9 +170,9 @@ func (h *Hasher) hash(ctx context.Context, password []byte, salt unsafe.Pointer,
 func (h *Hasher) Key(ctx context.Context, password, salt []byte, keyLen int) ([]byte, error) {
 	key, err := newKey(keyLen)
 	if err == nil {
-		err = h.run(ctx, func(ms int64, place *uint64) Error {
+		err = h.run(ctx, func(ms milliseconds) Error {
 			return Error(C.scrypt_hasher_key(h.of.c, pointer(password), size(password), pointer(salt), size(salt), bytes(key),
-				size(key), C.int64_t(ms), (*C.uint64_t)(place)))
+				size(key), ms))
 		})
 	}
 	if err != nil {
@@ -196,20 +186,23 @@ func (h *Hasher) Key(ctx context.Context, password, salt []byte, keyLen int) ([]
 // ErrTooCostly if the hash needs more than the bounds, ErrKeyTooShort if its key has fewer than LeastKeyLen bytes, or than new keys
 // if that is less, ErrClosed or ErrOutOfMemory. An error of the text alone is returned without waiting.
 func (h *Hasher) Verify(ctx context.Context, text string, password []byte) error {
-	raw := []byte(text)
-	err := h.run(ctx, func(ms int64, place *uint64) Error {
-		return Error(C.scrypt_hasher_verify(h.of.c, pointer(password), size(password), chars(raw), size(raw), C.int64_t(ms),
-			(*C.uint64_t)(place)))
-	})
-	if err != ErrTooCostly && err != ErrKeyTooShort {
-		return err
+	if h.of == nil {
+		return ErrClosed
 	}
-	var needs C.scrypt_needs // which this writes with either error
-	with := C.scrypt_hasher_options(h.of.c)
+	raw, with := []byte(text), C.scrypt_hasher_options(h.of.c)
 	defer runtime.KeepAlive(h.of)
-	C.scrypt_hash_needs(chars(raw), size(raw), with.most_bytes, with.most_work, with.least_key_len, &needs)
-	return fmt.Errorf("%w: %v, and a key of %d bytes; MostBytes is %d, MostWork is %d, and the least key has %d bytes", err,
-		inWords(needs), needs.key_len, with.most_bytes, with.most_work, with.least_key_len)
+	var needs C.scrypt_needs
+	status := C.scrypt_hash_needs(chars(raw), size(raw), with.most_bytes, with.most_work, with.least_key_len, &needs)
+	if status == C.SCRYPT_TOO_COSTLY || status == C.SCRYPT_KEY_TOO_SHORT {
+		return fmt.Errorf("%w: %v, and a key of %d bytes; MostBytes is %d, MostWork is %d, and the least key has %d bytes",
+			Error(status), inWords(needs), needs.key_len, with.most_bytes, with.most_work, with.least_key_len)
+	}
+	if status != C.SCRYPT_OK {
+		return failed(status)
+	}
+	return h.run(ctx, func(ms milliseconds) Error {
+		return Error(C.scrypt_hasher_verify(h.of.c, pointer(password), size(password), chars(raw), size(raw), ms))
+	})
 }
 
 // NeedsRehash reports whether one of the parameters of the hash, or its key's length, is below that of new hashes. Its
@@ -227,9 +220,9 @@ func (h *Hasher) NeedsRehash(text string) (bool, error) {
 	return false, failed(status)
 }
 
-// run makes a call that doesn't wait, which also returns what is refused. If that gets no turn, it waits for room, and
-// makes calls that wait for a slice of time each. Between calls C has only a place in the line, so a context may panic.
-func (h *Hasher) run(ctx context.Context, call func(ms int64, place *uint64) Error) error {
+// run makes a call when there is room for it in C, where it waits until the deadline of its context. There a context that is
+// cancelled doesn't end it: it is among the next to derive.
+func (h *Hasher) run(ctx context.Context, call func(ms milliseconds) Error) error {
 	if h.of == nil {
 		return ErrClosed
 	}
@@ -238,22 +231,24 @@ func (h *Hasher) run(ctx context.Context, call func(ms int64, place *uint64) Err
 	if err := ctx.Err(); err != nil {
 		return err
 	}
-	var place uint64
-	status := call(0, &place)
-	if status != C.SCRYPT_TIMEOUT {
-		return failed(C.int(status))
-	}
 	select {
 	case h.of.inside <- struct{}{}:
 		defer func(of *hasher) { <-of.inside }(h.of)
 	case <-ctx.Done():
 	}
-	for status == C.SCRYPT_TIMEOUT {
-		if err := ctx.Err(); err != nil {
-			h.of.ended.Add(1)
-			return err
+	if err := ctx.Err(); err != nil {
+		h.of.ended.Add(1)
+		return err
+	}
+	ms := milliseconds(-1)
+	if end, is := ctx.Deadline(); is {
+		if ms = milliseconds(time.Until(end)/time.Millisecond + 1); ms < 0 {
+			ms = 0
 		}
-		status = call(sliceMs, &place)
+	}
+	status := call(ms)
+	if status == C.SCRYPT_TIMEOUT {
+		return context.DeadlineExceeded
 	}
 	return failed(C.int(status))
 }

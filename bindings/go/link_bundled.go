@@ -5,5 +5,5 @@ package scrypt
 // #cgo CFLAGS: -I${SRCDIR} -DSCRYPT_BUNDLED
 // #cgo linux,amd64 LDFLAGS: ${SRCDIR}/libscrypt_c.a -lpthread
 // #cgo arm64 LDFLAGS: ${SRCDIR}/libscrypt_c_arm64.a -lpthread
-// #cgo windows LDFLAGS: ${SRCDIR}/libscrypt_c_windows.a -lbcrypt -lsynchronization
+// #cgo windows LDFLAGS: ${SRCDIR}/libscrypt_c_windows.a -lbcrypt
 import "C"

@@ -47,50 +47,62 @@ func outcome(call func() error) (result any) {
 	return call()
 }
 
-// What happens while a goroutine waits ends its wait, and takes nothing with it. Its fourth call derives, which nothing ends.
+// What happens before a goroutine waits in C ends its wait, and takes nothing with it.
 func TestEndsOfWaits(t *testing.T) {
 	for _, it := range []struct {
-		isFull            bool
-		cancelled, panics int // before the nth call, and when the context is asked for the nth time
-		calls             int
-		want              any
+		isFull, isCancelled bool
+		panics, calls       int // when the context is asked for the nth time
+		want                any
 	}{
-		{false, 0, 0, 4, nil},
-		{false, 1, 0, 0, context.Canceled},
-		{false, 2, 0, 1, context.Canceled},
-		{false, 4, 0, 3, context.Canceled},
-		{false, 5, 0, 4, nil},
-		{false, 0, 1, 0, onPurpose}, // Err
-		{false, 0, 2, 1, onPurpose}, // Done
-		{false, 0, 3, 1, onPurpose}, // Err
-		{false, 0, 5, 3, onPurpose},
-		{true, 2, 0, 1, context.Canceled},
-		{true, 0, 2, 1, onPurpose},
+		{false, false, 0, 1, nil},
+		{false, true, 0, 0, context.Canceled},
+		{true, true, 0, 0, context.Canceled},
+		{false, false, 1, 0, onPurpose}, // Err
+		{false, false, 2, 0, onPurpose}, // Done
+		{false, false, 3, 0, onPurpose}, // Err
+		{true, false, 2, 0, onPurpose},
 	} {
 		hasher, calls := newHasher(t, Options{Params: small()}), 0
 		if it.isFull {
 			hasher.of.inside = nil
 		}
 		parent, cancel := context.WithCancel(context.Background())
-		if it.cancelled == 1 {
-			cancel()
+		if it.isCancelled {
+			time.AfterFunc(map[bool]time.Duration{true: 10 * time.Millisecond, false: 0}[it.isFull], cancel)
+			for !it.isFull && parent.Err() == nil {
+				time.Sleep(time.Millisecond)
+			}
 		}
 		got := outcome(func() error {
-			return hasher.run(&panicking{parent, it.panics}, func(ms int64, place *uint64) Error {
-				if ms != map[bool]int64{true: 0, false: 50}[calls == 0] || *place != uint64(calls) {
-					t.Errorf("call %d may wait for %d ms, with the place %d", calls+1, ms, *place)
-				}
+			return hasher.run(&panicking{parent, it.panics}, func(ms milliseconds) Error {
 				calls++
-				*place++
-				if calls+1 == it.cancelled {
-					cancel()
+				if ms != -1 {
+					t.Errorf("a call may wait for %d ms", ms)
 				}
-				return map[bool]Error{true: 18, false: 0}[calls < 4] // 18 is SCRYPT_TIMEOUT
+				return 0
 			})
 		})
 		cancel()
 		if left := len(hasher.of.inside); got != it.want || calls != it.calls || left != 0 {
 			t.Errorf("%+v: %v after %d calls, and %d are inside", it, got, calls, left)
+		}
+	}
+}
+
+// In C a call waits until the deadline of its context.
+func TestDeadlines(t *testing.T) {
+	hasher := newHasher(t, Options{Params: small()})
+	for within, most := range map[time.Duration]int{time.Hour: 3600001, 1500 * time.Microsecond: 2} {
+		ctx, cancel := context.WithTimeout(context.Background(), within)
+		err := hasher.run(ctx, func(ms milliseconds) Error {
+			if int(ms) > most || int(ms) < most-1000 {
+				t.Errorf("%d ms within %v", ms, within)
+			}
+			return 18 // SCRYPT_TIMEOUT
+		})
+		cancel()
+		if err != context.DeadlineExceeded {
+			t.Error(err)
 		}
 	}
 }
@@ -138,16 +150,14 @@ func TestStats(t *testing.T) {
 		time.Sleep(time.Millisecond)
 	}
 	cancel()
-	for i := 0; i < 20; i++ {
-		if err := <-ended; err != context.Canceled {
-			t.Error(err)
+	for i := 0; i < 21; i++ { // seven wait in C behind the one that derives, and go on
+		want := map[bool]error{true: context.Canceled, false: ErrMismatch}[i < 13]
+		if err := <-ended; err != want {
+			t.Error(i, err)
 		}
 	}
-	if now := hasher.Stats(); now != (Stats{Deriving: 1, Refused: 20}) {
-		t.Errorf("%+v", now)
-	}
-	if err, now := <-ended, hasher.Stats(); err != ErrMismatch || now != (Stats{Refused: 20}) {
-		t.Errorf("%v, %+v", err, now)
+	for now := (Stats{}); now != (Stats{Refused: 13}); now = hasher.Stats() {
+		time.Sleep(time.Millisecond)
 	}
 	if now := new(Hasher).Stats(); now != (Stats{}) {
 		t.Errorf("%+v", now)

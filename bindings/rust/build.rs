@@ -44,7 +44,7 @@ fn link_named(folder: &Path, name: &str) -> Result<(), String> {
     if ending == "a" {
         println!("cargo:rustc-link-lib=static={short}");
         let is_windows = target_has("OS") == "windows";
-        for needed in if is_windows { &["bcrypt", "synchronization"][..] } else { &["pthread"] } {
+        for needed in if is_windows { &["bcrypt"][..] } else { &["pthread"] } {
             println!("cargo:rustc-link-lib={needed}");
         }
     } else {

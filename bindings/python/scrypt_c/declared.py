@@ -49,9 +49,7 @@ KEY_TOO_SHORT = 15
 NULL_POINTER = 16
 CLOSED = 17
 TIMEOUT = 18
-CANCELLED = 19
-UNSUPPORTED = 20
-OPTIONS_SIZE = 21
+OPTIONS_SIZE = 19
 
 # The name and the words of each status.
 WORDS = {
@@ -74,8 +72,6 @@ WORDS = {
     NULL_POINTER: ("SCRYPT_NULL_POINTER", "a pointer that may not be NULL is NULL"),
     CLOSED: ("SCRYPT_CLOSED", "the hasher is closed"),
     TIMEOUT: ("SCRYPT_TIMEOUT", "the hasher did not begin with it in time"),
-    CANCELLED: ("SCRYPT_CANCELLED", "the process was forked meanwhile"),
-    UNSUPPORTED: ("SCRYPT_UNSUPPORTED", "the system does not fill memory with zeros in a child process (Linux before 4.14, or an emulator such as qemu-user)"),
     OPTIONS_SIZE: ("SCRYPT_OPTIONS_SIZE", "the size in the options of a hasher is not sizeof (scrypt_options)"),
 }
 
@@ -135,9 +131,9 @@ def calls(hasher: Any) -> dict[str, tuple[list[Any], Any]]:
         "scrypt_limits_for_new": ([U32, U32, U32, SIZE, POINTER(SIZE), POINTER(U64), POINTER(SIZE)], INT),
         "scrypt_hasher_new": ([POINTER(Options), POINTER(INT)], hasher),
         "scrypt_hasher_options": ([hasher], POINTER(Options)),
-        "scrypt_hasher_verify": ([hasher, BYTES, SIZE, BYTES, SIZE, I64, POINTER(U64)], INT),
-        "scrypt_hasher_hash": ([hasher, BYTES, SIZE, BYTES, SIZE, BYTES, SIZE, I64, POINTER(U64)], INT),
-        "scrypt_hasher_key": ([hasher, BYTES, SIZE, BYTES, SIZE, BYTES, SIZE, I64, POINTER(U64)], INT),
+        "scrypt_hasher_verify": ([hasher, BYTES, SIZE, BYTES, SIZE, I64], INT),
+        "scrypt_hasher_hash": ([hasher, BYTES, SIZE, BYTES, SIZE, BYTES, SIZE, I64], INT),
+        "scrypt_hasher_key": ([hasher, BYTES, SIZE, BYTES, SIZE, BYTES, SIZE, I64], INT),
         "scrypt_hasher_needs_rehash": ([hasher, BYTES, SIZE], INT),
         "scrypt_hasher_stats": ([hasher, POINTER(Stats)], INT),
         "scrypt_hasher_close": ([hasher], None),

@@ -1,5 +1,5 @@
 """The exceptions of this package. Others are Python's: MemoryError, TypeError for a wrong type, ValueError for a closed
-hasher, TimeoutError, and OSError if the system has no random bytes, is too old or is an emulator."""
+hasher, TimeoutError, and OSError if the system has no random bytes."""
 
 from __future__ import annotations
 
@@ -57,7 +57,6 @@ KINDS: dict[int, type[Exception]] = {
     declared.KEY_TOO_SHORT: KeyTooShortError,
     declared.CLOSED: ValueError,
     declared.TIMEOUT: TimeoutError,
-    declared.UNSUPPORTED: OSError,
 }
 
 

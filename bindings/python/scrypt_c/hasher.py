@@ -4,19 +4,15 @@ from __future__ import annotations
 
 import ctypes
 import math
-import os
 import threading
-import time
 from types import MemberDescriptorType
 from typing import Any, Callable, Literal, NamedTuple, Optional, Union
 
 from . import declared, library
 from .arguments import Bytes, Password, in_64_bits, number, raw_bytes, raw_password, raw_text, seconds
-from .declared import CANCELLED, KEY_TOO_SHORT, NEEDS_REHASH, OUT_OF_MEMORY, SALT_INVALID, TIMEOUT, TOO_COSTLY
+from .declared import KEY_TOO_SHORT, NEEDS_REHASH, OUT_OF_MEMORY, SALT_INVALID, TIMEOUT, TOO_COSTLY
 from .errors import InvalidParamsError, check
 from .params import Params, accepted, check_costs, needs_of
-
-_SLICE_MS = 50
 
 
 class Options(NamedTuple):
@@ -88,7 +84,6 @@ class PasswordHasher:
         options = declared.Options(ctypes.sizeof(declared.Options), *self._params[:3], bool(mcf), *lens, **given)
         status = ctypes.c_int()
         self._c = library.hasher_new(options, status)
-        self._refused = 0  # how many waits of the main thread ended, whose slices the library does not count
         check_costs(status.value, needs_of(self._params)[1], most_bytes, most_work)
 
     @property
@@ -106,7 +101,7 @@ class PasswordHasher:
         """What the hasher does now, for metrics."""
         it = declared.Stats()
         check(library.hasher_stats(self._c, it))
-        return Stats(it.waiting, it.deriving, it.refused + self._refused)
+        return Stats(it.waiting, it.deriving, it.refused)
 
     def __repr__(self) -> str:
         log_n, r, p, key_len = self._params
@@ -115,7 +110,7 @@ class PasswordHasher:
 
     def __reduce__(self) -> tuple[Callable[..., PasswordHasher], tuple[Any, ...], Any]:
         """A copy, also in another process, is a new hasher with the same arguments, and the attributes of a subclass."""
-        attributes = {name: value for name, value in vars(self).items() if name not in ("_c", "_refused")}
+        attributes = {name: value for name, value in vars(self).items() if name != "_c"}
         slots = _slots(self)
         return _copied, (type(self), self._params, self._options), (attributes, slots) if slots else attributes
 
@@ -157,22 +152,9 @@ class PasswordHasher:
         return status == NEEDS_REHASH
 
     def _run(self, call: Callable[..., int], *arguments: object) -> int:
-        """The status of a call, which waits for at most `timeout` seconds.
-
-        Python runs the handlers of signals in its main thread, between calls, so that thread waits in slices and comes
-        back to its place in line. A call leaves nothing behind: if a handler raises an exception, there is no next one. In
-        a child that was forked during a call, it is called again."""
-        # By its number in the system, as gevent replaces threading.current_thread. An embedded Python may have another main
-        # thread than the process, and a child of a fork doesn't know the number of its own yet.
-        is_main = threading.get_native_id() in (threading.main_thread().native_id, os.getpid())
-        place = ctypes.c_uint64() if is_main else None
-        end = time.monotonic() + (threading.TIMEOUT_MAX if self._timeout is None else self._timeout)
-        while True:
-            left_ms = max(0, math.ceil(1000 * (end - time.monotonic())))
-            status = call(self._c, *arguments, min(left_ms, _SLICE_MS) if is_main else left_ms, place)
-            if status != CANCELLED and (status != TIMEOUT or time.monotonic() >= end):
-                self._refused += is_main and status == TIMEOUT
-                return status
+        """The status of a call, which waits for at most `timeout` seconds. Python runs handlers of signals when it has returned."""
+        most = threading.TIMEOUT_MAX if self._timeout is None else min(self._timeout, threading.TIMEOUT_MAX)
+        return call(self._c, *arguments, math.ceil(1000 * most))
 
     def _check(self, status: int, text: Optional[bytes] = None) -> None:
         """Raises the error of a status for this hash, or for a new one. Only a message that has parameters reads the hash."""

@@ -7,7 +7,7 @@ from typing import NamedTuple, Optional, Union
 
 from . import declared, library
 from .arguments import number, raw_text
-from .declared import INVALID_PARAMS, TOO_COSTLY, UNSUPPORTED
+from .declared import INVALID_PARAMS, TOO_COSTLY
 from .errors import check
 
 # No bound.
@@ -73,8 +73,6 @@ MOST_BYTES, MOST_WORK, LEAST_KEY_LEN = _usual()
 
 def check_costs(status: int, needs: library.Needs, most_bytes: Optional[int], most_work: Optional[int]) -> None:
     """Raises the error of a status of a derivation that needs this, for bounds of which None is a default."""
-    if status == UNSUPPORTED:
-        check(status)  # whatever it needs
     about = f"{needs}, with most_bytes={most_bytes} and most_work={most_work}" if status == TOO_COSTLY else str(needs)
     check(status, about)
 

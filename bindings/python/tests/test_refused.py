@@ -5,11 +5,9 @@ Many numbers are such that C's types would cut them off to accepted ones."""
 import math
 import pickle
 import unittest
-from unittest import mock
 
 import scrypt_c
-from scrypt_c import library
-from scrypt_c.declared import MAX_OUTPUT_LEN, UNSUPPORTED
+from scrypt_c.declared import MAX_OUTPUT_LEN
 from scrypt_c import InvalidHashError, InvalidParamsError, InvalidSaltError, KeyTooShortError, Params, PasswordHasher, TooCostlyError
 
 SMALL = PasswordHasher(log_n=4)
@@ -142,13 +140,6 @@ class Refused(unittest.TestCase):
             (lambda: large.verify(f"$scrypt$ln=56,r=1,p=1{SALT}{43 * 'A'}", "pw"), f"{largest} bytes"),
         ]:
             self.assertRaisesRegex(MemoryError, rf"\b{words}", call)
-
-    def test_system(self):
-        """Where no hasher can be made, no parameter has to do with it."""
-        with mock.patch.object(library, "hasher_new", lambda options, status: setattr(status, "value", UNSUPPORTED)):
-            with self.assertRaises(OSError) as caught:
-                hasher()
-        self.assertRegex(str(caught.exception), r"Linux before 4\.14, or an emulator such as qemu-user\)$")
 
     def test_bounds(self):
         """Those of bytes and of work are each passed on exactly, and one of 2^64 + 1 is not cut to 1."""

@@ -6,7 +6,6 @@ import copy
 import gc
 import importlib
 import math
-import os
 import pickle
 import random
 import signal
@@ -16,10 +15,9 @@ import threading
 import time
 import unittest
 from concurrent.futures import ThreadPoolExecutor
-from unittest import mock
 
 from scrypt_c import PasswordHasher, library, scrypt
-from scrypt_c.declared import CANCELLED, TIMEOUT
+from scrypt_c.declared import TIMEOUT
 
 WAIT = 60  # seconds, after which something is taken to wait for ever
 TEXT = PasswordHasher(log_n=4).hash("pw")
@@ -38,7 +36,7 @@ def busy(hasher, p):
     """Another thread has the only turn of this hasher, for at least 0.2 seconds times p."""
 
     def verify(text, most_ms):
-        return library.hasher_verify(hasher._c, b"pw", 2, text.encode(), len(text), most_ms, None)
+        return library.hasher_verify(hasher._c, b"pw", 2, text.encode(), len(text), most_ms)
 
     with ThreadPoolExecutor(1) as threads:
         running = threads.submit(verify, f"$scrypt$ln=17,r=8,p={p}$c2FsdHNhbHQ${43 * 'A'}", -1)
@@ -159,51 +157,21 @@ class Signals(unittest.TestCase):
                 for it in running:
                     it.result(WAIT)
 
-    def test_handlers_while_it_waits(self):
-        """They run at once, whichever thread gets the signal. What raises ends the wait, and what returns does not."""
-        to_another = lambda: signal.pthread_kill(threading.get_ident(), signal.SIGALRM)
-        for handler, timeout, seconds, result in [
-            (signal.default_int_handler, WAIT, 0.5, KeyboardInterrupt),
-            (lambda *_: hasher.close(), WAIT, 0.5, ValueError),
-            (lambda *_: hasher.verify(TEXT, "pw"), WAIT, WAIT, True),
-            (lambda *_: None, 0.2, 0.5, TimeoutError),
-        ]:
-            for start in (lambda: alarm(0.05, 0.05), threading.Timer(0.05, to_another).start):
-                hasher = PasswordHasher(log_n=4, at_once=1, timeout=timeout)
-                with busy(hasher, 4), on_alarm(handler):
-                    start()
-                    began = time.monotonic()
-                    self.assertIs(outcome(hasher, TEXT, "pw"), result)
-                    self.assertLess(time.monotonic() - began, seconds, result)
+    def test_handlers_after_the_wait(self):
+        """They run when the call has returned, at the latest after the timeout, and what one raises comes in place of its result."""
+        for handler, result in [(signal.default_int_handler, KeyboardInterrupt), (lambda *_: None, TimeoutError)]:
+            hasher = PasswordHasher(log_n=4, at_once=1, timeout=0.2)
+            with busy(hasher, 4), on_alarm(handler):
+                alarm(0.05, 0.05)
+                began = time.monotonic()
+                self.assertIs(outcome(hasher, TEXT, "pw"), result)
+                self.assertTrue(0.15 < time.monotonic() - began < 0.5, result)
 
-    def test_slices(self):
-        """The main thread waits in slices and comes back to its place, another one waits at once, and neither for longer
-        than it may. In a child of a fork a call is made again."""
+    def test_milliseconds(self):
+        """For how many a call may wait: never fewer than the timeout, and never more than C counts."""
         longest = math.ceil(1000 * threading.TIMEOUT_MAX)
-
-        def call(_, most_ms, place):
-            nonlocal now
-            waits.append((most_ms, None if place is None else place.value))
-            if place is not None:
-                place.value = 7
-            now += most_ms / 1000 if left[0] == TIMEOUT else 0
-            return left.pop(0)
-
-        for is_main, timeout, statuses, wanted in [
-            (True, 0, [TIMEOUT], [(0, 0)]),
-            (False, 0, [TIMEOUT], [(0, None)]),
-            (True, 0.1201, 3 * [TIMEOUT], [(50, 0), (50, 7), (21, 7)]),
-            (False, 0.1201, [TIMEOUT], [(121, None)]),
-            (True, None, [TIMEOUT, CANCELLED, 0], [(50, 0), (50, 7), (50, 7)]),
-            (False, None, [CANCELLED, 0], 2 * [(longest, None)]),
-            (False, 1e300, [0], [(longest, None)]),
-        ]:
-            for process in (os.getpid(), 0):  # an embedded Python may have another main thread than the process
-                now, waits, left, hasher = 0.0, [], list(statuses), PasswordHasher(log_n=4, timeout=timeout)
-                with ThreadPoolExecutor(1) as threads, mock.patch("scrypt_c.hasher.time.monotonic", lambda: now), \
-                        mock.patch("scrypt_c.hasher.os.getpid", lambda: process):
-                    status = hasher._run(call) if is_main else threads.submit(hasher._run, call).result(WAIT)
-                self.assertEqual((status, waits), (statuses[-1], wanted))
+        for timeout, wanted in [(0, 0), (0.1201, 121), (None, longest), (1e300, longest)]:
+            self.assertEqual(PasswordHasher(log_n=4, timeout=timeout)._run(lambda _, most_ms: most_ms), wanted)
 
 
 class Threads(unittest.TestCase):
@@ -223,7 +191,7 @@ class Threads(unittest.TestCase):
         self.assertFalse(gc.is_tracked(PasswordHasher(log_n=4)._c))
 
     def test_stats(self):
-        """Calls that wait and derive, and those whose time is over: of the main thread, which waits in slices, and of another."""
+        """Calls that wait and derive, and those whose time is over."""
         hasher = PasswordHasher(log_n=4, at_once=1, timeout=0.3)
         self.assertEqual(hasher.stats(), (0, 0, 0))
         with busy(hasher, 4), ThreadPoolExecutor(1) as threads:

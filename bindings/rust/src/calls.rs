@@ -37,13 +37,11 @@ pub const KEY_TOO_SHORT: c_int = 15;
 pub const NULL_POINTER: c_int = 16;
 pub const CLOSED: c_int = 17;
 pub const TIMEOUT: c_int = 18;
-pub const CANCELLED: c_int = 19;
-pub const UNSUPPORTED: c_int = 20;
-pub const OPTIONS_SIZE: c_int = 21;
+pub const OPTIONS_SIZE: c_int = 19;
 
 /// The words of each status.
 #[rustfmt::skip]
-pub const WORDS: [(c_int, &str); 22] = [
+pub const WORDS: [(c_int, &str); 20] = [
     (OK, "success"),
     (MISMATCH, "the password does not match the hash"),
     (INVALID_PARAMS, "invalid scrypt parameters (r and p at least 1, 128 * r * 2^log_n below 2^64, r * p below 2^30, and a key in a hash of 10 to 64 bytes)"),
@@ -63,8 +61,6 @@ pub const WORDS: [(c_int, &str); 22] = [
     (NULL_POINTER, "a pointer that may not be NULL is NULL"),
     (CLOSED, "the hasher is closed"),
     (TIMEOUT, "the hasher did not begin with it in time"),
-    (CANCELLED, "the process was forked meanwhile"),
-    (UNSUPPORTED, "the system does not fill memory with zeros in a child process (Linux before 4.14, or an emulator such as qemu-user)"),
     (OPTIONS_SIZE, "the size in the options of a hasher is not sizeof (scrypt_options)"),
 ];
 
@@ -160,11 +156,11 @@ extern "C" {
     pub fn scrypt_hasher_new(options: *const RawOptions, status: *mut c_int) -> *mut RawHasher;
     pub fn scrypt_hasher_options(hasher: *const RawHasher) -> *const RawOptions;
     pub fn scrypt_hasher_verify(hasher: *mut RawHasher, password: *const c_void, password_len: usize,
-        text: *const c_char, text_len: usize, most_ms: i64, place: *mut u64) -> c_int;
+        text: *const c_char, text_len: usize, most_ms: i64) -> c_int;
     pub fn scrypt_hasher_hash(hasher: *mut RawHasher, password: *const c_void, password_len: usize, salt: *const c_void,
-        salt_len: usize, text: *mut c_char, capacity: usize, most_ms: i64, place: *mut u64) -> c_int;
+        salt_len: usize, text: *mut c_char, capacity: usize, most_ms: i64) -> c_int;
     pub fn scrypt_hasher_key(hasher: *mut RawHasher, password: *const c_void, password_len: usize, salt: *const c_void,
-        salt_len: usize, key: *mut u8, key_len: usize, most_ms: i64, place: *mut u64) -> c_int;
+        salt_len: usize, key: *mut u8, key_len: usize, most_ms: i64) -> c_int;
     pub fn scrypt_hasher_needs_rehash(hasher: *const RawHasher, text: *const c_char, text_len: usize) -> c_int;
     pub fn scrypt_hasher_stats(hasher: *mut RawHasher, stats: *mut RawStats) -> c_int;
     pub fn scrypt_hasher_close(hasher: *mut RawHasher);

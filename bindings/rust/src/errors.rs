@@ -56,16 +56,12 @@ pub enum Error {
     Closed,
     /// The hasher did not begin with the call in its time.
     Timeout,
-    /// This is a child process that a signal handler forked during the call.
-    Cancelled,
-    /// There is no hasher on this system: Linux before 4.14, or an emulator such as qemu-user.
-    Unsupported,
     /// A status of a newer library.
     Status(i32),
 }
 
 // The statuses that a call of this crate can return, and the error of each.
-const BY_STATUS: [(i32, Error); 18] = [
+const BY_STATUS: [(i32, Error); 16] = [
     (MISMATCH, Error::PasswordInvalid),
     (INVALID_PARAMS, Error::InvalidParams),
     (INVALID_OUTPUT_LEN, Error::InvalidOutputLen),
@@ -82,8 +78,6 @@ const BY_STATUS: [(i32, Error); 18] = [
     (NO_RANDOM_BYTES, Error::NoRandomBytes),
     (CLOSED, Error::Closed),
     (TIMEOUT, Error::Timeout),
-    (CANCELLED, Error::Cancelled),
-    (UNSUPPORTED, Error::Unsupported),
 ];
 
 impl DeriveError {

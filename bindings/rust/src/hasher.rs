@@ -2,7 +2,7 @@
 
 use crate::calls::*;
 use crate::{Bounds, Error, Params};
-use std::ptr::{null, null_mut, NonNull};
+use std::ptr::{null, NonNull};
 use std::sync::Arc;
 use std::time::Duration;
 
@@ -71,7 +71,7 @@ pub struct Stats {
 /// less time than one after another. No error of one affects another.
 ///
 /// A hasher holds at most [`Options::at_once`] tables, whatever p is, and keeps their memory for later calls until it is
-/// closed or dropped. A call for which the system has no memory waits while another one derives. A hash that needs more than the bounds is refused without waiting, and so is one whose key has fewer
+/// closed or dropped.  A hash that needs more than the bounds is refused without waiting, and so is one whose key has fewer
 /// than [`Bounds::LEAST_KEY_LEN`] bytes, or than new keys if that is less.
 ///
 /// After a fork the hasher works in the child too, which has none of the parent's calls and memory.
@@ -100,7 +100,7 @@ impl Default for Hasher {
     ///
     /// # Panics
     ///
-    /// On the errors of [`Hasher::new`] that no options have: `OutOfMemory` and `Unsupported`.
+    /// On the errors of [`Hasher::new`] that no options have: `OutOfMemory`.
     fn default() -> Hasher {
         Hasher::new(Options::default()).expect("a hasher with the default options")
     }
@@ -111,8 +111,8 @@ impl Hasher {
     ///
     /// # Errors
     ///
-    /// `SaltInvalid` unless the salt has 1 to 64 bytes, `TooCostly` if new hashes need more than the bounds, `OutOfMemory`,
-    /// and `Unsupported` before Linux 4.14 and in an emulator such as qemu-user.
+    /// `SaltInvalid` unless the salt has 1 to 64 bytes, `TooCostly` if new hashes need more than the bounds, and
+    /// `OutOfMemory`.
     pub fn new(options: Options) -> Result<Hasher, Error> {
         let Options { params, format, salt_len, at_once, processors, bounds, .. } = options;
         if salt_len == 0 {
@@ -193,7 +193,7 @@ impl Hasher {
         #[rustfmt::skip]
         let write = |text: &mut [u8]| unsafe {
             scrypt_hasher_hash(self.raw(), password.as_ptr().cast(), password.len(), salt.cast(), salt_len,
-                text.as_mut_ptr().cast(), text.len(), self.most_ms(), null_mut())
+                text.as_mut_ptr().cast(), text.len(), self.most_ms())
         };
         text_by(write, salt_len.max(64))
     }
@@ -203,7 +203,7 @@ impl Hasher {
     /// # Errors
     ///
     /// `InvalidOutputLen` if the output is empty or longer than scrypt allows, `Closed`, `Timeout` and `OutOfMemory`, which leave
-    /// the output unchanged; and [`Error::Cancelled`], which writes zeros.
+    /// the output unchanged.
     pub fn key(
         &self,
         password: impl AsRef<[u8]>,
@@ -215,7 +215,7 @@ impl Hasher {
         #[rustfmt::skip]
         let status = unsafe {
             scrypt_hasher_key(self.raw(), password.as_ptr().cast(), password.len(), salt.as_ptr().cast(), salt.len(),
-                output.as_mut_ptr(), output.len(), self.most_ms(), null_mut())
+                output.as_mut_ptr(), output.len(), self.most_ms())
         };
         Error::check(status)
     }
@@ -233,7 +233,7 @@ impl Hasher {
         #[rustfmt::skip]
         let status = unsafe {
             scrypt_hasher_verify(self.raw(), password.as_ptr().cast(), password.len(), text.as_ptr().cast(), text.len(),
-                self.most_ms(), null_mut())
+                self.most_ms())
         };
         Error::check(status)
     }

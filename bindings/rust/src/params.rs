@@ -147,7 +147,7 @@ pub fn params_of(text: &str) -> Result<(Params, usize), Error> {
 ///
 /// # Errors
 ///
-/// `TooCostly` if even a `log_n` of 10 takes longer, or needs more; `OutOfMemory` and `Unsupported`.
+/// `TooCostly` if even a `log_n` of 10 takes longer, or needs more; `OutOfMemory`.
 pub fn calibrate(target: Duration, most_bytes: usize) -> Result<Params, Error> {
     let (mut log_n, mut r, mut p) = (0, 0, 0);
     // SAFETY: the three places are this function's own.
