@@ -4,10 +4,10 @@
 #                  calls the library from C and Python
 # To use it:
 #   make lib       proves and builds the libraries for C into build/lib, with code for x86-64-v2 and for x86-64-v3
-#                  with ARCH, which bindings/arch.sh explains, those for another processor, and the program, or those for
+#                  with ARCH, which bindings/README.md explains, those for another processor, and the program, or those for
 #                  Windows, into build/ARCH
 #   make install   installs what is built below prefix=/usr/local, and honours DESTDIR
-#   make uninstall removes it, with the same variables
+#   make uninstall removes what was installed last; with the same DESTDIR
 #   make js        proves and builds the module for JavaScript into bindings/js, and tests it in Node and in Chromium
 #   make doc       makes pages for reading the proof, build/doc/index.html; it needs python3-jinja2 and python3-pygments
 #   make dist      makes packages for Debian, Python, Go, Rust and npm, archives, the sources and their hashes in build/dist
@@ -137,9 +137,25 @@ oracle: lib
 	python3 -m compare.groups build/lib/libscrypt_c.so
 
 # For another processor of Linux the program is built too.
+PRESET = $(or $(PRESET_OF_$(ARCH)),native)
+PRESET_OF_aarch64-linux-gnu = arm64
+PRESET_OF_x86_64-w64-mingw32 = windows
+# rt lib leaves both levels of x86-64 under one name, so the newer one is moved.
+PROVE_native = cd crates/scrypt_c && rt lib --cpu x86-64-v3 && mkdir -p out/x86-64-v3 && mv out/libscrypt_c.a out/x86-64-v3/ && rt lib
+PROVE_arm64 = python3 -m bindings.cross $(ARCH) out/arm64 scrypt_c scrypt_tool
+PROVE_windows = python3 -m bindings.bitcode $(ARCH) out/windows
 lib: kit
-	$(MAKE) -j$(SIDE_BY_SIDE) proved-scrypt$(if $(filter-out x86_64-%,$(ARCH)),_commands)
-	bindings/lib.sh
+	$(MAKE) -j$(SIDE_BY_SIDE) proved-scrypt$(if $(filter arm64,$(PRESET)),_commands)
+	$(PROVE_$(PRESET))
+	@$(MAKE) --no-print-directory linked
+
+# Compiles and links what was proved, by CMake; for another processor the program too, which is not run here.
+.PHONY: linked
+linked:
+	@mkdir -p build && cd bindings/c && cmake --preset $(PRESET) > ../../build/cmake.log || { cat ../../build/cmake.log; exit 1; }
+	@cmake --build build/$(PRESET) -- --quiet
+	@$(if $(filter native,$(PRESET)),cd bindings/rust && sha256sum libscrypt_c.a scrypt_c.h > SHA256SUMS)
+	@$(if $(filter arm64,$(PRESET)),if [ -e crates/scrypt_tool/out/arm64/scrypt_tool.o ]; then $(TERMINAL); fi)
 
 js: kit
 	$(MAKE) -j$(SIDE_BY_SIDE) proved-scrypt
@@ -156,17 +172,20 @@ datarootdir = $(prefix)/share
 mandir = $(datarootdir)/man
 docdir = $(datarootdir)/doc/scrypt_c
 pythondir = $(prefix)/lib/python3/dist-packages
-PLACES = DESTDIR prefix bindir libdir includedir datarootdir mandir docdir pythondir
+PLACES = BINDIR=bindir LIBDIR=libdir INCLUDEDIR=includedir DATAROOTDIR=datarootdir MANDIR=mandir DOCDIR=docdir
+# A place below prefix by its path there, so that what is installed can be moved.
+below = $(patsubst $(prefix)/%,%,$1)
+install:
+	@test -e build/$(PRESET)/CMakeCache.txt || { echo "nothing is built: make lib" >&2; exit 1; }
+	@cmake "-DCMAKE_INSTALL_PREFIX=$(prefix)" "-DPYTHONDIR:STRING=$(call below,$(pythondir))" \
+	  $(foreach it,$(PLACES),"-DCMAKE_INSTALL_$(firstword $(subst =, ,$(it)))=$(call below,$($(lastword $(subst =, ,$(it)))))") build/$(PRESET) > build/cmake.log
+	@DESTDIR="$(DESTDIR)" cmake --install build/$(PRESET) > build/install.log
+	@echo "installed below $(DESTDIR)$(prefix); programs find the library in $(libdir) after ldconfig, as root, if the system looks" \
+	  "there, or by LD_LIBRARY_PATH=$(libdir)"
 
-# The places are passed in the environment, so that a shell finds nothing special in them. make itself expands $: $$
-# stands for one, and $x would vanish, so install refuses a place with a $ that is not doubled.
-open = (
-without_names = $(subst $$$$,,$(subst $${,,$(subst $$$(open),,$(value $1))))
-stray = $(if $(filter command environment,$(origin $1)),$(findstring $$,$(without_names)))
-$(foreach place,$(PLACES),$(eval install uninstall: export $(place) := $$($(place))))
-install uninstall:
-	@$(foreach place,PREFIX exec_prefix $(PLACES),$(if $(call stray,$(place)),$(error $(place) has a $$: write $$$$)))
-	bindings/install.sh $@
+# What was installed last.
+uninstall:
+	@sed "s|^|$(DESTDIR)|" build/$(PRESET)/install_manifest.txt | tr '\n' '\0' | xargs -0 rm -f
 
 # Packs what the gate proved and linked in this clone.
 dist:

@@ -90,7 +90,7 @@ def clean():
             shutil.rmtree(f"crates/{name}/out/rlib")
         for other in "arm64", "windows":
             shutil.rmtree(f"crates/{name}/out/{other}", ignore_errors=True)
-    for built in "lib", "aarch64-linux-gnu", "x86_64-w64-mingw32":
+    for built in "lib", "aarch64-linux-gnu", "x86_64-w64-mingw32", "native", "arm64", "windows":
         shutil.rmtree(f"build/{built}", ignore_errors=True)
     with contextlib.suppress(FileNotFoundError):
         os.remove(f"{PROGRAM}.o")
@@ -246,7 +246,7 @@ def check_axioms(log):
 def link_and_call(tasks, made):
     """Links the libraries, and calls them. What is packed is this. Not at a lower priority, since one call measures time."""
     shutil.copytree(made, "crates/scrypt_c/out", dirs_exist_ok=True)  # as `rt lib` leaves them
-    return tasks.run("sh", "-c", "bindings/lib.sh built && bindings/callers.sh short", nice=0)
+    return tasks.run("sh", "-c", "make linked && bindings/callers.sh short", nice=0)
 
 
 def link_program(tasks):
@@ -275,7 +275,7 @@ def prove_for_arm64(tasks, *names):
 
 def test_arm64(tasks):
     """Links the library and the program for arm64, and calls them."""
-    command = "bindings/lib.sh built && bindings/callers.sh short"
+    command = "make linked && bindings/callers.sh short"
     return tasks.run("env", "-u", "CC", "ARCH=aarch64-linux-gnu", "sh", "-c", command)
 
 
@@ -291,7 +291,7 @@ def test_windows(tasks, made):
     """Compiles for Windows what the kit compiled for Linux, links that, and calls it in Wine."""
     arch = "x86_64-w64-mingw32"
     compiled = f"{sys.executable} -m bindings.bitcode {arch} out/windows {made}"
-    command = f". bindings/wine.sh && {compiled} && bindings/lib.sh built && bindings/callers.sh short"
+    command = f"{compiled} && make linked && bindings/callers.sh short"
     return tasks.run("env", "-u", "CC", f"ARCH={arch}", "sh", "-c", command)
 
 

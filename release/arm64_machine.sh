@@ -8,7 +8,8 @@ set -euo pipefail
 unset CDPATH
 cd "$(dirname "$0")/.."
 export ARCH=aarch64-linux-gnu
-. bindings/common.sh
+. bindings/arch.sh
+begin_test
 for it in qemu-system-aarch64:qemu-system-arm cpio:cpio "$CC:gcc-$ARCH"; do has "${it%:*}" "${it#*:}" || exit 1; done
 if [ $# = 0 ]; then set -- bookworm:linux-image-arm64 trixie:linux-image-arm64-16k; fi
 root=$room/root static=$lib/libscrypt_c.a shared=$lib/libscrypt_c.so.0

@@ -22,7 +22,7 @@ is_built() { [ -e "$1" ] || { echo "not built: $1. \`make test\` builds all, wit
 for ARCH in $archs; do
   . bindings/arch.sh
   command -v "${tools}strip" > /dev/null || needed "${tools}strip" "binutils${tools:+-$ARCH}"
-  for built in bin/scrypt_tool lib/libscrypt_c.so.0 ${newest:+tests/$oldest}; do is_built "$build/$built"; done
+  for built in bin/scrypt_tool lib/libscrypt_c.so.0; do is_built "$build/$built"; done
 done
 (ARCH=$windows && . bindings/arch.sh && is_built "$build/lib/scrypt_c.dll" && is_built "$build/bin/scrypt_calibrate.exe")
 is_built bindings/js/scrypt.wasm
@@ -35,7 +35,6 @@ trap 'debian/rules clean > /dev/null 2>&1; rm -rf "$parts"' EXIT
 # The files below any prefix, the documents, and what PROVED.txt says of the files.
 for ARCH in $archs; do
   RELEASED=1 make -s install prefix="$parts/files/$ARCH" pythondir="$parts/python" docdir="$parts/doc" DESTDIR= ARCH="$ARCH" > /dev/null
-  rm "$parts/doc/installed" # or the next one would be an upgrade, and remove these
   ARCH=$ARCH release/strip.sh "$parts/files/$ARCH"
 done
 release/windows.sh "$parts/files/$windows"
@@ -103,7 +102,7 @@ for ARCH in $archs; do
   packed=$name-linux-${ARCH%%-*}
   mkdir "$parts/$packed"
   mv "$parts/files/$ARCH" "$parts/$packed/files"
-  cp "$@" release/install.sh "$dist"/*_"${ARCH%%-*}".whl "$parts/$packed"
+  cp "$@" "$dist"/*_"${ARCH%%-*}".whl "$parts/$packed"
   documents "$parts/$packed"
   packed "$packed"
 done

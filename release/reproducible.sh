@@ -16,14 +16,14 @@ if [ -e build/proved.json ]; then cp build/proved.json "$room/source/build/"; fi
 command="make test dist"
 if [ "${1:-}" != proofs ]; then
   files="crates/scrypt_c/out/$newest/libscrypt_c.a crates/scrypt_tool/out/scrypt_tool build/wasm/scrypt64.wasm bindings/js/scrypt.wasm"
-  command="bindings/lib.sh built && bindings/terminal/build.sh"
+  command="make linked && bindings/terminal/build.sh"
   for ARCH in $archs $windows; do
     . bindings/arch.sh
     files="$files crates/scrypt_c/$proved/libscrypt_c.a"
     if [ $system = windows ]; then files="$files crates/scrypt_c/$proved/$newest/libscrypt_c.a"; else
       files="$files crates/scrypt_tool/$proved/scrypt_tool.o"
     fi
-    if [ -z "$is_kits" ]; then command="$command && ARCH=$ARCH bindings/lib.sh built"; fi
+    if [ -z "$is_kits" ]; then command="$command && make linked ARCH=$ARCH"; fi
   done
   for file in $files; do
     mkdir -p "$room/source/${file%/*}"

@@ -28,7 +28,7 @@ inside() {
 as_user() { inside setpriv --reuid=nobody --regid=nogroup --clear-groups env HOME=/home/user "$@"; }
 install_packages() { quietly inside sh -c 'cd /tmp && apt-get install -qq -y ./*.deb'; }
 unpack_archive() {
-  quietly as_user sh -c 'cd ~ && tar xzf /tmp/*-linux-*.tar.gz && scrypt-proved-*/install.sh /home/user/prefix'
+  quietly as_user sh -c 'cd ~ && tar xzf /tmp/*-linux-*.tar.gz && mkdir prefix && cp -R scrypt-proved-*/files/. prefix'
 }
 # All files but those that apt, dpkg, ld.so and man keep about every package.
 listed() {
@@ -89,7 +89,7 @@ rm -r "$root/home/user/venv"
 # The archive, by a user who has no more rights than any.
 unpack_archive
 expect "$(as_user /home/user/prefix/bin/$command "" < /dev/null)" $key "the archive's program prints it, without root"
-as_user sh -c '$HOME/scrypt-proved-*/install.sh --remove $HOME/prefix && test ! -e $HOME/prefix'
+as_user sh -c 'rm -r $HOME/prefix'
 echo "the archive removes all that it installed"
 
 echo "LD_PRELOAD=$private/libscrypt_drop_in.so" > "$root/etc/default/client"

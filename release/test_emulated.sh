@@ -12,7 +12,8 @@ if [ $# = 0 ]; then
   exit
 fi
 export ARCH=$1
-. bindings/common.sh
+. bindings/arch.sh
+begin_test
 dist=$PWD/build/dist root=$room/root private=usr/lib/$ARCH/scrypt_c
 key=$(cat crates/scrypt_tool/stdout) # the first of RFC 7914, section 12
 command="key 4 1 1 64" # and an empty salt
@@ -76,10 +77,9 @@ expect "$(run tmp/check)" "$key" "a Go program prints it, with the module of the
 
 # The archive, and what is left when all is removed.
 tar xzf "$dist"/*-linux-$machine.tar.gz -C "$room"
-quietly "$room"/scrypt-proved-*/install.sh "$room/prefix"
+cp -R "$room"/scrypt-proved-*/files "$room/prefix"
 expect "$(LD_LIBRARY_PATH= run ../prefix/bin/scrypt_tool $command "" < /dev/null)" $key "the archive's program prints it"
-"$room"/scrypt-proved-*/install.sh --remove "$room/prefix"
-test ! -e "$room/prefix"
+rm -r "$room/prefix"
 quietly dpkg_there --purge $packages
 listed | diff "$room/before" -
 echo "the archive and dpkg remove all that they installed"

@@ -5,7 +5,8 @@ set -euo pipefail
 unset CDPATH
 cd "$(dirname "$0")/.."
 ARCH=$(. bindings/arch.sh && echo "$windows")
-. bindings/common.sh
+. bindings/arch.sh
+begin_test
 dist=$PWD/build/dist
 key=$(cat crates/scrypt_tool/stdout) # the first of RFC 7914, section 12
 expect() {

@@ -155,8 +155,8 @@ def proved():
 
 def proved_calls():
     yield from (f"/* {NOTE}crates/scrypt_c/src: the proved calls, each as PROVED_CALL(name, parameters, arguments)",
-                " * if it returns a status, and else as PROVED_PROCEDURE, which whoever includes this list defines: clearing.c calls them",
-                " * and clears after them, stack_lens.c measures them, and dispatch.c chooses. */")
+                " * if it returns a status, and else as PROVED_PROCEDURE, which whoever includes this list defines: clearing.c chooses one of",
+                " * each level, calls it, and clears after it. */")
     for kind, name, arguments in proved():
         if name != "scrypt_wipe":
             names = ", ".join(map(header.name_of, arguments))

@@ -1,9 +1,6 @@
-/* The functions of the C library that the proved calls use, under the names that lib.sh gives them: not proved. Memory
- * that they allocated is overwritten before it is freed, or given back to the system, which wipes it.
- *
- * This file is compiled with -fno-plt, so that these functions are bound when a program is loaded. Otherwise a program
- * that is linked with the static library may bind one at its first call, and the dynamic linker then saves registers to
- * the stack, deeper than the proved calls use it. */
+/* The memory that proved calls ask for, by kit_heap.c: not proved. It is overwritten before it is freed, or given back to the system,
+ * which wipes it. Compiled with -fno-plt: otherwise malloc may be bound at its first call, and the dynamic linker then saves registers
+ * to the stack, deeper than the proved calls use it. */
 #define _GNU_SOURCE
 #include "clearing.h"
 #include "system.h"
@@ -47,9 +44,6 @@ static void overwrite(uint8_t *block, size_t len) {
 void clearing_free(void *block);
 void *clearing_malloc(size_t len);
 void *clearing_realloc(void *block, size_t len);
-void *clearing_memcpy(void *to, const void *from, size_t len);
-void *clearing_memmove(void *to, const void *from, size_t len);
-void *clearing_memset(void *to, int byte, size_t len);
 
 void clearing_free(void *block) {
   struct head is;
@@ -113,7 +107,3 @@ void *clearing_realloc(void *block, size_t len) {
   clearing_free(block);
   return other;
 }
-
-void *clearing_memcpy(void *to, const void *from, size_t len) { return memcpy(to, from, len); }
-void *clearing_memmove(void *to, const void *from, size_t len) { return memmove(to, from, len); }
-void *clearing_memset(void *to, int byte, size_t len) { return memset(to, byte, len); }

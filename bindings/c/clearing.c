@@ -1,82 +1,97 @@
-/* What calls leave in the stack and in registers, overwritten: not proved. lib.sh gives each proved call the name
- * proved_.., and calls.c calls the one here, cleared_... */
+/* Which proved code is called, and what calls leave in the stack, overwritten: not proved. The objects of what the kit built have
+ * each proved call as base_.., and where there is one for a newer processor as newer_... */
 #include "clearing.h"
 #include "scrypt_c.h"
-#include "stack_lens.h" /* how much of the stack each proved call uses, measured by stack_lens.c */
 
-/* Hidden, so that its address doesn't come from the global offset table, which Windows doesn't have: there the linker for arm64
- * takes the start of .text for it. */
-#ifdef _WIN32
-#define DIRECT
+#include <string.h>
+
+#ifdef HAS_NEWER
+#include <stdio.h>
+#include <stdlib.h>
+static int is_newer = 0;
+__attribute__((constructor)) static void choose(void) {
+  __builtin_cpu_init();
+#ifndef IS_ALWAYS_BASE
+  is_newer = __builtin_cpu_supports(NEWER) != 0;
+#endif
+  if (__builtin_cpu_supports(BASE)) return;
+  fputs("libscrypt_c: this processor lacks a feature of " BASE ", which the library was built for\n", stderr);
+  abort();
+}
+#define CHOSEN(name) (is_newer ? newer_##name : base_##name)
+const char *scrypt_version(void) { return is_newer ? LIBRARY_VERSION " " NEWER : LIBRARY_VERSION " " BASE; }
+size_t tables_that_pay(void) { return is_newer ? NEWER_PAYS : BASE_PAYS; }
 #else
-#define DIRECT __attribute__((visibility("hidden")))
+#define CHOSEN(name) base_##name
+const char *scrypt_version(void) { return LIBRARY_VERSION " " BASE; }
+size_t tables_that_pay(void) { return BASE_PAYS; }
 #endif
 
-/* Writes zeros to the len bytes below the frame of its caller, or on x86-64 below the return address that is there, which is
- * where a call by the same caller had its frames. In assembly, since a frame of C has parts that C can't name. From the top
- * down, so that on a stack that is too short the guard page comes first. len is a multiple of 16, and not 0. On Windows each call
- * has 32 bytes above its return address too, at the same place for all calls by a caller. */
-DIRECT void clear_stack(size_t len);
-#ifdef _WIN32
-__asm__(
-    ".text\n"
-    ".seh_proc clear_stack\n"
-    "clear_stack:\n"
-    "mov %rsp, %rdx\n"
-    ".seh_setframe %rdx, 0\n"
-    ".seh_endprologue\n"
-    "movq $0, 8(%rsp)\n movq $0, 16(%rsp)\n movq $0, 24(%rsp)\n movq $0, 32(%rsp)\n"
-    "0: push $0\n"
-    "sub $8, %rcx\n"
-    "jnz 0b\n"
-    "lea (%rdx), %rsp\n"
-    "ret\n"
-    ".seh_endproc\n");
+/* BELOW is more than any proved call uses of the stack (test_stack.c). Its frames begin APART below those of clear_stack, so that
+ * they are overwritten whatever the compiler puts into the frames here. Registers are cleared too, by a compiler that can (gcc 11,
+ * clang 15): nothing is promised of them. */
+enum { BELOW = 12800, APART = 256 };
+#define KEEP(array) __asm__ volatile("" ::"r"(array) : "memory")
+#if __has_attribute(zero_call_used_regs)
+#define CLEARS __attribute__((noinline, no_stack_protector, zero_call_used_regs("all")))
 #else
-__asm__(
-    ".text\n"
-    ".type clear_stack, %function\n"
-    "clear_stack:\n"
-    ".cfi_startproc\n"
-#ifdef __aarch64__
-    "mov x1, sp\n"
-    ".cfi_def_cfa_register x1\n"
-    "0: stp xzr, xzr, [sp, #-16]!\n"
-    "subs x0, x0, #16\n"
-    "b.ne 0b\n"
-    "mov sp, x1\n"
-    ".cfi_def_cfa_register sp\n"
-#else
-    "mov %rsp, %rdx\n"
-    ".cfi_def_cfa_register %rdx\n"
-    "0: push $0\n"
-    "sub $8, %rdi\n"
-    "jnz 0b\n"
-    "mov %rdx, %rsp\n"
-    ".cfi_def_cfa_register %rsp\n"
-#endif
-    "ret\n"
-    ".cfi_endproc\n"
-    ".size clear_stack, .-clear_stack\n");
+#define CLEARS __attribute__((noinline, no_stack_protector))
 #endif
 
-/* The proved call, after which what it left is overwritten. */
-#define PROVED_CALL(name, parameters, arguments) \
-  int proved_##name parameters;                  \
-  int cleared_##name parameters;                 \
-  int cleared_##name parameters {                \
-    int status = proved_##name arguments;        \
-    clear_registers();                           \
-    clear_stack(STACK_##name);                   \
-    return status;                               \
+/* Those that it leaves out: the halves that a call has to keep are in one register with halves that it may change. */
+#ifdef __x86_64__
+CLEARS __attribute__((target("avx"))) static void clear_ymm(void) { __asm__ volatile(""); }
+CLEARS void clear_registers(void) {
+  if (__builtin_cpu_supports("avx512vl"))
+    __asm__ volatile(".irp n, 16,17,18,19,20,21,22,23,24,25,26,27,28,29,30,31\n vpxord %xmm\\n, %xmm\\n, %xmm\\n\n .endr");
+  if (__builtin_cpu_supports("avx")) clear_ymm();
+}
+#else
+CLEARS void clear_registers(void) { __asm__ volatile(".irp n, 8,9,10,11,12,13,14,15\n mov v\\n\\().d[1], xzr\n .endr"); }
+#endif
+
+CLEARS static void clear_stack(void) {
+  volatile uint64_t below[(BELOW + APART) / sizeof(uint64_t)]; /* no memset, whose return address would be below it */
+  size_t i;
+  for (i = sizeof below / sizeof *below; i-- > 0;) below[i] = 0;
+}
+
+#define DECLARED(name, parameters, type) type base_##name parameters; type newer_##name parameters;
+
+#undef PROVED_CALL
+#undef PROVED_PROCEDURE
+#define PROVED_CALL(name, parameters, arguments)                 \
+  DECLARED(name, parameters, int)                                \
+  __attribute__((noinline)) static int apart_##name parameters { \
+    uint8_t apart[APART];                                        \
+    int status;                                                  \
+    KEEP(apart);                                                 \
+    status = CHOSEN(name) arguments;                             \
+    KEEP(apart);                                                 \
+    return status;                                               \
+  }                                                              \
+  CLEARS int cleared_##name parameters {                         \
+    int status = apart_##name arguments;                         \
+    clear_registers();                                           \
+    clear_stack();                                               \
+    return status;                                               \
   }
-#define PROVED_PROCEDURE(name, parameters, arguments) \
-  void proved_##name parameters;                      \
-  void cleared_##name parameters;                     \
-  void cleared_##name parameters {                    \
-    proved_##name arguments;                          \
-    clear_registers();                                \
-    clear_stack(STACK_##name);                        \
-    __asm__ volatile(""); /* or it is called when the frame here is gone, and clears less */ \
+#define PROVED_PROCEDURE(name, parameters, arguments)             \
+  DECLARED(name, parameters, void)                                \
+  __attribute__((noinline)) static void apart_##name parameters { \
+    uint8_t apart[APART];                                         \
+    KEEP(apart);                                                  \
+    CHOSEN(name) arguments;                                       \
+    KEEP(apart);                                                  \
+  }                                                               \
+  CLEARS void cleared_##name parameters {                         \
+    apart_##name arguments;                                       \
+    clear_registers();                                            \
+    clear_stack();                                                \
   }
 #include "proved_calls.h"
+
+void base_scrypt_wipe(uint8_t *, size_t, uint32_t *, size_t, uint32_t *, size_t); /* which sees no password or key */
+void scrypt_wipe(uint8_t *chunks, size_t chunks_len, uint32_t *table, size_t table_len, uint32_t *scratch, size_t scratch_len) {
+  base_scrypt_wipe(chunks, chunks_len, table, table_len, scratch, scratch_len);
+}

@@ -4,7 +4,7 @@
 
 #include <stddef.h>
 
-/* Writes zeros to the registers that a call may change, except those of its result. */
+/* Writes zeros to the registers that a call may change, as far as the compiler can. */
 void clear_registers(void);
 
 /* From this size on a block is a mapping of its own, as the usual malloc makes one too: to give it back is faster than to

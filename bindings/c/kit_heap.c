@@ -1,5 +1,5 @@
 /* What the kit has in C of its crate libc, as its file c/liblibc_c.a, which is for x86-64 alone: not proved. The contracts of
- * these calls are in that crate, src/heap.rt. lib.sh compiles this for other processors. */
+ * these calls are in that crate, src/heap.rt. Part of the library, whose blocks are those of blocks.c. */
 #include <stdbool.h>
 #include <stddef.h>
 #include <stdlib.h>
@@ -19,11 +19,11 @@ struct tried rattle_realloc(void *p, size_t kept, size_t n, size_t align);
 void rattle_dealloc(void *p);
 
 /* An address that a value of no bytes can have is a multiple of its alignment, which divides 16, as those of malloc are. */
-struct tried rattle_alloc(size_t n, size_t align) { return tried(malloc(n != 0 ? n : align)); }
+struct tried rattle_alloc(size_t n, size_t align) { return tried(clearing_malloc(n != 0 ? n : align)); }
 
 struct tried rattle_realloc(void *p, size_t kept, size_t n, size_t align) {
   (void)kept;
-  return tried(realloc(p, n != 0 ? n : align));
+  return tried(clearing_realloc(p, n != 0 ? n : align));
 }
 
-void rattle_dealloc(void *p) { free(p); }
+void rattle_dealloc(void *p) { clearing_free(p); }

@@ -3,9 +3,9 @@
 ; its alignment, which divides 16.
 @nothing = internal global [16 x i8] zeroinitializer, align 16
 
-declare ptr @malloc(i64)
-declare ptr @realloc(ptr, i64)
-declare void @free(ptr)
+declare ptr @clearing_malloc(i64)
+declare ptr @clearing_realloc(ptr, i64)
+declare void @clearing_free(ptr)
 
 define internal { i64, i64 } @tried(ptr %p) nounwind uwtable {
   %is_refused = icmp eq ptr %p, null
@@ -21,7 +21,7 @@ define internal { i64, i64 } @tried(ptr %p) nounwind uwtable {
 define { i64, i64 } @rattle_alloc(i64 %n, i64 %align) nounwind uwtable {
   %is_empty = icmp eq i64 %n, 0
   %len = select i1 %is_empty, i64 %align, i64 %n
-  %p = call ptr @malloc(i64 %len)
+  %p = call ptr @clearing_malloc(i64 %len)
   %both = call { i64, i64 } @tried(ptr %p)
   ret { i64, i64 } %both
 }
@@ -29,12 +29,12 @@ define { i64, i64 } @rattle_alloc(i64 %n, i64 %align) nounwind uwtable {
 define { i64, i64 } @rattle_realloc(ptr %old, i64 %kept, i64 %n, i64 %align) nounwind uwtable {
   %is_empty = icmp eq i64 %n, 0
   %len = select i1 %is_empty, i64 %align, i64 %n
-  %p = call ptr @realloc(ptr %old, i64 %len)
+  %p = call ptr @clearing_realloc(ptr %old, i64 %len)
   %both = call { i64, i64 } @tried(ptr %p)
   ret { i64, i64 } %both
 }
 
 define void @rattle_dealloc(ptr %p) nounwind uwtable {
-  tail call void @free(ptr %p)
+  tail call void @clearing_free(ptr %p)
   ret void
 }

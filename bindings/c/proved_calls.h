@@ -1,6 +1,6 @@
 /* Made by tools/mirror.py of crates/scrypt_c/src: the proved calls, each as PROVED_CALL(name, parameters, arguments)
- * if it returns a status, and else as PROVED_PROCEDURE, which whoever includes this list defines: clearing.c calls them
- * and clears after them, stack_lens.c measures them, and dispatch.c chooses. */
+ * if it returns a status, and else as PROVED_PROCEDURE, which whoever includes this list defines: clearing.c chooses one of
+ * each level, calls it, and clears after it. */
 PROVED_CALL(scrypt_hash_phc, (const uint8_t *password, size_t password_len, const uint8_t *salt, size_t salt_len,
     uint8_t log_n, uint32_t r, uint32_t p, size_t key_len, char *text, size_t capacity, size_t *text_len), (password,
     password_len, salt, salt_len, log_n, r, p, key_len, text, capacity, text_len))

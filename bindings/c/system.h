@@ -1,5 +1,5 @@
 /* What the library asks of the system: linux.c answers for Linux, and windows.c for Windows. All else here names no system, except
- * for these types, and for the assembly of clearing.c and registers.c. Whoever includes this defines _GNU_SOURCE. */
+ * for these types. Whoever includes this defines _GNU_SOURCE. */
 #ifndef SYSTEM_H
 #define SYSTEM_H
 

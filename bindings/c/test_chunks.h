@@ -1,6 +1,5 @@
-/* For test.c: each call that derives, with each number of chunks in each number of tables. The answers are the same, and lib.sh
- * measures here how much of the stack each call uses: that depends on how many chunks are mixed at a time, and how many are
- * left then. */
+/* For test_calls.c: each call that derives, with each number of chunks in each number of tables. The answers are the same. How much of the
+ * stack a call uses depends on how many chunks are mixed at a time, and how many are left then. */
 #ifndef TEST_CHUNKS_H
 #define TEST_CHUNKS_H
 

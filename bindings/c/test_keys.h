@@ -1,4 +1,4 @@
-/* For test.c: the keys of RFC 7914 in one call, in buffers, with smaller and with longer tables, and what is refused. */
+/* For test_calls.c: the keys of RFC 7914 in one call, in buffers, with smaller and with longer tables, and what is refused. */
 #ifndef TEST_KEYS_H
 #define TEST_KEYS_H
 

@@ -1,9 +1,11 @@
 #!/bin/sh
 # Calls the drop-in names of build/lib beside the libraries whose names they are, and by programs that know only these.
 # With the word short: without the programs.
+set -eu
 unset CDPATH
 cd "$(dirname "$0")/../.."
-. bindings/common.sh
+. bindings/arch.sh
+begin_test
 ours=$lib/libscrypt_drop_in.so
 
 # Fails unless the last command over `traced` called the name that is given in the library of drop-in names.

@@ -1,9 +1,11 @@
 #!/bin/sh
 # Tests the Go module with the library of build/lib, and installs it as go get and go mod vendor do. With the word short:
 # its own tests alone. With the ARCH of Windows: these in Wine.
+set -eu
 unset CDPATH
 cd "$(dirname "$0")/../.."
-. bindings/common.sh
+. bindings/arch.sh
+begin_test
 package=${packages%% *}
 has go golang-go && has "$CC" "${package:-gcc}" || exit 0
 export GOPROXY=off GOFLAGS=-modcacherw GOCACHE="${GOCACHE:-$room/cache}" GOMODCACHE="$room/modules"

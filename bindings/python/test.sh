@@ -2,9 +2,11 @@
 # Tests the Python package over the library of build/lib, with gevent, Django and passlib if they are here; installs it
 # into a fresh virtual environment, and builds its wheel. With the word short: its own tests of keys, hashes and the
 # library. With the ARCH of Windows, for which Debian has no Python, it builds the wheel alone.
+set -eu
 unset CDPATH
 cd "$(dirname "$0")/../.."
-. bindings/common.sh
+. bindings/arch.sh
+begin_test
 has python3 python3 || exit 0
 if [ "$system" = windows ]; then
   if ! /usr/bin/python3 -c 'import hatchling' 2> /dev/null; then

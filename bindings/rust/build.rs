@@ -140,7 +140,7 @@ fn main() {
     if let Err(why) = linked {
         eprintln!(
             "scrypt_c needs the library libscrypt_c: {why}. Use the crate of a release, which has it; or run make lib in the \
-             repository; or install it (of a release: the package libscrypt-c-dev or install.sh; of the sources: make lib \
+             repository; or install it (of a release: the package libscrypt-c-dev or its archive; of the sources: make lib \
              install); or let SCRYPT_C_LIBRARY name its folder or its file."
         );
         std::process::exit(1);

@@ -2,9 +2,11 @@
 # Tests the Rust crate over the library of build/lib, and its package in a folder of its own. Cargo resolves the
 # optional dependency password-hash in any case, which is Debian's. With the word short: its own tests alone. With the
 # ARCH of Windows: these in Wine, by Debian's compiler, which has Rust's own library for that.
+set -eu
 unset CDPATH
 cd "$(dirname "$0")/../.."
-. bindings/common.sh
+. bindings/arch.sh
+begin_test
 has cargo cargo || exit 0
 registry=/usr/share/cargo/registry
 if ! ls -d $registry/password-hash-0.4* > /dev/null 2>&1; then

@@ -13,7 +13,7 @@ if [ $# = 0 ]; then
 fi
 kit=$(dirname "$(rt doc)")
 kit_c="$kit/c/libos_c.a $kit/c/liblibc_c.a"
-if [ -z "$is_kits" ]; then kit_c="$folder/kit_os.c $folder/../c/kit_heap.c"; fi
+if [ -z "$is_kits" ]; then kit_c="$folder/kit_os.c $folder/../c/kit_heap.c -Dclearing_malloc=malloc -Dclearing_realloc=realloc -Dclearing_free=free"; fi
 object=$(mktemp --suffix=.o)
 trap 'rm -f "$object"' EXIT
 "${tools}objcopy" --redefine-sym read=read_or_ask "$1.o" "$object"

@@ -1,0 +1,17 @@
+/* The library in one translation unit, so that only the calls of the header are seen from outside. */
+#define _GNU_SOURCE
+#include "calls.c"
+#undef BUFFERS
+#include "salt.c"
+#include "hasher.c"
+#include "arena.c"
+#include "groups.c"
+#include "calibrate.c"
+#include "blocks.c"
+#include "clearing.c"
+#ifdef _WIN32
+#include "windows.c"
+#else
+#include "kit_heap.c"
+#include "linux.c"
+#endif

@@ -1,0 +1,19 @@
+#!/bin/sh
+# Makes the object of which only these calls are seen: of an archive that the kit built (its calls get a prefix, one for each level of
+# the processor), or of an object, with the names of a list.
+# usage: seal.sh OUTPUT ARCHIVE PREFIX    or    seal.sh OUTPUT OBJECT -- NAME..
+# NM, OBJCOPY and AR are those of the target.
+set -eu
+names=$(mktemp)
+trap 'rm -f "$names" "$names.o"' EXIT
+output=$1 from=$2 prefix=$3
+shift 3
+if [ "$prefix" = -- ]; then
+  printf '%s\n' "$@" > "$names"
+  exec "$OBJCOPY" --keep-global-symbols="$names" "$from" "$output"
+fi
+"$AR" p "$from" > "$names.o"
+"$NM" -g --defined-only "$names.o" | awk -v prefix="$prefix" '$2 == "T" && $3 ~ /^scrypt_[a-z_]*$/ { print $3, prefix $3 }' > "$names"
+"$OBJCOPY" --redefine-syms="$names" "$names.o"
+sed -i 's/.* //' "$names"
+"$OBJCOPY" --keep-global-symbols="$names" "$names.o" "$output"
