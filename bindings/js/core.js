@@ -1,19 +1,11 @@
 // The proved calls, in memory that is wiped after each of them.
-import { NO_LIMIT, bytesOf, copyOf, lengthOf, limit, optionsOf, parameters, wipeEncoded, withDefaults } from './arguments.js';
+import { NO_LIMIT, bytesOf, copyOf, lengthOf, limit, optionsOf, parameters, withDefaults } from './arguments.js';
 import { SALT_LEN } from './declared.js';
-import { ScryptError, errorFor, outOfMemory } from './errors.js';
+import { ScryptError, errorFor } from './errors.js';
 import { Instance, places } from './instance.js';
 
 const MOST_MEMORY = 2n ** 30n + 2n ** 20n; // N = 2^20 with r = 8
 const TEXT_CAPACITY = 512; // the longest text of a hash, without its salt
-
-function decoded(bytes) {
-  try {
-    return new TextDecoder().decode(bytes);
-  } catch (cause) {
-    throw outOfMemory(cause); // also for a text that is longer than any string of the engine
-  }
-}
 
 /** The calls, which return when they are done. In a page's own thread they are for small N. */
 export class Scrypt {
@@ -66,7 +58,7 @@ export class Scrypt {
       const [textLen] = it.words(1);
       const buffers = it.buffersFor(params, mostBytes, NO_LIMIT);
       it.call(`scrypt_hash_${format}_with_buffers`, ...slices, ...params, keyLen, text, textLen.at, ...buffers);
-      return decoded(it.view(text).subarray(0, it.number(textLen)));
+      return new TextDecoder().decode(it.view(text).subarray(0, it.number(textLen)));
     });
   }
 
@@ -99,26 +91,16 @@ export class Scrypt {
     });
   }
 
-  // Calls the module in an empty memory. All values are bytes before one is placed.
+  // Calls the module in an empty memory. All values are bytes before one is placed. No other call finds the instance meanwhile, and none
+  // later if the engine ended the call inside of the module, at the end of the stack or by a timeout: then it goes with its memory.
   #run(values, work) {
-    const given = [];
-    try {
-      for (const [name, value] of Object.entries(values)) given.push(bytesOf(value, name));
-      return this.#within((it) => work(it, ...given.map((bytes) => it.put(bytes))));
-    } catch (cause) {
-      throw cause instanceof ScryptError ? cause : errorFor(cause, 'INTERNAL', `the module was ended: ${cause.message}`);
-    } finally {
-      wipeEncoded(given, values);
-    }
-  }
-
-  // No other call finds the instance meanwhile. None finds it later if the engine ended the call inside of the module, which takes no other
-  // one then: at the end of the stack, or by a timeout of node:vm, after which no `finally` runs. Then the memory goes with the instance.
-  #within(work) {
+    const given = Object.entries(values).map(([name, value]) => bytesOf(value, name));
     const it = this.#instance ?? new Instance(this.#another());
     this.#instance = undefined;
     try {
-      return work(it);
+      return work(it, ...given.map((bytes) => it.put(bytes)));
+    } catch (cause) {
+      throw cause instanceof ScryptError ? cause : errorFor(cause, 'INTERNAL', `the module was ended: ${cause.message}`);
     } finally {
       it.wipe();
       if (!it.isInside) this.#instance = it;

@@ -3,12 +3,9 @@ import { BUFFER_SIZE, MISMATCH, OUT_OF_MEMORY, WORDS } from './declared.js';
 
 /** Why a call was refused: `code` for programs, `message` for people. Neither holds a secret. */
 export class ScryptError extends Error {
-  // Fields, since an assignment fails if Error.prototype is frozen.
-  name = 'ScryptError';
-  code;
-
   constructor(code, message, options) {
     super(message, options);
+    this.name = 'ScryptError';
     this.code = code;
   }
 }
@@ -26,15 +23,8 @@ export const errorOf = (status, options, more = '') => {
 /** There is no memory for a copy or a table, or the stack ends: `cause` is what the engine threw. */
 export const outOfMemory = (cause) => errorOf(OUT_OF_MEMORY, { cause });
 
-// Firefox throws an InternalError at the end of the stack, and a text where memory ends.
-const EXHAUSTED = [RangeError, globalThis.InternalError ?? RangeError];
-function isExhausted(cause) {
-  try {
-    return typeof cause === 'string' || EXHAUSTED.some((Kind) => cause instanceof Kind);
-  } catch {
-    return false; // a Proxy that the caller threw
-  }
-}
+// Firefox throws an InternalError at the end of the stack.
+const isExhausted = (cause) => cause instanceof RangeError || cause?.name === 'InternalError';
 
 /** The error for what was thrown: another one if that was for want of memory or stack. */
 export const errorFor = (cause, code, message) => (isExhausted(cause) ? outOfMemory(cause) : new ScryptError(code, message, { cause }));

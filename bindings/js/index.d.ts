@@ -59,11 +59,9 @@ export type ErrorCode =
   | 'INVALID_OUTPUT_LEN'
   /** A limit is negative, not a whole number, or above 2 ** 53 - 1, but is not `Infinity`. */
   | 'INVALID_LIMIT'
-  /** An argument has another type than it should, or is missing, or an option cannot be read: `cause` is what its getter threw. */
+  /** An argument has another type than it should, or is missing, or there is no option of that name. */
   | 'INVALID_TYPE'
   | 'LONE_SURROGATE'
-  | 'DETACHED_BUFFER'
-  | 'SHARED_BUFFER'
   /** Also where the stack ends: `cause` is what the engine threw. */
   | 'OUT_OF_MEMORY'
   /** The parameters exceed the limit on memory or on work: the message has what they need, and the limits. */

@@ -50,16 +50,7 @@ async function compileFrom(source) {
     if (source instanceof URL || typeof source === 'string') return await compileAt(String(source));
     return await WebAssembly.compile(source);
   } catch (cause) {
-    throw new ScryptError('LOAD_FAILED', `scrypt.wasm was not loaded: ${messageOf(cause)}`, { cause });
-  }
-}
-
-// What was thrown may be a value of the caller's.
-function messageOf(cause) {
-  try {
-    return String(cause.message);
-  } catch {
-    return 'no reason was given';
+    throw new ScryptError('LOAD_FAILED', `scrypt.wasm was not loaded: ${cause.message}`, { cause });
   }
 }
 

@@ -2,7 +2,6 @@
 import { bytesAmong } from './arguments.js';
 import { ScryptError, outOfMemory } from './errors.js';
 import { compile } from './load.js';
-import { listenTo, onAbort } from './signals.js';
 
 const MOST_WORKERS = Math.max(1, Math.min(globalThis.navigator?.hardwareConcurrency ?? 4, 4));
 const IDLE_MS = 5000; // after which a worker ends, and its memory is free
@@ -33,8 +32,6 @@ function started() {
   worker.onmessage = ({ data }) => answered(worker, data);
   worker.onerror = (event) => end(worker, failed(event));
   worker.onmessageerror = worker.onerror;
-  // Of its own, whatever Object.prototype may have.
-  Object.assign(worker, { call: undefined, module: undefined, timer: undefined });
   workers.add(worker);
   return worker;
 }
@@ -102,22 +99,26 @@ const failed = (cause) =>
   new ScryptError('WORKER_FAILED', `${address()} did not start, or ended: ${cause.message || 'is it there, and allowed here?'}`, { cause });
 
 // Until the call is answered, refused or aborted: also while the module is fetched, and while the call waits for a worker.
-function answer(call, signal) {
-  return new Promise((resolve, reject) => {
+async function answer(call, signal) {
+  const onAbort = () => abort(call, signal.reason);
+  const answered = new Promise((resolve, reject) => {
     const over = (finish) => (value) => {
-      ignore();
-      call.isOver = true;
+      call.isOver = true; // at once: its worker may have another call when the promise goes on
       finish(value);
     };
-    // Later, since an abort that the end of the stack cuts short would leave the call unanswered.
-    const ignore = onAbort(signal, (reason) => queueMicrotask(() => abort(call, reason)));
     Object.assign(call, { resolve: over(resolve), reject: over(reject) });
-    compile().then((module) => {
-      if (call.isOver) return;
-      waiting.add(Object.assign(call, { module }));
-      assign();
-    }, call.reject);
   });
+  signal?.addEventListener('abort', onAbort);
+  compile().then((module) => {
+    if (call.isOver) return;
+    waiting.add(Object.assign(call, { module }));
+    assign();
+  }, call.reject);
+  try {
+    return await answered;
+  } finally {
+    signal?.removeEventListener('abort', onAbort);
+  }
 }
 
 function abort(call, reason) {
@@ -133,7 +134,7 @@ function abort(call, reason) {
 /** Calls a method of Scrypt in a worker. The bytes of `args` are given away. An abort ends the worker. */
 export async function call(name, args, signal) {
   try {
-    listenTo(signal);
+    signal?.throwIfAborted();
     return await answer({ name, args, isOver: false, worker: undefined }, signal);
   } finally {
     for (const it of bytesAmong(args)) if (it.length > 0) it.fill(0); // what no worker was given
