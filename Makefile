@@ -89,7 +89,7 @@ test: kit
 	@python3 -m ci.gate
 
 # Each check runs whatever the others find, so that one run reports every fault.
-DOCUMENTS = lint formats names mirror facts cycles fit promises tests-of-ci tests-of-doc tests-of-compare tests-of-release pages
+DOCUMENTS = lint formats names mirror fit promises tests-of-ci tests-of-doc tests-of-compare tests-of-release pages
 documents:
 	@$(STEP) documents $(MAKE) --no-print-directory --keep-going --output-sync -j$$(nproc) documents-checked
 .PHONY: documents-checked $(DOCUMENTS:%=document-%)
@@ -105,10 +105,6 @@ document-names:
 	@python3 -m ci.docs
 document-mirror:
 	@python3 -m tools.mirror --check
-document-facts:
-	@python3 -m ci.facts
-document-cycles:
-	@python3 -m ci.cycles
 document-fit:
 	@python3 -m ci.wrong_bodies fit
 document-promises:
