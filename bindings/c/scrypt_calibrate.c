@@ -1,11 +1,9 @@
 /* The program scrypt_calibrate: prints parameters that take so many seconds and so much memory on this machine, as scrypt_tool
    takes them. Tested and not proved. */
-#define _POSIX_C_SOURCE 199309L
 #include "scrypt_c.h"
 
 #include <stdio.h>
 #include <stdlib.h>
-#include <time.h>
 
 enum { USAGE = 2, NO_MEMORY = 3, OUTPUT_FAILED = 4 }; /* the statuses of scrypt_tool */
 
@@ -14,31 +12,6 @@ static double number(const char *word, double most) {
   char *end;
   double value = strtod(word, &end);
   return *end == '\0' && value > 0 && value <= most ? value : 0;
-}
-
-static double now(void) {
-  struct timespec time;
-  (void)clock_gettime(CLOCK_MONOTONIC, &time);
-  return (double)time.tv_sec + (double)time.tv_nsec * 1e-9;
-}
-
-/* Warns if one derivation after another, of which the first maps the table, takes other times: then the next result may be another. */
-static void warn_if_busy(uint32_t log_n, uint32_t r) {
-  scrypt_options with = {sizeof with, log_n, r, 1, 0, 0, 0, SIZE_MAX, UINT64_MAX, 0, 1, 1};
-  scrypt_hasher *hasher = scrypt_hasher_new(&with, NULL);
-  double least = 0, greatest = 0;
-  int i;
-  for (i = 0; i < 3 && hasher != NULL; i++) {
-    uint8_t key[SCRYPT_KEY_LEN];
-    double begun = now(), taken;
-    if (scrypt_hasher_key(hasher, "", 0, "", 0, key, sizeof key, -1) != SCRYPT_OK) break;
-    taken = now() - begun;
-    if (i == 1 || (i > 1 && taken < least)) least = taken;
-    if (i > 0 && taken > greatest) greatest = taken;
-  }
-  scrypt_hasher_free(hasher);
-  if (greatest > 1.1 * least)
-    fprintf(stderr, "this machine is busy: the same derivation took %.3g and %.3g seconds\n", least, greatest);
 }
 
 int main(int argc, char **argv) {
@@ -60,7 +33,6 @@ int main(int argc, char **argv) {
     fprintf(stderr, "%s\n", scrypt_status_text(status));
     return NO_MEMORY;
   }
-  warn_if_busy(log_n, r);
   if (printf("%u %lu %lu\n", (unsigned)log_n, (unsigned long)r, (unsigned long)p) < 0 || fflush(stdout) != 0) {
     fputs("output failed\n", stderr);
     return OUTPUT_FAILED;

@@ -1,5 +1,5 @@
 #!/bin/sh
-# Tests the Python package over the library of build/lib, with gevent, Django and passlib if they are here; installs it
+# Tests the Python package over the library of build/lib, with Django and passlib if they are here; installs it
 # into a fresh virtual environment, and builds its wheel. With the word short: its own tests of keys, hashes and the
 # library. With the ARCH of Windows, for which Debian has no Python, it builds the wheel alone.
 set -eu
@@ -49,7 +49,7 @@ if has gcc gcc; then
 fi
 
 # Debian's interpreter, which has Debian's packages.
-for framework in gevent django passlib; do
+for framework in django passlib; do
   if /usr/bin/python3 -c "import $framework" 2> /dev/null; then
     run /usr/bin/python3 test_$framework
     echo "called from $framework $(/usr/bin/python3 -c "import $framework; print($framework.__version__)")"

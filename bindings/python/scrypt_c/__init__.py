@@ -22,7 +22,7 @@ this package is used, or else the one that the system's loader finds.
 """
 
 from .arguments import Bytes, Password
-from .calibration import Calibrated, calibrate
+from .calibration import calibrate
 from .declared import VERSION_STRING
 from .errors import (
     InvalidHashError,
@@ -46,7 +46,6 @@ __all__ = [
     "MOST_WORK",
     "RECOMMENDED",
     "Bytes",
-    "Calibrated",
     "InvalidHashError",
     "InvalidOutputLenError",
     "InvalidParamsError",

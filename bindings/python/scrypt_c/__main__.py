@@ -5,8 +5,7 @@ from __future__ import annotations
 import argparse
 import sys
 import time
-import warnings
-from typing import Any, Optional, Sequence
+from typing import Optional, Sequence
 
 from .calibration import calibrate
 from .declared import KEY_LEN, RECOMMENDED_LOG_N, RECOMMENDED_P, RECOMMENDED_R
@@ -31,14 +30,8 @@ def _options(arguments: Optional[Sequence[str]]) -> argparse.Namespace:
     return options
 
 
-def _print_warning(message: Warning | str, *_: Any) -> None:
-    """In one line, without the place in this file."""
-    print(f"python -m scrypt_c: {message}", file=sys.stderr)
-
-
 def main(arguments: Optional[Sequence[str]] = None) -> None:
     options = _options(arguments)
-    warnings.showwarning = _print_warning
     try:
         given = options.log_n, options.r, options.p, options.l
         params = Params(*given) if options.seconds is None else calibrate(options.seconds)

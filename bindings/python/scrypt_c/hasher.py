@@ -5,7 +5,6 @@ from __future__ import annotations
 import ctypes
 import math
 import threading
-from types import MemberDescriptorType
 from typing import Any, Callable, Literal, NamedTuple, Optional, Union
 
 from . import declared, library
@@ -111,8 +110,7 @@ class PasswordHasher:
     def __reduce__(self) -> tuple[Callable[..., PasswordHasher], tuple[Any, ...], Any]:
         """A copy, also in another process, is a new hasher with the same arguments, and the attributes of a subclass."""
         attributes = {name: value for name, value in vars(self).items() if name != "_c"}
-        slots = _slots(self)
-        return _copied, (type(self), self._params, self._options), (attributes, slots) if slots else attributes
+        return _copied, (type(self), self._params, self._options), attributes
 
     def close(self) -> None:
         """Frees the memory that is kept. Derivations that have begun go on; those that wait, and later ones, raise
@@ -168,14 +166,6 @@ class PasswordHasher:
         if status == KEY_TOO_SHORT:
             check(status, f"its length is {needs.key_len}, and at least {most.least_key_len} is required")
         check_costs(status, needs, most.most_bytes, most.most_work)
-
-
-def _slots(hasher: PasswordHasher) -> dict[str, Any]:
-    """The attributes that are in `__slots__` of a subclass. Their names are those of the class's members, since Python
-    changes private ones."""
-    kinds = [vars(kind) for kind in type(hasher).__mro__ if "__slots__" in vars(kind)]
-    names = [name for kind in kinds for name, it in kind.items() if isinstance(it, MemberDescriptorType)]
-    return {name: getattr(hasher, name) for name in names if hasattr(hasher, name)}
 
 
 def _copied(kind: type[PasswordHasher], params: Params, options: dict[str, Any]) -> PasswordHasher:

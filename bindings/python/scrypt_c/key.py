@@ -47,7 +47,7 @@ def derive_within(password: bytes, salt: bytes, params: Params, most_bytes: int,
 
 def _made(password: bytes, salt: bytes, params: Params, most_bytes: Optional[int], most_work: int, dklen: int) -> bytes:
     """The key, within these bounds; None is the bound on several tables that the library has."""
-    key = _buffer(dklen)
+    key = ctypes.create_string_buffer(dklen)
     given = password, len(password), salt, len(salt), *accepted(*params[:3])
     if most_bytes is None:
         status = library.key(*given, key, dklen)
@@ -61,10 +61,3 @@ def _made(password: bytes, salt: bytes, params: Params, most_bytes: Optional[int
     made = key.raw
     ctypes.memset(key, 0, dklen)
     return made
-
-
-def _buffer(size: int) -> ctypes.Array[ctypes.c_char]:
-    try:
-        return ctypes.create_string_buffer(size)
-    except MemoryError:
-        raise MemoryError(f"out of memory: the key needs {size} bytes") from None

@@ -55,16 +55,7 @@ _types = declared.calls(Hasher) | {"PyObject_GC_UnTrack": ([ctypes.py_object], N
 def _declared(name: str, library: ctypes.CDLL = _lib) -> Any:
     call = getattr(library, name)
     call.argtypes, call.restype = _types[name]
-
-    def called(*given: object) -> Any:
-        try:
-            return call(*given)
-        except ctypes.ArgumentError as error:  # which ctypes makes of any exception while it converts an argument
-            if "RecursionError" in str(error):
-                raise RecursionError("maximum recursion depth exceeded") from None
-            raise
-
-    return called
+    return call
 
 
 params_need = _declared("scrypt_params_need")

@@ -47,18 +47,6 @@ class Hashes(unittest.TestCase):
                 self.assertRaises(error, SMALL.verify, of, "PW")
             read.assert_not_called()
 
-    def test_types_that_lie(self):
-        """A subclass of bytes or str is what its buffer has, whatever its methods return."""
-        secret, text = "pw", SMALL.hash("pw")
-        for call, why in [
-            (lambda: SMALL.verify(LyingBytes(text, "ascii"), LyingBytes(secret, "ascii")), "bytes"),
-            (lambda: SMALL.verify(LyingStr(text), LyingStr(secret)), "str"),
-            (lambda: SMALL.verify(SMALL.hash(secret, salt=LyingBytes(b"salt")), secret), "a salt"),
-            (lambda: scrypt_c.scrypt(LyingBytes(b"pw"), salt=LyingBytes(b"salt"), n=16, r=8, p=1)
-             == scrypt_c.scrypt(b"pw", salt=b"salt", n=16, r=8, p=1), "a key"),
-        ]:
-            self.assertTrue(call(), why)
-
     def test_a_lone_surrogate(self):
         text = SMALL.hash("pw")
         refuse_a_lone_surrogate(self, SMALL.hash, lambda password: SMALL.verify(text, password))
@@ -73,22 +61,6 @@ def refuse_a_lone_surrogate(test, *calls):
             error = caught.exception
             test.assertNotIn("hunter", f"{error!r} {error} {vars(error)} {getattr(error, 'object', '')}")
             test.assertEqual((error.__context__, error.__cause__), (None, None))
-
-
-class LyingBytes(bytes):
-    def __len__(self):
-        return 1 << 30
-
-    def __bytes__(self):
-        return b"other"
-
-
-class LyingStr(str):
-    def __len__(self):
-        return 1 << 30
-
-    def encode(self, *_, **more):
-        return LyingBytes(b"other")
 
 
 if __name__ == "__main__":

@@ -1,13 +1,9 @@
 """scrypt: RFC 7914's keys, hashlib's, and memory. test_refused.py has what is refused."""
 
 import hashlib
-import itertools
 import os
-import pickle
 import resource
 import unittest
-import warnings
-from unittest import mock
 
 import scrypt_c
 from scrypt_c import key
@@ -23,13 +19,6 @@ def limited(call):
         return call()
     finally:
         resource.setrlimit(resource.RLIMIT_AS, before)
-
-
-def calibrated(*arguments):
-    """What calibrate returns, on a machine that may be busy."""
-    with warnings.catch_warnings():
-        warnings.simplefilter("ignore")
-        return scrypt_c.calibrate(*arguments)
 
 
 def peak(of_now=True):
@@ -84,7 +73,7 @@ class Keys(unittest.TestCase):
                 key.derive_within(*given, *bounds, 32)
 
     def test_a_long_key(self):
-        with self.assertRaisesRegex(MemoryError, rf"\b{1 << 36} bytes"):
+        with self.assertRaises(MemoryError):
             limited(lambda: scrypt_c.scrypt(b"", salt=b"", dklen=1 << 36, **SMALL))
 
     def test_types(self):
@@ -97,42 +86,10 @@ class Keys(unittest.TestCase):
             (60, (16 << 20) - 1, 13, "a byte less"),
             (1e9, 1 << 20, 10, "more than the greatest p"),
         ]:
-            params = calibrated(seconds, most_bytes)
+            params = scrypt_c.calibrate(seconds, most_bytes)
             self.assertEqual((params.log_n, params.r), (log_n, 8), why)
             self.assertEqual(scrypt_c.PasswordHasher(*params, most_work=1 << 64).params, params, why)
-            self.assertIn(f"key_len=32, seconds={params.seconds:.3g})", repr(params), why)
-            self.assertEqual(pickle.loads(pickle.dumps(params)).seconds, params.seconds, why)
-        self.assertLess(calibrated(0.02, 1 << 30).log_n, 17, "the time is less than the memory would take")
-
-    def test_calibrate_warns(self):
-        """Of a result that may be another one the next time, by the times that it measured."""
-        for seconds, times, p, words in [
-            (1.5, [9.0, 1.0, 1.0], 1, None),  # the first one maps the table
-            (1.5, [1.0, 1.0, 1.09], 1, None),
-            (1.5, [1.0, 1.0, 1.2], 1, "the same derivation took 1 and 1.2 seconds"),
-            (1.05, [1.0, 1.0, 1.0], 1, "1.05 seconds are close to a step"),
-            (1.95, [1.0, 1.0, 1.0], 1, "seconds=1) take 1 seconds, and the next step takes 2"),
-            (0.95, [1.0, 1.0, 1.0], 1, "close to a step"),  # slower than a moment before
-            (7.5, [1.0, 1.0, 1.0], 7, None),
-            (7.95, [1.0, 1.0, 1.0], 7, "seconds=7) take 7 seconds, and the next step takes 8"),
-        ]:
-            clock = iter(itertools.accumulate(itertools.chain.from_iterable((0.0, it) for it in times)))
-
-            def found(_, __, *places):
-                for place, value in zip(places, (10, 8, p)):
-                    place.value = value
-                return 0
-
-            with mock.patch("scrypt_c.calibration.library.calibrate", found), \
-                    mock.patch("scrypt_c.calibration.time.perf_counter", lambda: next(clock)), \
-                    warnings.catch_warnings(record=True) as caught:
-                warnings.simplefilter("always")
-                params = scrypt_c.calibrate(seconds)
-            self.assertEqual((params.p, params.seconds), (p, p * min(times[1:])))
-            self.assertEqual(len(caught), 0 if words is None else 1, (seconds, times))
-            for it in caught:
-                self.assertIn(words, str(it.message))
-                self.assertEqual(it.filename, __file__, "the line of the caller")
+        self.assertLess(scrypt_c.calibrate(0.02, 1 << 30).log_n, 17, "the time is less than the memory would take")
 
     def test_params(self):
         self.assertEqual(scrypt_c.Params(17, 8, 1).memory, 134_220_800)

@@ -75,7 +75,7 @@ class Library(unittest.TestCase):
             ("-n 0", 2, "-n is positive, not 0", "nothing to measure"),
             ("-r x", 2, "invalid int value: 'x'", "no number"),
         ]:
-            command = [sys.executable, "-W", "always", "-m", "scrypt_c", *arguments.split()]
+            command = [sys.executable, "-m", "scrypt_c", *arguments.split()]
             run = subprocess.run(command, capture_output=True, text=True)
             self.assertEqual((run.returncode, words in run.stdout + run.stderr), (code, True), f"{why}: {run}")
             if code < 2:  # a warning that the machine is busy, too
