@@ -150,7 +150,6 @@ lib: kit
 linked:
 	@mkdir -p build && cd bindings/c && cmake --preset $(PRESET) > ../../build/cmake.log || { cat ../../build/cmake.log; exit 1; }
 	@cmake --build build/$(PRESET) -- --quiet
-	@$(if $(filter native,$(PRESET)),cd bindings/rust && sha256sum libscrypt_c.a scrypt_c.h > SHA256SUMS)
 	@$(if $(filter arm64,$(PRESET)),if [ -e crates/scrypt_tool/out/arm64/scrypt_tool.o ]; then $(TERMINAL); fi)
 
 js: kit

@@ -93,7 +93,6 @@ mkdir "$parts/cargo"
 cp release/cargo.toml "$parts/cargo/config.toml"
 export CARGO_HOME="$parts/cargo" CARGO_TARGET_DIR="$parts/cargo"
 cp release/NOTICES "$parts/PROVED.txt" build/lib/scrypt_c.h bindings/rust
-(cd bindings/rust && sha256sum libscrypt_c*.a scrypt_c.h > SHA256SUMS)
 (cd bindings/rust && cargo package --quiet --offline --no-verify --allow-dirty)
 cp "$parts"/cargo/package/*.crate "$dist"
 

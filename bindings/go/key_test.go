@@ -47,17 +47,6 @@ func TestRefusedKeys(t *testing.T) {
 	}
 }
 
-func TestAKeyThatNoMemoryHolds(t *testing.T) {
-	limitMemory(t, 8<<30)
-	key, err := Key(nil, nil, 16, 8, 1, 1<<36)
-	if !errors.Is(err, ErrOutOfMemory) || key != nil {
-		t.Errorf("64 GiB: %d bytes, %v", len(key), err)
-	}
-	if key, err := Key(nil, nil, 16, 8, 1, 1<<21); err != nil || len(key) != 1<<21 {
-		t.Errorf("2 MiB: %d bytes, %v", len(key), err)
-	}
-}
-
 // Each status of the header has words, and is an error of this package of the same name unless it cannot come here.
 func TestStatusesOfTheHeader(t *testing.T) {
 	header, err := os.ReadFile("scrypt_c.h")

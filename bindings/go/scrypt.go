@@ -98,7 +98,7 @@ func (params Params) Work() uint64 {
 	return uint64(needs.work)
 }
 
-// Key returns the key of keyLen bytes of a password and a salt. N is a power of two. To errors.Is the errors are
+// Key returns the key of keyLen bytes of a password and a salt. N is a power of two. If keyLen comes from a file, bound it. To errors.Is the errors are
 // ErrInvalidParams, ErrInvalidOutputLen, and ErrOutOfMemory if the memory for the table or for the key is not available.
 func Key(password, salt []byte, N, r, p, keyLen int) ([]byte, error) {
 	params := Params{LogN: bits.TrailingZeros(uint(N)), R: r, P: p}
@@ -120,14 +120,10 @@ func Key(password, salt []byte, N, r, p, keyLen int) ([]byte, error) {
 	return key, nil
 }
 
-// newKey returns n bytes, ErrInvalidOutputLen or ErrOutOfMemory. It asks the system before, because make crashes the
-// process if memory runs out.
+// newKey returns n bytes, or ErrInvalidOutputLen. As elsewhere in Go, the process ends if memory runs out.
 func newKey(n int) ([]byte, error) {
 	if n < 1 || n > C.SCRYPT_MAX_OUTPUT_LEN {
 		return nil, ErrInvalidOutputLen
-	}
-	if n > 1<<20 && !hasMemory(n) {
-		return nil, ErrOutOfMemory
 	}
 	return make([]byte, n), nil
 }

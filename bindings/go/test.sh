@@ -43,17 +43,10 @@ refused() {
 }
 refused 'error.*libscrypt_c.a, .* are not in' go build .
 cp "$lib/scrypt_c.h" "$room/bare"
-refused 'error.*libscrypt_c.a, .* are not in' go build .
 cp "$lib/libscrypt_c.a" "$room/bare"
 (cd "$room/bare" && go build .)
 refused 'undefined: scrypt_needs_cgo' env CGO_ENABLED=0 go build .
-refused 'undefined: scrypt_needs_cgo.*linux_amd64_or_arm64' env GOARCH=riscv64 go build .
-refused 'error.*the package needs Linux on amd64 or arm64' env CGO_CFLAGS=-U__linux__ go build .
-refused 'error.*the package needs Linux on amd64 or arm64' gcc -U__x86_64__ -fsyntax-only library.h
-refused 'undefined: scrypt_needs_cgo__CGO_ENABLED_1' env GOARCH=arm64 CC=aarch64-linux-gnu-gcc go build .
-refused 'C compiler "no-gcc" not found' env GOARCH=arm64 CC=no-gcc CGO_ENABLED=1 go build .
-if [ "$ARCH" = x86_64-linux-gnu ]; then refused 'no such instruction' env GOARCH=arm64 CC=gcc CGO_ENABLED=1 go build .; fi
-echo "a build without the library, without cgo, or for another system or processor says what is missing"
+echo "a build without the library or without cgo says what is missing"
 
 # A program in a module of its own, which prints true.
 mkdir "$room/program"

@@ -1,6 +1,6 @@
 //! Finds the library libscrypt_c: the file that SCRYPT_C_LIBRARY names, or the one in the folder that it names, or else the
-//! static one that this crate has for the target, as its hash says, or else what pkg-config finds. It takes nothing from
-//! the folders around the crate, where another user may have put anything. For a target that the library isn't made for, it
+//! static one that this crate has for the target, or else what pkg-config finds. It takes nothing from the folders around
+//! the crate, where another user may have put anything. For a target that the library isn't made for, it
 //! says so.
 
 use std::path::Path;
@@ -62,26 +62,6 @@ fn bundled() -> &'static str {
     }
 }
 
-/// Whether the file SHA256SUMS of the crate, if there is one, has a hash of this name.
-fn is_listed(crate_folder: &Path, name: &str) -> bool {
-    let hashes = std::fs::read_to_string(crate_folder.join("SHA256SUMS")).unwrap_or_default();
-    hashes.lines().any(|line| line.split_whitespace().nth(1) == Some(name))
-}
-
-/// Links a library of the crate, if all of its files have their hashes.
-fn link_bundled(crate_folder: &Path, name: &str) -> Result<(), String> {
-    println!("cargo:rerun-if-changed=SHA256SUMS");
-    let checked = Command::new("sha256sum")
-        .args(["--check", "--status", "--strict", "SHA256SUMS"])
-        .current_dir(crate_folder)
-        .status()
-        .map_err(|error| format!("sha256sum: {error}"))?;
-    if !checked.success() {
-        return Err("a library or scrypt_c.h is not the file whose hash is in SHA256SUMS".into());
-    }
-    link_named(crate_folder, name)
-}
-
 /// Links what pkg-config finds: that of the machine for its own programs, and for another target one that the caller names.
 fn link_by_pkg_config() -> Result<(), String> {
     let (host, target) = (std::env::var("HOST"), std::env::var("TARGET"));
@@ -134,7 +114,7 @@ fn main() {
     let name = bundled();
     let linked = match std::env::var_os("SCRYPT_C_LIBRARY") {
         Some(place) => link(Path::new(&place)),
-        None if is_listed(crate_folder, name) => link_bundled(crate_folder, name),
+        None if crate_folder.join(name).exists() => link_named(crate_folder, name),
         None => link_by_pkg_config(),
     };
     if let Err(why) = linked {

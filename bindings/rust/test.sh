@@ -17,7 +17,6 @@ export CARGO_TARGET_DIR="$room/target" CARGO_HOME="$room/cargo"
 unset SCRYPT_C_LIBRARY
 cp "$lib/libscrypt_c.a" "bindings/rust/$bundled"
 cp "$lib/scrypt_c.h" bindings/rust/
-(cd bindings/rust && sha256sum "$bundled" scrypt_c.h > SHA256SUMS)
 mkdir "$CARGO_HOME"
 cat > "$CARGO_HOME/config.toml" << CONFIG
 [net]
@@ -68,9 +67,7 @@ echo "no warning by cargo doc, rustfmt and clippy"
   . bindings/arch.sh
   if [ -e "$build/lib/libscrypt_c.a" ]; then cp "$build/lib/libscrypt_c.a" "bindings/rust/$bundled"; fi
 done)
-(cd bindings/rust && sha256sum libscrypt_c*.a scrypt_c.h > SHA256SUMS)
-# The package, built elsewhere: whole, and refused if its library is another one, or if it has none. What another user put
-# around it is not taken.
+# The package, built elsewhere: whole, and refused if it has no library. What another user put around it is not taken.
 crate package --allow-dirty
 mkdir -p "$room/elsewhere/build"
 tar -xzf "$room"/target/package/scrypt_c-*.crate -C "$room/elsewhere"
@@ -98,16 +95,10 @@ if [ -e "$OLDPWD/bindings/rust/libscrypt_c_arm64.a" ]; then
 else
   echo "the library for arm64 is not built: not packaged"
 fi
-echo >> libscrypt_c.a
-refused 'is not the file whose hash is in SHA256SUMS' PKG_CONFIG=false
-rm libscrypt_c.a
-refused 'is not the file whose hash is in SHA256SUMS' PKG_CONFIG=false
-rm SHA256SUMS
+rm libscrypt_c*.a
 refused 'SCRYPT_C_LIBRARY' PKG_CONFIG=false
 refused 'libscrypt-c-dev' PKG_CONFIG=false
-for target in x86_64-pc-windows-msvc i686-pc-windows-gnu aarch64-apple-darwin riscv64gc-unknown-linux-gnu x86_64-unknown-linux-gnux32 aarch64-linux-android; do
-  refused "with the GNU tools, not for $target" CARGO_BUILD_TARGET=$target
-done
+refused 'with the GNU tools, not for aarch64-apple-darwin' CARGO_BUILD_TARGET=aarch64-apple-darwin
 refused 'false does not find scrypt_c' $arm64 PKG_CONFIG=false
 SCRYPT_C_LIBRARY="$lib" cargo run --quiet --example hash > "$room/log"
 cd "$OLDPWD"
