@@ -16,7 +16,7 @@ void arena_free(struct arena *arena) {
   arena->room = 0;
 }
 
-size_t arena_room(struct arena *arena, const scrypt_needs *one, size_t most, int is_for_children) {
+size_t arena_room(struct arena *arena, const scrypt_needs *one, size_t most) {
   for (; most > 0; most--) {
     if (one->bytes <= arena->room / most) return most;
     arena_free(arena);
@@ -24,7 +24,7 @@ size_t arena_room(struct arena *arena, const scrypt_needs *one, size_t most, int
     arena->mapping = (uint8_t *)map_zeros(most * one->bytes + HUGE_PAGE);
     if (arena->mapping == NULL) continue;
     arena->room = most * one->bytes;
-    if (!is_for_children) leave_out_of_child(arena->mapping, arena->room + HUGE_PAGE);
+    leave_out_of_child(arena->mapping, arena->room + HUGE_PAGE);
     /* The rest of the last huge page is left out, so that it takes no whole one. */
     ask_for_huge_pages(front_of(arena), arena->room / HUGE_PAGE * HUGE_PAGE);
     return most;

@@ -11,9 +11,8 @@ struct arena {
 };
 
 /* Makes room for `most` derivations in a table each, or for as many as the system allows, and returns how many: 0 if not even one. What
- * it held is lost. If it is not for children too, a child of a fork doesn't have the mapping: so the arena is in memory that is zeros
- * there. */
-size_t arena_room(struct arena *arena, const scrypt_needs *one, size_t most, int is_for_children);
+ * it held is lost. A child of a fork doesn't have it: so the arena is in memory that is zeros there. */
+size_t arena_room(struct arena *arena, const scrypt_needs *one, size_t most);
 
 /* Buffers for `logins` with the same needs, in `count` tables, for which there is room. */
 struct buffers arena_buffers(const struct arena *arena, const scrypt_needs *one, size_t count, size_t logins);

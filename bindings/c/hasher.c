@@ -229,7 +229,7 @@ static void lead(scrypt_hasher *hasher, struct call *call) {
     count = gather(hasher, group, count, most);
   }
   give_mutex(&queue->lock);
-  tables = arena_room(&call->turn->arena, needs, tables < count * needs->p ? tables : count * needs->p, 0);
+  tables = arena_room(&call->turn->arena, needs, tables < count * needs->p ? tables : count * needs->p);
   each = tables > needs->p ? tables / needs->p : 1; /* fewer than there are, if there is less room */
   for (i = 0; i < count && tables > 0; i += each) {
     size_t some = each < count - i ? each : count - i;

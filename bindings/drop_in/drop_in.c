@@ -1,8 +1,7 @@
 /* The names of other libraries, over this one: scrypt of libscrypt-kdf and of libscrypt, and libsodium's
- * crypto_pwhash_scryptsalsa208sha256 with its own limits and its own choice of N, r and p. Each call allocates its memory, or
- * with SCRYPT_KEEP_MEMORY=1 in the environment takes that of its thread, which is kept. Not proved. */
+ * crypto_pwhash_scryptsalsa208sha256 with its own limits and its own choice of N, r and p. Not proved. */
 #define _GNU_SOURCE
-#include "kept.h"
+#include "groups.h"
 
 #include <errno.h>
 #include <stdlib.h>
@@ -31,47 +30,13 @@ static int overlap(const uint8_t *a, size_t a_len, const uint8_t *b, size_t b_le
   return a_len > 0 && b_len > 0 && (uintptr_t)a < (uintptr_t)b + b_len && (uintptr_t)b < (uintptr_t)a + a_len;
 }
 
-/* The memory of a call: one table, as the libraries of these names have, and not more that might not be there. What its thread
- * keeps, or, for p of 2 or more, of this call; with p of 1 the calls of this library have one table themselves. */
-struct memory {
-  struct arena *arena, of_call; /* NULL if there is none */
-};
-
-static void begin(struct memory *it, uint32_t p) {
-  memset(it, 0, sizeof *it);
-  it->arena = kept_take();
-  if (it->arena == NULL && p > 1) it->arena = &it->of_call;
-}
-
-/* Buffers of no length if there is no room. */
-static struct buffers room(struct memory *it, uint32_t log_n, uint32_t r, uint32_t p) {
-  struct buffers none = {NULL, NULL, NULL, 0, 0, 0};
+/* In one table, as the libraries of these names have, and not more that might not be there. */
+static int derive_in_one(const uint8_t *password, size_t password_len, const uint8_t *salt, size_t salt_len, uint8_t log_n,
+                         uint32_t r, uint32_t p, uint8_t *output, size_t output_len) {
   scrypt_needs needs;
-  if (it->arena == NULL || scrypt_params_need(log_n, r, p, SIZE_MAX, UINT64_MAX, &needs) != SCRYPT_OK) return none;
-  return arena_room(it->arena, &needs, 1, 1) > 0 ? arena_buffers(it->arena, &needs, 1, 1) : none;
-}
-
-static int end(struct memory *it, int status) {
-  if (it->arena != NULL && it->arena != &it->of_call) kept_give(it->arena);
-  arena_free(&it->of_call);
-  return status;
-}
-
-static int derive_in_memory(const uint8_t *password, size_t password_len, const uint8_t *salt, size_t salt_len,
-                            uint8_t log_n, uint32_t r, uint32_t p, uint8_t *output, size_t output_len) {
-  struct memory it;
-  int status;
-  struct buffers of;
-  begin(&it, p);
-  of = room(&it, log_n, r, p);
-  if (of.table_len == 0) status = scrypt_key(password, password_len, salt, salt_len, log_n, r, p, output, output_len);
-  else status = key_in_buffers(password, password_len, salt, salt_len, log_n, r, p, output, output_len, &of);
-  return end(&it, status);
-}
-
-/* memcpy would leave a part of the key in registers of vectors. */
-static void copy(volatile uint8_t *to, const uint8_t *from, size_t len) {
-  while (len-- > 0) *to++ = *from++;
+  int status = scrypt_params_need(log_n, r, p, SIZE_MAX, UINT64_MAX, &needs);
+  if (status != SCRYPT_OK) return status;
+  return scrypt_key_within(password, password_len, salt, salt_len, log_n, r, p, needs.bytes, UINT64_MAX, output, output_len);
 }
 
 /* The key, if the parameters are within the limits of these libraries, which take an output of 0 bytes, and one that
@@ -83,14 +48,14 @@ static int derive_key(const uint8_t *password, size_t password_len, const uint8_
   if (overlap(password, password_len, output, output_len) || overlap(salt, salt_len, output, output_len)) {
     uint8_t *apart = malloc(output_len);
     if (apart == NULL) return SCRYPT_OUT_OF_MEMORY;
-    status = derive_in_memory(password, password_len, salt, salt_len, log_n, r, p, apart, output_len);
-    if (status == SCRYPT_OK) copy(output, apart, output_len);
+    status = derive_in_one(password, password_len, salt, salt_len, log_n, r, p, apart, output_len);
+    if (status == SCRYPT_OK) memcpy(output, apart, output_len);
     explicit_bzero(apart, output_len);
     free(apart);
     return status;
   }
-  if (output_len == 0) return derive_in_memory(password, password_len, salt, salt_len, log_n, r, p, &one_byte, 1);
-  return derive_in_memory(password, password_len, salt, salt_len, log_n, r, p, output, output_len);
+  if (output_len == 0) return derive_in_one(password, password_len, salt, salt_len, log_n, r, p, &one_byte, 1);
+  return derive_in_one(password, password_len, salt, salt_len, log_n, r, p, output, output_len);
 }
 
 static int derive(const uint8_t *password, size_t password_len, const uint8_t *salt, size_t salt_len, uint64_t n,
@@ -172,21 +137,6 @@ static int has_costs(const char *text) {
   return strncmp(text, "$7$", 3) == 0 && strspn(text + 3, LETTERS) >= 11;
 }
 
-static int hash_in_memory(const char *password, size_t password_len, const uint8_t salt[SALT_LEN], uint8_t log_n,
-                          uint32_t r, uint32_t p, char text[TEXT_LEN + 1]) {
-  struct memory it;
-  int status;
-  struct buffers of;
-  begin(&it, p);
-  of = room(&it, log_n, r, p);
-  if (of.table_len == 0)
-    status = scrypt_hash_mcf(password, password_len, salt, SALT_LEN, log_n, r, p, KEY_LEN, text, TEXT_LEN + 1);
-  else
-    status = scrypt_hash_mcf_with_buffers(password, password_len, salt, SALT_LEN, log_n, r, p, KEY_LEN, text, TEXT_LEN + 1,
-                                          of.chunks, of.chunks_len, of.table, of.table_len, of.scratch, of.scratch_len);
-  return end(&it, status);
-}
-
 API int crypto_pwhash_scryptsalsa208sha256_str(char text[TEXT_LEN + 1], const char *password,
                                                unsigned long long password_len, unsigned long long work,
                                                size_t memory) {
@@ -198,25 +148,10 @@ API int crypto_pwhash_scryptsalsa208sha256_str(char text[TEXT_LEN + 1], const ch
   choose(work, memory, &log_n, &r, &p);
   if (log_n > MOST_LOG_N) return refused(EINVAL);
   if (scrypt_draw_salt(salt, sizeof salt) != SCRYPT_OK) return refused(EIO);
-  if (hash_in_memory(password, (size_t)password_len, salt, log_n, r, p, made) != SCRYPT_OK)
+  if (scrypt_hash_mcf(password, (size_t)password_len, salt, SALT_LEN, log_n, r, p, KEY_LEN, made, sizeof made) != SCRYPT_OK)
     return refused(EINVAL); /* if memory ran out too, as libsodium does */
   memcpy(text, made, sizeof made);
   return 0;
-}
-
-static int verify_in_memory(const char *password, size_t password_len, const char *text) {
-  uint32_t log_n = 0, r = 0, p = 0; /* for which there is no room, if the text cannot be read */
-  size_t key_len;
-  struct memory it;
-  int status = scrypt_hash_params(text, TEXT_LEN, &log_n, &r, &p, &key_len);
-  struct buffers of;
-  begin(&it, p);
-  of = room(&it, log_n, r, p);
-  if (of.table_len == 0) status = scrypt_verify(password, password_len, text, TEXT_LEN);
-  else
-    status = scrypt_verify_with_buffers(password, password_len, text, TEXT_LEN, of.chunks, of.chunks_len, of.table, of.table_len,
-                                        of.scratch, of.scratch_len);
-  return end(&it, status);
 }
 
 API int crypto_pwhash_scryptsalsa208sha256_str_verify(const char text[TEXT_LEN + 1], const char *password,
@@ -226,7 +161,7 @@ API int crypto_pwhash_scryptsalsa208sha256_str_verify(const char text[TEXT_LEN +
   if (!has_costs(text) || text[KEY_AT - 1] != '$') return -1;
   log_n = strchr(LETTERS, text[3]) - LETTERS;
   if (log_n == 0 || log_n > MOST_LOG_N) return -1;
-  return verify_in_memory(password, (size_t)password_len, text) == SCRYPT_OK ? 0 : -1;
+  return scrypt_verify(password, (size_t)password_len, text, TEXT_LEN) == SCRYPT_OK ? 0 : -1;
 }
 
 /* Whether the costs of the text are others than these limits ask for, greater ones too. */

@@ -34,8 +34,6 @@ fi
 # The names of other libraries, beside those of them that are here.
 if has python3 python3; then
   python3 -B bindings/drop_in/test_drop_in.py "$ours"
-  SCRYPT_KEEP_MEMORY=1 python3 -B bindings/drop_in/test_drop_in.py "$ours" > /dev/null
-  echo "the same with memory that each thread keeps"
 fi
 if [ "${1:-}" = short ]; then exit; fi
 

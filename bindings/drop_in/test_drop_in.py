@@ -2,7 +2,6 @@
 if those are installed. The answers in the tables are theirs.
 """
 
-import contextlib
 import ctypes
 import ctypes.util
 import errno
@@ -10,10 +9,7 @@ import hashlib
 import os
 import random
 import resource
-import signal
 import sys
-import threading
-import time
 
 P, Z, U64, U32 = ctypes.c_char_p, ctypes.c_size_t, ctypes.c_uint64, ctypes.c_uint32
 PWHASH = "crypto_pwhash_scryptsalsa208sha256"
@@ -235,68 +231,6 @@ def nulls():
     assert text.raw == b"\7" * 102, "a refused call leaves the text"
 
 
-def kept():
-    """On a thread, the memory of a call is given back, or kept if the environment asks for it, until the thread ends."""
-    is_kept = os.environ.get("SCRYPT_KEEP_MEMORY") == "1"
-
-    def faults():
-        before = resource.getrusage(resource.RUSAGE_THREAD).ru_minflt
-        assert by_costs(ours, "crypto_scrypt", b"pw", b"salt", 1 << 15, 8, 1, 64)[0] == 0
-        return resource.getrusage(resource.RUSAGE_THREAD).ru_minflt - before
-
-    def resident():
-        with open("/proc/self/statm", encoding="ascii") as file:
-            return int(file.read().split()[1]) * resource.getpagesize() >> 20
-
-    seen = []
-    thread = threading.Thread(target=lambda: seen.extend([resident(), faults(), faults(), resident()]))
-    thread.start()
-    thread.join()
-    before, first, second, after = seen
-    assert (second < first / 2) == is_kept or first < 10, f"{first} and {second} page faults"
-    assert (after - before >= 30) == is_kept, f"{before} and {after} MiB"
-    until = time.monotonic() + 10  # the thread ends some time after it was joined
-    while resident() - before >= 30:
-        assert time.monotonic() < until, "what a thread kept is unmapped when it ends"
-
-
-def forked():
-    """A child that a signal handler forks during a call gets the answer that its parent gets."""
-    libc, parent, costs = ctypes.CDLL(None), os.getpid(), (b"pw", b"salt", 1 << 12, 8, 4, 64)
-    key, text = by_costs(ours, "crypto_scrypt", *costs), text_of(12, 8, 4)
-    libc.signal(signal.SIGALRM, libc.fork)
-    for at in range(1, 40):
-        signal.setitimer(signal.ITIMER_REAL, at / 4000)
-        are_right = by_costs(ours, "crypto_scrypt", *costs) == key and verified(ours, text, b"pw")
-        if os.getpid() != parent:
-            os._exit(not are_right)
-        assert are_right
-    signal.setitimer(signal.ITIMER_REAL, 0)
-    libc.signal(signal.SIGALRM, None)
-    if os.getpid() != parent:  # forked after the last look
-        os._exit(0)
-    children = []
-    with contextlib.suppress(ChildProcessError):
-        while True:
-            children.append(os.wait()[1])
-    assert len(children) > 10 and not any(children), children
-
-
-def derived_in_a_handler():
-    """A signal handler that derives during a call of its own thread changes neither key."""
-    outer, inner = (b"pw", b"salt", 1 << 13, 8, 4, 64), (b"other", b"salt", 1 << 12, 8, 4, 64)
-    keys = [by_costs(ours, "crypto_scrypt", *costs) for costs in (outer, inner)]
-    seen = []
-    derive = ctypes.CFUNCTYPE(None, ctypes.c_int)(lambda _: seen.append(by_costs(ours, "crypto_scrypt", *inner)))
-    ctypes.CDLL(None).signal(signal.SIGALRM, derive)
-    for at in range(1, 9):
-        signal.setitimer(signal.ITIMER_REAL, at / 400)
-        assert by_costs(ours, "crypto_scrypt", *outer) == keys[0], "a key that a handler changed"
-    signal.setitimer(signal.ITIMER_REAL, 0)
-    ctypes.CDLL(None).signal(signal.SIGALRM, None)
-    assert len(seen) > 4 and all(it == keys[1] for it in seen), "a key of a handler"
-
-
 def one_table():
     """As the libraries of these names, each call has one table, whatever p is."""
     text = text_of(14, 8, 4)
@@ -313,7 +247,7 @@ def one_table():
         assert mib < 24, f"{name}: {mib} MiB for a table of 16"
 
 
-for test in (keys, overlapping, choices, limits, texts, nulls, kept, forked, derived_in_a_handler, one_table):
+for test in (keys, overlapping, choices, limits, texts, nulls, one_table):
     test()
 for name, theirs, package in [
     (PWHASH, sodium, "libsodium23"),
