@@ -17,9 +17,7 @@ with open(f"{TOP}/VERSION", encoding="ascii") as file:
 KEY, HASH, VERIFY = "key 4 1 1 16 ", "hash phc 4 1 1 4e61436c", f"verify {HASHLIB}"
 ONCE, TWICE = ["Password: "], ["Password: ", "The same again: "]
 
-# All but those that can't be handled, that only stop a program, that do nothing, and that this program ignores.
-OTHERS = "KILL", "STOP", "TSTP", "TTIN", "TTOU", "CONT", "CHLD", "URG", "WINCH", "PIPE"
-ENDING = signal.valid_signals() - {getattr(signal, f"SIG{it}") for it in OTHERS}
+ENDING = signal.SIGALRM, signal.SIGHUP, signal.SIGINT, signal.SIGQUIT, signal.SIGTERM
 
 # The words, what is typed at each question or which signal comes, the status (below 0 for a signal), the lines on the
 # terminal, and the reason.
@@ -41,21 +39,9 @@ ROWS = [
     (VERIFY, ["x" * 4096 + "\n"], 4, [*ONCE, "The password may have been cut.", "input failed"], "one that Linux cuts"),
     *((words, [*typed, it], -it, questions, f"signal {it}: echo is on again before it ends the program")
       for it in ENDING for words, typed, questions in [(VERIFY, [], ONCE), (HASH, ["password\n"], TWICE)]),
-    (VERIFY, [signal.SIGCONT, "password\n"], 0, [*ONCE, *ONCE, "ok"], "it asks again when it goes on"),
     ("verify $8$", [], 2, ["hash refused: EncodingInvalid"], "what is refused without a password asks for none"),
     ("--version", [], 0, [VERSION], "nor does what needs none"),
     (f"--raw {KEY}", [], 2, ["--raw does not write to a terminal"], "nor the bytes of a key, which would change the terminal"),
-]
-
-# How the terminal is, what makes it so before the program runs, and what is typed.
-TERMINALS = [
-    ("does not block", "os.set_blocking(0, False)", b"password\n"),
-    (
-        "gives keys and not lines",
-        "it = termios.tcgetattr(0); it[0] = it[0] & ~termios.ICRNL | termios.INLCR | termios.IGNCR; "
-        "it[3] &= ~termios.ICANON; termios.tcsetattr(0, termios.TCSANOW, it)",
-        b"password\r",
-    ),
 ]
 
 
@@ -79,10 +65,9 @@ def cases(program):
         subprocess.run([f"{TOP}/release/hardened.sh", f"{folder}/scrypt_tool"], check=True)
         words = [f"{folder}/scrypt_tool", *VERIFY.split(" ")]
         yield "a pipe that does not block", non_blocking(words, [b"pass", b"word"]), OK
-        for how, first, typed in TERMINALS:
-            run = f"import os, sys, termios; {first}; os.execv(sys.argv[1], sys.argv[1:])"
-            ended = session([sys.executable, "-c", run, *words], [typed])
-            yield f"a terminal that {how}", ended, (0, b"Password: \r\nok\r\n", [False, True])
+        run = "import os, sys; os.set_blocking(0, False); os.execv(sys.argv[1], sys.argv[1:])"
+        ended = session([sys.executable, "-c", run, *words], [b"password\n"])
+        yield "a terminal that does not block", ended, (0, b"Password: \r\nok\r\n", [False, True])
         for words, typed, status, lines, reason in ROWS:
             answers = [it if isinstance(it, int) else it.encode() for it in typed]
             ended, shown, echo = session([f"{folder}/scrypt_tool", *words.split(" ")], answers)

@@ -2,7 +2,6 @@
    function of this name: build.sh renames it. This file is tested and not proved. */
 #include <errno.h>
 #include <poll.h>
-#include <setjmp.h>
 #include <signal.h>
 #include <string.h>
 #include <termios.h>
@@ -17,8 +16,6 @@ enum { INPUT_FAILED = 4 }; /* the status of the program when it can't read its i
 static int differ;  /* whether two passwords were typed that differ */
 static int is_hash; /* whether the command is `hash`, whose password is asked for twice */
 static volatile sig_atomic_t caught;
-static sigset_t callers; /* the signals that are blocked, except during a question, when all are */
-static sigjmp_buf without_line;
 
 /* glibc hands a constructor the arguments of main, after which is NULL. Options come before the command; where one of them or
    the command is none, the proved program reads nothing. */
@@ -28,19 +25,14 @@ __attribute__((constructor)) static void find_command(int argc, char **argv) {
   is_hash = *word && strcmp(*word, "hash") == 0;
 }
 
-/* Ends a read that has begun, or is about to begin. SIGTTOU comes from a change of the terminal too. */
-static void note(int signal) {
-  caught = signal;
-  if (signal != SIGTTOU) siglongjmp(without_line, 1);
-}
+/* What ends or stops a program at a terminal, as readpassphrase(3) handles it: first echo is on again. */
+static const int SIGNALS[] = {SIGALRM, SIGHUP, SIGINT, SIGPIPE, SIGQUIT, SIGTERM, SIGTSTP, SIGTTIN, SIGTTOU};
+enum { COUNT = sizeof SIGNALS / sizeof *SIGNALS };
+
+static void note(int signal) { caught = signal; }
 
 /* Whether the program goes on after a signal, when it is in the foreground again. */
-static int only_stops(int signal) {
-  return signal == SIGTSTP || signal == SIGTTIN || signal == SIGTTOU || signal == SIGCONT;
-}
-
-/* Whether a signal does nothing to a program that doesn't handle it. */
-static int does_nothing(int signal) { return signal == SIGCHLD || signal == SIGURG || signal == SIGWINCH; }
+static int only_stops(int signal) { return signal == SIGTSTP || signal == SIGTTIN || signal == SIGTTOU; }
 
 /* As read(2), but waits for input if another program has set the terminal or the pipe to non-blocking. */
 static ssize_t read_blocking(int fd, void *buffer, size_t len) {
@@ -48,18 +40,8 @@ static ssize_t read_blocking(int fd, void *buffer, size_t len) {
     ssize_t got = read(fd, buffer, len);
     if (got >= 0 || (errno != EAGAIN && errno != EWOULDBLOCK)) return got;
     struct pollfd input = {fd, POLLIN, 0};
-    if (poll(&input, 1, -1) < 0 && errno != EINTR) return -1;
+    if (poll(&input, 1, -1) < 0 && (errno != EINTR || caught)) return -1;
   }
-}
-
-/* As read(2) of a line, or -1 on a signal, which is handled nowhere else. */
-static ssize_t read_line(char *line) {
-  sigset_t blocked;
-  if (caught || sigsetjmp(without_line, 1) != 0) return -1;
-  sigprocmask(SIG_SETMASK, &callers, &blocked);
-  ssize_t len = read_blocking(STDIN_FILENO, line, LINE);
-  sigprocmask(SIG_SETMASK, &blocked, NULL);
-  return len;
 }
 
 /* Writes to the terminal, or to standard error if the terminal was opened for reading only. */
@@ -73,7 +55,7 @@ static void say(const char *text) {
 /* Reads a line without its newline, and returns its length, or -1 at the end of the input, on an error or a signal. */
 static ssize_t line_of(const char *prompt, char *line) {
   say(prompt);
-  ssize_t len = read_line(line);
+  ssize_t len = caught ? -1 : read_blocking(STDIN_FILENO, line, LINE);
   say("\n");
   if (len == LINE) say("The password may have been cut.\n");
   if (len > 0 && len < LINE && line[len - 1] == '\n') return len - 1;
@@ -93,43 +75,32 @@ static ssize_t password_of(char *line) {
   return same ? len : -1;
 }
 
-/* The same without echo, and in lines that end with Enter: otherwise a read returns the first key, and the terminal shows what is
-   typed next. In the background echo can't be turned off: the terminal's settings are those of the shell. */
+/* The same without echo. In the background echo can't be turned off: the terminal's settings are those of the shell. */
 static ssize_t without_echo(char *line) {
   struct termios with_echo, silent;
   if (tcgetattr(STDIN_FILENO, &with_echo) != 0) return -1;
   silent = with_echo;
   silent.c_lflag &= ~(tcflag_t)(ECHO | ECHOE | ECHOK | ECHONL);
-  silent.c_lflag |= ICANON;
-  silent.c_iflag &= ~(tcflag_t)(IGNCR | INLCR);
-  silent.c_iflag |= ICRNL;
   if (tcsetattr(STDIN_FILENO, TCSAFLUSH, &silent) != 0) return -1;
   ssize_t len = password_of(line);
   tcsetattr(STDIN_FILENO, TCSAFLUSH, &with_echo);
   return len;
 }
 
-/* A signal that ends or stops the program takes effect only after echo is on again. All signals but SIGTTOU, without which
-   a program in the background would change the terminal, wait while echo is turned off and on. After SIGSTOP, which can't
-   be handled, SIGCONT asks again, since the shell may have turned echo on. */
+/* A signal that ends or stops the program takes effect only after echo is on again. */
 static ssize_t ask(char *line) {
-  struct sigaction noted, before[NSIG];
+  struct sigaction noted, before[COUNT];
   caught = 0;
   memset(&noted, 0, sizeof noted);
-  noted.sa_handler = note; /* without SA_RESTART, so that SIGTTOU ends a change of the terminal */
-  sigfillset(&noted.sa_mask);
-  sigset_t all = noted.sa_mask;
-  sigdelset(&all, SIGTTOU);
-  sigprocmask(SIG_BLOCK, &all, &callers);
-  for (int i = 1; i < NSIG; i++) {
-    if (sigaction(i, NULL, &before[i]) == 0 && before[i].sa_handler == SIG_DFL && !does_nothing(i))
-      sigaction(i, &noted, NULL);
+  noted.sa_handler = note; /* without SA_RESTART, so that it ends a read, and a change of the terminal */
+  for (int i = 0; i < COUNT; i++) {
+    sigaction(SIGNALS[i], NULL, &before[i]);
+    if (before[i].sa_handler == SIG_DFL) sigaction(SIGNALS[i], &noted, NULL);
   }
   ssize_t len = without_echo(line);
-  for (int i = 1; i < NSIG; i++) sigaction(i, &before[i], NULL);
+  for (int i = 0; i < COUNT; i++) sigaction(SIGNALS[i], &before[i], NULL);
   if (len < 0) explicit_bzero(line, LINE);
   if (caught) raise(caught);
-  sigprocmask(SIG_SETMASK, &callers, NULL);
   return len;
 }
 
