@@ -22,7 +22,8 @@ SOURCES = ["crates/**/*.rt", "crates/**/*.antt", "examples/**/*.py"]
 SOURCES += [f"bindings/**/*.{suffix}" for suffix in ("c", "h", "py", "go", "rs", "js")]
 
 # Names of other programs and libraries.
-OTHERS = {"check_password", "find_package", "generate", "maxmem_bytes", "mlockall", "must_use", "needs_update", "run_in_executor"}
+OTHERS = {"check_password", "crypt_data", "crypt_r", "find_package", "generate", "maxmem_bytes", "mlockall", "must_use", "needs_update",
+          "run_in_executor", "sodium_init", "sodium_misuse", "sodium_stackzero"}
 
 # The crates that are proved from public clauses, and the libraries that they call.
 CALLERS = ["scrypt_c", "scrypt_commands", "scrypt_examples"]
