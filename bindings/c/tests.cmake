@@ -63,6 +63,8 @@ if(NOT CMAKE_CROSSCOMPILING OR WIN32) # the emulator refuses no system call, and
   c_test(test_system FLAGS -DROOT="${CMAKE_CURRENT_BINARY_DIR}/root" LABELS memory)
 endif()
 
+c_test(test_cases LIBS scrypt_c ARGS ${TOP}/bindings/cases.tsv LABELS memory)
+
 # The hasher, with its sources in the test.
 foreach(test test_hasher test_hasher_parts test_hasher_load)
   c_test(${test} LIBS scrypt_c LABELS memory threads)

@@ -30,7 +30,7 @@ run() {
 }
 PYTHONPATH=$PWD/bindings/python
 export PYTHONPATH
-for test in test_keys test_refused test_library test_migration; do PYTHONWARNINGS=error run python3 $test; done
+for test in test_cases test_keys test_refused test_library test_migration; do PYTHONWARNINGS=error run python3 $test; done
 if [ "${1:-}" = short ]; then
   run python3 test_hasher Hashes
   echo "called from Python"

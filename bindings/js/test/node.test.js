@@ -5,10 +5,19 @@ import { copyFileSync, mkdtempSync, readFileSync, rmSync } from 'node:fs';
 import { tmpdir } from 'node:os';
 import { join } from 'node:path';
 import { test } from 'node:test';
+import { verify } from '../index.js';
 import { checks } from './checks.js';
 
 const list = checks(JSON.parse(readFileSync(process.env.CASES)), readFileSync(process.env.MODULE64));
 for (const [name, check] of Object.entries(list)) test(name, check);
+
+test('the verifications of bindings/cases.tsv', async () => {
+  for (const line of readFileSync('../../cases.tsv', 'utf8').trimEnd().split('\n').slice(1)) {
+    const [status, password, text] = line.split('\t');
+    const found = await verify(password, text.replace('\\0', '\0')).then((is) => (is ? 'OK' : 'MISMATCH'), (error) => error.code);
+    deepStrictEqual(found, status, text);
+  }
+});
 
 // Programs of the command line, what they print, and nothing else.
 const PROGRAMS = [
