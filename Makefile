@@ -42,7 +42,7 @@ run: kit
 	crates/scrypt_tool/out/scrypt_tool key 4 1 1 64 "" < /dev/null
 
 # Prints the name of a step, what it counted and how long it took, and meanwhile what is in work.
-STEP = python3 -B -m ci.step
+STEP = python3 -B -m tools.ci.step
 
 # The program that is installed asks for a password at a terminal, which the proved one reads as any input.
 TERMINAL = bindings/terminal/build.sh
@@ -74,7 +74,7 @@ KEPT = $(wildcard crates/scrypt_commands/out/incremental)
 .PHONY: what-changed
 what-changed:
 	$(if $(KEPT),,$(MAKE) -j$(SIDE_BY_SIDE) $(LIBRARIES))
-	@$(STEP) what-changed python3 -m ci.check $(if $(HAS_ROOM),4,1)
+	@$(STEP) what-changed python3 -m tools.ci.check $(if $(HAS_ROOM),4,1)
 
 # What the program answers.
 ANSWERS = answers-program answers-hashes
@@ -86,7 +86,7 @@ $(ANSWERS): answers-%:
 
 # The documents and what must not compile are checked there too, beside the proofs.
 test: kit
-	@python3 -m ci.gate
+	@python3 -m tools.ci.gate
 
 # Each check runs whatever the others find, so that one run reports every fault.
 DOCUMENTS = lint formats names mirror fit promises tests-of-ci tests-of-doc tests-of-compare tests-of-release pages
@@ -96,41 +96,41 @@ documents:
 documents-checked: $(DOCUMENTS:%=document-%)
 	@echo "$(words $^) of $(words $^) checks of the documents and the scripts"
 document-lint:
-	@ci/lint.sh
+	@tools/ci/lint.sh
 document-formats:
 	@if command -v rt > /dev/null; then find crates \( -name '*.rt' -o -name '*.antt' \) -not -path '*/out/*' \
 	  -exec "$$(dirname "$$(readlink -f "$$(command -v rt)")")/rattle" fmt --check {} +; \
 	else echo "the Rattle kit is not installed: not run: rattle fmt"; fi
 document-names:
-	@python3 -m ci.docs
+	@python3 -m tools.ci.docs
 document-mirror:
 	@python3 -m tools.mirror --check
 document-fit:
-	@python3 -m ci.wrong_bodies fit
+	@python3 -m tools.ci.wrong_bodies fit
 document-promises:
-	@python3 -m doc.promises check
+	@python3 -m tools.doc.promises check
 document-tests-of-ci document-tests-of-doc document-tests-of-compare: document-tests-of-%:
-	@python3 -B -m unittest -q $(subst /,.,$(basename $(wildcard $*/test_*.py)))
+	@python3 -B -m unittest -q $(subst /,.,$(basename $(wildcard tools/$*/test_*.py)))
 document-tests-of-release:
-	@python3 -B release/test_proved.py
+	@python3 -B tools/release/test_proved.py
 document-pages:
 	@if python3 -c "from tools import debian; debian.add_packages(); import jinja2, pygments" 2> /dev/null; \
-	then python3 -m doc.make; else echo "what makes pages is not installed (packages python3-jinja2, python3-pygments): not run: make doc"; fi
+	then python3 -m tools.doc.make; else echo "what makes pages is not installed (packages python3-jinja2, python3-pygments): not run: make doc"; fi
 
 wrong-bodies: $(LIBRARIES) proved-scrypt_examples
-	python3 -m ci.wrong_bodies all $(CRATES)
+	python3 -m tools.ci.wrong_bodies all $(CRATES)
 
 # The examples are copied, so they import their own modules by name.
 EXAMPLES = PYTHONPATH=.:bindings/python:examples/migration
 
 oracle: lib
 	cd crates/scrypt_tool && rt run -- key 0 1 1 1 "" > /dev/null < /dev/null
-	python3 -m compare.oracle crates/scrypt_tool/out/scrypt_tool
-	python3 -m compare.allocations crates/scrypt_tool/out/scrypt_tool
+	python3 -m tools.compare.oracle crates/scrypt_tool/out/scrypt_tool
+	python3 -m tools.compare.allocations crates/scrypt_tool/out/scrypt_tool
 	$(EXAMPLES) python3 examples/migration/test_migration.py crates/scrypt_tool/out/scrypt_tool $(if $(WORKER),--worker $(WORKER))
 	$(EXAMPLES) python3 examples/key_files/test_key_files.py crates/scrypt_tool/out/scrypt_tool build/lib/libscrypt_c.so
-	python3 -m compare.hostile build/lib/libscrypt_c.so
-	python3 -m compare.groups build/lib/libscrypt_c.so
+	python3 -m tools.compare.hostile build/lib/libscrypt_c.so
+	python3 -m tools.compare.groups build/lib/libscrypt_c.so
 
 # For another processor of Linux the program is built too.
 PRESET = $(or $(PRESET_OF_$(ARCH)),native)
@@ -184,22 +184,22 @@ uninstall:
 
 # Packs what the gate proved and linked in this clone.
 dist:
-	release/dist.sh
+	tools/release/dist.sh
 
 callers: lib
 	bindings/callers.sh
 
 MEASURED = build/lib/libscrypt_c.so
 bench: lib
-	python3 -m bench.bench $(MEASURED) $(WORKERS)
-	GLIBC_TUNABLES=glibc.malloc.hugetlb=1 python3 -m bench.bench $(MEASURED) $(WORKERS)
-	python3 -m bench.verifications $(MEASURED) $(subst --worker,,$(WORKERS))
-	python3 -m bench.verifications $(MEASURED) $(subst --worker,,$(WORKERS)) --processes $$(nproc) --runs 5 \
+	python3 -m tools.bench.bench $(MEASURED) $(WORKERS)
+	GLIBC_TUNABLES=glibc.malloc.hugetlb=1 python3 -m tools.bench.bench $(MEASURED) $(WORKERS)
+	python3 -m tools.bench.verifications $(MEASURED) $(subst --worker,,$(WORKERS))
+	python3 -m tools.bench.verifications $(MEASURED) $(subst --worker,,$(WORKERS)) --processes $$(nproc) --runs 5 \
 	  --params 14,8,1:15,8,1:16,8,1:17,8,1:18,8,1 --picture docs/speed.svg
-	python3 -m bench.logins $(MEASURED)
+	python3 -m tools.bench.logins $(MEASURED)
 
 doc:
-	python3 -m doc.make
+	python3 -m tools.doc.make
 
 clean:
 	rm -rf build crates/*/out
@@ -214,41 +214,41 @@ mirror:
 	python3 -m tools.mirror
 
 refused-by-tests: kit
-	python3 -m ci.refused_by_tests
+	python3 -m tools.ci.refused_by_tests
 
 dist-test:
-	python3 -B release/test_proved.py
-	release/reproducible.sh
-	release/test.sh
-	release/test_emulated.sh
-	release/test_windows.sh
-	release/container.sh
-	release/arm64_machine.sh
+	python3 -B tools/release/test_proved.py
+	tools/release/reproducible.sh
+	tools/release/test.sh
+	tools/release/test_emulated.sh
+	tools/release/test_windows.sh
+	tools/release/container.sh
+	tools/release/arm64_machine.sh
 
 thin: lib
-	python3 -m bench.thin $(MEASURED) 2 docs/thin.svg
+	python3 -m tools.bench.thin $(MEASURED) 2 docs/thin.svg
 
 parameters: lib
-	python3 -m bench.parameters $(MEASURED) 15 docs/parameters.svg
+	python3 -m tools.bench.parameters $(MEASURED) 15 docs/parameters.svg
 
 bounds: lib
-	python3 -m bench.bounds $(MEASURED)
+	python3 -m tools.bench.bounds $(MEASURED)
 
 compare-worker: kit
 	@test -n "$(WORKER)" || { echo "Say with what: make compare-worker WORKER=PATH" >&2; exit 1; }
 	cd crates/scrypt_tool && rt run -- key 0 1 1 1 "" > /dev/null < /dev/null
-	python3 -m compare.oracle crates/scrypt_tool/out/scrypt_tool --seed 934532111 --worker $(WORKER)
+	python3 -m tools.compare.oracle crates/scrypt_tool/out/scrypt_tool --seed 934532111 --worker $(WORKER)
 
 promises:
-	python3 -m doc.promises
+	python3 -m tools.doc.promises
 
 doc-test: doc
-	python3 -m doc.browser_test build/doc
+	python3 -m tools.doc.browser_test build/doc
 
 axioms: proved-scrypt_commands
 	mkdir -p build
 	cd crates/scrypt_tool && rt check --list-axioms > ../../build/axioms.log
-	sed -n 's/^  \([a-z0-9_:]*\) *reached$$/\1/p' build/axioms.log > doc/axioms.txt
+	sed -n 's/^  \([a-z0-9_:]*\) *reached$$/\1/p' build/axioms.log > tools/doc/axioms.txt
 
 # The library is built only if it is not there: the kit is not needed after that.
 .PHONY: login-service login-test

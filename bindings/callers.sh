@@ -10,7 +10,7 @@ unset CDPATH
 cd "$(dirname "$0")/.."
 . bindings/arch.sh
 if [ "$system" = windows ]; then library=libscrypt_c.a; else library=libscrypt_c.so; fi
-python3 -B bench/registers.py "$build/lib/libscrypt_c.a" $([ "$preset" != native ] || echo "$build/lib/$library")
+python3 -B tools/bench/registers.py "$build/lib/libscrypt_c.a" $([ "$preset" != native ] || echo "$build/lib/$library")
 (cd bindings/c && ctest --preset $preset -j"$(nproc)")
 if [ "$system" = windows ]; then
   if [ "${1:-}" != short ]; then for caller in python go rust; do bindings/$caller/test.sh; done; fi
@@ -20,7 +20,7 @@ if [ -n "$emulator" ]; then
   begin_test
   cc -O2 -static -DPROGRAM="\"$PWD/$build/bin/scrypt_tool\"" -DEMULATOR="\"${emulator%% *}\"" \
     -DLIBRARIES="\"${emulator##* }\"" bindings/terminal/emulated.c -o "$room/scrypt_tool"
-  CC=$CC python3 -B -m ci.program "$room/scrypt_tool"
+  CC=$CC python3 -B -m tools.ci.program "$room/scrypt_tool"
   exit
 fi
 python3 -B bindings/completions/test.py

@@ -2,7 +2,7 @@
 """Runs the examples of README, of Python's and Go's own pages, and those in C of bindings/README.md, over build/lib.
 
 Only Go's has code around it. The example of Rust's page is run by `cargo test`, and that of JavaScript's by
-release/test.sh. What is not installed is named by its Debian package. The script fails if an example fails or is missing.
+tools/release/test.sh. What is not installed is named by its Debian package. The script fails if an example fails or is missing.
 """
 
 import json

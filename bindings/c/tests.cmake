@@ -126,7 +126,7 @@ foreach(library "-D $<TARGET_FILE:scrypt_c>" "-g $<TARGET_FILE:scrypt_c_static>"
   script_test(${name} "${CMAKE_NM} --defined-only ${library} | sed -n -e 's/@.*//' -e 's/.* T //p' | LC_ALL=C sort |"
               "diff '${CMAKE_CURRENT_BINARY_DIR}/calls' -")
 endforeach()
-script_test(hardened "release/hardened.sh $<TARGET_FILE:scrypt_c> $<TARGET_FILE:scrypt_drop_in> $<TARGET_FILE:scrypt_calibrate>")
+script_test(hardened "tools/release/hardened.sh $<TARGET_FILE:scrypt_c> $<TARGET_FILE:scrypt_drop_in> $<TARGET_FILE:scrypt_calibrate>")
 list(JOIN CMAKE_CROSSCOMPILING_EMULATOR " " emulator)
 script_test(calibrate "bindings/c/test_calibrate.sh ${emulator} $<TARGET_FILE:scrypt_calibrate>")
 if(CMAKE_CROSSCOMPILING)

@@ -27,8 +27,8 @@ done < bindings/drop_in/symbols
 echo "exported: the documented drop-in names, and no other"
 if has objdump binutils; then
   needed=$(objdump -T "$ours" | grep -o 'GLIBC_[0-9.]*' | sort -Vu | tail -n 1)
-  stated=$(tr '\n' ' ' < release/README.md | sed -n 's/.*drop-in library [^.]*need glibc \([0-9]*\.[0-9]*\).*/GLIBC_\1/p')
-  printf '%s\n' "$needed" "$stated" | sort -V -C || { echo "$needed is needed, and release/README.md has $stated" >&2; exit 1; }
+  stated=$(tr '\n' ' ' < tools/release/README.md | sed -n 's/.*drop-in library [^.]*need glibc \([0-9]*\.[0-9]*\).*/GLIBC_\1/p')
+  printf '%s\n' "$needed" "$stated" | sort -V -C || { echo "$needed is needed, and tools/release/README.md has $stated" >&2; exit 1; }
 fi
 
 # The names of other libraries, beside those of them that are here.

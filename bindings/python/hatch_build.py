@@ -48,7 +48,7 @@ class Library(BuildHookInterface):
             raise SystemExit(f"no {NAMES[0]} in {named}: build it by `make lib`, or name its folder in SCRYPT_C_LIBRARY")
         is_wheel = self.target_name == "wheel"
         folder = f"{self.build_config.builder.artifact_project_id}.dist-info/" if is_wheel else ""
-        texts = [place / it for place in (top, top / "release", root) for it in ("LICENSE", "NOTICES")]
+        texts = [place / it for place in (top, top / "tools/release", root) for it in ("LICENSE", "NOTICES")]
         if is_wheel and os.environ.get("SCRYPT_C_PROVED"):
             texts.append(pathlib.Path(os.environ["SCRYPT_C_PROVED"]))
         files |= {str(it): f"{folder}{it.name}" for it in texts if it.exists()}

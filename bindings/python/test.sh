@@ -71,8 +71,8 @@ if /usr/bin/python3 -c 'import venv, ensurepip, hatchling' 2> /dev/null; then
   run "$room/by_folder/bin/python" test_threads Processes
   (cd bindings/python && /usr/bin/python3 -m hatchling build -t sdist -d "$room/source" > /dev/null)
   # Around a source archive another user may have put anything.
-  mkdir -p "$room/build/lib" "$room/release"
-  for foreign in build/lib/libscrypt_c.so.0 LICENSE release/NOTICES; do echo foreign > "$room/$foreign"; done
+  mkdir -p "$room/build/lib" "$room/tools/release"
+  for foreign in build/lib/libscrypt_c.so.0 LICENSE tools/release/NOTICES; do echo foreign > "$room/$foreign"; done
   wheel() { /usr/bin/python3 -m hatchling build -t wheel -d "$room/$1" > "$room/log" 2>&1; }
   (cd "$room/source" && tar xzf ./*.tar.gz && cd scrypt_c-*/ && wheel wheels)
   /usr/bin/python3 -m zipfile -e "$room"/wheels/*.whl "$room/unpacked"
@@ -87,7 +87,7 @@ if /usr/bin/python3 -c 'import venv, ensurepip, hatchling' 2> /dev/null; then
   test -z "$(find "$room/by_wheel" -name 'scrypt_c*')"
   echo "installed by pip from the folder and as the wheel $(cd "$room/wheels" && echo *.whl)"
   # The own line of the releases' README, by Debian's Python, whose pip is refused outside a virtual environment.
-  line=$(sed -n 's/^    \(.*scrypt_c-.*\.whl\).*/\1/p' release/README.md)
+  line=$(sed -n 's/^    \(.*scrypt_c-.*\.whl\).*/\1/p' tools/release/README.md)
   (cd "$room/wheels" && PATH=/usr/bin:$PATH PIP_NO_INDEX=1 PIP_QUIET=1 sh -c "$line" && venv/bin/python -c 'import scrypt_c')
   echo "installed by README's line: $line"
 else

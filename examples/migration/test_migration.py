@@ -5,7 +5,7 @@ usage: test_migration.py PROGRAM [--worker PATH] [--seed N]
 
 Each tool makes hashes, keys or files of random passwords. They are converted by the example for that tool, and the program
 has to verify the right password and to refuse another. What a tool or the program refuses is tried too. WORKER calls the
-Rust crate and speaks the protocol that bench/bench.py describes.
+Rust crate and speaks the protocol that tools/bench/bench.py describes.
 
 What isn't installed is named and skipped. A module of Python may be installed for this Python or for the system's. The
 table at the end has what was tried and what agreed for each tool; the status is 1 if something differs.
@@ -28,7 +28,7 @@ from migration_cases import CRYPT_REFUSES, DJANGO_TEXTS, PASSLIB_SPELLINGS, SHEL
 HERE = os.path.dirname(os.path.abspath(__file__))
 TOP = os.path.join(HERE, "..", "..")
 os.environ.setdefault("SCRYPT_C_LIBRARY", os.path.join(TOP, "build", "lib"))
-from compare.oracle import some_bytes, verified
+from tools.compare.oracle import some_bytes, verified
 from tools import crypt64
 from tools.runs import unlimited
 from tools.worker import Worker

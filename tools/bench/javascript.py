@@ -1,0 +1,82 @@
+"""Measures the package for JavaScript for docs/PARAMETERS.md, beside plain JavaScript and Node's crypto.
+
+usage: python3 -m tools.bench.javascript [NAME=COMMAND..]    other browsers, whose command opens a page, as 'Firefox=firefox-esr --headless --profile FOLDER'
+
+In Node and in Chromium, if they are installed, keys are derived in turns in the page's own thread. The least time of 6 is divided by
+the number of Salsa20/8 cores, 4 * N * r * p. It needs bindings/js/scrypt.wasm, which `make js` makes.
+"""
+
+import json
+import os
+import shutil
+import subprocess
+import sys
+from pathlib import Path
+
+from bindings.js.test import in_browser
+from tools import browser
+
+TOP = Path(__file__).resolve().parents[2]
+
+in_browser.SECONDS = 900
+
+# Prints what javascript.js measures, as JSON.
+NODE = """
+import { scryptSync } from 'node:crypto';
+import { measure } from './javascript.js';
+
+const crypto = (password, salt) => (N, r, p) => scryptSync(password, salt, 32, { N, r, p, maxmem: 2 ** 33 });
+console.log(JSON.stringify(await measure((password, salt) => ({ "Node's crypto": crypto(password, salt) }))));
+"""
+
+
+def in_node():
+    words = ["node", "--input-type=module", "--eval", NODE]
+    ran = subprocess.run(words, cwd=TOP / "tools/bench", capture_output=True, text=True, check=True)
+    return json.loads(ran.stdout)
+
+
+def of_page(said):
+    """The rows that a page sends, or none if it sends an error."""
+    rows = json.loads(said or "null")
+    if not isinstance(rows, list):
+        print(f"a page failed: {rows}\n")
+        return []
+    return rows
+
+
+def in_chromium(page):
+    chromium = browser.Browser()
+    try:
+        chromium.open(page)
+        return of_page(in_browser.answer())
+    finally:
+        chromium.close()
+
+
+def measured(others):
+    """The rows of each engine, by its name."""
+    page = f"{in_browser.serve()}/tools/bench/javascript.html"
+    if shutil.which("node"):
+        yield "Node", in_node()
+    if browser.found():
+        yield "Chromium", in_chromium(page)
+    for other in others:
+        name, _, command = other.partition("=")
+        yield name, of_page(in_browser.in_another(command.split(), page))
+
+
+def main(*others):
+    print(f"nanoseconds for each core; {os.cpu_count()} processors, load {os.getloadavg()[0]:.1f} at the start\n")
+    found = {}
+    for name, rows in measured(others):
+        found[name] = rows
+        print(name, *(f"{kind} {log_n},{r},{p}: {ns:.1f}" for kind, log_n, r, p, ns in rows), sep="; ", flush=True)
+    kinds = list(dict.fromkeys((name, *params) for rows in found.values() for name, *params, _ in rows))
+    print("\n| log_n, r, p | |", " | ".join(found), "|\n|---|---|" + "---|" * len(found))
+    for name, *params in sorted(kinds, key=lambda it: (it[3], it[1])):
+        row = [next((f"{row[4]:.0f}" for row in rows if row[:4] == [name, *params]), "") for rows in found.values()]
+        print(f"| {', '.join(map(str, params))} | {name} | {' | '.join(row)} |")
+
+
+main(*sys.argv[1:])

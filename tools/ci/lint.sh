@@ -1,0 +1,30 @@
+#!/bin/sh
+# Runs the linters and formatters that are installed over everything but what is built, and names the others.
+set -eu
+failed=0
+
+# The files of a kind, the Debian package of the linter, and its command, which prints nothing if all is well.
+lint() {
+  kind=$1 package=$2
+  shift 2
+  if ! command -v "$1" > /dev/null; then
+    echo "$1 is not installed (package $package): not run"
+    return
+  fi
+  wrong=$(find bindings examples tools -name "$kind" -not -path '*/out/*' \
+    -not -path '*/target/*' -exec "$@" {} + 2>&1) || test -n "$wrong" || wrong="$1 failed"
+  test -z "$wrong" || { echo "$wrong"; failed=1; }
+}
+
+lint '*.py' pyflakes3 pyflakes3
+lint '*.sh' shellcheck shellcheck --severity=error
+lint '*.go' golang-go gofmt -l
+# A user's CDPATH would make cd go elsewhere.
+for script in .ci/run $(find bindings examples tools -name '*.sh'); do
+  if grep -qE '^[^#]*\bcd ' "$script" && ! grep -qx 'unset CDPATH' "$script"; then
+    echo "$script: no unset CDPATH"
+    failed=1
+  fi
+done
+lint '*.rs' rustfmt rustfmt --check --edition 2021 --config-path bindings/rust
+exit $failed
