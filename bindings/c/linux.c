@@ -5,6 +5,7 @@
 #include "system.h"
 
 #include <errno.h>
+#include <linux/futex.h>
 #include <sched.h>
 #include <stdio.h>
 #include <string.h>
@@ -29,27 +30,23 @@ void take_mutex(mutex *it) { (void)pthread_mutex_lock(it); }
 
 void give_mutex(mutex *it) { (void)pthread_mutex_unlock(it); }
 
-/* A thread that is cancelled would stay in the line. */
+/* Not by pthread_cond_t, which asks for glibc 2.34 if it is to wait by the clock that nobody sets, and is a point of cancellation. */
 void sleep_until(condition *it, mutex *with, int64_t ns) {
   const struct timespec time = {.tv_sec = (time_t)(ns / NS_OF_SECOND), .tv_nsec = (long)(ns % NS_OF_SECOND)};
-  int before;
-  (void)pthread_setcancelstate(PTHREAD_CANCEL_DISABLE, &before);
-  if (ns == FOR_EVER) (void)pthread_cond_wait(it, with);
-  else (void)pthread_cond_timedwait(it, with, &time);
-  (void)pthread_setcancelstate(before, NULL);
+  uint32_t wakes = it->wakes;
+  give_mutex(with);
+  (void)syscall(SYS_futex, &it->wakes, FUTEX_WAIT_BITSET_PRIVATE, wakes, ns == FOR_EVER ? NULL : &time, NULL, FUTEX_BITSET_MATCH_ANY);
+  take_mutex(with);
 }
 
-void begin_condition(condition *it) {
-  pthread_condattr_t attributes;
-  (void)pthread_condattr_init(&attributes);
-  (void)pthread_condattr_setclock(&attributes, CLOCK_MONOTONIC);
-  (void)pthread_cond_init(it, &attributes);
-  (void)pthread_condattr_destroy(&attributes);
+void begin_condition(condition *it) { it->wakes = 0; }
+
+void wake(condition *it) {
+  it->wakes++;
+  (void)syscall(SYS_futex, &it->wakes, FUTEX_WAKE_PRIVATE, 1);
 }
 
-void wake(condition *it) { (void)pthread_cond_signal(it); }
-
-void end_condition(condition *it) { (void)pthread_cond_destroy(it); }
+void end_condition(condition *it) { (void)it; }
 
 void let_others_run(void) { (void)sched_yield(); }
 

@@ -14,7 +14,9 @@ typedef CONDITION_VARIABLE condition;
 #else
 #include <pthread.h>
 typedef pthread_mutex_t mutex; /* PTHREAD_MUTEX_INITIALIZER is zeros in the C libraries of Linux */
-typedef pthread_cond_t condition;
+typedef struct {
+  uint32_t wakes; /* changes with the mutex */
+} condition;
 #endif
 
 /* ---- Threads, and time ---- */
@@ -34,7 +36,7 @@ void give_mutex(mutex *it);
 /* Gives the mutex back until it is woken, or until so many nanoseconds of the clock, or for no reason. No point of cancellation. */
 void sleep_until(condition *it, mutex *with, int64_t ns);
 void begin_condition(condition *it);
-void wake(condition *it); /* one thread */
+void wake(condition *it); /* one thread, with the mutex */
 void end_condition(condition *it);
 
 /* Lets threads run that are ready. */

@@ -126,6 +126,7 @@ foreach(library "-D $<TARGET_FILE:scrypt_c>" "-g $<TARGET_FILE:scrypt_c_static>"
   script_test(${name} "${CMAKE_NM} --defined-only ${library} | sed -n -e 's/@.*//' -e 's/.* T //p' | LC_ALL=C sort |"
               "diff '${CMAKE_CURRENT_BINARY_DIR}/calls' -")
 endforeach()
+script_test(glibc "! objdump -T $<TARGET_FILE:scrypt_c> | grep -oE 'GLIBC_2[.](1[89]|[2-9][0-9])'") # the wheel's tag promises 2.17
 script_test(hardened "tools/release/hardened.sh $<TARGET_FILE:scrypt_c> $<TARGET_FILE:scrypt_drop_in> $<TARGET_FILE:scrypt_calibrate>")
 list(JOIN CMAKE_CROSSCOMPILING_EMULATOR " " emulator)
 script_test(calibrate "bindings/c/test_calibrate.sh ${emulator} $<TARGET_FILE:scrypt_calibrate>")
