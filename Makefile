@@ -42,10 +42,10 @@ run: kit
 	crates/scrypt_tool/out/scrypt_tool key 4 1 1 64 "" < /dev/null
 
 # Prints the name of a step, what it counted and how long it took, and meanwhile what is in work.
-STEP = python3 -B -m tools.ci.step
+STEP = python3 -B -m tools.gate.step
 
 # The program that is installed asks for a password at a terminal, which the proved one reads as any input.
-TERMINAL = bindings/terminal/build.sh
+TERMINAL = bindings/cli/build.sh
 
 # The libraries below the program, each after those that it uses. Where all are built already, rt doesn't read all sources
 # once more before it begins with the crates above them. With four processors and 12 GB of free memory, the two lowest,
@@ -74,7 +74,7 @@ KEPT = $(wildcard crates/scrypt_commands/out/incremental)
 .PHONY: what-changed
 what-changed:
 	$(if $(KEPT),,$(MAKE) -j$(SIDE_BY_SIDE) $(LIBRARIES))
-	@$(STEP) what-changed python3 -m tools.ci.check $(if $(HAS_ROOM),4,1)
+	@$(STEP) what-changed python3 -m tools.gate.check $(if $(HAS_ROOM),4,1)
 
 # What the program answers.
 ANSWERS = answers-program answers-hashes
@@ -82,55 +82,55 @@ ANSWERS = answers-program answers-hashes
 answers:
 	@$(MAKE) -j2 --no-print-directory --keep-going $(ANSWERS)
 $(ANSWERS): answers-%:
-	@$(STEP) $@ python3 -m ci.$* crates/scrypt_tool/out/scrypt_tool
+	@$(STEP) $@ python3 -m tools.tests.$* crates/scrypt_tool/out/scrypt_tool
 
 # The documents and what must not compile are checked there too, beside the proofs.
 test: kit
-	@python3 -m tools.ci.gate
+	@python3 -m tools.gate.gate
 
 # Each check runs whatever the others find, so that one run reports every fault.
-DOCUMENTS = lint formats names mirror fit promises tests-of-ci tests-of-doc tests-of-compare tests-of-release pages
+DOCUMENTS = lint formats names mirror fit promises tests-of-gate tests-of-generate tests-of-tests tests-of-release pages
 documents:
 	@$(STEP) documents $(MAKE) --no-print-directory --keep-going --output-sync -j$$(nproc) documents-checked
 .PHONY: documents-checked $(DOCUMENTS:%=document-%)
 documents-checked: $(DOCUMENTS:%=document-%)
 	@echo "$(words $^) of $(words $^) checks of the documents and the scripts"
 document-lint:
-	@tools/ci/lint.sh
+	@tools/gate/lint.sh
 document-formats:
 	@if command -v rt > /dev/null; then find crates \( -name '*.rt' -o -name '*.antt' \) -not -path '*/out/*' \
 	  -exec "$$(dirname "$$(readlink -f "$$(command -v rt)")")/rattle" fmt --check {} +; \
 	else echo "the Rattle kit is not installed: not run: rattle fmt"; fi
 document-names:
-	@python3 -m tools.ci.docs
+	@python3 -m tools.gate.docs
 document-mirror:
-	@python3 -m tools.mirror --check
+	@python3 -m tools.generate.mirror --check
 document-fit:
-	@python3 -m tools.ci.wrong_bodies fit
+	@python3 -m tools.gate.wrong_bodies fit
 document-promises:
-	@python3 -m tools.doc.promises check
-document-tests-of-ci document-tests-of-doc document-tests-of-compare: document-tests-of-%:
+	@python3 -m tools.generate.promises check
+document-tests-of-gate document-tests-of-generate document-tests-of-tests: document-tests-of-%:
 	@python3 -B -m unittest -q $(subst /,.,$(basename $(wildcard tools/$*/test_*.py)))
 document-tests-of-release:
 	@python3 -B tools/release/test_proved.py
 document-pages:
 	@if python3 -c "from tools import debian; debian.add_packages(); import jinja2, pygments" 2> /dev/null; \
-	then python3 -m tools.doc.make; else echo "what makes pages is not installed (packages python3-jinja2, python3-pygments): not run: make doc"; fi
+	then python3 -m tools.generate.make; else echo "what makes pages is not installed (packages python3-jinja2, python3-pygments): not run: make doc"; fi
 
 wrong-bodies: $(LIBRARIES) proved-scrypt_examples
-	python3 -m tools.ci.wrong_bodies all $(CRATES)
+	python3 -m tools.gate.wrong_bodies all $(CRATES)
 
 # The examples are copied, so they import their own modules by name.
 EXAMPLES = PYTHONPATH=.:bindings/python:examples/migration
 
 oracle: lib
 	cd crates/scrypt_tool && rt run -- key 0 1 1 1 "" > /dev/null < /dev/null
-	python3 -m tools.compare.oracle crates/scrypt_tool/out/scrypt_tool
-	python3 -m tools.compare.allocations crates/scrypt_tool/out/scrypt_tool
+	python3 -m tools.tests.oracle crates/scrypt_tool/out/scrypt_tool
+	python3 -m tools.tests.allocations crates/scrypt_tool/out/scrypt_tool
 	$(EXAMPLES) python3 examples/migration/test_migration.py crates/scrypt_tool/out/scrypt_tool $(if $(WORKER),--worker $(WORKER))
 	$(EXAMPLES) python3 examples/key_files/test_key_files.py crates/scrypt_tool/out/scrypt_tool build/lib/libscrypt_c.so
-	python3 -m tools.compare.hostile build/lib/libscrypt_c.so
-	python3 -m tools.compare.groups build/lib/libscrypt_c.so
+	python3 -m tools.tests.hostile build/lib/libscrypt_c.so
+	python3 -m tools.tests.groups build/lib/libscrypt_c.so
 
 # For another processor of Linux the program is built too.
 PRESET = $(or $(PRESET_OF_$(ARCH)),native)
@@ -199,7 +199,7 @@ bench: lib
 	python3 -m tools.bench.logins $(MEASURED)
 
 doc:
-	python3 -m tools.doc.make
+	python3 -m tools.generate.make
 
 clean:
 	rm -rf build crates/*/out
@@ -211,10 +211,10 @@ kit:
 # What is done seldom: each calls a script of the folder that it is about.
 .PHONY: mirror refused-by-tests dist-test thin parameters bounds compare-worker promises doc-test axioms
 mirror:
-	python3 -m tools.mirror
+	python3 -m tools.generate.mirror
 
 refused-by-tests: kit
-	python3 -m tools.ci.refused_by_tests
+	python3 -m tools.gate.refused_by_tests
 
 dist-test:
 	python3 -B tools/release/test_proved.py
@@ -237,18 +237,18 @@ bounds: lib
 compare-worker: kit
 	@test -n "$(WORKER)" || { echo "Say with what: make compare-worker WORKER=PATH" >&2; exit 1; }
 	cd crates/scrypt_tool && rt run -- key 0 1 1 1 "" > /dev/null < /dev/null
-	python3 -m tools.compare.oracle crates/scrypt_tool/out/scrypt_tool --seed 934532111 --worker $(WORKER)
+	python3 -m tools.tests.oracle crates/scrypt_tool/out/scrypt_tool --seed 934532111 --worker $(WORKER)
 
 promises:
-	python3 -m tools.doc.promises
+	python3 -m tools.generate.promises
 
 doc-test: doc
-	python3 -m tools.doc.browser_test build/doc
+	python3 -m tools.generate.browser_test build/doc
 
 axioms: proved-scrypt_commands
 	mkdir -p build
 	cd crates/scrypt_tool && rt check --list-axioms > ../../build/axioms.log
-	sed -n 's/^  \([a-z0-9_:]*\) *reached$$/\1/p' build/axioms.log > tools/doc/axioms.txt
+	sed -n 's/^  \([a-z0-9_:]*\) *reached$$/\1/p' build/axioms.log > tools/generate/axioms.txt
 
 # The library is built only if it is not there: the kit is not needed after that.
 .PHONY: login-service login-test

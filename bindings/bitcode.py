@@ -22,7 +22,8 @@ import tempfile
 from pathlib import Path
 
 from bindings.compilers import LEVELS
-from tools import copies, kit
+from tools import copies
+from tools.generate import kit
 
 LINUX = "x86_64-unknown-linux-gnu"
 

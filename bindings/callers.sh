@@ -19,11 +19,11 @@ fi
 if [ -n "$emulator" ]; then
   begin_test
   cc -O2 -static -DPROGRAM="\"$PWD/$build/bin/scrypt_tool\"" -DEMULATOR="\"${emulator%% *}\"" \
-    -DLIBRARIES="\"${emulator##* }\"" bindings/terminal/emulated.c -o "$room/scrypt_tool"
-  CC=$CC python3 -B -m tools.ci.program "$room/scrypt_tool"
+    -DLIBRARIES="\"${emulator##* }\"" bindings/cli/emulated.c -o "$room/scrypt_tool"
+  CC=$CC python3 -B -m tools.tests.program "$room/scrypt_tool"
   exit
 fi
-python3 -B bindings/completions/test.py
+python3 -B bindings/cli/test_completions.py
 if [ "${1:-}" = short ]; then
   for caller in python drop_in; do bindings/$caller/test.sh short; done
   exit

@@ -20,7 +20,8 @@ import sys
 import tempfile
 from pathlib import Path
 
-from tools import copies, kit, prover_command
+from tools import copies, prover_command
+from tools.generate import kit
 
 CC = os.environ.get("CC", "cc")
 
@@ -122,7 +123,7 @@ def compare_level(level, clang, kept, test, room):
 def main(out="crates/scrypt_c/out", kept="crates/scrypt_c/out/incremental"):
     with tempfile.TemporaryDirectory() as room:
         options = ["-std=gnu99", "-O2", "-Wall", "-Wextra", "-Werror", "-Ibindings/c"]
-        copies.run(CC, *options, "-o", f"{room}/test", "bindings/c/test_compilers.c", "-ldl")
+        copies.run(CC, *options, "-o", f"{room}/test", "bindings/c/tests/test_compilers.c", "-ldl")
         shutil.copytree(kept, f"{room}/kept")
         for level, place in LEVELS.items():
             compare_level(level, f"{out}/{place}", f"{room}/kept", f"{room}/test", room)

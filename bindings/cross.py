@@ -16,7 +16,8 @@ import sys
 import tempfile
 from pathlib import Path
 
-from tools import copies, kit
+from tools import copies
+from tools.generate import kit
 
 MADE = {"scrypt_c": "libscrypt_c.a", "scrypt_tool": "scrypt_tool.o"}
 

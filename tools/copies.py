@@ -10,7 +10,8 @@ import subprocess
 import sys
 from pathlib import Path
 
-from tools import kit, prover_command
+from tools import prover_command
+from tools.generate import kit
 
 TOP = Path(__file__).resolve().parents[1]
 

@@ -5,7 +5,7 @@ import mmap
 import sys
 import time
 
-from tools.header import loaded, structure
+from tools.generate.header import loaded, structure
 
 UNBOUNDED = (1 << 64) - 1
 Options, Needs, Login = (structure(f"scrypt_{it}") for it in ("options", "needs", "login"))

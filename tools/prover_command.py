@@ -2,8 +2,8 @@
 the folder that PROVED_LIBRARIES names in the environment, which has them in the same places."""
 
 import os
-from tools.kit import located as kit
-from tools.sources import crates
+from tools.generate.kit import located as kit
+from tools.generate.sources import crates
 
 
 def below(name):

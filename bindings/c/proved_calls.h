@@ -1,4 +1,4 @@
-/* Made by tools/mirror.py of crates/scrypt_c/src: the proved calls, each as PROVED_CALL(name, parameters, arguments)
+/* Made by tools/generate/mirror.py of crates/scrypt_c/src: the proved calls, each as PROVED_CALL(name, parameters, arguments)
  * if it returns a status, and else as PROVED_PROCEDURE, which whoever includes this list defines: clearing.c chooses one of
  * each level, calls it, and clears after it. */
 PROVED_CALL(scrypt_hash_phc, (const uint8_t *password, size_t password_len, const uint8_t *salt, size_t salt_len,

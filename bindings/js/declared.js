@@ -1,4 +1,4 @@
-// Made by tools/mirror.py of bindings/c/scrypt_c.h: the recommended parameters, the statuses and their words.
+// Made by tools/generate/mirror.py of bindings/c/scrypt_c.h: the recommended parameters, the statuses and their words.
 export const RECOMMENDED_LOG_N = 17;
 export const RECOMMENDED_R = 8;
 export const RECOMMENDED_P = 1;

@@ -42,8 +42,8 @@ echo "called from Python"
 # What the interpreter does with its own copies of the outputs is none of this: so that it doesn't save registers while it
 # binds functions, they are bound before.
 if has gcc gcc; then
-  gcc -O2 -fPIC -shared bindings/c/traces.c -o "$room/traces.so"
-  python3 -m bindings.c.traces "$lib/libscrypt_c.so" > "$room/secrets"
+  gcc -O2 -fPIC -shared bindings/c/tests/traces.c -o "$room/traces.so"
+  python3 -m bindings.c.tests.traces "$lib/libscrypt_c.so" > "$room/secrets"
   LD_BIND_NOW=1 python3 "$tests/test_traces.py" "$room/secrets" "$room/traces.so"
   echo "no trace of the password, the blocks or the key: hashes, verifying, together too, and keys from Python"
 fi

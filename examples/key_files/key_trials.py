@@ -11,7 +11,7 @@ import key_vectors
 from foreign import Missing, installed
 from key_codecs import INTEGER, OCTET_STRING, keccak_256, to_base64, to_der
 from key_trial import changed, other_values, read, run
-from tools.terminal import on_terminal
+from tools.tests.terminal import on_terminal
 
 # Contents of files: none, some, and more than one chunk of age.
 LENGTHS = (0, 1000, 70000)

@@ -15,7 +15,7 @@ import time
 from pathlib import Path
 
 from examples.key_files import key_vectors
-from tools.terminal import on_terminal
+from tools.tests.terminal import on_terminal
 
 HERE = Path(__file__).resolve().parent
 

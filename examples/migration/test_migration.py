@@ -28,10 +28,10 @@ from migration_cases import CRYPT_REFUSES, DJANGO_TEXTS, PASSLIB_SPELLINGS, SHEL
 HERE = os.path.dirname(os.path.abspath(__file__))
 TOP = os.path.join(HERE, "..", "..")
 os.environ.setdefault("SCRYPT_C_LIBRARY", os.path.join(TOP, "build", "lib"))
-from tools.compare.oracle import some_bytes, verified
-from tools import crypt64
-from tools.runs import unlimited
-from tools.worker import Worker
+from tools.tests.oracle import some_bytes, verified
+from tools.tests import crypt64
+from tools.tests.runs import unlimited
+from tools.tests.worker import Worker
 from scrypt_c import migration
 
 CASES = 20

@@ -28,8 +28,8 @@ import time
 
 from tools.bench import picture, tables
 from tools import ours
-from tools.libraries import crypt64, libraries
-from tools.worker import Worker
+from tools.tests.libraries import crypt64, libraries
+from tools.tests.worker import Worker
 
 IN_MEMORY, ALLOCATING, TWO, FOUR = "`scrypt_hasher_verify`", "`scrypt_verify`", "each of two at once", "each of four at once"
 DRAWN = {FOUR: "this library, four at once", TWO: "two at once", IN_MEMORY: "one at a time", ALLOCATING: None}  # None is left out

@@ -30,7 +30,7 @@ END
 mkdir -p "$root"/{bin,dev,lib,proc,sys,tests,tmp}
 cp -L "/usr/$ARCH"/lib/{ld-linux-aarch64.so.1,libc.so.6,libgcc_s.so.1} "$root/lib"
 cp -L "$room/tests" "$shared" "$lib/libscrypt_drop_in.so" "$root/tests"
-python3 -B -m bindings.c.traces build/lib/libscrypt_c.so > "$root/tests/secrets"
+python3 -B -m bindings.c.tests.traces build/lib/libscrypt_c.so > "$root/tests/secrets"
 head -n 1 "$root/tests/secrets" > "$root/tests/first"
 while IFS='|' read -r name library options _; do
   $CC -std=gnu99 -O2 -Wl,-z,now -Ibindings/c -I"$lib" -DPROCESSOR='"arm64"' -DROOT='"/tmp/root"' $options \

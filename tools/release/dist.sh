@@ -27,7 +27,7 @@ done
 (ARCH=$windows && . bindings/arch.sh && is_built "$build/lib/scrypt_c.dll" && is_built "$build/bin/scrypt_calibrate.exe")
 is_built bindings/js/scrypt.wasm
 python3 -B tools/release/proved.py check
-python3 -m tools.mirror --check
+python3 -m tools.generate.mirror --check
 rm -rf "$dist" "$parts"
 mkdir -p "$dist" "$parts"
 trap 'debian/rules clean > /dev/null 2>&1; rm -rf "$parts"' EXIT
@@ -38,7 +38,7 @@ for ARCH in $archs; do
   ARCH=$ARCH tools/release/strip.sh "$parts/files/$ARCH"
 done
 tools/release/windows.sh "$parts/files/$windows"
-python3 -B -m tools.doc.promises clauses > "$parts/doc/docs/CLAUSES.md"
+python3 -B -m tools.generate.promises clauses > "$parts/doc/docs/CLAUSES.md"
 python3 -B tools/release/proved.py text "$parts/files" > "$parts/PROVED.txt"
 # The newest glibc whose names a binary may take: the wheel's tag promises 2.17 for its libraries.
 glibc() {

@@ -120,7 +120,7 @@ def text(folder):
         ("scrypt, proved", f"version {version}\ncommit  {commit()}\nlinker  {', '.join(tools)}"),
         ("What the gate printed of each crate, and of its tests", said),
         ("What you trust", without_marks(Path("docs/TRUST.md").read_text(encoding="utf-8"))),
-        ("The axioms of the program", Path("tools/doc/axioms.txt").read_text(encoding="utf-8").strip()),
+        ("The axioms of the program", Path("tools/generate/axioms.txt").read_text(encoding="utf-8").strip()),
         ("SHA-256 of the binaries, as they are in the packages",
          "\n".join(f"{it}  {path}" for path, it in files.items() if re.search(r"\.so|\.a$|\bbin/", path))),
         ("SHA-256 of what the kit built, from which these were linked", "\n".join(f"{it}  {path}" for path, it in built.items())),

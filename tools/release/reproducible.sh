@@ -16,7 +16,7 @@ if [ -e build/proved.json ]; then cp build/proved.json "$room/source/build/"; fi
 command="make test dist"
 if [ "${1:-}" != proofs ]; then
   files="crates/scrypt_c/out/$newest/libscrypt_c.a crates/scrypt_tool/out/scrypt_tool build/wasm/scrypt64.wasm bindings/js/scrypt.wasm"
-  command="make linked && bindings/terminal/build.sh"
+  command="make linked && bindings/cli/build.sh"
   for ARCH in $archs $windows; do
     . bindings/arch.sh
     files="$files crates/scrypt_c/$proved/libscrypt_c.a"

@@ -26,7 +26,7 @@ expect() {
   echo "$3"
 }
 # Runs a program of the root. The emulator follows no advice on memory, without which there is no hasher: what is preloaded does.
-$CC -O2 -fPIC -shared bindings/c/emulator.c -o "$room/emulator.so"
+$CC -O2 -fPIC -shared bindings/c/tests/emulator.c -o "$room/emulator.so"
 run() { "${emulator%% *}" -L "$root" -E LD_PRELOAD="$room/emulator.so${preloaded:+:$preloaded}" "$root/$1" "${@:2}"; }
 python() { PYTHONPATH=$room/wheel run usr/bin/python3 -W ignore -c "$1"; }
 dpkg_there() { dpkg --root="$root" --force-architecture --force-depends --force-script-chrootless "$@"; }

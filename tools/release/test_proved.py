@@ -62,8 +62,8 @@ def run(script, folder):
 
 def prepare(folder):
     shutil.copytree(ROOT / "tools/release", folder / "tools/release")
-    (folder / "tools/doc").mkdir()
-    shutil.copy(ROOT / "tools/doc/axioms.txt", folder / "tools/doc")
+    (folder / "tools/generate").mkdir()
+    shutil.copy(ROOT / "tools/generate/axioms.txt", folder / "tools/generate")
     (folder / "docs").mkdir()
     for name in ("docs/TRUST.md", "VERSION"):
         shutil.copy(ROOT / name, folder / name)

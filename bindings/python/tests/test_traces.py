@@ -1,6 +1,6 @@
 """Searches the memory of this process, with the stack of the thread that called, for what calls must not leave there.
 
-usage: test_traces.py SECRETS TRACES     what bindings/c/traces.py printed, and bindings/c/traces.c as a shared library
+usage: test_traces.py SECRETS TRACES     what bindings/c/tests/traces.py printed, and bindings/c/tests/traces.c as a shared library
 """
 
 import ctypes
@@ -14,7 +14,7 @@ from test_threads import busy
 
 
 class Case(ctypes.Structure):
-    """As in bindings/c/traces.h."""
+    """As in bindings/c/tests/traces.h."""
 
     _fields_ = [
         *((name, ctypes.c_uint) for name in ("log_n", "r", "p")),

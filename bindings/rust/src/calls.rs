@@ -1,4 +1,4 @@
-//! Made by tools/mirror.py of bindings/c/scrypt_c.h: its numbers, statuses, structures and calls.
+//! Made by tools/generate/mirror.py of bindings/c/scrypt_c.h: its numbers, statuses, structures and calls.
 #![allow(dead_code)]
 
 use std::os::raw::{c_char, c_int, c_void};

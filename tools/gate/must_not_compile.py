@@ -1,0 +1,151 @@
+"""Checks what the compiler has to refuse before any proof, and what no clause can refuse.
+
+The compiler has to refuse each edit for it in crates/NAME/wrong-bodies.txt, because it uses something private or makes
+the `prove!` of a constant false: clauses name constants, so they hold for any value.
+
+A count of cores could be wrong in three more ways, which are refused: a handwritten proof other than the one of the
+counter; a new count anywhere but where a derivation begins, or in a test; and an impl for the counter that makes
+another count. Another name for the counter is refused too, since it could hide a new count. What SHA-256 compresses is
+counted in one file, so no other may name the trait `Digest`, by which the crate `sha2` is called.
+
+An impl of `PartialEq` chooses its own relation, and the contract of `Clone` does not require a copy to be equal. So
+`Clone` is always derived, and `PartialEq` is derived or its clause compares the whole values.
+
+usage: python3 -m tools.gate.must_not_compile sources   what no clause can refuse
+       python3 -m tools.gate.must_not_compile edits     what the compiler has to refuse; the libraries below a crate have to be built
+"""
+
+import glob
+import re
+import subprocess
+import sys
+
+from tools import prover_command
+from tools.gate import edits
+from tools.generate import sources
+
+HANDWRITTEN = ["crates/scrypt_kernel/proofs/cores/count/CoreCount/of/Proof.antt"]
+NEW_COUNTS = {
+    "crates/scrypt_kernel/src/hmac.rt": 1,
+    "crates/scrypt_kernel/src/pbkdf2.rt": 1,
+    "crates/scrypt/src/derivation.rt": 2,
+    "crates/scrypt/src/hashing.rt": 1,
+    "crates/scrypt/src/mcf/verifying.rt": 1,
+    "crates/scrypt/src/phc/verifying.rt": 1,
+    "crates/scrypt/src/stored_hash.rt": 1,
+    "crates/scrypt_c/src/with_buffers.rt": 4,
+    "crates/scrypt_c/src/keys.rt": 2,
+    "crates/scrypt_commands/src/run.rt": 1,
+    "crates/scrypt_examples/src/verdicts.rt": 1,
+}
+
+# A new count, however the type is written: `CoreCount::new`, `<CoreCount>::new`, `scrypt::CoreCount :: new`.
+NEW = re.compile(r"\bCoreCount\s*>?\s*::\s*new\b")
+
+# Another name for the counter or for what is in it.
+OTHER_NAMES = re.compile(r"\bCoreCount\s+as\b|\btype\s+\w+[^=;]*=[^;]*\bCoreCount\b|\buse\s[^;]*\bCoreCount\s*::")
+
+# The trait by which `sha2` is called, and the file that counts these calls.
+HASHING, HASHING_SOURCE = re.compile(r"\bDigest\b"), "crates/scrypt_kernel/src/cores/sha256.rt"
+
+# The counter's own file, and the only impls for it.
+COUNTER_SOURCE = "crates/scrypt_kernel/src/cores/count.rt"
+COUNTER_IMPLS = {"impl CoreCount", "impl Model for CoreCount"}
+
+# The clauses by which an impl of `PartialEq` compares the whole values.
+WHOLE = [
+    "ghost eq = { λ s t. pointwise nat_eq s t };",
+    "ghost eq = { pointwise pair_eq };",
+    "ensures exact { IsTrue result ↔ (self.now ≡ other.now) }",
+]
+
+# Why the compiler may refuse an edit, and the errors for it. What counts a core is not even known to another crate.
+KINDS = {
+    "private": re.compile("private-"),
+    "unknown outside of the cores": re.compile("unknown-method]: no function or constant named `after_core` found for struct `CoreCount`"),
+    "a false constant": re.compile("failed-constant-evaluation"),
+}
+
+
+def kind_of(printed):
+    """What a check refuses for, if all errors that it prints are of one kind, or None."""
+    errors = re.findall(r"^src/\S+ error\[(.*)", printed, re.M)
+    return next((kind for kind, error in KINDS.items() if errors and all(map(error.match, errors))), None)
+
+
+def refused_as(name, crate):
+    """What the compiler refuses a copy of a crate for before any proof, or None."""
+    ran = subprocess.run([*prover_command.of("check", name), "--only", ""], cwd=crate, capture_output=True, text=True)
+    return kind_of(ran.stdout + ran.stderr) if ran.returncode != 0 else None
+
+
+def bare(path, text):
+    """A source without its comments."""
+    text = re.sub(r" *//.*", "", re.sub(r"/\*.*?\*/", " ", text, flags=re.S))
+    return sources.read_source(path.split("/")[1], path, text)
+
+
+def own_sources():
+    """The sources outside the crate of tests."""
+    found = glob.glob("crates/*/src/**/*.rt", recursive=True)
+    return [bare(path, sources.read(path)) for path in found if not path.split("/")[1].endswith("_tests")]
+
+
+def count_complaints(those):
+    """What is refused of new counts and their names."""
+    counts = {source.path: len(NEW.findall(source.text)) for source in those if NEW.search(source.text)}
+    if counts != NEW_COUNTS:
+        yield f"new counts of cores: {counts}, where only {NEW_COUNTS} may be"
+    for source in those:
+        for found in OTHER_NAMES.findall(source.text):
+            yield f"{source.path}: another name for the counter of cores: {found}"
+        if source.path != HASHING_SOURCE and HASHING.search(source.text):
+            yield f"{source.path}: calls SHA-256 where it is not counted"
+    [text] = [source.text for source in those if source.path == COUNTER_SOURCE]
+    if re.search(r"\bSelf\s*::\s*new\b", text):
+        yield f"{COUNTER_SOURCE}: a new count by `Self::new`"
+    if re.findall(r"#\[derive\(([^)]*)\)\]\s*pub struct CoreCount\b", text) != ["Drop"]:
+        yield f"{COUNTER_SOURCE}: the counter derives more than `Drop`"
+
+
+def impl_complaints(source):
+    """What is refused of the implementations of a source: for the counter, and of `Clone` and `PartialEq`."""
+    for item in (item for item in source.items if item.kind == "impl"):
+        if re.search(r"\bCoreCount\b", item.text.partition(" where ")[0]) and item.text not in COUNTER_IMPLS:
+            yield f"{source.path}: an impl for the counter of cores: {item.text}"
+        trait = re.search(r"\b(Clone|PartialEq)\b(?:<[^>]*>)? for ", item.name)
+        body = "\n".join(source.text.splitlines()[item.line : item.last])
+        if trait and (trait[1] == "Clone" or not any(whole in body for whole in WHOLE)):
+            yield f"{source.path}: an impl that need not copy or compare the whole value: {item.text}"
+    for line in source.unread():
+        yield f"{source.path}: not read, since it isn't formatted: {source.text.splitlines()[line - 1]}"
+
+
+def complaints(those):
+    """What is refused in these sources."""
+    return [*count_complaints(those), *(found for source in those for found in impl_complaints(source))]
+
+
+def wrong_in_sources():
+    """What is refused of the sources and the proofs."""
+    wrong = complaints(own_sources())
+    if sorted(glob.glob("crates/*/proofs/**/Proof.antt", recursive=True)) != HANDWRITTEN:
+        wrong.append(f"handwritten proofs other than {', '.join(HANDWRITTEN)}")
+    return wrong
+
+
+def wrong_edits():
+    """The edits that the compiler does not refuse."""
+    for [edit], crate in edits.tried(edits.NOT_COMPILED, left_out=["out"]):
+        kind = refused_as(edit.crate, crate)
+        print(f"must-not-compile {edit}: {f'refused, as {kind}' if kind else 'NOT REFUSED'}", flush=True)
+        if not kind:
+            yield f"{edit} was not refused"
+
+
+def main(part):
+    sys.exit("\n".join({"sources": wrong_in_sources, "edits": wrong_edits}[part]()) or 0)
+
+
+if __name__ == "__main__":
+    main(*sys.argv[1:])

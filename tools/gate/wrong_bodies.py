@@ -1,0 +1,221 @@
+"""Tries wrong bodies, which the prover has to refuse, many of them in one check.
+
+A function is proved by its own body and the contracts of those that it calls, so a wrong body does not affect the
+proofs of other functions. The edits of a crate are tried in rounds: each is one check of a copy with at most one edit
+of a function, in which the proofs of all other functions are holes. Each function has to be refused with an unproved goal
+of its own: that it calls a refused one is not enough, nor is a search that gave up, or a name that is gone. The author has
+to see that the goal is false. An edit of a constant, or of a type, has a round of its own, with every proof.
+
+The prover searches long for a proof of a false goal, and once more at the end. So an edit may answer that goal by what
+proves it of the right body: the wrong body is refused by the answer. With `all`, the right bodies are proved by all answers.
+
+usage: python3 -m tools.gate.wrong_bodies [NAME..]         the edits of crates/NAME/wrong-bodies.txt for the gate, one round for each crate
+       python3 -m tools.gate.wrong_bodies all [NAME..]     the others that the prover has to refuse too, in as many rounds as it takes
+       python3 -m tools.gate.wrong_bodies over FOLDER NAME those of a crate for the gate, over what a check of the crate kept there
+       python3 -m tools.gate.wrong_bodies fit              tries nothing: prints the edits that can't be applied, those of the gate that need
+                                        more than one round, and the public functions that no edit changes
+The libraries below a crate have to be built.
+"""
+
+import concurrent.futures
+import os
+import shutil
+import subprocess
+import sys
+import tempfile
+from pathlib import Path
+
+from tools.gate import prover_output
+from tools.generate import promises
+from tools.generate.library import Library
+from tools import prover_command
+from tools.gate import edits
+from tools.generate import kit, sources
+
+FIRST, MORE = edits.GATE, edits.MORE
+
+# The proof of a function, by its path in antt and its name, that a check takes by its contract alone.
+HOLE = """use Rattle.{}.Statement as stated
+
+pub {}_spec : {{M : Type 1}} → stated.statement M
+{}_spec = ?
+"""
+
+# One check takes up to 2 GB. `taskset` gives fewer processors.
+AT_ONCE = min(4, len(os.sched_getaffinity(0)))
+
+
+def changed(edit, name, crate):
+    """The paths of the functions that an edit changes, or none if it changes what is outside of them."""
+    edits.texts_after([edit], f"crates/{name}")
+    found, files = set(), {source.path: source for source in crate.values()}
+    for path, after, old, _ in edit.pairs():
+        source = files[f"crates/{name}/{path}"]
+        at = edit.place(source.text, after, old) + len(old) - len(old.lstrip())
+        function = source.function_at(source.text.count("\n", 0, at) + 1)
+        if function is None:
+            return set()
+        found.add(sources.checked_path(crate, source, function))
+    return found
+
+
+def takes(tried, edit, its, folder):
+    """Whether a round takes an edit: it changes other functions, and its old texts still occur once."""
+    return not any(its & other for other in tried.values()) and edits.fit([*tried, edit], folder)
+
+
+def rounds(name, *parts):
+    """The edits of a crate with what they change, so that those of a round change different functions."""
+    made, alone, folder = [], [], f"crates/{name}"
+    crate = sources.read_crate(name, folder)
+    for edit in edits.edits_of(name, *parts):
+        its = changed(edit, name, crate)
+        tried = next((others for others in made if takes(others, edit, its, folder)), None)
+        if its and tried is not None:
+            tried[edit] = its
+        else:
+            (made if its else alone).append({edit: its})
+    return made + alone
+
+
+def leave_out(name, changed, folder):
+    """Gives the functions of a copy of a crate, except those that are changed, a hole for their proof."""
+    crate = sources.read_crate(name, f"crates/{name}")
+    for source in crate.values():
+        lines = source.text.splitlines()
+        for it in source.items:
+            path = sources.checked_path(crate, source, it) if it.kind == "fn" else None
+            # A trait's function without a body ends in a semicolon.
+            if path is None or path in changed or lines[it.last - 1].endswith(";"):
+                continue
+            proofs = Path(folder, "proofs", *path.split("::"))
+            proofs.mkdir(parents=True, exist_ok=True)
+            for file in ("Invariants.antt", "Answers.antt"):
+                (proofs / file).unlink(missing_ok=True)
+            module = ".".join([name, "proofs", *path.split("::")])
+            (proofs / "Proof.antt").write_text(HOLE.format(module, it.name, it.name), "utf-8")
+
+
+def add_answers(name, tried, folder):
+    """Answers goals in a copy of a crate as these edits do. Each changes one function if it has an answer."""
+    for edit, changed in tried.items():
+        given, uses = edit.answers()
+        for path in changed if given else ():
+            file = Path(folder, "proofs", *path.split("::"), "Answers.antt")
+            goals = ".".join(["Rattle", name, "proofs", *path.split("::"), "Goals"])
+            text = file.read_text("utf-8") if file.is_file() else f"use {goals} as goal\n"
+            given = {goal: answer for goal, answer in given.items() if f"pub {goal} :" not in text}
+            uses = [use for use in uses if f"use {use}\n" not in text]
+            file.parent.mkdir(parents=True, exist_ok=True)
+            lines = [f"use {use}" for use in uses] + [text]
+            file.write_text("\n".join([*lines, *given.values()]), "utf-8")
+
+
+def check(name, tried, kept=(), are_right=False):
+    """What a check of a crate prints that has these edits, or only their answers. It takes what they leave as it was from what
+    was kept."""
+    with tempfile.TemporaryDirectory() as crate:
+        for part in ("src", "specs", "proofs"):
+            if os.path.isdir(f"crates/{name}/{part}"):
+                shutil.copytree(f"crates/{name}/{part}", f"{crate}/{part}")
+        if not are_right:
+            edits.write(edits.texts_after(tried, crate))
+        add_answers(name, tried, crate)
+        changed = set().union(*tried.values())
+        only = [word for path in changed for word in ("--only", path)]
+        if changed and not kept:
+            leave_out(name, changed, crate)
+            only.append("--allow-holes")
+        command = [*prover_command.of("check", name), *only, *kept]
+        ran = subprocess.run(command, cwd=crate, capture_output=True, text=True, errors="replace")
+    return ran.stdout + ran.stderr
+
+
+def false_answers(name, parts):
+    """The edits of a crate whose answers refuse the right bodies too."""
+    found = {edit: its for tried in rounds(name, *parts) for edit, its in tried.items() if edit.answers()[0]}
+    printed = check(name, found, are_right=True) if found else ""
+    return [edit for edit, its in found.items() if prover_output.verdict(printed, its) != "NOT REFUSED"]
+
+
+def judged(name, tried, kept):
+    """Each edit of a round with its verdict."""
+    printed = check(name, tried, kept)
+    if not prover_output.statuses(printed):
+        return {edit: "BAD EDIT: " + printed.strip()[:300] for edit in tried}
+    return {edit: prover_output.verdict(printed, its) for edit, its in tried.items()}
+
+
+def try_all(names, parts, kept=()):
+    """Tries the edits of crates, prints each that isn't refused with a goal, and returns how many these are. If these are all
+    edits, their answers are tried on the right bodies too."""
+    tried = wrong = 0
+    # The longest begin first.
+    all_rounds = [(name, tried) for name in names for tried in rounds(name, *parts)]
+    all_rounds.sort(key=lambda job: -len(job[1]))
+    with concurrent.futures.ThreadPoolExecutor(AT_ONCE) as lanes:
+        right = [lanes.submit(false_answers, name, parts) for name in names if MORE in parts]
+        running = [lanes.submit(judged, *job, kept) for job in all_rounds]
+        for done in concurrent.futures.as_completed(running):
+            for edit, verdict in done.result().items():
+                tried += 1
+                if verdict != "refused":
+                    wrong += 1
+                    print(f"{edit}: {verdict}", flush=True)
+        false = [edit for done in right for edit in done.result()]
+    for edit in false:
+        print(f"{edit}: ITS ANSWERS REFUSE THE RIGHT BODY TOO")
+    print(f"wrong bodies: {tried - wrong} of {tried} refused, each with an unproved goal of its own")
+    return wrong + len(false)
+
+
+def untried(library, name):
+    """The public functions of a crate with clauses and a body that no edit changes. A law's body does nothing, and what makes a
+    count takes ghost numbers, which only a handwritten proof names: tools/gate/must_not_compile.py checks where counts are made."""
+    crate = library.sources[name]
+    tried = set().union(*(changed(edit, name, crate) for edit in edits.edits_of(name, *edits.PARTS)))
+    for source in crate.values():
+        for it in source.items:
+            path = sources.checked_path(crate, source, it) if it.kind == "fn" else None
+            has_body = it.opened < it.last and source.text.splitlines()[it.last - 1] == f"{' ' * 4 * bool(it.owner)}}}"
+            if path and has_body and source.module not in ("laws", "cores::count") and promises.promised(library, source, it) and path not in tried:
+                yield f"{name}: no wrong body of the public function {path}"
+
+
+def unfit():
+    """What is wrong with the edits, without trying them."""
+    library = Library(".", kit.Kit(None))
+    for name in edits.crates_with(*edits.PARTS):
+        wrong = list(filter(None, (unfit_edit(edit, name) for edit in edits.edits_of(name, *edits.PARTS))))
+        yield from wrong
+        if not wrong and len(rounds(name, FIRST)) > 1:
+            yield f"{name}: two edits of the gate change one function, or one changes none: it belongs to [{MORE}]"
+        if not wrong and name in library.crates():
+            yield from untried(library, name)
+
+
+def unfit_edit(edit, name):
+    """Why an edit can't be applied, or None."""
+    try:
+        edits.texts_after([edit], f"crates/{name}")
+    except edits.BadEdit as error:
+        return str(error)
+    return None
+
+
+def main():
+    names = sys.argv[1:]
+    if names == ["fit"]:
+        wrong = list(unfit())
+        print("\n".join([*wrong, f"wrong bodies: {len(wrong)} can't be tried"]))
+        sys.exit(1 if wrong else 0)
+    if names[:1] == ["over"]:
+        sys.exit(1 if try_all(names[2:], [FIRST], ["--incremental", names[1]]) else 0)
+    if names[:1] != ["all"]:
+        sys.exit(1 if try_all(names or edits.crates_with(FIRST), [FIRST]) else 0)
+    parts = [FIRST, MORE]
+    sys.exit(1 if try_all(names[1:] or edits.crates_with(*parts), parts) else 0)
+
+
+if __name__ == "__main__":
+    main()

@@ -1,0 +1,94 @@
+"""What bindings/c/scrypt_c.h declares: its calls and structures, and their types in ctypes."""
+
+import ctypes
+import functools
+import os
+import re
+from pathlib import Path
+
+TEXT = (Path(__file__).parents[2] / "bindings/c/scrypt_c.h").read_text("utf-8")
+TYPES = {"int": ctypes.c_int, "uint8_t": ctypes.c_uint8, "uint32_t": ctypes.c_uint32, "uint64_t": ctypes.c_uint64,
+         "int64_t": ctypes.c_int64, "size_t": ctypes.c_size_t, "double": ctypes.c_double}
+
+
+def without_comments(text):
+    return re.sub(r"/\*.*?\*/", "", text, flags=re.S)
+
+
+def calls_of(text):
+    """The result, the name and the arguments of each call of a header."""
+    found = re.findall(r"^(int|void|(?:const )?\w+ \*) ?(scrypt_\w+)\(([^{}]*?)\);", without_comments(text), re.M)
+    return [(result, name, [" ".join(it.split()) for it in arguments.split(",") if it != "void"])
+            for result, name, arguments in found]
+
+
+def structures_of(text):
+    """The structures of a header, each with its fields."""
+    made = {}
+    for fields, name in re.findall(r"^typedef struct \w+ \{(.*?)\} (\w+);", without_comments(text), re.M | re.S):
+        made[name] = []
+        for declared in filter(None, map(str.strip, fields.split(";"))):
+            first, *others = declared.split(",")
+            kind = first.removesuffix(name_of(first))
+            made[name] += [first, *(kind + it.strip() for it in others)]
+    return made
+
+
+def statuses_of(text):
+    """The statuses of a header, each name with its number."""
+    return {name: int(number) for name, number in re.findall(r"^  SCRYPT_(\w+) = (\d+)", text, re.M)}
+
+
+def errors_of_text(text):
+    """Those statuses of a header by which a text is not a hash."""
+    return list(statuses_of(re.search(r"^  /\* The text is not a hash.*?\*/\n(.*?)^  /\*", text, re.M | re.S)[1]))
+
+
+def words_of(text):
+    """What a header returns as the description of each status, by its name."""
+    found = re.findall(r'case SCRYPT_(\w+):\s*return ((?:"[^"]*"\s*)+);', text)
+    return {name: "".join(re.findall(r'"([^"]*)"', words)) for name, words in found}
+
+
+def numbers_of(text):
+    """The numbers that a header defines, by their names without SCRYPT_."""
+    found = re.findall(r"^#define SCRYPT_(\w+) \(?(?:UINT\d+_C\()?(\d+)\)?(?: << (\d+)\))?$", text, re.M)
+    return {name: int(number) << int(shift or 0) for name, number, shift in found}
+
+
+NUMBERS = numbers_of(TEXT)
+
+
+def name_of(declared):
+    """The name of an argument or of a field."""
+    return re.search(r"\w+$", declared)[0]
+
+
+def word_of(declared):
+    """The word of its type."""
+    return declared.removeprefix("const ").split()[0]
+
+
+def kind(declared, address=ctypes.c_void_p):
+    """The type of an argument, a field or a result, or None for void. Of numbers and bytes C takes the address."""
+    word = word_of(declared)
+    if "*" not in declared:
+        return TYPES.get(word)
+    return ctypes.POINTER(structure(word)) if word in structures_of(TEXT) else address
+
+
+@functools.lru_cache(maxsize=None)
+def structure(name):
+    """A structure of C."""
+    fields = [(name_of(it), kind(it, ctypes.c_char_p)) for it in structures_of(TEXT)[name]]
+    return type(name, (ctypes.Structure,), {"_fields_": fields})
+
+
+def loaded(path):
+    """The shared library, with the types of its calls; an older one does not have all."""
+    library = ctypes.CDLL(os.path.abspath(path))
+    for result, name, arguments in calls_of(TEXT):
+        if hasattr(library, name):
+            call = getattr(library, name)
+            call.argtypes, call.restype = [kind(it) for it in arguments], kind(result)
+    return library

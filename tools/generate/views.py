@@ -1,0 +1,230 @@
+"""What the templates print: each item, clause and definition with its HTML, and who cites it."""
+
+import itertools
+import re
+from dataclasses import dataclass, field
+
+from tools.generate import comments, links
+from tools.generate.library import STANDARD_FACTS, definition_target, page_of, text_page
+from tools.generate import specs
+
+# types are shown also if they are private, since clauses and definitions may cite them
+TYPES = ("struct", "enum", "trait")
+# what an implementation gives besides relations: the type of its model, and proofs
+PROOFS = {"Value", "laws", "inverse", "inverse_ok", "view_ok", "inverse_invariant"}
+
+
+@dataclass
+class Shown:
+    """One thing on a page, with an anchor. `parts` are its clauses, each with a kind, a name, an anchor and HTML."""
+
+    key: tuple
+    kind: str
+    name: str
+    anchor: str
+    href: str
+    words: str
+    code: str
+    path: str
+    line: int
+    standards: list
+    lines: int = 0
+    parts: list = field(default_factory=list)
+
+    @property
+    def where(self):
+        return f"{self.path}:{self.line}"
+
+    @property
+    def text_href(self):
+        """The line of the file as it is."""
+        return f"{text_page(self.path)}#L{self.line}"
+
+
+def statement(definition):
+    """A theorem without its proof."""
+    lines = definition.text.splitlines()
+    is_proof = re.compile(rf"unfolding\b|{re.escape(definition.name)}\b[^:]*=")
+    return "\n".join(lines[:1] + list(itertools.takewhile(lambda it: not is_proof.match(it), lines[1:])))
+
+
+class Views:
+    def __init__(self, library):
+        self.library, self.links = library, links.Links(library)
+        self.by_name, self.by_key = {}, {}
+        self.crates = library.crates()
+        specs_of = {crate: [it for it in library.specs_of(crate) if it.definitions] for crate in library.uses}
+        modules = itertools.chain(*specs_of.values())
+        keys = (("definition", it.name, name) for it in modules for name in it.definitions)
+        self.order = {key: at for at, key in enumerate(keys)}
+        self.definitions = {crate: [(it, self.of_module(it)) for it in specs_of[crate]] for crate in self.crates}
+        self.vectors = {crate: self.of_vectors(crate) for crate in self.crates}
+        self.sources = {crate: self.of_crate(crate) for crate in self.crates}
+        self.cites = {}
+        for target, citers in self.links.cited.items():
+            for citer in citers:
+                self.cites.setdefault(citer, []).append(target)
+
+    def paths(self):
+        """The files of all that has a place on a page, and of what definitions cite of the sources."""
+        every = (*self.definitions.values(), *self.sources.values(), filter(None, self.vectors.values()))
+        cited = {self.library.sources[key[1]][key[2]].path for key in self.links.cited if key[0] == "rust"}
+        return sorted({it.path for those in every for _, shown in those for it in shown} | cited)
+
+    def of_module(self, module):
+        return [self.of_definition(module, it) for it in module.definitions.values()]
+
+    def of_definition(self, module, it):
+        target = definition_target(module.name, it.name)
+        return Shown(target.key, it.kind, it.name, it.name, target.href, comments.inline(it.comment),
+                     self.links.definition(module, it), module.path, it.line,
+                     specs.standards(it.comment, module.comment), it.text.count("\n") + 1)
+
+    def of_vectors(self, crate):
+        """The standards' vectors of a crate, and the texts that they compute."""
+        module = self.library.modules.get(f"Rattle.{crate}.proofs.{STANDARD_FACTS}")
+        found = []
+        for it in module.definitions.values() if module else ():
+            if it.kind == "theorem" and it.public:
+                it.text = statement(it)
+                shown = self.of_definition(module, it)
+                shown.kind, shown.standards = "vector", specs.standards(it.comment)
+                found.append(shown)
+            elif it.kind == "abbrev":
+                found.append(self.of_definition(module, it))
+        return (module, found) if any(it.kind == "vector" for it in found) else None
+
+    def of_crate(self, crate):
+        """The sources of a crate that have something public, with what it is."""
+        found = []
+        for source in self.library.sources[crate].values():
+            items = (it for it in source.items if it.kind in TYPES or self.library.is_public(source, it))
+            shown = [self.of_item(source, it) for it in items]
+            if shown or not source.module:
+                found.append((source, shown))
+        return found
+
+    def doc_link(self, source):
+        """The addresses of names in the doc comments of a source."""
+        def link(name):
+            head, _, member = name.rstrip("()").partition("::")
+            found = self.library.rust_name(source, head)
+            if found is None:
+                own = [it for it in source.items if it.name == head and it.kind == "fn" and not it.owner]
+                return f"{page_of(source)}#{own[0].anchor}" if own else None
+            for other in self.library.sources[found.key[1]].values():
+                for it in other.items if member else ():
+                    if (it.owner, it.name) == (found.key[3], member):
+                        return f"{page_of(other)}#{it.anchor}"
+            return found.href
+        return link
+
+    def of_item(self, source, it):
+        traits = (other for other in source.items if other.kind == "trait" and other.name == it.owner)
+        trait = it if it.kind == "trait" else next(traits, None)
+        name = self.name_of(source, it)
+        left_out = PROOFS if it.kind == "impl" else ()
+        clauses = (clause for clause in it.clauses if clause.name not in left_out)
+        parts = [self.of_clause(source, it, clause, trait, name) for clause in clauses]
+        kind = it.kind if it.kind not in TYPES or self.library.is_public(source, it) else f"private {it.kind}"
+        self.by_name.update((f"{name} {part['name']}", part) for part in parts)
+        self.by_key.update((part["key"], part) for part in parts)
+        href = f"{page_of(source)}#{it.anchor}"
+        return Shown(("rust", source.crate, source.module, it.anchor), kind, name, it.anchor, href,
+                     comments.html(it.doc, self.doc_link(source)), self.links.rust(it.text, source),
+                     source.path.removeprefix("./"), it.line, specs.standards(it.doc), parts=parts)
+
+    def of_clause(self, source, it, clause, trait, name):
+        anchor = f"{it.anchor}.{clause.place}"
+        kind = {"ghost": "gives" if it.kind == "impl" else "relation"}.get(clause.kind, clause.kind)
+        return {"kind": kind, "name": clause.name, "anchor": anchor, "href": f"{page_of(source)}#{anchor}",
+                "html": self.links.clause(source, it, clause, trait), "of": name,
+                "key": ("rust", source.crate, source.module, it.anchor, clause.place)}
+
+    def name_of(self, source, it):
+        """The path by which users know an item."""
+        if it.kind == "impl":
+            return it.name
+        if " for " in it.owner:
+            return f"{it.owner}: {it.name}"
+        return self.library.path_of(source, it) or "::".join(filter(None, (it.owner, it.name)))
+
+    def clauses(self, names):
+        """The clauses of these names. One that is gone is lost."""
+        self.links.lost += [f"no clause is named {it}" for it in names if it not in self.by_name]
+        return [self.by_name[it] for it in names if it in self.by_name]
+
+    def wrong(self):
+        """What leads nowhere, what is not read, and what has no words."""
+        yield from self.links.lost
+        for crate in self.crates:
+            for module, shown in self.definitions[crate]:
+                if not module.comment:
+                    yield f"{module.path}: no comment says what it has"
+                # An operator needs no comment.
+                yield from (f"{it.where}: no comment says what {it.name} is" for it in shown
+                            if not it.words and it.name.isidentifier())
+            for source in self.library.sources[crate].values():
+                yield from (f"{source.path}:{it}: not read, since it isn't formatted" for it in source.unread())
+                for it in source.items:
+                    if it.kind == "fn" and self.library.is_public(source, it):
+                        where = f"{source.path}:{it.line}: the public function {it.name} has"
+                        if not it.doc and " for " not in it.owner:
+                            yield f"{where} no doc comment"
+                        of_users = (has for has in it.clauses if has.kind == "ensures" or it.text.startswith("pub "))
+                        if not all(has.name for has in of_users):
+                            yield f"{where} a clause without a name"
+
+    # Who cites what.
+
+    def citers(self, key):
+        """Those that cite a definition: clauses, definitions and vectors, each with a label and an address."""
+        citers = self.links.cited.get(key, ())
+        clauses = [self.by_key[it] for it in citers if it[0] == "rust"]
+        definitions = [it[1:] for it in citers if it[0] == "definition" and STANDARD_FACTS not in it[1]]
+        return {"clauses": [(it["of"], it["name"], it["href"]) for it in clauses],
+                "definitions": [(name, module.rsplit(".", 1)[-1], definition_target(module, name).href)
+                                for module, name in definitions]}
+
+    def closure(self, roots):
+        """The definitions that these rest on, with themselves, in reading order."""
+        found, todo = set(), list(roots)
+        while todo:
+            key = todo.pop()
+            if key not in found and key[0] == "definition":
+                found.add(key)
+                todo += self.cites.get(key, ())
+        return sorted(found & self.order.keys(), key=self.order.get)
+
+    def rests_on(self, key):
+        """The definitions that one rests on, in reading order."""
+        return [(it[2], definition_target(*it[1:]).href) for it in self.closure([key]) if it != key]
+
+    def reading(self, clauses):
+        """The definitions that clauses rest on, module by module, in reading order."""
+        keys = set(self.closure(key for it in clauses for key in self.cites.get(it["key"], ())))
+        modules = itertools.chain(*self.definitions.values())
+        found = ((module, [it for it in shown if it.key in keys]) for module, shown in modules)
+        return [(module, shown) for module, shown in found if shown]
+
+    def tested(self):
+        """For each definition the vectors that name it, and those that compute it as a part of another."""
+        named, within = {}, {}
+        for those in filter(None, self.vectors.values()):
+            for shown in (it for it in those[1] if it.kind == "vector"):
+                roots = self.statement_roots(shown.key)
+                for key in roots:
+                    named.setdefault(key, []).append(shown)
+                for key in self.closure(roots):
+                    if key not in roots:
+                        within.setdefault(key, []).append(shown)
+        return named, within
+
+    def statement_roots(self, key):
+        """The definitions that a statement names, also by the abbreviations of its own file."""
+        found, todo = [], [key]
+        while todo:
+            for it in self.cites.get(todo.pop(), ()):
+                if it[0] == "definition":
+                    (todo if STANDARD_FACTS in it[1] else found).append(it)
+        return list(dict.fromkeys(found))

@@ -1,0 +1,119 @@
+"""Refuses each allocation of a run of the program in turn, and compares their number, and the sizes of a derivation's.
+
+The program runs with failing_calls.c preloaded, which fails the allocation of one number, from the first to the last.
+Each refusal has to end with status 3, nothing in the output and its fault line. How many a run makes is compared too,
+so that a hidden one is seen, and in which order it allocates the chunks, the table and the scratch.
+
+usage: python3 -m tools.tests.allocations PROGRAM        needs a C compiler
+"""
+
+import functools
+import sys
+
+from tools.tests import crypt64, phc, runs
+from tools.tests.known import HASHLIB as PHC
+
+# how a run ends if an allocation is refused: while the arguments are read, and after that
+ARGUMENTS = (3, "", "the arguments can't be read\n")
+MEMORY = (3, "", "out of memory\n")
+
+MCF = "$7$2/..../....C3qEg/$oOSIli7m/kDufp3GXHdJ7lqr3hzIyIJUYr4iTamAqDA"
+
+# the words, the input, the status, and how many allocations a run makes for them
+RUNS = [
+    ("key 4 1 1 32 4e61436c", b"password", 0, 8),
+    ("key 4 1 1 4000 4e61436c", b"password", 0, 8),
+    ("hash phc 4 1 1 4e61436c", b"password", 0, 7),
+    ("hash mcf 4 1 1 4e61436c", b"password", 0, 7),
+    ("hash mcf 4 1 1 4e61436c 64", b"password", 0, 7),
+    (f"verify {PHC}", b"password", 0, 4),
+    (f"verify {MCF}", b"password", 0, 4),
+    (f"verify {PHC}", b"another", 1, 4),
+    (f"verify {MCF}", b"another", 1, 4),
+    # the input grows by doubling, from the first 1,024 bytes on
+    (f"verify {PHC}", b"a" * 5000, 1, 7),
+    # the verdict, and then a new hash if there is one
+    (f"rehash phc 5 1 1 32 4e61436c {MCF}", b"password", 0, 10),
+    (f"rehash mcf 5 1 1 32 4e61436c {PHC}", b"password", 0, 10),
+    (f"rehash mcf 4 1 1 32 4e61436c {PHC}", b"password", 0, 5),
+    (f"rehash mcf 5 1 1 32 4e61436c {MCF}", b"another", 1, 5),
+    # large chunks take no more
+    ("key 0 2048 1 32 4e61436c", b"password", 0, 8),
+    ("hash phc 0 2048 1 4e61436c", b"password", 0, 7),
+    ("hash mcf 0 2048 1 4e61436c", b"password", 0, 7),
+    (f"verify {phc.text(b'NaCl', bytes(32), 0, 2048, 1)}", b"password", 1, 4),
+    (f"verify {crypt64.text('NaCl', bytes(32), 0, 2048, 1)}", b"password", 1, 4),
+    # refused before the input, some with the salt in memory
+    ("key 4 1 1", b"password", 2, 0),
+    ("key 4 1 1 32 4", b"password", 2, 0),
+    ("key 4 1 1 0 4e", b"password", 2, 1),
+    ("key 4 0 1 32 4e", b"password", 2, 1),
+    ("verify x", b"password", 2, 0),
+    # refused after it
+    ("verify $scrypt$v=1$ln=4,r=1,p=1$TmFDbA$rsa3SD7SbgiAK0H0AyCGoOiGvnrEj8/ZL/DO+BCXUvQ", b"password", 2, 1),
+    ("hash phc 4 1 1 " + "4e" * 65, b"password", 2, 2),
+    ("verify $argon2id$ln=4$aA", b"password", 2, 1),
+    ("verify $scrypt$ln=256$aA", b"password", 2, 1),
+    ("verify $scrypt$ln=4$aA", b"password", 1, 1),
+    ("verify $7$", b"password", 2, 1),
+    ("verify $7$2/..../....", b"password", 2, 1),
+    ("verify $7$2/..../....$z", b"password", 2, 1),
+    ("verify $7$2/..../....$", b"password", 2, 1),
+    ("verify $7$zzzzzzzzzzz$r/", b"password", 2, 1),
+    ("--usual-limits verify $7$s/..../....$" + "z" * 40, b"password", 2, 1),
+    ("--usual-limits verify $7$2/..../....$r/", b"password", 2, 1),
+    (f"--most-work=1 verify {PHC}", b"password", 2, 1),
+]
+
+# the words of runs that derive a key with four chunks, and the sizes of the chunks, the table and the scratch, or of these
+# after the text of a `$7$` hash
+BUFFERS = [
+    ("key 4 1 4 32 4e61436c", [512, 2048, 256]),
+    ("hash phc 5 1 4 4e61436c", [512, 4096, 256]),
+    ("hash mcf 4 2 4 4e61436c", [64, 1024, 4096, 512]),
+    (f"verify {PHC.replace('p=1', 'p=4')}", [512, 2048, 256]),
+    (f"verify {MCF.replace('/..../....', '/....2....')}", [512, 2048, 256]),
+]
+
+
+def sizes(run):
+    """The sizes of the allocations of a run, in turn."""
+    return [int(line.split(" ")[1]) for line in run(SIZES="1")[2].splitlines() if "alloc " in line]
+
+
+def refused(run, wanted):
+    """How many allocations a run makes whose refusal ends it, or how the runs end if one ends otherwise.
+
+    Collecting the arguments asks for room that it can do without, as std has it: one refusal, between
+    those of the arguments and those of the run, changes nothing.
+    """
+    total = len(sizes(run))
+    ends = [run(FAIL_AT=str(it + 1)) for it in range(total)]
+    of_arguments = ends.count(ARGUMENTS)
+    of_run = total - of_arguments - 1
+    return of_run if ends == [ARGUMENTS] * of_arguments + [wanted] + [MEMORY] * of_run else ends
+
+
+def run_with(library, words, password, **settings):
+    return runs.run(words, password, env={"LD_PRELOAD": library, **settings})
+
+
+def cases(program):
+    with runs.failing_calls() as library:
+        for words, password, status, allocations in RUNS:
+            run = functools.partial(run_with, library, [program, *words.split(" ")], password)
+            wanted = run()
+            yield words, (wanted[0], refused(run, wanted)), (status, allocations)
+        for words, wanted in BUFFERS:
+            made = sizes(functools.partial(run_with, library, [program, *words.split(" ")], b"password"))
+            found = [it for it in (made[at : at + len(wanted)] for at in range(len(made))) if it == wanted]
+            yield f"{words}, of which these are the sizes", found or made, [wanted]
+
+
+def main():
+    _, wrong = runs.report("allocations", cases(sys.argv[1]))
+    sys.exit(1 if wrong else 0)
+
+
+if __name__ == "__main__":
+    main()

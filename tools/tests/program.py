@@ -1,0 +1,380 @@
+"""Runs the built program on command lines whose answers come from elsewhere, and on each fault once.
+
+The answer of a run is a line on the standard output for the statuses 0 and 1, and otherwise on the standard error; the
+other one stays empty. The keys are those of RFC 7914, section 12, and of Python's hashlib; the hashes are those of
+tools/tests/known.py.
+
+usage: python3 -m tools.tests.program PROGRAM        prints the first wrong answers
+       python3 -m tools.tests.program PROGRAM all    prints all of them
+"""
+
+import hashlib
+import itertools
+import os
+import subprocess
+import sys
+
+from tools.tests import prompt
+from tools.tests.hash_files import hash_files
+from tools.tests.lines import MISFIT, NO_FILE, USAGE
+from tools.tests.streams import cuts, faults, memory, streams
+from tools.tests import allocations
+from tools.generate import header
+from tools.tests import crypt64, reference, runs
+from tools.tests.known import CRYPT, EMPTY, EMPTY_PHC, HASHLIB, LONG, PASSLIB, PLAIN, RFC, SHORT
+from tools.tests.runs import run
+
+FIRST_KEY = (
+    "77d6576238657b203b19ca42c18a0497f16b4844e3074ae8dfdffa3fede21442"
+    "fcd0069ded0948f8326a753a0fc81f17e8d3e0fb2e0d3628cf35e20c38d18906"
+)
+SECOND_KEY = (
+    "fdbabe1c9d3472007856e7190d01e9fe7c6ad7cbc8237830e77376634b373162"
+    "2eaf30d92e22a3886ff109279d9830dac727afb94a83ee6d8360cbdfa2cc0640"
+)
+THIRD_KEY = (
+    "7023bdcb3afd7348461c06cd81fd38ebfda8fbba904f8e3ea9b543f6545da1f2"
+    "d5432955613f0fcf62d49705242a9af9e61e85dc0d651e40dfcf017b45575887"
+)
+USUAL_BYTES, USUAL_WORK, LEAST = (header.NUMBERS[name] for name in ("MOST_BYTES", "MOST_WORK", "LEAST_KEY_LEN"))
+
+# The least log_n whose table with r = 8 has more.
+ABOVE = USUAL_BYTES.bit_length() - 10
+
+
+def too_costly(needed, work, most_bytes=USUAL_BYTES, most_work=USUAL_WORK):
+    return f"hash refused: TooCostly, it needs {needed} bytes and work {work}, and --most-bytes is {most_bytes} and --most-work {most_work}"
+
+
+def key_too_short(key_len, least):
+    return f"hash refused: KeyTooShort, its key has {key_len} bytes, and --least-key-len is {least}"
+
+
+PASSLIB_SALT_AND_KEY = PASSLIB[PASSLIB.index("$aM") :]
+
+# Bytes in hexadecimal, and their letters in crypt Base64.
+SALT_LETTERS = [("ff", "z1"), ("ffff", "zzD"), ("ffffff", "zzzz"), ("01", "/."), ("000000", "...."), ("010203", "/6k.")]
+
+
+def key_of(password, salt, length):
+    """hashlib's key by (4, 1, 1)."""
+    return hashlib.scrypt(password, salt=salt, n=16, r=1, p=1, dklen=length)
+
+
+# A format, a long salt, and the hash of the empty password. That of a PHC hash has at most 64 bytes.
+LONG_SALTS = [(form, salt, reference.hash_of(form, b"", salt, 4, 1, 1, 32))
+              for form, salt in (("phc", b"s" * 64), ("mcf", b"s" * 64), ("mcf", b"s" * 65), ("mcf", b"s" * 5000))]
+
+# Each row has the words between single blanks, the input, the status, the line, and the reason for the row.
+ANSWERS = [
+    ("key 4 1 1 64 ", "", 0, FIRST_KEY, "the first key of RFC 7914"),
+    ("key 10 8 16 64 4e61436c", "password", 0, SECOND_KEY, "the second, whose sixteen chunks share a table"),
+    ("key 14 8 1 64 536f6469756d43686c6f72696465", "pleaseletmein", 0, THIRD_KEY, "the third"),
+    ("key 4 1 1 1 ", "", 0, FIRST_KEY[:2], "the shortest key"),
+    ("key 4 1 1 33 ", "", 0, FIRST_KEY[:66], "a byte of a second block of PBKDF2"),
+    ("key 0 1 1 32 ", "", 0, reference.scrypt(b"", b"", 0, 1, 1, 32).hex(), "N = 1"),
+    ("key 4 3 2 33 0a0bFF", "password", 0, "16b7ca20bc71b047b152bb150c62dd9e14d23f698eeaade5d0ed74a8e355acd2da",
+     "each parameter is another, and a salt has digits of either case"),
+    *((f"key 4 1 1 {it} ", "", 0, key_of(b"", b"", it).hex(), "a long key") for it in (4096, 1_000_000)),
+    ("key 4 1 1 16 ", "x" * 5000, 0, "19e0dd858b21a85d5233e34f8025c066", "more than one read of the input"),
+    ("key 4 1 1 16 ", "pass\nword\n", 0, "704d1995acb73578bcb377b08d0d622c", "newlines belong to the password"),
+    ("hash phc 16 8 1 68cd79ef5debdd7b2fc5b8b7d65aabd5", "password", 0, PASSLIB, "passlib's hash"),
+    ("hash phc 14 8 1 536f6469756d43686c6f72696465", "pleaseletmein", 0, RFC, "the third key of RFC 7914"),
+    ("hash phc 14 8 1 536f6469756d43686c6f72696465 10", "pleaseletmein", 0, SHORT, "a last word is the key's length"),
+    ("hash mcf 4 1 1 ", "", 0, EMPTY, "the empty password and salt"),
+    ("hash mcf 4 1 1  64", "", 0, LONG, "a longer key"),
+    ("hash mcf 4 1 1  10", "", 0, "$7$2/..../....$rNxJWVHNv/mCN.", "the shortest key"),
+    ("hash mcf 14 32 1 986d90d343e07e4f7e00864f03040bf3", "pleaseletmein", 0, CRYPT, "libxcrypt's hash"),
+    ("hash mcf 14 32 1 986d90d343e07e4f7e00864f03040bf3 10", "pleaseletmein", 0,
+     "$7$CU..../....Mq4YHD2syxYT.MsH1Ek0n1$JyHIxez0DOwm01", "with the shortest key"),
+    (f"verify {CRYPT}", "pleaseletmein", 0, "ok", "its password"),
+    (f"verify {CRYPT}", "bogus", 1, "no", "another password"),
+    (f"verify {PASSLIB}", "password", 0, "ok", "the password of a PHC hash"),
+    (f"verify {PASSLIB}", "invalid", 1, "no", "another password"),
+    (f"verify {SHORT}", "pleaseletmein\n", 1, "no", "the password and a newline"),
+    ("verify $scrypt$ln=4$aA", "password", 1, "no", "without a key no password is right"),
+    (f"verify {EMPTY}", "", 0, "ok", "the password of a `$7$` hash"),
+    ("verify $7$86..../....sålt-ключ-塩$JBBPPL5zOCwvCfq6A/PJLkQvgCyERPLs/BfvPFtvhT4", "pässword", 0, "ok",
+     "a salt that is not ASCII, by Python's hashlib"),
+    (f"verify {EMPTY}", "\n", 1, "no", "another password"),
+    ("verify $7$2/..../....$r/", "", 0, "ok", "a shorter key is the beginning of a longer one"),
+    (f"verify {PLAIN}", "pleaseletmein", 0, "ok", "a salt may be a plain text"),
+    *((f"hash mcf 4 1 1 {salt}", "", 0, crypt64.text(letters, key_of(b"", letters.encode(), 32), 4, 1, 1),
+       f"the salt {salt} has the letters {letters}") for salt, letters in SALT_LETTERS),
+    *((f"hash {form} 4 1 1 {salt.hex()}", "", 0, text, f"a salt of {len(salt)} bytes") for form, salt, text in LONG_SALTS),
+    *((f"verify {text}", "", 0, "ok", f"the same, verified, in {len(text)} bytes") for _, _, text in LONG_SALTS),
+    *((f"rehash {form} 4 1 1 32 {salt.hex()} $7$2/..../....$r/", "", 0, text, "and in place of a weaker hash")
+      for form, salt, text in LONG_SALTS),
+]
+
+# Lines that are not commands, by what is wrong.
+NO_COMMANDS = {
+    "no command": ["", "help", "Key 4 1 1 64 ", "--usual-limits", "--draw-salt", "--recommended", "--strip-newline", "--most-work=1"],
+    "no command after an option": ["--usual-limits help"],
+    "nothing comes after what asks for a text about the program":
+        [f"{asked} {more}" for asked in ("-h", "--help", "--version") for more in ("", "x", "--raw", "--help", "key 4 1 1 64 ", "verify $7$")],
+    "nor before it": [f"{option} {asked}" for option in ("--raw", "--usual-limits", "--most-work=1", "--hash-file=x", "key")
+                      for asked in ("-h", "--help", "--version")],
+    "one minus begins no option": ["-", "-help", "-H", "-hkey", "-key 4 1 1 64 ", f"-verify {EMPTY}"],
+    "too few arguments": ["key", "key 4 1 1 16", "hash", "hash phc", "hash phc 4 1 1", "--draw-salt hash phc 4 1", "verify",
+                          "rehash phc 4 1 1 32 00", f"rehash phc 4 1 1 00 {EMPTY}"],
+    "too many": ["key 4 1 1 16 00 x", "hash phc 4 1 1 00 32 x", f"verify {EMPTY} x", f"rehash phc 4 1 1 32 00 {EMPTY} x"],
+    "no format": ["hash md5 4 1 1 00", "hash 4 1 1 00", f"rehash 4 1 1 32 00 {EMPTY}", "hash PHC 4 1 1 00", "hash  4 1 1 00"],
+    "a hash is of the format that it begins as": [f"verify phc {EMPTY_PHC}"],
+    "an option after the command": [f"verify --usual-limits {EMPTY}", "key --help", "hash phc 4 1 1 00 --help",
+                                    "hash --draw-salt phc 4 1 1", f"rehash phc 4 1 1 --draw-salt 32 {EMPTY}"],
+}
+
+# What is not a number, and each place for one.
+NO_NUMBERS = {"": "nothing", "04": "a leading zero", "00": "two digits for 0", "+4": "a plus", "-4": "a minus", "4.": "a dot",
+              "0x4": "hexadecimal", "\u0664": "a digit that is not ASCII"}
+NUMBER_PLACES = ["key {} 1 1 64 ", "key 4 {} 1 64 ", "key 4 1 {} 64 ", "key 4 1 1 {} ", "hash mcf {} 1 1 ", "hash phc 4 {} 1 00",
+                 "hash mcf 4 1 {} ", "hash mcf 4 1 1  {}", "rehash mcf {} 1 1 32  " + EMPTY, "rehash mcf 4 {} 1 32  " + EMPTY,
+                 "rehash phc 4 1 {} 32 00 " + EMPTY, "rehash mcf 4 1 1 {}  " + EMPTY]
+
+# The greatest number that each place takes. It is read, and then not accepted; one more is a usage error.
+GREATEST = list(zip(NUMBER_PLACES, itertools.cycle((255, 2**32 - 1, 2**32 - 1, 2**64 - 1))))
+
+# Parameters that are not accepted.
+NOT_ACCEPTED = {"4 0 1": "r is 0", "4 1 0": "p is 0", "57 1 1": "N * r is 2^57", "28 1073741823 1": "N * r is above 2^57",
+                "255 1 1": "N is 2^255", "1 1073741824 1": "r * p is 2^30", "4 65536 65536": "r * p is 2^32"}
+
+# Each fault but those of hashes that are verified (tools/tests/hashes.py).
+FAULTS = [
+    *((line, "", 2, USAGE, reason) for reason, lines in NO_COMMANDS.items() for line in lines),
+    *((place.format(it), "", 2, USAGE, reason) for place in NUMBER_PLACES for it, reason in NO_NUMBERS.items()),
+    *((place.format(greatest + 1), "", 2, USAGE, "a number above its range") for place, greatest in GREATEST),
+    *((place.format(greatest), "", 2, "invalid scrypt parameters", "the greatest number")
+      for place, greatest in GREATEST if place != "key 4 1 1 {} "),
+    *((f"key {params} 64 ", "", 2, "invalid scrypt parameters", reason) for params, reason in NOT_ACCEPTED.items()),
+    *((f"hash {form} {it}", "", 2, "invalid scrypt parameters", "a stored key has 10 to 64 bytes")
+      for form in ("phc 4 1 1 00", "mcf 4 1 1 ") for it in (0, 9, 65)),
+    *((f"rehash mcf 4 1 1 {it}  {EMPTY}", "", 2, "invalid scrypt parameters", "the same") for it in (0, 9, 65)),
+    *((f"key 4 1 1 {it} ", "", 2, "invalid output buffer length", "a key has 1 to 137438953440 bytes")
+      for it in (0, 137438953441, 137438953471, 18446744073709551615)),
+    (f"--most-work=01 verify {EMPTY}", "", 2, USAGE, "a number with a leading zero in an option"),
+    (f"--most-work= verify {EMPTY}", "", 2, USAGE, "no number"),
+    (f"--most-bytes=18446744073709551616 verify {EMPTY}", "", 2, USAGE, "a number of 2^64"),
+    (f"--most-work 192 verify {EMPTY}", "", 2, USAGE, "a number in an argument of its own"),
+    ("--hash-file hash verify", "", 2, NO_FILE, "a file in an argument of its own"),
+    ("--usual-limits --hash-file", "", 2, NO_FILE, "no file at all"),
+    ("--hash-file --help", "", 2, NO_FILE, "what comes after it is not looked at"),
+    (f"--hash-files verify {EMPTY}", "", 2, USAGE, "another option"),
+    (f"--no-limits verify {EMPTY}", "", 2, USAGE, "an unknown option"),
+    ("--", "", 2, USAGE, "the same"),
+    (f"--usual-limits --most verify {EMPTY}", "", 2, USAGE, "the same after another one"),
+    (f"-- verify {EMPTY}", "", 2, USAGE, "options have no end of their own"),
+    ("key 4 1 1 64 0", "", 2, "salt is not hexadecimal", "half a byte of salt"),
+    ("key 4 1 1 64 0g", "", 2, "salt is not hexadecimal", "no digit"),
+    ("key 04 1 1 64 0", "", 2, USAGE, "numbers come before the salt"),
+    ("key 4 0 1 64 0", "", 2, "salt is not hexadecimal", "the salt before the parameters"),
+    ("key 4 0 1 0 ", "", 2, "invalid scrypt parameters", "the parameters before the length of a key"),
+    ("hash phc 04 1 1 0", "", 2, USAGE, "numbers before the salt of a hash"),
+    ("hash phc 57 1 1 0", "", 2, "salt is not hexadecimal", "this salt before the parameters"),
+    ("hash mcf 4 1 1 0 9", "", 2, "salt is not hexadecimal", "and before the length of the key"),
+    ("hash phc 4 1 1 --draw-salt", "", 2, "salt is not hexadecimal", "a salt like an option is a salt"),
+    (f"rehash phc 4 1 1 32 --draw-salt {EMPTY}", "", 2, "salt is not hexadecimal", "the same for a new hash"),
+    ("rehash phc 57 1 1 32 0 $", "", 2, "salt is not hexadecimal", "the salt before the wanted parameters"),
+    ("rehash phc 57 1 1 32 00 $", "", 2, "invalid scrypt parameters", "these before the text of the hash"),
+    ("rehash phc 4 1 1 32 00 $", "", 2, "hash refused: EncodingInvalid", "the text of the hash"),
+    ("verify --version", "", 2, "hash refused: EncodingInvalid", "a text like an option is a text"),
+    ("hash phc 4 1 1 ", "password", 2, "hash refused: SaltInvalid", "a PHC hash has a salt"),
+    ("hash phc 4 1 1 " + "00" * 65, "", 2, "hash refused: SaltInvalid", "a salt of 65 bytes"),
+    ("hash phc 56 1 1 ", "", 2, "hash refused: SaltInvalid", "the salt of a PHC hash comes before memory"),
+    ("key 56 1 1 32 ", "", 3, "out of memory", "a table of 2^63 bytes"),
+    ("key 27 1073741823 1 32 ", "", 3, "out of memory", "a table of almost 2^64 bytes"),
+    ("hash phc 56 1 1 00", "", 3, "out of memory", "the same for a hash"),
+    ("verify $7$s/..../....$r/", "", 3, "out of memory", "the same for a verdict"),
+    (f"rehash mcf 56 1 1 32  {EMPTY}", "", 3, "out of memory", "the same for a new hash"),
+]
+
+REHASHES = [
+    (f"rehash mcf 4 1 1 64  {EMPTY}", "", 0, LONG, "a longer key is wanted"),
+    (f"rehash mcf 4 1 1 32  {EMPTY}", "", 0, "ok", "the hash is as wanted"),
+    (f"rehash phc 4 1 1 32  {EMPTY}", "", 0, "ok", "as wanted, so that neither the other format nor its salt counts"),
+    (f"rehash phc 4 1 1 64  {EMPTY}", "", 2, "hash refused: SaltInvalid", "a PHC hash takes no empty salt"),
+    (f"rehash phc 4 1 1 64  {EMPTY}", "x", 1, "no", "a wrong password comes before a salt that the new hash refuses"),
+    (f"rehash mcf 56 1 1 32  {EMPTY}", "x", 1, "no", "and before memory that the new hash needs"),
+    (f"rehash phc 14 8 1 32 536f6469756d43686c6f72696465 {SHORT}", "pleaseletmein", 0, RFC,
+     "a key of 10 bytes is replaced by one of 32"),
+    (f"rehash phc 3 2 1 32 abcd {HASHLIB}", "password", 0,
+     "$scrypt$ln=3,r=2,p=1$q80$p+HxlvAJkTD3C4MVLAhHBeRvyj8fJfBm3wYHLwoMxJk", "r is below, with an equal product"),
+    (f"rehash phc 4 1 2 32 abcd {HASHLIB}", "password", 0,
+     "$scrypt$ln=4,r=1,p=2$q80$h5scLnLkf2S1Dp0Wr6ShFBEViLUMJ+OjcRD8DwMZvwQ", "p is below"),
+    (f"rehash phc 3 1 1 10 abcd {HASHLIB}", "password", 0, "ok", "log_n and the length of the key are above"),
+    (f"rehash phc 14 8 1 32 00 {CRYPT}", "pleaseletmein", 0, "ok", "r is above"),
+    (f"rehash mcf 5 1 1 32 abcd {HASHLIB}", "password", 0,
+     "$7$3/..../....fqA$GSoayDUS/tZpwSg3qA/sOnwx1jjdhVpHN49dfPH6c09", "the new hash has the format that is named"),
+    ("rehash phc 4 1 1 32 00 $argon2id$ln=4$aA", "password", 2, "hash refused: Algorithm", "verifying refuses"),
+    ("rehash mcf 4 1 1 32 00 $7$2/..../....$", "", 2, "hash refused: OutputSize", "the key is empty"),
+    ("rehash phc 4 1 1 32 00 $scrypt$ln=4$aA", "", 1, "no", "without a key no password is right"),
+    (f"rehash phc 17 8 1 32 00 {PASSLIB}", "invalid", 1, "no", "a wrong password of a weaker hash"),
+    (f"rehash phc 15 8 1 10 00 {PASSLIB}", "password", 0, "ok", "nothing is below"),
+]
+
+# The words, the input, the status, the line, and the reason for the row. EMPTY needs 128 + 2048 + 256 bytes, and the
+# work 4 * (16 + 32).
+LIMITS = [
+    (f"--most-bytes=2432 verify {EMPTY}", "", 0, "ok", "as much memory as is allowed"),
+    (f"--most-bytes=2431 verify {EMPTY}", "", 2, too_costly(2432, 192, most_bytes=2431), "a byte more"),
+    (f"--most-work=192 verify {EMPTY}", "", 0, "ok", "as much work as is allowed"),
+    (f"--most-work=191 verify {EMPTY}", "", 2, too_costly(2432, 192, most_work=191), "more work"),
+    (f"--least-key-len=32 verify {EMPTY}", "", 0, "ok", "as short a key as is allowed"),
+    (f"--least-key-len=33 verify {EMPTY}", "", 2, key_too_short(32, 33), "a shorter key"),
+    (f"--most-bytes=2432 --most-work=191 verify {EMPTY}", "", 2, too_costly(2432, 192, 2432, 191), "two options"),
+    (f"--most-work=191 --most-work=192 verify {EMPTY}", "", 0, "ok", "a later option overrides an earlier one"),
+    (f"--most-work=191 --usual-limits verify {EMPTY}", "", 0, "ok", "so does one for all of them"),
+    ("--most-work=192 verify $7$2/..../....$r/", "", 2, key_too_short(1, LEAST), "the others are the usual ones"),
+    (f"--usual-limits verify $scrypt$ln=17,r=8,p=5{PASSLIB_SALT_AND_KEY}", "", 2, too_costly(134224896, 20976640),
+     "five times the recommended work"),
+    (f"--usual-limits verify $scrypt$ln={ABOVE},r=8,p=1{PASSLIB_SALT_AND_KEY}", "", 2,
+     too_costly((1 << 10 + ABOVE) + 3072, 32 * ((1 << ABOVE) + 32)), "more memory than is allowed"),
+    ("--usual-limits verify $7$s/..../....$r/", "", 2, too_costly(9223372036854776192, 288230376151711872),
+     "a table of 2^63 bytes"),
+    (f"--usual-limits verify {SHORT}", "", 2, key_too_short(10, LEAST), "a key of 10 bytes"),
+    ("--most-work=1 verify $scrypt$ln=4$aA", "", 1, "no", "a hash without a key is not verified"),
+    ("--most-work=1 verify $argon2id$ln=4$aA", "", 2, "hash refused: Algorithm", "one that cannot be read comes first"),
+    (f"--most-work=191 rehash phc 4 1 1 32 00 {EMPTY}", "", 0, "ok", "rehash may do the work of a new hash"),
+    (f"--most-bytes=2431 rehash phc 4 1 1 32 00 {EMPTY}", "", 0, "ok", "and take its memory"),
+    (f"--most-work=191 rehash phc 3 1 1 32 00 {EMPTY}", "", 2, too_costly(2432, 192, most_work=191), "which here is less"),
+    (f"--most-bytes=2431 rehash phc 3 1 1 32 00 {EMPTY}", "", 2, too_costly(2432, 192, most_bytes=2431), "here too"),
+    (f"--least-key-len=33 rehash phc 4 1 1 32 00 {EMPTY}", "", 2, key_too_short(32, 33), "a shorter key, if a length is named"),
+]
+
+# Each option before each command that it does not fit, and the passwords that --strip-newline leaves.
+OPTIONS = [
+    *((f"{limit} {command}", "", 2, MISFIT[command.split()[0]], "limits are those of verify and rehash")
+      for limit in ("--usual-limits", "--most-bytes=1", "--most-work=1", "--least-key-len=1")
+      for command in ("key 4 1 1 16 ", "hash phc 4 1 1 00")),
+    ("--draw-salt key 4 1 1 16", "", 2, MISFIT["key"], "the salt of a key is named"),
+    (f"--draw-salt verify {EMPTY}", "", 2, MISFIT["verify"], "a verdict has no salt"),
+    ("--recommended key 16", "", 2, MISFIT["key"], "the recommended parameters are those of a hash"),
+    (f"--recommended verify {EMPTY}", "", 2, MISFIT["verify"], "the same"),
+    (f"--recommended rehash phc 32 {EMPTY}", "", 2, MISFIT["rehash"], "the same"),
+    ("--recommended hash phc 17 8 1", "", 2, USAGE, "they are not named"),
+    *((f"--raw {command}", "", 2, MISFIT[command.split()[0]], "only a key is written raw")
+      for command in ("hash phc 4 1 1 00", f"verify {EMPTY}", f"rehash phc 4 1 1 32 00 {EMPTY}")),
+    ("--raw key 4 1 1 0 ", "", 2, "invalid output buffer length", "a raw key that is refused"),
+    ("--raw --draw-salt key 4 1 1 16", "", 2, MISFIT["key"], "the salt of a raw key is named too"),
+    (f"--draw-salt rehash phc 4 1 1 32 {EMPTY}", "", 0, "ok", "a salt that is not needed"),
+    (f"--usual-limits --draw-salt --strip-newline rehash phc 4 1 1 32 {EMPTY}", "\n", 0, "ok", "three options"),
+    (f"--usual-limits verify {EMPTY}", "", 0, "ok", "a hash within the usual limits"),
+    (f"--usual-limits rehash phc 14 8 1 32 536f6469756d43686c6f72696465 {SHORT}", "pleaseletmein", 0, RFC,
+     "rehash refuses no short key"),
+    (f"--usual-limits rehash phc 4 1 1 32 00 $scrypt$ln=17,r=8,p=5{PASSLIB_SALT_AND_KEY}", "", 2,
+     too_costly(134224896, 20976640), "but a costly one"),
+    *((f"--strip-newline verify {EMPTY}", text, status, line, "one newline is cut off")
+      for text, status, line in (("", 0, "ok"), ("\n", 0, "ok"), ("\r\n", 0, "ok"), ("\n\n", 1, "no"), ("\r", 1, "no"))),
+    ("--strip-newline key 4 1 1 64 ", "\n", 0, FIRST_KEY, "the same for a key"),
+    ("--strip-newline hash mcf 4 1 1 ", "\n", 0, EMPTY, "and for a hash"),
+    (f"--strip-newline rehash mcf 4 1 1 64  {EMPTY}", "\n", 0, LONG, "and for a new hash"),
+]
+
+# Passwords of some bytes, whose keys are compared with hashlib's: the input is read whole, however long it is.
+LONG_PASSWORDS = [(1_000_001, "more than a million bytes"), (100_000_001, "more than a hundred million")]
+LONG_PASSWORDS += [(102_400_001, "more than 100,000 reads of 1,024 bytes"), ((1 << 28) + 1, "more than 256 MiB")]
+
+# Options that take the recommended parameters, a format, and how its hash begins.
+LOG_N, R, P = (header.NUMBERS[f"RECOMMENDED_{name}"] for name in ("LOG_N", "R", "P"))
+RECOMMENDED = [("--recommended", "phc", f"$scrypt$ln={LOG_N},r={R},p={P}$")]
+RECOMMENDED += [("--recommended --draw-salt", "mcf", crypt64.text("", b"", LOG_N, R, P).rstrip("$"))]
+
+
+# Lines, and whether each draws a salt.
+DRAWN = [(line, True) for line in ("--draw-salt hash phc 4 1 1", f"--draw-salt rehash phc 5 1 1 32 {EMPTY}")]
+DRAWN += [(line, False) for line in ("key 4 1 1 16 ", "hash phc 4 1 1 00", f"verify {EMPTY}", f"rehash phc 5 1 1 32 00 {EMPTY}")]
+DRAWN += [(f"--draw-salt {line}", False) for line in ("key 4 1 1 16", f"verify {EMPTY}", "--help", "--version", "foo")]
+
+
+def rows(program):
+    for line, text, status, printed, reason in ANSWERS + FAULTS + REHASHES + LIMITS + OPTIONS:
+        wanted = (status, f"{printed}\n", "") if status < 2 else (status, "", f"{printed}\n")
+        yield f"{line!r} ({reason})", run([program, *line.split(" ")], text.encode()), wanted
+    yield "no words", run([program]), (2, "", f"{USAGE}\n")
+    # Python passes this character as the byte ff.
+    for words in ("\udcff", "verify \udcff", "key 4 1 1 \udcff"):
+        yield f"{words!r} (an argument is not UTF-8)", run([program, *words.split(" ")]), (3, "", "the arguments can't be read\n")
+
+
+def long_passwords(program):
+    for length, reason in LONG_PASSWORDS:
+        password = bytes(length)
+        key = key_of(password, b"", 16)
+        yield f"a password of {length} bytes ({reason})", run([program, *"key 4 1 1 16 ".split(" ")], password), (0, f"{key.hex()}\n", "")
+
+
+def salts(program):
+    """Hashes whose salt is drawn have different ones of 16 bytes, and accept their passwords; without random bytes, none is
+    made."""
+    drawn = set()
+    # The salt of a `$7$` text has its 11 letters of the parameters before it.
+    for form, letters in (("phc", 22), ("mcf", 33)) * 2:
+        status, line, _ = run([program, "--draw-salt", "hash", form, "4", "1", "1"], b"password")
+        salt = line.split("$")[-2]
+        drawn.add(salt)
+        verified = run([program, "verify", line.strip()], b"password")
+        yield f"a drawn salt of {form}", (status, len(salt), verified), (0, letters, runs.OK)
+    yield "drawn salts differ", len(drawn), 4
+    for options, form, start in RECOMMENDED:
+        status, line, _ = run([program, *options.split(), "hash", form], b"password")
+        verified = run([program, "verify", line.strip()], b"password")
+        yield f"{options} for {form}", (status, line.startswith(start), verified), (0, True, runs.OK)
+    if runs.COMPILER:
+        with runs.failing_calls() as library:
+            hashed = run([program, "--draw-salt", "hash", "phc", "4", "1", "1"], env={"LD_PRELOAD": library})
+            verified = run([program, "verify", EMPTY], env={"LD_PRELOAD": library})
+            for line, drawn in DRAWN:
+                printed = run([program, *line.split(" ")], env={"LD_PRELOAD": library, "SIZES": "1"})[2]
+                yield f"whether {line!r} draws a salt", "drawn\n" in printed, drawn
+        yield "no salt can be drawn", hashed, (3, "", "no salt can be drawn\n")
+        yield "none is needed", verified, runs.OK
+
+
+with open(f"{prompt.TOP}/tools/tests/help.txt", encoding="ascii") as file:
+    HELP = file.read().format(**header.NUMBERS)
+
+
+def information(program):
+    yield "--version", run([program, "--version"]), (0, f"{prompt.VERSION}\n", "")
+    yield "--help", run([program, "--help"]), (0, HELP, "")
+    yield "-h", run([program, "-h"]), (0, HELP, "")
+    named = USAGE.removeprefix("usage: ").split(" | ")
+    yield "the usage line has each command as the help", set(named) - {it.strip() for it in HELP.splitlines()}, set()
+
+
+def raw_keys(program):
+    """Keys as bytes, of each length, with no newline."""
+    for length in (1, 64, 100):
+        ran = subprocess.run([program, "--raw", *f"key 4 1 1 {length} 00".split()], input=b"password", capture_output=True)
+        wanted = 0, key_of(b"password", b"\0", length), b""
+        yield f"a raw key of {length} bytes", (ran.returncode, ran.stdout, ran.stderr), wanted
+
+
+def refused_memory(program):
+    """Each allocation fails in turn, if what fails it can be built here."""
+    if runs.COMPILER:
+        yield from allocations.cases(program)
+    else:
+        print("a C compiler is not installed (package gcc): not run: allocations that fail")
+
+
+def terminal(program):
+    """Runs on a terminal, if the program that is installed can be linked here."""
+    if not runs.COMPILER:
+        print("a C compiler is not installed (package gcc): not run: the program on a terminal")
+    elif not os.path.exists(f"{program}.o"):
+        print("the object of the program is not beside it, so that it is tried without a terminal")
+    else:
+        yield from prompt.cases(program)
+
+
+def main():
+    # What a program touches counts what this one has before, so that this is first.
+    parts = [memory, rows, long_passwords, streams, cuts, faults, refused_memory, salts, hash_files, information, raw_keys, terminal]
+    shown = {"shown": sys.maxsize} if sys.argv[2:] == ["all"] else {}
+    _, wrong = runs.report("program", itertools.chain(*(part(sys.argv[1]) for part in parts)), **shown)
+    sys.exit(1 if wrong else 0)
+
+
+if __name__ == "__main__":
+    main()

@@ -1,0 +1,167 @@
+"""Runs the program over streams that fail, and where memory is refused."""
+
+import os
+import pty
+import subprocess
+import tempfile
+import tty
+
+from tools.tests import runs
+from tools.tests.known import EMPTY, EMPTY_PHC
+
+# One command of each kind, which all answer an empty password with status 0.
+STREAM_COMMANDS = ["key 4 1 1 64 ", "hash phc 4 1 1 00", "hash mcf 4 1 1 ", f"verify {EMPTY_PHC}", f"verify {EMPTY}"]
+STREAM_COMMANDS += [f"rehash phc 5 1 1 32 00 {EMPTY}"]
+
+# Lines that are read while the input fails, the status and the fault: what is looked at before the input and after it.
+ORDERS = [
+    ("key 4 1 1 0 ", 2, "invalid output buffer length", "the words come before the input"),
+    ("verify $scrypt$", 2, "hash refused: EncodingInvalid", "a PHC text is read before it"),
+    ("rehash phc 4 1 1 32  $", 2, "hash refused: EncodingInvalid", "so is that of an old hash"),
+    ("verify $7$", 4, "input failed", "the fields of an MCF text are read after it"),
+    ("verify $7$2/..../....$", 4, "input failed", "so is its key"),
+    ("verify $argon2id", 4, "input failed", "the algorithm is looked at after it"),
+    ("rehash phc 4 1 1 32  $argon2id", 4, "input failed", "that of an old hash too"),
+    ("rehash mcf 4 1 1 32  $7$", 4, "input failed", "and its fields"),
+    ("verify $scrypt", 4, "input failed", "a missing salt is a verdict"),
+    ("hash phc 4 1 1 ", 4, "input failed", "the length of a salt is looked at after it"),
+    (f"rehash phc 5 1 1 32  {EMPTY}", 4, "input failed", "so is that of a new hash"),
+    ("key 56 1 1 32 ", 4, "input failed", "and memory is asked for after it"),
+    ("--usual-limits verify $7$s/..../....$r/", 4, "input failed", "and the limits"),
+]
+
+# A line for each fault without numbers that the arguments alone can have. It is written at once.
+FAULTS = ["help", "--hash-file verify", "--raw hash phc 4 1 1 00", "--recommended key 16", "--draw-salt verify x", "--raw rehash x"]
+FAULTS += ["key 4 1 1 16 0", "key 4 0 1 16 ", "key 4 1 1 0 ", "hash phc 4 1 1 ", "key 56 1 1 32 ", "\udcff"]
+FAULTS += ["verify $", "verify $argon2id", "verify $7$2/..../....$", "verify $scrypt$v=1"]
+FAULTS += [f"verify $scrypt${it}" for it in ("ln=256", "r=00", "p=-1", "x=1")]
+
+# How the shell opens a stream, in a line that has `"$@"` for the command, the fault line, and the reason for the row.
+STREAMS = [
+    ('"$@" > /dev/full', "output failed\n", "a full device takes nothing"),
+    ('"$@" >&-', "output failed\n", "the standard output is closed"),
+    ('"$@" < /', "input failed\n", "a directory opens, but cannot be read"),
+    ('"$@" <&-', "input failed\n", "the standard input is closed"),
+]
+
+# How many bytes the input has before it fails, and the reason for the row.
+ENDS = [(1, "after a first piece"), (3000, "after several reads, the last a short one")]
+
+# Parameters whose chunks take 2 GiB, and whose table is refused: log_n is 56, r is 1 and p is 2^24. Nothing is written
+# before everything is allocated, so that the run touches little memory. Each row has a bound on the addresses of the
+# run, and the reason for the row.
+REFUSED_TABLE = "verify $7$s/......../$r/"
+MOST_TOUCHED = 64 << 20
+ADDRESSES = [("unlimited", "there is room for the chunks"), (1 << 30, "there is none")]
+
+
+def without_reader(words):
+    """How a run ends whose output is a pipe that nobody reads."""
+    read, write = os.pipe()
+    os.close(read)
+    ran = subprocess.run(words, stdin=subprocess.DEVNULL, stdout=write, stderr=subprocess.PIPE)
+    os.close(write)
+    return ran.returncode, ran.stderr.decode()
+
+
+def failing_after(length, words):
+    """How a run ends whose input fails after so many bytes: one side of a terminal whose other side wrote them and closed."""
+    input, terminal = pty.openpty()
+    tty.setraw(terminal)
+    os.write(terminal, b"x" * length)
+    os.close(terminal)
+    ran = subprocess.run(words, stdin=input, capture_output=True)
+    os.close(input)
+    return ran.returncode, ran.stdout.decode(), ran.stderr.decode()
+
+
+def writes_of(stream, words):
+    """What each write to one of the outputs of a run writes, through a pipe that keeps them apart."""
+    read, write = os.pipe2(os.O_DIRECT)
+    how = {"stdin": subprocess.DEVNULL, "stdout": subprocess.DEVNULL, "stderr": subprocess.DEVNULL, stream: write}
+    ran = subprocess.Popen(words, **how)
+    os.close(write)
+    # While it runs, since a pipe holds few writes.
+    with open(read, "rb", buffering=0) as pipe:
+        writes = [text.decode() for text in iter(lambda: pipe.read(1 << 16), b"")]
+    ran.wait()
+    return writes
+
+
+def cut_at(length, stream, words):
+    """The status of a run one of whose outputs is a file that takes only so many bytes, and what this and the other get."""
+    with tempfile.TemporaryFile() as file:
+        # Python ignores the signal of a file that is too large, and so does what it runs: writing fails.
+        how = {"stdout": subprocess.PIPE, "stderr": subprocess.PIPE, stream: file, "restore_signals": False}
+        ran = subprocess.run(["prlimit", f"--fsize={length}", *words], stdin=subprocess.DEVNULL, **how)
+        file.seek(0)
+        return ran.returncode, file.read().decode(), (ran.stderr if stream == "stdout" else ran.stdout).decode()
+
+
+def cuts(program):
+    """Outputs that take only the start of a line, which is written at once: an answer fails, and a fault keeps its status."""
+    for line in STREAM_COMMANDS:
+        words = [program, *line.split(" ")]
+        answer = runs.run(words)[1]
+        yield f"the writes of {line!r}", writes_of("stdout", words), [answer]
+        for length in range(len(answer)):
+            wanted = 4, answer[:length], "output failed\n"
+            yield f"{line!r}, of whose answer {length} bytes are taken", cut_at(length, "stdout", words), wanted
+    for line, status in (("verify $7$", 2), ("key 56 1 1 32 ", 3)):
+        words = [program, *line.split(" ")]
+        fault = runs.run(words)[2]
+        yield f"the writes of the fault of {line!r}", writes_of("stderr", words), [fault]
+        for length in range(len(fault)):
+            yield f"{line!r}, of whose fault {length} bytes are taken", cut_at(length, "stderr", words), (status, fault[:length], "")
+
+
+def faults(program):
+    """Each fault without numbers is written by one write."""
+    texts = set()
+    for line in FAULTS:
+        words = [program, *line.split(" ")]
+        fault = runs.run(words)[2]
+        texts.add(fault)
+        yield f"the writes of the fault of {line!r}", writes_of("stderr", words), [fault]
+    yield "the faults of these lines differ", len(texts), len(FAULTS)
+    for shell, fault, reason in STREAMS:
+        words = ["sh", "-c", shell, "sh", program, *STREAM_COMMANDS[0].split(" ")]
+        yield f"the writes of a fault ({reason})", writes_of("stderr", words), [fault]
+
+
+def streams(program):
+    """Every command on streams that fail: status 4, and nothing in the output."""
+    for line in STREAM_COMMANDS:
+        words = [program, *line.split(" ")]
+        yield f"{line!r} on streams that work", runs.redirected('"$@"', words)[0], 0
+        for shell, fault, reason in STREAMS:
+            yield f"{line!r} ({reason})", runs.redirected(shell, words), (4, "", fault)
+        yield f"{line!r} (nobody reads the pipe)", without_reader(words), (4, "output failed\n")
+        for length, reason in ENDS:
+            yield f"{line!r} (an input that fails {reason})", failing_after(length, words), (4, "", "input failed\n")
+    for line, status, fault, reason in ORDERS:
+        ended = runs.redirected('"$@" < /', [program, *line.split(" ")])
+        yield f"{line!r} over an input that fails ({reason})", ended, (status, "", f"{fault}\n")
+    for shell in ('"$@" 2> /dev/full', '"$@" 2>&-'):
+        key, refused = ([program, "key", "4", "1", "1", length, ""] for length in ("16", "0"))
+        yield f"{shell}, with nothing to write there", runs.redirected(shell, key)[0], 0
+        yield f"{shell}, with a fault", runs.redirected(shell, refused), (2, "", "")
+    full = runs.redirected('"$@" > /dev/full', [program, "--help"])
+    yield "--help that cannot be written", full, (4, "", "output failed\n")
+
+
+def touched_by(program, line, addresses):
+    """How a run ends whose addresses are bounded, and how many bytes of memory it touched."""
+    words = ["prlimit", f"--as={addresses}", program, *line.split(" ")]
+    ran = subprocess.Popen(words, stdin=subprocess.DEVNULL, stderr=subprocess.PIPE)
+    error = ran.stderr.read().decode()
+    _, status, usage = os.wait4(ran.pid, 0)
+    ran.returncode = os.waitstatus_to_exitcode(status)
+    return (ran.returncode, error), usage.ru_maxrss << 10
+
+
+def memory(program):
+    for addresses, reason in ADDRESSES:
+        ended, touched = touched_by(program, REFUSED_TABLE, addresses)
+        about = f"{REFUSED_TABLE!r} ({reason}) in {touched} bytes"
+        yield about, (ended, touched > MOST_TOUCHED), ((3, "out of memory\n"), False)
