@@ -12,8 +12,8 @@ proves it of the right body: the wrong body is refused by the answer. With `all`
 usage: python3 -m tools.gate.wrong_bodies [NAME..]         the edits of crates/NAME/wrong-bodies.txt for the gate, one round for each crate
        python3 -m tools.gate.wrong_bodies all [NAME..]     the others that the prover has to refuse too, in as many rounds as it takes
        python3 -m tools.gate.wrong_bodies over FOLDER NAME those of a crate for the gate, over what a check of the crate kept there
-       python3 -m tools.gate.wrong_bodies fit              tries nothing: prints the edits that can't be applied, those of the gate that need
-                                        more than one round, and the public functions that no edit changes
+       python3 -m tools.gate.wrong_bodies fit              tries nothing: prints the edits that can't be applied, and those of
+                                                           the gate that need more than one round
 The libraries below a crate have to be built.
 """
 
@@ -26,11 +26,9 @@ import tempfile
 from pathlib import Path
 
 from tools.gate import prover_output
-from tools.generate import promises
-from tools.generate.library import Library
 from tools import prover_command
 from tools.gate import edits
-from tools.generate import kit, sources
+from tools.generate import sources
 
 FIRST, MORE = edits.GATE, edits.MORE
 
@@ -169,29 +167,13 @@ def try_all(names, parts, kept=()):
     return wrong + len(false)
 
 
-def untried(library, name):
-    """The public functions of a crate with clauses and a body that no edit changes. A law's body does nothing, and what makes a
-    count takes ghost numbers, which only a handwritten proof names: tools/gate/must_not_compile.py checks where counts are made."""
-    crate = library.sources[name]
-    tried = set().union(*(changed(edit, name, crate) for edit in edits.edits_of(name, *edits.PARTS)))
-    for source in crate.values():
-        for it in source.items:
-            path = sources.checked_path(crate, source, it) if it.kind == "fn" else None
-            has_body = it.opened < it.last and source.text.splitlines()[it.last - 1] == f"{' ' * 4 * bool(it.owner)}}}"
-            if path and has_body and source.module not in ("laws", "cores::count") and promises.promised(library, source, it) and path not in tried:
-                yield f"{name}: no wrong body of the public function {path}"
-
-
 def unfit():
     """What is wrong with the edits, without trying them."""
-    library = Library(".", kit.Kit(None))
     for name in edits.crates_with(*edits.PARTS):
         wrong = list(filter(None, (unfit_edit(edit, name) for edit in edits.edits_of(name, *edits.PARTS))))
         yield from wrong
         if not wrong and len(rounds(name, FIRST)) > 1:
             yield f"{name}: two edits of the gate change one function, or one changes none: it belongs to [{MORE}]"
-        if not wrong and name in library.crates():
-            yield from untried(library, name)
 
 
 def unfit_edit(edit, name):
