@@ -75,6 +75,7 @@ struct scrypt_hasher {
   int is_closed;
   size_t turns;
   struct queue *queue;
+  char no_hash[SCRYPT_PHC_CAPACITY]; /* costs what a new hash costs; no password matches it */
 };
 
 static size_t size_of_queue(const scrypt_hasher *hasher) { return sizeof(struct queue) + hasher->turns * sizeof(struct turn); }
@@ -255,14 +256,20 @@ static int run(scrypt_hasher *hasher, struct call *call, int64_t most_ms) {
 
 /* ---- The calls ---- */
 
+/* Without a text it takes the time of a wrong password, by the same path. */
 int scrypt_hasher_verify(scrypt_hasher *hasher, const void *password, size_t password_len, const char *text, size_t text_len,
                          int64_t most_ms) {
-  struct call call = {.login = {password, password_len, text != NULL ? text : "", text_len}};
+  struct call call = {.login = {password, password_len, text, text_len}};
   int status;
   if (hasher == NULL || is_null(password, password_len) || is_null(text, text_len)) return SCRYPT_NULL_POINTER;
-  status = scrypt_hash_needs(call.login.text, text_len, hasher->options.most_bytes, hasher->options.most_work,
+  if (text == NULL) {
+    call.login.text = hasher->no_hash;
+    call.login.text_len = strlen(hasher->no_hash);
+  }
+  status = scrypt_hash_needs(call.login.text, call.login.text_len, hasher->options.most_bytes, hasher->options.most_work,
                              hasher->options.least_key_len, &call.needs);
-  return status == SCRYPT_OK ? run(hasher, &call, most_ms) : status;
+  if (status == SCRYPT_OK) status = run(hasher, &call, most_ms);
+  return text == NULL && status == SCRYPT_OK ? SCRYPT_MISMATCH : status;
 }
 
 int scrypt_hasher_hash(scrypt_hasher *hasher, const void *password, size_t password_len, const void *salt, size_t salt_len,
@@ -353,6 +360,21 @@ static int complete(scrypt_hasher *hasher) {
   return SCRYPT_OK;
 }
 
+/* A $7$ hash of new parameters, whose salt is dots and whose key is zeros. */
+static void write_no_hash(char *text, const scrypt_options *with) {
+  static const char LETTERS[] = "./0123456789ABCDEFGHIJKLMNOPQRSTUVWXYZabcdefghijklmnopqrstuvwxyz";
+  size_t salt_len = with->salt_len, key_letters = (8 * with->key_len + 5) / 6, i;
+  memset(text, 0, SCRYPT_PHC_CAPACITY);
+  memcpy(text, "$7$", 3);
+  text[3] = LETTERS[with->log_n];
+  for (i = 0; i < 5; i++) {
+    text[4 + i] = LETTERS[with->r >> 6 * i & 63];
+    text[9 + i] = LETTERS[with->p >> 6 * i & 63];
+  }
+  memset(text + 14, '.', salt_len + 1 + key_letters);
+  text[14 + salt_len] = '$';
+}
+
 scrypt_hasher *scrypt_hasher_new(const scrypt_options *options, int *status) {
   static const scrypt_options DEFAULTS = {.size = sizeof DEFAULTS};
   scrypt_hasher made = {.is_closed = 0}, *hasher = NULL;
@@ -373,6 +395,7 @@ scrypt_hasher *scrypt_hasher_new(const scrypt_options *options, int *status) {
     return NULL;
   }
   wipe_in_child(made.queue, size_of_queue(&made));
+  write_no_hash(made.no_hash, &made.options);
   *hasher = made;
   return hasher;
 }

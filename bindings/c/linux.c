@@ -1,6 +1,4 @@
-/* What system.h declares, on Linux: not proved. Without _FORTIFY_SOURCE, by which snprintf would be a function that musl doesn't
- * have. */
-#undef _FORTIFY_SOURCE
+/* What system.h declares, on Linux: not proved. */
 #define _GNU_SOURCE
 #include "system.h"
 

@@ -360,6 +360,8 @@ const scrypt_options *scrypt_hasher_options(const scrypt_hasher *hasher);
 /* Verifies a password against the text of a hash, like scrypt_verify, within the bounds of the hasher. This and the next two calls
  * wait for a processor of the hasher for at most most_ms milliseconds, without a bound if that is negative, and then return
  * SCRYPT_TIMEOUT; time that a derivation takes does not count.
+ * For a login whose name is unknown pass NULL with text_len 0: the call derives with the parameters of new hashes, and returns
+ * SCRYPT_MISMATCH after the time of a wrong password, so that the time doesn't tell which names exist.
  * SCRYPT_NULL_POINTER; the errors of scrypt_hash_needs, without waiting; SCRYPT_CLOSED, SCRYPT_TIMEOUT, SCRYPT_OUT_OF_MEMORY, and last
  * SCRYPT_MISMATCH if the password is wrong. */
 SCRYPT_CHECKED

@@ -100,6 +100,7 @@ static int begin_watched(const scrypt_login *logins, size_t count, size_t table_
 
 static void end_watched(int tables) { (void)ADD(inside, -1), (void)ADD(tables_inside, -tables), (void)ADD(ended, 1); }
 
+static int all_match; /* as if each key were that of its hash */
 static int watched_group(const scrypt_login *logins, size_t count, int *statuses, uint8_t *chunks, size_t chunks_len, uint32_t *table,
                          size_t table_len, uint32_t *scratch, size_t scratch_len) {
   uint32_t log_n = 0, r = 1, p;
@@ -108,6 +109,7 @@ static int watched_group(const scrypt_login *logins, size_t count, int *statuses
   for (size_t i = 0; i < count; i++) expect(statuses[i] != SCRYPT_OK, "a status is SCRYPT_OK before the derivation");
   tables = begin_watched(logins, count, table_len, log_n, r);
   status |= scrypt_verify_group_with_buffers(logins, count, statuses, chunks, chunks_len, table, table_len, scratch, scratch_len);
+  for (size_t i = 0; i < count && all_match; i++) statuses[i] = SCRYPT_OK;
   end_watched(tables);
   return status;
 }

@@ -60,7 +60,6 @@ static void calls(void) {
   IS(verify(NULL, good, "", -1), SCRYPT_NULL_POINTER);
   IS(scrypt_hasher_verify(hasher, NULL, 1, good, strlen(good), -1), SCRYPT_NULL_POINTER);
   IS(scrypt_hasher_verify(hasher, "", 0, NULL, 1, -1), SCRYPT_NULL_POINTER);
-  IS(scrypt_hasher_verify(hasher, NULL, 0, NULL, 0, -1), SCRYPT_ENCODING_INVALID);
   IS(scrypt_hasher_hash(hasher, "a", 1, NULL, 1, text, sizeof text, -1), SCRYPT_NULL_POINTER);
   IS(scrypt_hasher_hash(hasher, "a", 1, "", 0, text, sizeof text, -1), SCRYPT_SALT_INVALID);
   IS(scrypt_hasher_hash(hasher, "a", 1, NULL, 0, text, sizeof text - 1, -1), SCRYPT_BUFFER_SIZE);
@@ -92,6 +91,30 @@ static void calls(void) {
   IS(scrypt_hasher_hash(hasher, "a", 1, NULL, 0, text, sizeof text, -1), SCRYPT_CLOSED);
   scrypt_hasher_free(hasher);
   scrypt_hasher_free(of_mcf);
+}
+
+/* A login without a hash is derived as a new hash is, and never accepted. */
+static void no_hash(void) {
+  static const scrypt_options OPTIONS[] = {
+      {sizeof(scrypt_options), 4, 8, 1, 0, 0, 0, 0, 0, 0, 1, 1},   {sizeof(scrypt_options), 0, 1, 1, 0, 10, 1, 0, 0, 0, 1, 1},
+      {sizeof(scrypt_options), 1, 2, 3, 0, 64, 64, 0, 0, 0, 1, 1}, {sizeof(scrypt_options), 5, 1, 1 << 12, 1, 11, 2, 0, 0, 0, 1, 1}};
+  for (size_t i = 0; i < sizeof OPTIONS / sizeof OPTIONS[0]; i++) {
+    scrypt_hasher *hasher = scrypt_hasher_new(&OPTIONS[i], NULL);
+    scrypt_needs needs = {0}, *new = &hasher->needs;
+    most_inside = most_tables = 4;
+    IS(scrypt_hasher_verify(hasher, "right", 5, NULL, 0, -1), SCRYPT_MISMATCH);
+    IS(scrypt_hasher_verify(hasher, NULL, 0, NULL, 0, -1), SCRYPT_MISMATCH);
+    IS(scrypt_hasher_verify(hasher, NULL, 1, NULL, 0, -1), SCRYPT_NULL_POINTER);
+    IS(scrypt_hash_needs(hasher->no_hash, strlen(hasher->no_hash), SIZE_MAX, UINT64_MAX, 0, &needs), SCRYPT_OK);
+    expect(needs.log_n == new->log_n && needs.r == new->r && needs.p == new->p && needs.work == new->work, "another cost");
+    IS(needs.key_len, hasher->options.key_len);
+    all_match = 1;
+    IS(scrypt_hasher_verify(hasher, "right", 5, NULL, 0, -1), SCRYPT_MISMATCH);
+    all_match = 0;
+    scrypt_hasher_close(hasher);
+    IS(scrypt_hasher_verify(hasher, "right", 5, NULL, 0, -1), SCRYPT_CLOSED);
+    scrypt_hasher_free(hasher);
+  }
 }
 
 /* Who derives alone takes no room for others. */
@@ -216,6 +239,7 @@ static void calibrated(void) {
 int main(void) {
   RUN(options);
   RUN(calls);
+  RUN(no_hash);
   RUN(room_for_one);
   RUN(generations);
   RUN(moments);
