@@ -128,7 +128,6 @@ oracle: lib
 	python3 -m tools.tests.oracle crates/scrypt_tool/out/scrypt_tool
 	python3 -m tools.tests.allocations crates/scrypt_tool/out/scrypt_tool
 	$(EXAMPLES) python3 examples/migration/test_migration.py crates/scrypt_tool/out/scrypt_tool $(if $(WORKER),--worker $(WORKER))
-	$(EXAMPLES) python3 examples/key_files/test_key_files.py crates/scrypt_tool/out/scrypt_tool build/lib/libscrypt_c.so
 	python3 -m tools.tests.hostile build/lib/libscrypt_c.so
 	python3 -m tools.tests.groups build/lib/libscrypt_c.so
 

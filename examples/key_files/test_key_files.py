@@ -1,62 +1,99 @@
 #!/usr/bin/env python3
-"""Opens key files of real programs with keys of this library, and has these programs open files that are made here.
+"""Opens published files, and files that the programs age and scrypt make now."""
 
-usage: test_key_files.py PROGRAM LIBRARY [--seed N]
-
-PROGRAM is scrypt_tool and LIBRARY libscrypt_c.so, which the Python binding loads. The files are opened by the functions of
-key_file.py; each key is also derived by the shell's line of README.md. For each kind of file: one that the real
-program made is opened, and a published vector; a wrong password and a file that was changed are refused; one that asks for
-too much is refused before anything is derived; and one that is made here is opened by the real program, if there is one.
-
-What isn't installed is named and skipped. The table at the end has what was tried and what agreed; the status is 1 if
-something differs.
-"""
-
-import argparse
+import base64
+import functools
+import hashlib
 import os
+import shutil
+import subprocess
 import sys
 import tempfile
+import unittest
+from pathlib import Path
+from unittest import mock
 
-TOP = os.path.join(os.path.dirname(os.path.abspath(__file__)), "..", "..")
-from foreign import Missing
+import key_files
+from key_files import open_age, open_ethereum, open_scrypt
+
+HERE = Path(__file__).resolve().parent
+sys.path.insert(0, str(HERE.parents[1]))
+from tools.tests.terminal import on_terminal  # noqa: E402
+
+PASSWORD = "testpassword"
+CONTENT = b"The key of the garden gate is under the third stone.\n"
+SECRET = bytes.fromhex("7a28b5ba57c53603b0b07b56bba752f7784bf506fa95edc395f5cf6c7514fe9d")
+VECTORS = [
+    (open_age, (HERE / "vectors/example.age").read_bytes(), CONTENT),
+    (open_scrypt, (HERE / "vectors/example.scrypt").read_bytes(), CONTENT),
+    (open_ethereum, (HERE / "vectors/ethereum.json").read_bytes(), SECRET),
+]
 
 
-def summary(trial, name, part):
-    """The row of one kind of file, and whether nothing differs."""
-    trial.tried, trial.agreed, trial.notes = 0, 0, []
-    try:
-        part(trial)
-    except Missing as missing:
-        trial.notes.append(f"skipped: no {missing}")
-    notes = "; ".join(trial.notes)
-    return f"| {name} | {trial.tried} | {trial.agreed} | {notes} |"
+def scrypt_enc(source, target, log_n, r, p):
+    words = ["scrypt", "enc", "-f", f"--logN={log_n}", "-r", str(r), "-p", str(p)]
+    words += ["--passphrase", "dev:stdin-once", source, target]
+    subprocess.run(words, input=PASSWORD.encode(), check=True)
 
 
-def main():
-    parser = argparse.ArgumentParser(usage=__doc__.split("usage: ")[1].split("\n")[0])
-    parser.add_argument("program")
-    parser.add_argument("library")
-    parser.add_argument("--seed", type=int, default=7914)
-    args = parser.parse_args()
-    os.environ["SCRYPT_C_LIBRARY"] = os.path.abspath(args.library)
-    try:
-        from key_trial import Trial
-        from key_trials import KINDS
-    except ModuleNotFoundError as missing:
-        if missing.name != "cryptography":
-            raise
-        print("skipped: no cryptography (package python3-cryptography), which every kind of key file needs")
-        return
-    tried, agreed, rows = 0, 0, []
-    with tempfile.TemporaryDirectory() as folder:
-        trial = Trial(args.program, args.seed, folder)
-        for name, part in KINDS:
-            rows.append(summary(trial, name, part))
-            tried, agreed = tried + trial.tried, agreed + trial.agreed
-    print("| key file | tried | agreed | notes |", "|---|---|---|---|", *rows, sep="\n")
-    print(f"key files: {tried} tried, {agreed} agreed")
-    sys.exit(agreed != tried)
+class KeyFilesTest(unittest.TestCase):
+    def refuses(self, message, *given, **limits):
+        with self.assertRaisesRegex(ValueError, message):
+            print(given[0](*given[1:], **limits))
+
+    def test_vectors(self):
+        for open_file, file, content in VECTORS:
+            self.assertEqual(open_file(file, PASSWORD), content)
+            self.refuses("wrong password", open_file, file, PASSWORD + "x")
+
+    def test_keys_are_those_of_hashlib(self):
+        for open_file, file, _ in VECTORS[:2]:  # OpenSSL refuses r = 1 with N = 2^18
+            with mock.patch("key_files.scrypt", wraps=key_files.scrypt) as ours:
+                open_file(file, PASSWORD)
+            (password,), salt_and_params = ours.call_args
+            expected = hashlib.scrypt(password, **salt_and_params, maxmem=1 << 30)
+            self.assertEqual(key_files.scrypt(password, **salt_and_params), expected)
+
+    def test_limits(self):
+        for open_file, file, _ in VECTORS:
+            self.refuses("above the limits", open_file, file, PASSWORD, most_bytes=1 << 20)
+            self.refuses("above the limits", open_file, file, PASSWORD, most_work=1 << 15)
+
+    def test_damaged_files(self):
+        with mock.patch("key_files.scrypt", functools.cache(key_files.scrypt)):
+            age = base64.b64decode(b"".join(VECTORS[0][1].splitlines()[1:-1]))
+            payload = len(age) - len(CONTENT) - 16
+            two_chunks = age[:payload] + bytes(key_files.AGE_CHUNK + 16)
+            self.refuses("the last chunk is empty", open_age, two_chunks, PASSWORD)
+            # The MAC of Ethereum does not cover the IV.
+            for open_file, file in ((open_age, age), (open_scrypt, VECTORS[1][1])):
+                for at in range(len(file)):
+                    flipped = file[:at] + bytes([file[at] ^ 1]) + file[at + 1 :]
+                    message = "not a file" if open_file is open_scrypt and at < 64 else ""
+                    for damaged in (file[:at], flipped):
+                        self.refuses(message, open_file, damaged, PASSWORD)
+
+    @unittest.skipUnless(shutil.which("age"), "the package age is not installed")
+    def test_files_of_age(self):
+        with tempfile.TemporaryDirectory() as folder:
+            source, target = Path(folder, "source"), Path(folder, "target")
+            for length in (0, 1, 65536, 65537, 200_000):
+                source.write_bytes(os.urandom(length))
+                words = ["age", "-p", "-o", str(target), str(source)]
+                self.assertEqual(on_terminal(words, [PASSWORD] * 2), 0)
+                self.assertEqual(open_age(target.read_bytes(), PASSWORD), source.read_bytes())
+
+    @unittest.skipUnless(shutil.which("scrypt"), "the package scrypt is not installed")
+    def test_files_of_scrypt(self):
+        with tempfile.TemporaryDirectory() as folder:
+            source, target = Path(folder, "source"), Path(folder, "target")
+            limits = {"most_bytes": 2 << 30, "most_work": 1 << 26}
+            for length, *params in ((0, 10, 8, 1), (1, 12, 1, 3), (9999, 14, 8, 2), (9, 20, 8, 1)):
+                source.write_bytes(os.urandom(length))
+                scrypt_enc(source, target, *params)
+                content = open_scrypt(target.read_bytes(), PASSWORD, **limits)
+                self.assertEqual(content, source.read_bytes())
 
 
 if __name__ == "__main__":
-    main()
+    unittest.main()
