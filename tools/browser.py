@@ -37,6 +37,10 @@ class Browser:
         """The value of an expression in the page."""
         return self.driver.execute_script(f"return {expression}")
 
+    def until(self, expression):
+        """The value of an expression in the page, once it is true."""
+        return WebDriverWait(self.driver, SECONDS).until(lambda _: self.run(expression))
+
     def look(self, width, height=900, scheme="light"):
         """The width of the window, and light or dark."""
         size = {"width": width, "height": height, "deviceScaleFactor": 1, "mobile": False}

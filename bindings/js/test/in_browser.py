@@ -1,8 +1,7 @@
 #!/usr/bin/env python3
-"""Runs checks.js in a headless Chromium, by its driver, and opens key files in the page of examples/key_page; or runs the checks
-in another browser, which a command opens.
+"""Runs checks.js in a headless Chromium, by its driver, or in another browser, which a command opens.
 
-usage: in_browser.py CASES [PICTURE]
+usage: in_browser.py CASES
        in_browser.py CASES -- COMMAND..     followed by the address, as firefox-esr --headless --profile FOLDER
 
 ONE_SCRIPT is a page with all in one script, which Chromium opens from the disk if it is there.
@@ -17,7 +16,6 @@ import sys
 import threading
 from pathlib import Path
 
-from examples.key_page import test_key_page
 from tools import browser
 
 TOP = Path(__file__).resolve().parents[3]
@@ -89,13 +87,12 @@ def all_passed(said):
 def is_hashed(chromium, page):
     """Whether a page that is opened from the disk makes a hash its title."""
     chromium.open(f"file://{page}")
-    test_key_page.until(chromium, "document.title")
-    title = chromium.run("document.title")
+    title = chromium.until("document.title")
     print(f"a page with all in one script, from the disk: {title[:22]}")
     return title.startswith("$scrypt$")
 
 
-def in_chromium(at, picture=None):
+def in_chromium(at):
     chromium = browser.Browser()
     try:
         print("Chromium", chromium.driver.capabilities["browserVersion"])
@@ -103,7 +100,7 @@ def in_chromium(at, picture=None):
         if not all_passed(answer()):
             return False
         page = os.environ.get("ONE_SCRIPT", "")
-        return (not os.path.exists(page) or is_hashed(chromium, page)) and test_key_page.opens(chromium, at, picture)
+        return not os.path.exists(page) or is_hashed(chromium, page)
     finally:
         chromium.close()
 
@@ -114,7 +111,7 @@ def main(cases, *options):
     if options[:1] == ("--",):
         is_well = all_passed(in_another(options[1:], f"{at}{PAGE}"))
     else:
-        is_well = in_chromium(at, *options)
+        is_well = in_chromium(at)
     sys.exit(not is_well)
 
 

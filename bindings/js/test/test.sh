@@ -1,6 +1,5 @@
 #!/bin/sh
-# Tests the package in Node and in Chromium, against hashlib, its types, and the page of examples/key_page. Prints which package
-# is not installed.
+# Tests the package in Node and in Chromium, against hashlib, and its types. Prints which package is not installed.
 set -eu
 unset CDPATH
 cd "$(dirname "$0")"
@@ -26,7 +25,6 @@ in_node() {
   CASES=$room/cases.json MODULE64=../../../build/wasm/scrypt64.wasm node $MEMORY64 --test node.test.js > "$room/log" ||
     { cat "$room/log"; exit 1; }
   grep -E '^# (pass|fail) ' "$room/log"
-  module examples.key_page.test_key_page
 }
 
 # The lines of README, in a folder that has the package as npm installs it, and what they make without that. in_browser.py opens the
