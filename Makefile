@@ -18,11 +18,12 @@
 #   make wrong-bodies  tries all wrong code that a proof has to reject, of all crates or of CRATES="NAME .."
 #   make oracle    compares the program with independent implementations, and fails each of its allocations
 #   make callers   calls the library from each installed language of bindings/
+#   make examples  tests what is in examples/
 #   make bench     measures the library against other implementations on this machine
 #   make clean     removes what was built
 #
 # CONTRIBUTING.md names the scripts for what is done seldom: comparing packages in a fresh root, the pages in a browser,
-# the login service, tables and pictures of docs/.
+# tables and pictures of docs/.
 
 # A user's CDPATH would make cd go elsewhere.
 unexport CDPATH
@@ -221,7 +222,6 @@ dist-test:
 	tools/release/test.sh
 	tools/release/test_emulated.sh
 	tools/release/test_windows.sh
-	tools/release/container.sh
 	tools/release/arm64_machine.sh
 
 thin: lib
@@ -249,10 +249,7 @@ axioms: proved-scrypt_commands
 	cd crates/scrypt_tool && rt check --list-axioms > ../../build/axioms.log
 	sed -n 's/^  \([a-z0-9_:]*\) *reached$$/\1/p' build/axioms.log > tools/generate/axioms.txt
 
-# The library is built only if it is not there: the kit is not needed after that.
-.PHONY: login-service login-test
-login-service: $(if $(wildcard build/lib/libscrypt_c.a),,lib)
-	examples/login_service/run.sh
-
-login-test: $(if $(wildcard build/lib/libscrypt_c.a),,lib)
-	examples/login_service/test.sh
+# What they use is built only if it is not there: the kit is not needed after that.
+.PHONY: examples
+examples: $(if $(wildcard build/lib/libscrypt_c.so),,lib) $(if $(wildcard bindings/js/scrypt.wasm),,js)
+	for example in examples/*/test.sh; do "$$example" || exit 1; done

@@ -1,0 +1,28 @@
+from scrypt_c import PasswordHasher
+from scrypt_c.django import FalseIfRefused, PHCPasswordHasher
+
+MAX_LOG_INS = 40  # at a time, in fewer threads than the server has; others are refused at once
+
+
+class Scrypt(FalseIfRefused, PHCPasswordHasher):
+    """scrypt with the recommended parameters. No password matches a stored hash that is damaged or
+    too costly; the logger scrypt_c.django has the reason."""
+
+    hasher = PasswordHasher(timeout=10)
+
+    def encode(self, password, salt):
+        self.check_load()
+        return super().encode(password, salt)
+
+    def verify(self, password, encoded):
+        self.check_load()
+        return super().verify(password, encoded)
+
+    def check_load(self):
+        stats = self.hasher.stats()
+        if stats.waiting + stats.deriving >= MAX_LOG_INS:
+            raise TimeoutError("too many log-ins at a time")
+
+    def harden_runtime(self, password, encoded):
+        """Derives a key, so that a refused hash takes the time of a wrong password."""
+        self.hasher.hash(password)

@@ -1,0 +1,18 @@
+#!/bin/sh
+# Tests the site over build/lib, by SQLite, and by PostgreSQL in a cluster of the test's own.
+set -eu
+unset CDPATH
+cd "$(dirname "$0")"
+export PATH="/usr/bin:$PATH" PYTHONPATH=../../bindings/python SCRYPT_C_LIBRARY=../../build/lib
+for module in django waitress selenium; do
+  if ! python3 -c "import $module" 2> /dev/null; then
+    echo "$module is not installed (package python3-$module): not run: examples/login_site"
+    exit
+  fi
+done
+python3 -B manage.py test "$@"
+if command -v pg_virtualenv > /dev/null && python3 -c 'import psycopg2' 2> /dev/null; then
+  pg_virtualenv python3 -B manage.py test "$@"
+else
+  echo "PostgreSQL is not installed (packages postgresql, python3-psycopg2): not run"
+fi
