@@ -66,6 +66,37 @@ int scrypt_key_thin(INPUTS, uint8_t s, OUTPUT, BUFFERS) {
   return cleared_scrypt_kdf_thin(THE_INPUTS, s, THE_OUTPUT, THE_BUFFERS);
 }
 
+/* ---- In steps ---- */
+
+#define TAKE_STEPS \
+  REFUSE_IF(steps == NULL || steps->chunks == NULL || steps->table == NULL || steps->scratch == NULL)
+#define PARAMS_OF(steps) in_8_bits((steps)->log_n), (steps)->r, (steps)->p
+#define BUFFERS_OF(steps) \
+  (steps)->chunks, (steps)->chunks_len, (steps)->table, (steps)->table_len, (steps)->scratch, (steps)->scratch_len
+
+int scrypt_key_begin(scrypt_steps *steps, const void *password, size_t password_len, const void *salt, size_t salt_len) {
+  TAKE_STEPS;
+  TAKE(password);
+  TAKE(salt);
+  return cleared_scrypt_key_begin(password, password_len, salt, salt_len, PARAMS_OF(steps), BUFFERS_OF(steps),
+                                  &steps->chunks_done, &steps->mixes_done);
+}
+
+int scrypt_key_step(scrypt_steps *steps, size_t mixes) {
+  TAKE_STEPS;
+  return cleared_scrypt_key_step(PARAMS_OF(steps), mixes, BUFFERS_OF(steps), &steps->chunks_done, &steps->mixes_done);
+}
+
+int scrypt_key_finish(const scrypt_steps *steps, const void *password, size_t password_len, OUTPUT) {
+  TAKE_OUTPUT;
+  TAKE_STEPS;
+  TAKE(password);
+  return cleared_scrypt_key_finish(password, password_len, PARAMS_OF(steps), steps->chunks, steps->chunks_len,
+                                   steps->chunks_done, THE_OUTPUT);
+}
+
+/* ---- Hashes ---- */
+
 /* A call that writes a text, which is one byte longer by its NUL. */
 #define HASH_CALL(name, parameters, take, ...)                                           \
   int name parameters {                                                                  \

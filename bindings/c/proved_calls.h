@@ -16,6 +16,16 @@ PROVED_CALL(scrypt_verify_within, (const uint8_t *password, size_t password_len,
     most_work, least_key_len))
 PROVED_CALL(scrypt_needs_rehash, (const char *text, size_t text_len, uint8_t log_n, uint32_t r, uint32_t p,
     size_t key_len), (text, text_len, log_n, r, p, key_len))
+PROVED_CALL(scrypt_key_begin, (const uint8_t *password, size_t password_len, const uint8_t *salt, size_t salt_len,
+    uint8_t log_n, uint32_t r, uint32_t p, uint8_t *chunks, size_t chunks_len, uint32_t *table, size_t table_len,
+    uint32_t *scratch, size_t scratch_len, size_t *chunks_done, size_t *mixes_done), (password, password_len, salt,
+    salt_len, log_n, r, p, chunks, chunks_len, table, table_len, scratch, scratch_len, chunks_done, mixes_done))
+PROVED_CALL(scrypt_key_step, (uint8_t log_n, uint32_t r, uint32_t p, size_t count, uint8_t *chunks, size_t chunks_len,
+    uint32_t *table, size_t table_len, uint32_t *scratch, size_t scratch_len, size_t *chunks_done, size_t *mixes_done),
+    (log_n, r, p, count, chunks, chunks_len, table, table_len, scratch, scratch_len, chunks_done, mixes_done))
+PROVED_CALL(scrypt_key_finish, (const uint8_t *password, size_t password_len, uint8_t log_n, uint32_t r, uint32_t p,
+    uint8_t *chunks, size_t chunks_len, size_t chunks_done, uint8_t *output, size_t output_len), (password,
+    password_len, log_n, r, p, chunks, chunks_len, chunks_done, output, output_len))
 PROVED_CALL(scrypt_kdf, (const uint8_t *password, size_t password_len, const uint8_t *salt, size_t salt_len,
     uint8_t log_n, uint32_t r, uint32_t p, size_t most_tables, size_t most_bytes, uint8_t *output, size_t output_len),
     (password, password_len, salt, salt_len, log_n, r, p, most_tables, most_bytes, output, output_len))

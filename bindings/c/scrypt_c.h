@@ -5,6 +5,7 @@
  *   a key; the same within bounds                    scrypt_key; scrypt_key_within            yes
  *   a key with no allocation, in your own buffers    scrypt_key_with_buffers                  yes
  *   a key on a small device, with a smaller table    scrypt_key_thin                          yes
+ *   a key in steps, with progress between them       scrypt_key_begin; .._step; .._finish     yes
  *   the lengths of buffers; wiping them              scrypt_buffer_lens; scrypt_wipe          yes
  *   a password hash to store                         scrypt_hash_new                          no
  *   the same with other parameters, or your salt     scrypt_hash_phc; scrypt_hash_mcf: $7$    yes
@@ -105,7 +106,9 @@ enum scrypt_status {
   SCRYPT_NULL_POINTER = 16,       /* a pointer that may not be NULL is NULL */
   SCRYPT_CLOSED = 17,             /* the hasher is closed */
   SCRYPT_TIMEOUT = 18,            /* a hasher did not begin with the call in its time */
-  SCRYPT_OPTIONS_SIZE = 19        /* the size in the options of a hasher is not sizeof (scrypt_options) */
+  SCRYPT_OPTIONS_SIZE = 19,       /* the size in the options of a hasher is not sizeof (scrypt_options) */
+  SCRYPT_UNFINISHED = 20,         /* a derivation in steps is not at its end */
+  SCRYPT_INVALID_PROGRESS = 21    /* a derivation with these parameters cannot have come so far */
 };
 
 /* ---- Keys ---- */
@@ -159,6 +162,50 @@ int scrypt_key_thin(const void *password, size_t password_len, const void *salt,
 SCRYPT_NONNULL
 void scrypt_wipe(uint8_t *chunks, size_t chunks_len, uint32_t *table, size_t table_len, uint32_t *scratch,
                  size_t scratch_len);
+
+/* ---- Keys in steps: to show how far a derivation has come, or to leave it ---- */
+
+/* A derivation in steps. The caller sets the parameters and the buffers, each at least as long as scrypt_buffer_lens returns
+ * for s = 0, the chunks exactly so; scrypt_key_begin sets the rest. Between two calls the caller may read and move the
+ * structure, and copies no pointer into it. To leave a derivation is to wipe its buffers. Nothing is allocated.
+ *
+ *   scrypt_steps it = {20, 8, 1};
+ *   int status = scrypt_buffer_lens(it.log_n, it.r, it.p, 0, &it.chunks_len, &it.table_len, &it.scratch_len);
+ *   it.chunks = malloc(it.chunks_len), it.table = malloc(4 * it.table_len), it.scratch = malloc(4 * it.scratch_len);
+ *   if (status == SCRYPT_OK) status = scrypt_key_begin(&it, password, password_len, salt, salt_len);
+ *   while (status == SCRYPT_OK && it.chunks_done < it.p) {
+ *     status = scrypt_key_step(&it, 4096);                                      some 7 ms with r of 8
+ *     show((it.chunks_done + ldexp(it.mixes_done, -1 - (int)it.log_n)) / it.p);
+ *   }
+ *   if (status == SCRYPT_OK) status = scrypt_key_finish(&it, password, password_len, key, 32);
+ *   scrypt_wipe(it.chunks, it.chunks_len, it.table, it.table_len, it.scratch, it.scratch_len); */
+typedef struct scrypt_steps {
+  uint32_t log_n, r, p;
+  size_t chunks_done; /* how many of the p chunks are mixed */
+  size_t mixes_done;  /* of the next chunk: how many of its 2^(log_n + 1) block mixes, of 2 * r Salsa20/8 cores each */
+  uint8_t *chunks;
+  uint32_t *table;
+  uint32_t *scratch;
+  size_t chunks_len, table_len, scratch_len;
+} scrypt_steps;
+
+/* Begins the key of password and salt. What the buffers hold does not matter. No core is run.
+ * SCRYPT_NULL_POINTER, also for a buffer; SCRYPT_INVALID_PARAMS; SCRYPT_BUFFER_SIZE. */
+SCRYPT_CHECKED
+int scrypt_key_begin(scrypt_steps *steps, const void *password, size_t password_len, const void *salt, size_t salt_len);
+
+/* Does so many block mixes more, or those that the next chunk lacks. With all p chunks mixed it does nothing. On an error
+ * nothing has changed. If the buffers do not hold what the last call left in them, the key will be another one.
+ * SCRYPT_NULL_POINTER, SCRYPT_INVALID_PARAMS, SCRYPT_BUFFER_SIZE, SCRYPT_INVALID_PROGRESS. */
+SCRYPT_CHECKED
+int scrypt_key_step(scrypt_steps *steps, size_t mixes);
+
+/* Writes the key, output_len bytes long, once all p chunks are mixed. Of the buffers only the chunks are read, and none
+ * is changed: scrypt_wipe clears them.
+ * SCRYPT_NULL_POINTER, SCRYPT_INVALID_PARAMS, SCRYPT_BUFFER_SIZE, SCRYPT_UNFINISHED, SCRYPT_INVALID_OUTPUT_LEN. */
+SCRYPT_CHECKED
+int scrypt_key_finish(const scrypt_steps *steps, const void *password, size_t password_len, uint8_t *output,
+                      size_t output_len);
 
 /* ---- Password hashes ---- */
 
@@ -451,6 +498,8 @@ SCRYPT_HELPER const char *scrypt_status_text(int status) {
     case SCRYPT_CLOSED: return "the hasher is closed";
     case SCRYPT_TIMEOUT: return "the hasher did not begin with it in time";
     case SCRYPT_OPTIONS_SIZE: return "the size in the options of a hasher is not sizeof (scrypt_options)";
+    case SCRYPT_UNFINISHED: return "the derivation in steps is not at its end";
+    case SCRYPT_INVALID_PROGRESS: return "a derivation with these parameters cannot have come so far";
     default: return "unknown status";
   }
 }

@@ -58,7 +58,7 @@ func TestStatusesOfTheHeader(t *testing.T) {
 		t.Fatal(err)
 	}
 	ofText := regexp.MustCompile(`(?s)/\* The text is not a hash.*?\*/(.*?)\n  /\*`).FindString(string(header))
-	const noErrors = " OK NEEDS_REHASH BUFFER_SIZE NULL_POINTER TIMEOUT OPTIONS_SIZE "
+	const noErrors = " OK NEEDS_REHASH BUFFER_SIZE NULL_POINTER TIMEOUT OPTIONS_SIZE UNFINISHED INVALID_PROGRESS "
 	found := regexp.MustCompile(`(?m)^  SCRYPT_(\w+) = (\d+)`).FindAllStringSubmatch(string(header), -1)
 	for _, it := range found {
 		status, _ := strconv.Atoi(it[2])

@@ -21,6 +21,8 @@ export const VERSION = 11;
 export const BUFFER_SIZE = 12;
 export const TOO_COSTLY = 13;
 export const KEY_TOO_SHORT = 15;
+export const UNFINISHED = 20;
+export const INVALID_PROGRESS = 21;
 
 /** The name and the words of each status. */
 export const WORDS = new Map([
@@ -39,4 +41,6 @@ export const WORDS = new Map([
   [BUFFER_SIZE, ['BUFFER_SIZE', 'a buffer is too short or, for scrypt_key_thin, too long; or the text does not fit']],
   [TOO_COSTLY, ['TOO_COSTLY', 'the parameters need more than is allowed']],
   [KEY_TOO_SHORT, ['KEY_TOO_SHORT', 'the key in the hash is shorter than is allowed']],
+  [UNFINISHED, ['UNFINISHED', 'the derivation in steps is not at its end']],
+  [INVALID_PROGRESS, ['INVALID_PROGRESS', 'a derivation with these parameters cannot have come so far']],
 ]);

@@ -178,7 +178,7 @@ def each_call():
             if "*" in it and name not in unchecked:
                 words[-1] = f"P({words[-1]})"
         text = ", ".join(words)
-        memory = "HASHER" if "given.hasher" in text else "BUFFERS" if "made.chunks)" in text else "NEITHER"
+        memory = "HASHER" if "given.hasher" in text else "BUFFERS" if re.search(r"made\.(chunks|steps)\)", text) else "NEITHER"
         yield from wrapped(f"CALL({name}, {memory}, ({text}))", 4)
 
 

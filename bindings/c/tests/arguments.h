@@ -12,8 +12,9 @@ static struct {
   const char *text;
   const scrypt_login *logins;
   scrypt_hasher *hasher;
+  const scrypt_steps *steps;
   size_t password_len, salt_len, text_len, key_len, output_len, capacity, len, count, chunks_len, table_len, scratch_len;
-  size_t most_bytes, least_key_len;
+  size_t most_bytes, least_key_len, mixes;
   uint32_t log_n, r, p;
   uint8_t s;
   uint64_t most_work;
@@ -30,12 +31,19 @@ static struct {
   int statuses[SCRYPT_MOST_LOGINS];
   scrypt_needs needs[1];
   scrypt_stats stats[1];
+  scrypt_steps steps[1];
 } made;
+
+/* A derivation in steps at its end, in chunks of its own. */
+static scrypt_steps ended;
 
 /* A pointer that may not be NULL. */
 #define P(pointer) pointer
 
 #define BUFFERS_MADE made.chunks, given.chunks_len, made.table, given.table_len, made.scratch, given.scratch_len
+
+#define BUFFERS_OF_STEPS \
+  made.chunks, made.table, made.scratch, given.chunks_len, given.table_len, given.scratch_len
 
 /* With buffers for as many tables as a derivation can use, and at most this many. */
 static void take_arguments(const void *password, size_t password_len, const void *salt, size_t salt_len, uint32_t log_n,
@@ -58,6 +66,11 @@ static void take_arguments(const void *password, size_t password_len, const void
   made.table = calloc(given.table_len, 4);
   made.scratch = calloc(given.scratch_len, 4);
   if (made.chunks == NULL || made.table == NULL || made.scratch == NULL) exit(3);
+  *made.steps = (scrypt_steps){log_n, r, p, 0, 0, BUFFERS_OF_STEPS};
+  ended = *made.steps, ended.chunks_done = p;
+  ended.chunks = calloc(ended.chunks_len, 1);
+  if (ended.chunks == NULL) exit(3);
+  given.steps = &ended, given.mixes = 3;
 }
 
 /* The text that is verified and read, alone and for `count` logins. */
@@ -67,6 +80,7 @@ static void take_text(const char *text, const scrypt_login *logins, size_t count
 }
 
 static void free_arguments(void) {
+  free(ended.chunks);
   free(made.chunks);
   free(made.table);
   free(made.scratch);

@@ -13,6 +13,10 @@ CALL(scrypt_key_with_buffers, BUFFERS, (P(given.password), given.password_len, P
 CALL(scrypt_key_thin, BUFFERS, (P(given.password), given.password_len, P(given.salt), given.salt_len, given.log_n,
     given.r, given.p, given.s, P(made.output), given.output_len, P(made.chunks), given.chunks_len, P(made.table),
     given.table_len, P(made.scratch), given.scratch_len))
+CALL(scrypt_key_begin, BUFFERS, (P(made.steps), P(given.password), given.password_len, P(given.salt), given.salt_len))
+CALL(scrypt_key_step, BUFFERS, (P(made.steps), given.mixes))
+CALL(scrypt_key_finish, NEITHER, (P(given.steps), P(given.password), given.password_len, P(made.output),
+    given.output_len))
 CALL(scrypt_hash_new, NEITHER, (P(given.password), given.password_len, P(made.text), given.capacity))
 CALL(scrypt_hash_phc, NEITHER, (P(given.password), given.password_len, P(given.salt), given.salt_len, given.log_n,
     given.r, given.p, given.key_len, P(made.text), given.capacity))

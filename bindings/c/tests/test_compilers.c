@@ -64,6 +64,7 @@ struct given {
   uint8_t salt[MOST_LEN], log_n, s;
   uint32_t r, p;
   size_t salt_len, output_len, key_len, capacity, most_tables, most_bytes, least_key_len, chunks_len, table_len, scratch_len;
+  size_t mixes, chunks_done, mixes_done;
   uint64_t most_work;
 };
 
@@ -71,6 +72,7 @@ struct given {
 struct written {
   int statuses[LOGINS];
   size_t text_len, key_len, tables, chunks_len, table_len, scratch_len, most_bytes, least_key_len;
+  size_t chunks_done, mixes_done;
   uint64_t bytes, work, most_work;
   uint32_t r, p;
   uint8_t log_n, key[MOST_LEN + MARGIN], chunks[MOST_TABLES * CHUNKS + MARGIN];
@@ -107,6 +109,9 @@ enum kind { KEY, THIN, VERDICT, GROUP, NUMBERS };
   A(kdf_within, KEY, OF_KEY | S(TOO_COSTLY) | S(OUT_OF_MEMORY), (INPUT, it->most_tables, LIMITS, TO_KEY))              \
   A(kdf_with_buffers, KEY, OF_KEY | S(BUFFER_SIZE), (INPUT, TO_KEY, WORKSPACE))                                        \
   A(kdf_thin, THIN, OF_KEY | S(BUFFER_SIZE), (INPUT, it->s, TO_KEY, WORKSPACE))                                        \
+  A(key_begin, KEY, OF_PARAMS | S(BUFFER_SIZE), (INPUT, WORKSPACE, &to->chunks_done, &to->mixes_done))                 \
+  A(key_finish, KEY, OF_KEY | S(BUFFER_SIZE) | S(UNFINISHED),                                                          \
+    (PASSWORD(0), PARAMS, to->chunks, it->chunks_len, it->chunks_done, TO_KEY))                                        \
   A(hash_phc, KEY, OF_PARAMS | S(SALT_INVALID) | S(OUT_OF_MEMORY) | S(BUFFER_SIZE), (INPUT, TO_TEXT))                  \
   A(hash_mcf, KEY, OF_PARAMS | S(OUT_OF_MEMORY) | S(BUFFER_SIZE), (INPUT, TO_TEXT))                                    \
   A(hash_phc_with_buffers, KEY, OF_PARAMS | S(SALT_INVALID) | S(BUFFER_SIZE), (INPUT, TO_TEXT, WORKSPACE))             \
@@ -137,6 +142,11 @@ static int group(const struct calls *by, const struct given *it, struct written 
   return to->statuses[0];
 }
 
+static int key_step(const struct calls *by, const struct given *it, struct written *to) {
+  to->chunks_done = it->chunks_done, to->mixes_done = it->mixes_done;
+  return by->scrypt_key_step(PARAMS, it->mixes, WORKSPACE, &to->chunks_done, &to->mixes_done);
+}
+
 static int wipe(const struct calls *by, const struct given *it, struct written *to) {
   by->scrypt_wipe(WORKSPACE);
   return SCRYPT_OK;
@@ -151,6 +161,7 @@ static const struct {
 } CALLS[] = {
     EACH(A_ROW)
     {"scrypt_verify_group_with_buffers", GROUP, OF_TEXT | S(BUFFER_SIZE), group},
+    {"scrypt_key_step", KEY, OF_PARAMS | S(BUFFER_SIZE) | S(INVALID_PROGRESS), key_step},
     {"scrypt_wipe", THIN, S(OK), wipe},
 };
 enum { CALLS_LEN = sizeof CALLS / sizeof *CALLS };
@@ -289,6 +300,7 @@ static void draw(const struct calls *by, enum kind kind, struct given *it) {
   for (i = 0; i < logins; i++) draw_login(by, it, &it->logins[i]);
   it->output_len = ONE_OF(LENS_OF_KEYS);
   it->key_len = 8 + drawn(60);
+  it->mixes = drawn(400), it->chunks_done = drawn(it->p + 2u), it->mixes_done = drawn(UINT64_C(3) << it->log_n);
   it->capacity = drawn(4) == 0 ? drawn(200) : MOST_TEXT;
   draw_bounds(it);
   draw_lens(kind, it);

@@ -18,6 +18,8 @@ static const char MCF[] = "$7$20....1....n34PoBLMgF5$Z8J2bfek1wDXI7xhu6YDEbhVlE3
 /* What a call has to make of the case. */
 static int nothing(void) { return 1; }
 static int a_key(void) { return memcmp(made.output, KEY, sizeof KEY) == 0; }
+static int is_begun(void) { return made.steps->chunks_done == 0 && made.steps->mixes_done == 0; }
+static int is_at_3(void) { return made.steps->chunks_done == 0 && made.steps->mixes_done == 3; }
 static int a_hashers_key(void) { return memcmp(made.key, KEY, sizeof KEY) == 0; }
 static int a_phc(void) { return memcmp(made.text, PHC, sizeof PHC) == 0; }
 static int an_mcf(void) { return memcmp(made.text, MCF, sizeof MCF) == 0; }
@@ -68,6 +70,9 @@ static const struct {
     {"scrypt_key_with_buffers", a_key, SCRYPT_OK},
     {"scrypt_key_thin", a_key, SCRYPT_OK},
     {"scrypt_key_thin, in half a table", a_key, SCRYPT_OK},
+    {"scrypt_key_begin", is_begun, SCRYPT_OK},
+    {"scrypt_key_step", is_at_3, SCRYPT_OK},
+    {"scrypt_key_finish", a_key, SCRYPT_OK},
     {"scrypt_hash_new", a_new_hash, SCRYPT_OK},
     {"scrypt_hash_phc", a_phc, SCRYPT_OK},
     {"scrypt_hash_mcf", an_mcf, SCRYPT_OK},
@@ -122,6 +127,9 @@ static void arguments(const char *text) {
   take_text(text, LOGINS, 4);
   given.hasher = scrypt_hasher_new(&options, NULL);
   given.most_bytes = 5376, given.most_work = 1152;
+  if (scrypt_key_with_buffers(SECRETS, PARAMS, made.output, 20, ended.chunks, ended.chunks_len, ended.table, ended.table_len,
+                              ended.scratch, ended.scratch_len) != SCRYPT_OK) exit(3); /* the chunks are mixed */
+  forget();
 #define CALL(name, memory, arguments) check_call(#name, name arguments);
 #include "each_call.h"
   check_call("scrypt_buffer_lens, of half a table",

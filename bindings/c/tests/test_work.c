@@ -22,6 +22,12 @@ static int of_key(void) { return scrypt_key(INPUTS, key, 32); }
 static int of_key_within(void) { return scrypt_key_within(INPUTS, SIZE_MAX, UINT64_MAX, key, 32); }
 static int of_key_with_buffers(void) { return scrypt_key_with_buffers(INPUTS, key, 32, BUFFERS); }
 static int of_key_thin(void) { return scrypt_key_thin(INPUTS, 0, key, 32, BUFFERS); }
+static int of_key_in_steps(void) {
+  scrypt_steps it = {PARAMS, 0, 0, chunks, table, scratch, sizeof chunks, TABLE, SCRATCH};
+  int status = scrypt_key_begin(&it, "pw", 2, "salt", 4);
+  while (status == SCRYPT_OK && it.chunks_done < it.p) status = scrypt_key_step(&it, 100);
+  return status == SCRYPT_OK ? scrypt_key_finish(&it, "pw", 2, key, 32) : status;
+}
 static int of_phc(void) { return scrypt_hash_phc(MADE); }
 static int of_mcf(void) { return scrypt_hash_mcf(MADE); }
 static int of_phc_with_buffers(void) { return scrypt_hash_phc_with_buffers(MADE, BUFFERS); }
@@ -49,6 +55,7 @@ static const struct {
     {of_key_within, "scrypt_key_within"},
     {of_key_with_buffers, "scrypt_key_with_buffers"},
     {of_key_thin, "scrypt_key_thin"},
+    {of_key_in_steps, "scrypt_key_step"},
     {of_phc, "scrypt_hash_phc"},
     {of_mcf, "scrypt_hash_mcf"},
     {of_phc_with_buffers, "scrypt_hash_phc_with_buffers"},

@@ -50,6 +50,8 @@ NULL_POINTER = 16
 CLOSED = 17
 TIMEOUT = 18
 OPTIONS_SIZE = 19
+UNFINISHED = 20
+INVALID_PROGRESS = 21
 
 # The name and the words of each status.
 WORDS = {
@@ -73,10 +75,18 @@ WORDS = {
     CLOSED: ("SCRYPT_CLOSED", "the hasher is closed"),
     TIMEOUT: ("SCRYPT_TIMEOUT", "the hasher did not begin with it in time"),
     OPTIONS_SIZE: ("SCRYPT_OPTIONS_SIZE", "the size in the options of a hasher is not sizeof (scrypt_options)"),
+    UNFINISHED: ("SCRYPT_UNFINISHED", "the derivation in steps is not at its end"),
+    INVALID_PROGRESS: ("SCRYPT_INVALID_PROGRESS", "a derivation with these parameters cannot have come so far"),
 }
 
 # Those by which a text is not a hash.
 OF_TEXT = [ALGORITHM, ENCODING_INVALID, OUTPUT_SIZE, HASH_PARAM_INVALID, HASH_PARAMS_INVALID, VERSION]
+
+
+class Steps(ctypes.Structure):
+    _fields_ = [("log_n", U32), ("r", U32), ("p", U32), ("chunks_done", SIZE), ("mixes_done", SIZE), ("chunks", BYTES),
+        ("table", POINTER(U32)), ("scratch", POINTER(U32)), ("chunks_len", SIZE), ("table_len", SIZE), ("scratch_len",
+        SIZE)]
 
 
 class Login(ctypes.Structure):
@@ -109,6 +119,9 @@ def calls(hasher: Any) -> dict[str, tuple[list[Any], Any]]:
         "scrypt_key_thin": ([BYTES, SIZE, BYTES, SIZE, U32, U32, U32, U8, BYTES, SIZE, BYTES, SIZE, POINTER(U32), SIZE,
             POINTER(U32), SIZE], INT),
         "scrypt_wipe": ([BYTES, SIZE, POINTER(U32), SIZE, POINTER(U32), SIZE], None),
+        "scrypt_key_begin": ([POINTER(Steps), BYTES, SIZE, BYTES, SIZE], INT),
+        "scrypt_key_step": ([POINTER(Steps), SIZE], INT),
+        "scrypt_key_finish": ([POINTER(Steps), BYTES, SIZE, BYTES, SIZE], INT),
         "scrypt_hash_new": ([BYTES, SIZE, BYTES, SIZE], INT),
         "scrypt_hash_phc": ([BYTES, SIZE, BYTES, SIZE, U32, U32, U32, SIZE, BYTES, SIZE], INT),
         "scrypt_hash_mcf": ([BYTES, SIZE, BYTES, SIZE, U32, U32, U32, SIZE, BYTES, SIZE], INT),

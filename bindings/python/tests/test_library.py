@@ -52,7 +52,8 @@ class Library(unittest.TestCase):
 
     def test_as_in_the_header(self):
         """An exception for each status, except those that no call from here returns or lets through; and the defaults."""
-        never = {getattr(declared, name) for name in ("OK", "BUFFER_SIZE", "NULL_POINTER", "OPTIONS_SIZE")}
+        never = {getattr(declared, name) for name in ("OK", "BUFFER_SIZE", "NULL_POINTER", "OPTIONS_SIZE",
+                                                 "UNFINISHED", "INVALID_PROGRESS")}
         self.assertEqual(set(errors.KINDS), set(declared.WORDS) - never)
         for hasher in (library.hasher_new(None, None), scrypt_c.PasswordHasher()._c):
             it = library.hasher_options(hasher).contents

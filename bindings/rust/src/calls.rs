@@ -38,10 +38,12 @@ pub const NULL_POINTER: c_int = 16;
 pub const CLOSED: c_int = 17;
 pub const TIMEOUT: c_int = 18;
 pub const OPTIONS_SIZE: c_int = 19;
+pub const UNFINISHED: c_int = 20;
+pub const INVALID_PROGRESS: c_int = 21;
 
 /// The words of each status.
 #[rustfmt::skip]
-pub const WORDS: [(c_int, &str); 20] = [
+pub const WORDS: [(c_int, &str); 22] = [
     (OK, "success"),
     (MISMATCH, "the password does not match the hash"),
     (INVALID_PARAMS, "invalid scrypt parameters (r and p at least 1, 128 * r * 2^log_n below 2^64, r * p below 2^30, and a key in a hash of 10 to 64 bytes)"),
@@ -62,6 +64,8 @@ pub const WORDS: [(c_int, &str); 20] = [
     (CLOSED, "the hasher is closed"),
     (TIMEOUT, "the hasher did not begin with it in time"),
     (OPTIONS_SIZE, "the size in the options of a hasher is not sizeof (scrypt_options)"),
+    (UNFINISHED, "the derivation in steps is not at its end"),
+    (INVALID_PROGRESS, "a derivation with these parameters cannot have come so far"),
 ];
 
 /// Those by which a text is not a hash.
@@ -74,6 +78,13 @@ pub const OF_TEXT: [c_int; 6] = [ALGORITHM, ENCODING_INVALID, OUTPUT_SIZE, HASH_
 pub struct RawHasher {
     _inside: [u8; 0],
 }
+
+/// `scrypt_steps`.
+#[repr(C)]
+#[rustfmt::skip]
+pub struct RawSteps { pub log_n: u32, pub r: u32, pub p: u32, pub chunks_done: usize, pub mixes_done: usize,
+    pub chunks: *mut u8, pub table: *mut u32, pub scratch: *mut u32, pub chunks_len: usize, pub table_len: usize,
+    pub scratch_len: usize }
 
 /// `scrypt_login`.
 #[repr(C)]
@@ -118,6 +129,11 @@ extern "C" {
         table: *mut u32, table_len: usize, scratch: *mut u32, scratch_len: usize) -> c_int;
     pub fn scrypt_wipe(chunks: *mut u8, chunks_len: usize, table: *mut u32, table_len: usize, scratch: *mut u32,
         scratch_len: usize);
+    pub fn scrypt_key_begin(steps: *mut RawSteps, password: *const c_void, password_len: usize, salt: *const c_void,
+        salt_len: usize) -> c_int;
+    pub fn scrypt_key_step(steps: *mut RawSteps, mixes: usize) -> c_int;
+    pub fn scrypt_key_finish(steps: *const RawSteps, password: *const c_void, password_len: usize, output: *mut u8,
+        output_len: usize) -> c_int;
     pub fn scrypt_hash_new(password: *const c_void, password_len: usize, text: *mut c_char, capacity: usize) -> c_int;
     pub fn scrypt_hash_phc(password: *const c_void, password_len: usize, salt: *const c_void, salt_len: usize,
         log_n: u32, r: u32, p: u32, key_len: usize, text: *mut c_char, capacity: usize) -> c_int;

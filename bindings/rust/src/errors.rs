@@ -163,7 +163,10 @@ mod tests {
     #[test]
     fn statuses_of_the_header() {
         for (status, words) in WORDS {
-            let cannot_come = matches!(status, OK | BUFFER_SIZE | NULL_POINTER | OPTIONS_SIZE);
+            let cannot_come = matches!(
+                status,
+                OK | BUFFER_SIZE | NULL_POINTER | OPTIONS_SIZE | UNFINISHED | INVALID_PROGRESS
+            );
             let error = Error::of(status);
             assert_eq!(matches!(error, Error::Status(_)), cannot_come, "{words}");
             assert!(cannot_come || error.to_string() == words, "{error}");

@@ -12,7 +12,7 @@ use Rattle.scrypt_kernel.specs.Pbkdf2.{pbkdf2}
 use Rattle.scrypt.specs.Accepted.{Parameters}
 use Rattle.scrypt.specs.KeyOfParams.{key_by}
 use Rattle.scrypt.specs.Key.{derived_key, mixed_chunk, mixed_chunks}
-use Rattle.scrypt.specs.Mixing.{AreMixed}
+use Rattle.scrypt.specs.Stepping.{AreMixed}
 use Rattle.scrypt_kernel.proofs.PartFacts.{length-part, length-parts, part-take, part_after, part_append_front, parts_apart, parts_from}
 use Rattle.scrypt_kernel.proofs.RoMixFacts.{length-ro_mix}
 use Rattle.scrypt_kernel.proofs.WordFacts.{length-bytes_of}

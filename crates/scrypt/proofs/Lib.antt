@@ -34,3 +34,5 @@ pub mod StoredHashFacts
 pub mod HashingFacts
 -- Texts of stored hashes, read by the definitions alone, so that a wrong bound, order or refusal in a definition does not check.
 pub mod ReadingVectors
+-- Facts on a derivation in steps.
+pub mod SteppingFacts

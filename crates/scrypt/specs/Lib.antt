@@ -12,6 +12,7 @@ pub use Rattle.scrypt_kernel.specs.RoMixCost
 pub use Rattle.scrypt_kernel.specs.Diagonal
 pub use Rattle.scrypt_kernel.specs.Table
 pub use Rattle.scrypt_kernel.specs.Count
+pub use Rattle.scrypt_kernel.specs.Steps
 -- RFC 7914, section 6: the derived key
 pub mod Key
 -- the derived key by a table that keeps some rows
@@ -52,7 +53,9 @@ pub mod StoredHash
 pub mod WithinLimits
 -- verifying several passwords in one memory
 pub mod Logins
--- private: the chunks of B, mixed one after another, and the memory for it
+-- a derivation in steps: what its buffers hold between two of them
+pub mod Stepping
+-- private: in which groups the chunks of B are mixed, and the memory for it
 pub mod Mixing
 -- private: the salt and the key of a hash
 pub mod StoredKey

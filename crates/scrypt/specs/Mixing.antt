@@ -1,16 +1,10 @@
--- Private: the chunks of B, mixed one after another, and the memory for it.
+-- Private: in which groups the chunks of B are mixed, and the memory for it.
 use Rattle.std.specs.Prelude.{◌≡◌, Bool, ℕ, ◌+◌, ◌-◌, ◌*◌, ◌<◌, ◌≤◌, ◌&&◌, nat_eq, nat_lt, min, if◌then◌else◌, List, length, replicate, take, drop}
 use Rattle.scrypt_kernel.specs.Count.{AreCounted}
 use Rattle.scrypt.specs.Accepted.{Parameters}
 use Rattle.scrypt.specs.Cost.{chunks_bytes, cost, scratch_words, table_words, thin_scratch_words}
-use Rattle.scrypt.specs.Key.{mixed_chunks}
 use Rattle.scrypt.specs.Workspace.{IsRestKept, Workspace, chunks_at_once}
 use Rattle.scrypt.specs.declared.buffers.InUse.{InUse}
-
--- the first i chunks of x are those of b after scryptROMix, and the others are those of b
-pub record AreMixed (b : List ℕ) (log_n r i : ℕ) (x : List ℕ) : Type 0 where
-  pub done : take (i * (128 * r)) x ≡ mixed_chunks b log_n r i
-  pub rest : drop (i * (128 * r)) x ≡ drop (i * (128 * r)) b
 
 -- Room, in words, for w tables and w scratches, in which w chunks are mixed at a time. A table keeps one row in 2 ^ s, and
 -- there is one unless s is 0.

@@ -29,6 +29,7 @@ mod mixers;
 mod params;
 pub mod phc;
 mod rehashing;
+mod stepping;
 mod stored_hash;
 mod stored_parts;
 mod verifying;
@@ -49,5 +50,8 @@ pub use password_hash;
 pub use password_hash::kdf;
 pub use password_hash::kdf::{Kdf, Pbkdf};
 pub use scrypt_kernel::{CoreCount, block_mix, hmac, pbkdf2, romix, salsa};
+pub use stepping::{
+    Cancelled, FinishError, Progress, begin, cores_done, finish, is_within, scrypt_in_steps, step,
+};
 pub use stored_hash::StoredHash;
 pub use wiping::wipe;

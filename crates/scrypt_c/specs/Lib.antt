@@ -12,3 +12,5 @@ pub mod Limits
 pub mod Made
 -- what is left in the caller's buffers
 pub mod InBuffers
+-- keys in steps
+pub mod Steps

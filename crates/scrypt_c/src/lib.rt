@@ -6,6 +6,7 @@
 #![tactic(auto)]
 
 pub mod hashes;
+pub mod in_steps;
 pub mod keys;
 pub mod needs;
 pub mod statuses;

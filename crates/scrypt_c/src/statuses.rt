@@ -56,6 +56,12 @@ pub const TOO_COSTLY: i32 = 13;
 /// The key is shorter than the limits allow.
 pub const KEY_TOO_SHORT: i32 = 15;
 
+/// `scrypt_key_finish`: not all chunks are mixed.
+pub const UNFINISHED: i32 = 20;
+
+/// `scrypt_key_step`: a key with these parameters can't have come so far.
+pub const INVALID_PROGRESS: i32 = 21;
+
 // Clauses use the names of the statuses, and callers in C their numbers.
 const _: () = prove!(OK == 0 && MISMATCH == 1 && NEEDS_REHASH == 1 && INVALID_PARAMS == 2);
 
@@ -66,6 +72,8 @@ const _: () = prove!(ENCODING_INVALID == 6 && OUTPUT_SIZE == 7 && HASH_PARAM_INV
 const _: () = prove!(HASH_PARAMS_INVALID == 9 && SALT_INVALID == 10 && VERSION == 11);
 
 const _: () = prove!(BUFFER_SIZE == 12 && TOO_COSTLY == 13 && KEY_TOO_SHORT == 15);
+
+const _: () = prove!(UNFINISHED == 20 && INVALID_PROGRESS == 21);
 
 // Returns the status of an error.
 pub(crate) fn status_of(error: Error) -> i32

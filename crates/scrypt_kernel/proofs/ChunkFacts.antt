@@ -48,30 +48,41 @@ part_bytes n k x room =
     let at : k * (n * 4) ≡ k * n * 4 = omega arith in
     rw (at, (cut_bytes (k * n) x (omega arith)).1) ((cut_bytes n (drop (k * n) x) (omega (arith, length-drop (k * n) x))).0)
 
+-- chunk k of the bytes of words that are in the order p
+pub chunk_out : (p q : List ℕ) → AreInverse p q → (n r k : ℕ) (x b w : List ℕ) → k < n → length x ≡ n * (32 * r) → b ≡ bytes_of (permuted q x)
+    → part (32 * r) x k ≡ permuted p w → part (128 * r) b k ≡ bytes_of w
+chunk_out p q inverse n r k x b w below long written is =
+    let bytes : 128 * r ≡ 32 * r * 4 = omega arith in
+    let room = part_inside (32 * r) k n (length x) below (omega arith) in
+    ap (λ c. part (128 * r) c k) written ∙ ap (λ s. part s (bytes_of (permuted q x)) k) bytes
+    ∙ part_bytes (32 * r) k (permuted q x) (omega (arith, length-permuted q x, room))
+    ∙ ap bytes_of (part_permuted q (within q inverse.inverse_places) (32 * r) k x (omega arith) room
+    ∙ standard_of p q inverse (part (32 * r) x k) w (omega (arith, length-part (32 * r) k x room)) is)
+
 -- chunk k of bytes b: its words in the order p are x, whose scryptROMix is end, and the bytes of that are b'
 module _ (p q : List ℕ) (inverse : AreInverse p q) (n r k log_n : ℕ) (b x : List ℕ) (below : k < n) (long : length b ≡ n * (128 * r))
     (read : x ≡ permuted p (words_of b)) where
+  -- the words of the chunk
+  pub chunk_in : part (32 * r) x k ≡ permuted p (words_of (part (128 * r) b k))
+  chunk_in =
+      let bytes : 128 * r ≡ 32 * r * 4 = omega arith in
+      let room = part_inside (32 * r * 4) k n (length b) below (omega (arith, long)) in
+      ap (λ z. part (32 * r) z k) read
+      ∙ part_permuted p (within p inverse.places) (32 * r) k (words_of b) (omega arith) (omega (arith, length-words_of b, room))
+      ∙ ap (permuted p) (part_words (32 * r) k b room ∙ ap (λ s. words_of (part s b k)) (sym bytes))
+
   -- the standard's words of the chunk
   pub chunk_words : permuted q (part (32 * r) x k) ≡ words_of (part (128 * r) b k)
   chunk_words =
-      let bytes : 128 * r ≡ 32 * r * 4 = omega arith in
       let room = part_inside (32 * r * 4) k n (length b) below (omega (arith, long)) in
       let part_long = length-part (32 * r) k x (omega (arith, ap length read, length-permuted p (words_of b), length-words_of b, room)) in
-      standard_of p q inverse (part (32 * r) x k) _ (omega (arith, part_long)) (ap (λ z. part (32 * r) z k) read
-      ∙ part_permuted p (within p inverse.places) (32 * r) k (words_of b) (omega arith) (omega (arith, length-words_of b, room))
-      ∙ ap (permuted p) (part_words (32 * r) k b room ∙ ap (λ s. words_of (part s b k)) (sym bytes)))
+      standard_of p q inverse (part (32 * r) x k) _ (omega (arith, part_long)) chunk_in
 
   pub chunk_mixed : (end b' : List ℕ) → length end ≡ n * (32 * r) → b' ≡ bytes_of (permuted q end)
       → part (32 * r) end k ≡ permuted p (ro_mix (permuted q (part (32 * r) x k)) log_n)
       → part (128 * r) b' k ≡ bytes_of (ro_mix (words_of (part (128 * r) b k)) log_n)
   chunk_mixed end b' end_long written mixed_in_order =
-      let bytes : 128 * r ≡ 32 * r * 4 = omega arith in
-      let room = part_inside (32 * r) k n (length end) below (omega arith) in
-      let mixed = standard_of p q inverse (part (32 * r) end k) (ro_mix (permuted q (part (32 * r) x k)) log_n)
-      (omega (arith, length-part (32 * r) k end room)) mixed_in_order in
-      ap (λ c. part (128 * r) c k) written ∙ ap (λ s. part s (bytes_of (permuted q end)) k) bytes ∙ part_bytes (32 * r) k (permuted q end) (omega (arith, length-permuted q end, room))
-      ∙ ap bytes_of (part_permuted q (within q inverse.inverse_places) (32 * r) k end (omega arith) room
-      ∙ mixed ∙ ap (λ w. ro_mix w log_n) chunk_words)
+      chunk_out p q inverse n r k end b' _ below end_long written mixed_in_order ∙ ap (λ w. bytes_of (ro_mix w log_n)) chunk_words
 
 -- a chunk alone
 pub counted_alone : {simd : Bool} {before after : CoreCount} (b c : List ℕ) (log_n s r : ℕ) → b ≡ c

@@ -20,6 +20,8 @@ pub mod RoMixFacts
 pub mod WalkFacts
 -- Facts on the words and the bytes of several chunks.
 pub mod ChunkFacts
+-- Facts on scryptROMix in steps.
+pub mod StepFacts
 -- Facts on the blocks that SHA-256 compresses.
 pub mod HashFacts
 -- Facts on HMAC and PBKDF2.

@@ -9,7 +9,7 @@ use Rattle.scrypt_kernel.specs.Count.{AreCountedAs}
 use Rattle.scrypt_kernel.specs.RoMix.{integerify, row, walk}
 use Rattle.scrypt_kernel.specs.RoMixCost.{ro_mix_cost}
 use Rattle.scrypt_kernel.specs.Table.{extra_rows, recomputed_rows, thin_ro_mix_cost}
-use Rattle.scrypt_kernel.specs.KeptRows.{AreWalkLens, IsFilled, KeepsRows, mixed_in, place, steps_cost, x_after}
+use Rattle.scrypt_kernel.specs.KeptRows.{AreWalkLens, IsFilled, IsInWalk, KeepsRows, mixed_in, place, steps_cost, x_after}
 use Rattle.scrypt_kernel.specs.Diagonal.{AreInverse, permuted}
 use Rattle.scrypt_kernel.proofs.CountFacts.{counted_both}
 use Rattle.scrypt_kernel.proofs.PartFacts.{length-part}
@@ -109,9 +109,11 @@ next_step p q inverse {n} {s} {log_n} {t} {kept = kept} lens x y k below size st
     stepped ∙ next_step_in p q inverse b log_n i (part s x k) _ j (omega (arith, x_long, lens.row.whole)) (same ∙ long ∙ sym x_long) is refl
     (taken ∙ ap (λ i. permuted p (row b i)) there)
 
--- the steps of all turns, two in each
-pub all_steps : (log_n k : ℕ) → 0 < log_n → log_n ≤ 56 → k ≡ 1 * 2 ^ (log_n - 1) % 2 ^ 64 → 2 * k ≡ 2 ^ log_n
-all_steps log_n k some small is = omega (arith, all_rows log_n 1 k some (is ∙ one_shl (log_n - 1) 64 (omega arith)))
+-- X after step 2 is that before the walk
+pub starts_walk : {p q : List ℕ} {n s log_n t : ℕ} {x kept last : List ℕ} → IsFilled p q n s log_n t x kept last → (k : ℕ) → k < n
+    → IsInWalk p (permuted q (part s x k)) n k s log_n t 0 kept last
+unfolding walk
+starts_walk filled k below = record { rows = filled.rows k below; walked = filled.after k below }
 
 -- no step costs nothing
 pub no_cost : (b : List ℕ) (n s log_n t : ℕ) → steps_cost b n s log_n t 0 ≡ 0
@@ -133,6 +135,14 @@ one_more_counted p q inverse b x n s log_n t i some long whole until is counted 
     let size = length-part_of_row n s 0 x some long in
     let standard = standard_of p q inverse (part s x 0) (walk b log_n i) (omega (arith, size, whole)) is in
     counted_both _ until (rw standard at counted) (rw (extra_rows-more b log_n t i) (omega arith))
+
+-- the same with a table that keeps every row
+pub one_more_whole : {simd : Bool} {begin before after : CoreCount} (t c m i j : ℕ) → t ≡ 0
+    → AreCountedAs simd (i * c) begin before → AreCountedAs simd ((recomputed_rows t m + 1) * c) before after
+    → i + 1 ≡ j → AreCountedAs simd (j * c) begin after
+one_more_whole t c m i j kept until counted next =
+    let none : m % 2 ^ t ≡ 0 = rw kept (omega arith) in
+    rw (← next) (counted_both _ until (rw none at counted) (omega arith))
 
 -- the cores of the fill and of the walk
 pub filled_and_walked : {simd : Bool} {before filled after : CoreCount} (b : List ℕ) (n s log_n t r : ℕ) → s / 32 ≡ r

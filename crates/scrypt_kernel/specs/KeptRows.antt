@@ -2,7 +2,7 @@
 use Rattle.std.specs.Prelude.{◌≡◌, ℕ, ◌+◌, ◌-◌, ◌*◌, ◌/◌, ◌%◌, ◌^◌, ◌<◌, ◌≤◌, List, length}
 use Rattle.scrypt_kernel.specs.Words.{part, xor_words}
 use Rattle.scrypt_kernel.specs.BlockMix.{block_mix}
-use Rattle.scrypt_kernel.specs.RoMix.{integerify, row}
+use Rattle.scrypt_kernel.specs.RoMix.{integerify, row, walk}
 use Rattle.scrypt_kernel.specs.Diagonal.{permuted}
 use Rattle.scrypt_kernel.specs.Table.{extra_rows}
 
@@ -38,10 +38,10 @@ pub record IsFilled (p q : List ℕ) (n part_len log_n spacing : ℕ) (x kept la
   pub rows : (k : ℕ) → k < n → KeepsRows p (permuted q (part part_len x k)) n k part_len spacing (2 ^ log_n) kept
   pub after : (k : ℕ) → k < n → part part_len last k ≡ mixed_in p q (2 ^ log_n) (part part_len x k)
 
--- part k of x is X before the walk for the input b, and kept holds the rows of b that the table keeps
-pub record StartsWalk (p b : List ℕ) (n k part_len log_n spacing : ℕ) (kept x : List ℕ) : Type 0 where
+-- part k of x is X after i steps of the walk for the input b, and kept holds the rows of b that the table keeps
+pub record IsInWalk (p b : List ℕ) (n k part_len log_n spacing i : ℕ) (kept x : List ℕ) : Type 0 where
   pub rows : KeepsRows p b n k part_len spacing (2 ^ log_n) kept
-  pub start : part part_len x k ≡ permuted p (row b (2 ^ log_n))
+  pub walked : part part_len x k ≡ permuted p (walk b log_n i)
 
 -- the lengths in a walk: X has x_len words, part_len for each of n chunks, each row whose number is a multiple of
 -- 2 ^ spacing is kept, the next X has next_len words, a row that is recomputed spare_len, and the kept rows

@@ -33,3 +33,5 @@ pub mod Parts
 pub mod KeptRows
 -- a caller's buffer that a table is in
 pub mod Memory
+-- scryptROMix in steps, in the caller's buffers
+pub mod Steps

@@ -16,6 +16,7 @@ pub mod pbkdf2;
 mod prefetch;
 pub mod romix;
 pub mod salsa;
+pub mod steps;
 mod table;
 mod walk;
 mod words;

@@ -116,7 +116,7 @@ impl<'a> TableMemory for Buffer<'a> {
 
 // Mixes row `i`, which ends at `end`, into the `row_len` words after it, as row `i + 1`, and counts its cores.
 #[inline(always)]
-fn mix_next<O: OrderedBlocks>(
+pub(crate) fn mix_next<O: OrderedBlocks>(
     memory: &mut [u32],
     end: usize,
     row_len: usize,

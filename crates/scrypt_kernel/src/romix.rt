@@ -88,7 +88,17 @@ fn fill_and_walk<O: OrderedBlocks, M: TableMemory>(
     // Step 2: for i = 0 to N - 1 do V[i] = X, X = scryptBlockMix (X).
     fill::<O, M>(rows, x, next, len, log_n, s, cores);
     // Step 3: for i = 0 to N - 1 do j = Integerify (X) mod N, T = X xor V[j], X = scryptBlockMix (T).
-    take_steps::<O>(x, rows.words(), next, spare, len, log_n, s, cores);
+    take_steps::<O>(
+        x,
+        rows.words(),
+        next,
+        spare,
+        len,
+        log_n,
+        s,
+        1usize << log_n,
+        cores,
+    );
 }
 
 /// Replaces the bytes of `b` by their scryptROMix, and counts its `4 * N * r` cores, all of them as

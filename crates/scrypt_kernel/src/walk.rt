@@ -3,10 +3,11 @@
 ghost use Rattle.std.specs.Prelude.{◌≡◌, ℕ, ◌+◌, ◌-◌, ◌*◌, ◌/◌, ◌%◌, ◌^◌, ◌<◌, ◌≤◌, List, length, slice_index};
 ghost use Rattle.scrypt_kernel.specs.Words.{part};
 ghost use Rattle.scrypt_kernel.specs.Count.{AreCountedAs};
+ghost use Rattle.scrypt_kernel.specs.declared.cores.count.CoreCount.{CoreCount};
 ghost use Rattle.scrypt_kernel.specs.Diagonal.{permuted};
 ghost use Rattle.scrypt_kernel.specs.RoMix.{integerify, walk};
 ghost use Rattle.scrypt_kernel.specs.Table.{recomputed_rows};
-ghost use Rattle.scrypt_kernel.specs.KeptRows.{AreWalkLens, IsRowLen, StartsWalk, mix_of, mixed_in, place, steps_cost, x_after};
+ghost use Rattle.scrypt_kernel.specs.KeptRows.{AreWalkLens, IsInWalk, IsRowLen, mix_of, mixed_in, place, steps_cost, x_after};
 
 use crate::CoreCount;
 use crate::block_mix::{Xor, mix};
@@ -16,10 +17,10 @@ use crate::prefetch::prefetch_row;
 use crate::table::recompute;
 use crate::words::part;
 
-/// Step 3: for i = 0 to N - 1 do j = Integerify (X) mod N, T = X xor V[j], X = scryptBlockMix (T).
+/// `count` iterations of step 3: j = Integerify (X) mod N, T = X xor V[j], X = scryptBlockMix (T). The whole step has N.
 ///
 /// X is in `x` before the call and after it. The steps write it to `next` and to `x` in turn, so that
-/// none copies it. `v` keeps each row whose number is a multiple of `2^s`; unless `s` is 0, there is
+/// none copies it, except a last odd one. `v` keeps each row whose number is a multiple of `2^s`; unless `s` is 0, there is
 /// one chunk, and `spare` is for a row that is recomputed.
 pub(crate) fn take_steps<O: OrderedBlocks>(
     x: &mut [u32],
@@ -29,22 +30,24 @@ pub(crate) fn take_steps<O: OrderedBlocks>(
     len: usize,
     log_n: u8,
     s: u8,
+    count: usize,
     cores: &mut CoreCount,
 )
     requires lens { AreWalkLens O.count len log_n s (length x.old) (length next.old) (length spare.old) (length v.now) }
-    ensures walked { (k : ℕ) → k < O.count → (b : List ℕ) → StartsWalk O.pivot b O.count k len log_n s v.now x.old
-        → part len x.new k ≡ permuted O.pivot (walk b log_n (2 ^ log_n)) }
-    ensures counted { (b : List ℕ) → StartsWalk O.pivot b O.count 0 len log_n s v.now x.old
-        → AreCountedAs O.simd (steps_cost b O.count len log_n s (2 ^ log_n)) cores.old cores.new }
+    ensures walked { (k : ℕ) → k < O.count → (b : List ℕ) → (i : ℕ) → IsInWalk O.pivot b O.count k len log_n s i v.now x.old
+        → part len x.new k ≡ permuted O.pivot (walk b log_n (i + count)) }
+    ensures counted { (b : List ℕ) → (i : ℕ) → (begin : CoreCount) → IsInWalk O.pivot b O.count 0 len log_n s i v.now x.old
+        → AreCountedAs O.simd (steps_cost b O.count len log_n s i) begin cores.old
+        → AreCountedAs O.simd (steps_cost b O.count len log_n s (i + count)) begin cores.new }
+    ensures whole { s ≡ 0 → AreCountedAs O.simd (count * (O.count * (2 * (len / 32)))) cores.old cores.new }
 {
-    if log_n == 0 {
-        step::<O>(x, v, next, spare, len, log_n, s, cores);
-        x.copy_from_slice(next);
-        return;
-    }
-    'pairs: for _k in 0..1usize << (log_n - 1) {
+    'pairs: for _k in 0..count / 2 {
         step::<O>(x, v, next, spare, len, log_n, s, cores);
         step::<O>(next, v, x, spare, len, log_n, s, cores);
+    }
+    if count % 2 == 1 {
+        step::<O>(x, v, next, spare, len, log_n, s, cores);
+        x.copy_from_slice(next);
     }
 }
 

@@ -6,7 +6,8 @@ ghost use Rattle.scrypt_kernel.specs.Table.{thin_ro_mix_cost};
 ghost use Rattle.scrypt_kernel.specs.Words.{part, words_of};
 ghost use Rattle.scrypt.specs.Cost.{chunks_bytes, cost, thin_chunks_cost};
 ghost use Rattle.scrypt.specs.Key.{mixed_chunks};
-ghost use Rattle.scrypt.specs.Mixing.{AreMixed, HasTables, IsKept, IsReady, group_by, next_group};
+ghost use Rattle.scrypt.specs.Stepping.{AreMixed};
+ghost use Rattle.scrypt.specs.Mixing.{HasTables, IsKept, IsReady, group_by, next_group};
 
 use crate::buffers::InUse;
 use crate::{Mixer, Params};

@@ -1,0 +1,163 @@
+/* Keys in steps: RFC 7914's and others, in steps of any size; a derivation that is left; and each refusal, which leaves
+ * everything as it was. With the word small it leaves out the key of 1 GiB. */
+#include "check.h"
+#include "scrypt_c.h"
+#include "test_keys.h"
+
+#include <stdlib.h>
+#include <string.h>
+
+static uint64_t state = 7914;
+static size_t draw(size_t below) {
+  state = state * UINT64_C(6364136223846793005) + UINT64_C(1442695040888963407);
+  return (size_t)(state >> 33) % below;
+}
+
+/* A derivation in buffers with room for so many tables, which hold anything. */
+static scrypt_steps new_steps(uint32_t log_n, uint32_t r, uint32_t p, size_t tables) {
+  scrypt_steps it = {log_n, r, p, 0, 0, NULL, NULL, NULL, 0, 0, 0};
+  check(scrypt_buffer_lens(log_n, r, p, 0, &it.chunks_len, &it.table_len, &it.scratch_len) == SCRYPT_OK, "lens");
+  it.table_len *= tables, it.scratch_len *= tables;
+  it.chunks = (uint8_t *)malloc(it.chunks_len);
+  it.table = (uint32_t *)malloc(4 * it.table_len);
+  it.scratch = (uint32_t *)malloc(4 * it.scratch_len);
+  if (it.chunks == NULL || it.table == NULL || it.scratch == NULL) exit(3);
+  memset(it.chunks, 0xa5, it.chunks_len);
+  memset(it.scratch, 0xa5, 4 * it.scratch_len);
+  return it;
+}
+
+static void free_steps(scrypt_steps *it) {
+  scrypt_wipe(it->chunks, it->chunks_len, it->table, it->table_len, it->scratch, it->scratch_len);
+  free(it->chunks), free(it->table), free(it->scratch);
+}
+
+/* The key by steps of so many mixes, or of drawn sizes for 0. */
+static void in_steps(scrypt_steps *it, const char *password, const char *salt, size_t mixes, uint8_t *key, size_t len) {
+  int status = scrypt_key_begin(it, password, strlen(password), salt, strlen(salt));
+  while (status == SCRYPT_OK && it->chunks_done < it->p)
+    status = scrypt_key_step(it, mixes != 0 ? mixes : draw((size_t)3 << it->log_n));
+  check(status == SCRYPT_OK, "steps");
+  check(scrypt_key_finish(it, password, strlen(password), key, len) == SCRYPT_OK, "finish");
+}
+
+static void vectors(size_t count) {
+  static const size_t SIZES[] = {1, 7, 1000, SIZE_MAX, 0};
+  size_t i, j;
+  for (i = 0; i < count; i++) {
+    scrypt_steps it = new_steps(VECTORS[i].log_n, VECTORS[i].r, VECTORS[i].p, 1);
+    for (j = i < 3 ? 0 : 2; j < sizeof SIZES / sizeof *SIZES; j++) {
+      uint8_t key[64];
+      char hex[129];
+      in_steps(&it, VECTORS[i].password, VECTORS[i].salt, SIZES[j], key, sizeof key);
+      hex_of(key, 64, hex);
+      check(strcmp(hex, VECTORS[i].key) == 0, "a key of RFC 7914 in steps");
+    }
+    free_steps(&it);
+  }
+}
+
+/* N of 1, odd r, and each number of chunks beside each number of tables: the key of scrypt_key. */
+static void others(void) {
+  static const uint32_t CASES[][3] = {{0, 3, 2}, {1, 1, 1}, {4, 2, 3}, {5, 3, 5}, {3, 1, 16}, {6, 2, 7}, {2, 5, 9}};
+  size_t i, tables;
+  int again;
+  for (i = 0; i < sizeof CASES / sizeof *CASES; i++)
+    for (tables = 1; tables <= 4; tables++) {
+      const uint32_t log_n = CASES[i][0], r = CASES[i][1], p = CASES[i][2];
+      scrypt_steps it = new_steps(log_n, r, p, tables);
+      for (again = 0; again < 20; again++) {
+        uint8_t key[40], wanted[40];
+        check(scrypt_key("pw", 2, "salt", 4, log_n, r, p, wanted, sizeof wanted) == SCRYPT_OK, "a key");
+        in_steps(&it, "pw", "salt", 0, key, sizeof key);
+        check(memcmp(key, wanted, sizeof key) == 0, "the same key in steps");
+      }
+      free_steps(&it);
+    }
+}
+
+/* A derivation that is left, and another in its buffers; one that went on in moved buffers. */
+static void left_and_moved(void) {
+  uint8_t key[32], wanted[32];
+  scrypt_steps it = new_steps(6, 2, 2, 1), other = new_steps(6, 2, 2, 1);
+  check(scrypt_key("pw", 2, "salt", 4, 6, 2, 2, wanted, 32) == SCRYPT_OK, "a key");
+  check(scrypt_key_begin(&it, "PW", 2, "salt", 4) == SCRYPT_OK && scrypt_key_step(&it, 100) == SCRYPT_OK, "one that is left");
+  check(it.chunks_done == 0 && it.mixes_done == 100, "100 mixes");
+  check(scrypt_key_begin(&it, "pw", 2, "salt", 4) == SCRYPT_OK && scrypt_key_step(&it, 200) == SCRYPT_OK, "the next one");
+  check(it.chunks_done == 1 && it.mixes_done == 0, "no more than the chunk lacks");
+  check(scrypt_key_step(&it, 0) == SCRYPT_OK && it.mixes_done == 0, "no mixes");
+  check(scrypt_key_step(&it, 64) == SCRYPT_OK, "half of the second chunk");
+  memcpy(other.chunks, it.chunks, it.chunks_len);
+  memcpy(other.table, it.table, 4 * it.table_len);
+  memcpy(other.scratch, it.scratch, 4 * it.scratch_len);
+  other.chunks_done = it.chunks_done, other.mixes_done = it.mixes_done;
+  check(scrypt_key_step(&other, SIZE_MAX) == SCRYPT_OK && other.chunks_done == 2, "moved");
+  check(scrypt_key_step(&other, 1) == SCRYPT_OK && other.chunks_done == 2 && other.mixes_done == 0, "a step at the end");
+  check(scrypt_key_finish(&other, "pw", 2, key, 32) == SCRYPT_OK && memcmp(key, wanted, 32) == 0, "its key");
+  free_steps(&it), free_steps(&other);
+}
+
+/* What a structure is changed by before a call, and what each call returns then, with -1 for SCRYPT_OK. The key is finished
+ * with no output, which is refused last. */
+enum { OK = -1, PARAMS = SCRYPT_INVALID_PARAMS, SIZE = SCRYPT_BUFFER_SIZE, NO_OUTPUT = SCRYPT_INVALID_OUTPUT_LEN };
+static const struct {
+  const char *why;
+  int begin, step, finish;
+  uint32_t log_n, r, p;
+  size_t chunks_done, mixes_done;
+  int chunks, table, scratch; /* how much shorter a buffer is */
+} REFUSED[] = {
+    {"r of 0", PARAMS, PARAMS, PARAMS, 4, 0, 1, 0, 0, 9, 9, 9},
+    {"p of 0", PARAMS, PARAMS, PARAMS, 4, 2, 0, 0, 0, 0, 0, 0},
+    {"log_n of 57", PARAMS, PARAMS, PARAMS, 57, 2, 2, 0, 0, 0, 0, 0},
+    {"N in place of log_n", PARAMS, PARAMS, PARAMS, 260, 2, 2, 0, 0, 0, 0, 0},
+    {"short chunks, not at the end", SIZE, SIZE, SIZE, 4, 2, 2, 0, 99, 1, 0, 0},
+    {"long chunks", SIZE, SIZE, SIZE, 4, 2, 2, 0, 0, -1, 0, 0},
+    {"a short table", SIZE, SIZE, SCRYPT_UNFINISHED, 4, 2, 2, 0, 99, 0, 1, 0},
+    {"a short scratch", SIZE, SIZE, SCRYPT_UNFINISHED, 4, 2, 2, 1, 0, 0, 0, 1},
+    {"as many mixes as a chunk has", OK, SCRYPT_INVALID_PROGRESS, SCRYPT_UNFINISHED, 4, 2, 2, 0, 32, 0, 0, 0},
+    {"three chunks of two", OK, SCRYPT_INVALID_PROGRESS, SCRYPT_UNFINISHED, 4, 2, 2, 3, 0, 0, 0, 0},
+    {"mixes after the last chunk", OK, SCRYPT_INVALID_PROGRESS, NO_OUTPUT, 4, 2, 2, 2, 1, 0, 0, 0},
+    {"at the end", OK, OK, NO_OUTPUT, 4, 2, 2, 2, 0, 0, 0, 0},
+};
+
+/* The call's status; if it isn't SCRYPT_OK, nothing has changed. */
+static void refuses(const char *why, int wanted, int (*call)(scrypt_steps *), scrypt_steps it) {
+  static uint8_t chunks[512];
+  static uint32_t table[1024], scratch[128];
+  const scrypt_steps before = it;
+  memcpy(chunks, it.chunks, sizeof chunks), memcpy(table, it.table, sizeof table), memcpy(scratch, it.scratch, sizeof scratch);
+  check(call(&it) == (wanted == OK ? SCRYPT_OK : wanted), why);
+  if (wanted == OK) return;
+  check(memcmp(chunks, it.chunks, sizeof chunks) == 0 && memcmp(table, it.table, sizeof table) == 0, why);
+  check(memcmp(scratch, it.scratch, sizeof scratch) == 0 && memcmp(&before, &it, sizeof it) == 0, why);
+}
+
+static int begin(scrypt_steps *it) { return scrypt_key_begin(it, "pw", 2, "salt", 4); }
+static int step(scrypt_steps *it) { return scrypt_key_step(it, 5); }
+static int finish(scrypt_steps *it) { return scrypt_key_finish(it, "pw", 2, NULL, 0); }
+
+static void refusals(void) {
+  size_t i;
+  for (i = 0; i < sizeof REFUSED / sizeof *REFUSED; i++) {
+    scrypt_steps room = new_steps(4, 2, 2, 1), it = room;
+    memset(room.table, 0xa5, 4 * room.table_len);
+    it.log_n = REFUSED[i].log_n, it.r = REFUSED[i].r, it.p = REFUSED[i].p;
+    it.chunks_done = REFUSED[i].chunks_done, it.mixes_done = REFUSED[i].mixes_done;
+    it.chunks_len -= (size_t)REFUSED[i].chunks;
+    it.table_len -= (size_t)REFUSED[i].table;
+    it.scratch_len -= (size_t)REFUSED[i].scratch;
+    refuses(REFUSED[i].why, REFUSED[i].finish, finish, it);
+    refuses(REFUSED[i].why, REFUSED[i].step, step, it);
+    refuses(REFUSED[i].why, REFUSED[i].begin, begin, it);
+    free_steps(&room);
+  }
+}
+
+int main(int argc, char **argv) {
+  vectors(argc > 1 && strcmp(argv[1], "small") == 0 ? 3 : 4);
+  others();
+  left_and_moved();
+  refusals();
+  return failed;
+}

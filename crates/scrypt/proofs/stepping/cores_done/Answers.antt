@@ -1,0 +1,13 @@
+use Rattle.scrypt.proofs.SteppingFacts.{cores_fit}
+use Rattle.std.proofs.Common.{arith}
+use Rattle.scrypt.proofs.stepping.cores_done.Goals as goal
+
+pub overflow_mul-result-2 : goal.overflow_mul-result-2
+overflow_mul-result-2 c =
+    let params = c.args.params.now in
+    let within = c.requires.within in
+    omega (
+      arith,
+      cores_fit c.args.at.chunks c.log_n.result c.args.at.mixes params.r params.p c.from.result within.chunks c.expose_invariant.ensures.some.0 c.expose_invariant.ensures.product
+          c.log_n.ensures.small (rw c.log_n.ensures.value within.mixes) (rw c.from.ensures c.r.type_inv),
+    )

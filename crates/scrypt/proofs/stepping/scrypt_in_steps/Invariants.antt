@@ -1,0 +1,16 @@
+use Rattle.std.proofs.Common.{◌*◌, ◌-◌, true}
+use Rattle.scrypt_kernel.specs.Count.{AreCountedAs}
+use Rattle.scrypt_kernel.specs.Steps.{all_mixes}
+use Rattle.scrypt.specs.Stepping.{IsUnderWay, IsWithin, mixes_done}
+use Rattle.scrypt.proofs.stepping.scrypt_in_steps.Given as goal
+
+abbrev pub invariant-steps : goal.invariant-steps
+invariant-steps g l = record {
+  callable : goal.F-IsAlwaysCallable g l.go_on;
+  within : IsWithin l.params l.at;
+  under_way : IsUnderWay l.password l.salt l.params l.at l.chunks l.table l.scratch;
+  counted : AreCountedAs true (mixes_done l.params l.at * (2 * l.params.r)) l.initial.cores l.cores;
+}
+
+abbrev pub decreases-steps : goal.decreases-steps
+decreases-steps g l = l.params.p * all_mixes l.params.log_n - mixes_done l.params l.at

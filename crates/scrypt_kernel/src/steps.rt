@@ -1,0 +1,180 @@
+//! scryptROMix (RFC 7914, section 5) in steps, in the caller's buffers: it can stop after any number of mixes, and go on later.
+//!
+//! Each block mix of each chunk is one *mix*: the `N` of step 2, and then the `N` of step 3. What is between two steps is all
+//! in the table and in the scratch, and in how many mixes are done.
+
+ghost use Rattle.std.specs.Prelude.{◌≡◌, ℕ, ◌+◌, ◌-◌, ◌*◌, ◌/◌, ◌%◌, ◌^◌, ◌<◌, ◌≤◌, List, length, max, min};
+ghost use Rattle.scrypt_kernel.specs.Words.{bytes_of, part, words_of};
+ghost use Rattle.scrypt_kernel.specs.Count.{AreCountedAs};
+ghost use Rattle.scrypt_kernel.specs.RoMix.{ro_mix};
+ghost use Rattle.scrypt_kernel.specs.KeptRows.{AreWalkLens, IsRowLen};
+ghost use Rattle.scrypt_kernel.specs.RoMixCost.{scratch_words, table_words};
+ghost use Rattle.scrypt_kernel.specs.Steps.{IsMixing, all_mixes, chunk_words};
+
+use crate::CoreCount;
+use crate::memory::mix_next;
+use crate::order::OrderedBlocks;
+use crate::table::recompute;
+use crate::walk::take_steps;
+use crate::words::{part, read_words, write_words};
+
+/// Begins the scryptROMix of the chunks of `b`, with words in the order `O`, which has a block for each: no mix is done yet.
+///
+/// `b` has `128 * r` bytes for each chunk, `table` at least `32 * r` words, and `scratch` at least `32 * r` words.
+pub fn begin_chunks<O: OrderedBlocks>(b: &[u8], r: usize, table: &mut [u32], scratch: &mut [u32])
+    requires some { 0 < r }
+    requires chunks { length b.now ≡ O.count * (128 * r) }
+    requires room { O.count * (32 * r) ≤ length table.old }
+    requires scratch { O.count * (32 * r) ≤ length scratch.old }
+    ensures begun { (log_n : ℕ) → IsMixing O.pivot O.count (chunk_words r b.now) (32 * r) log_n 0 table.new scratch.new }
+{
+    let row_len = O::count() * (32 * r);
+    let x = &mut scratch[..row_len];
+    // Step 1: X = B.
+    read_words(b, x);
+    O::shuffle_in(x);
+    table[..row_len].copy_from_slice(x);
+}
+
+/// Does `count` more mixes of each chunk after the first `done`, or all that are left, and counts their cores, `2 * r` each.
+/// Returns how many are done then.
+///
+/// For each chunk `table` has room for `32 * r * N` words, and `scratch` for `64 * r`. `log_n` is at most 56.
+pub fn step_chunks<O: OrderedBlocks>(
+    r: usize,
+    table: &mut [u32],
+    scratch: &mut [u32],
+    log_n: u8,
+    done: usize,
+    count: usize,
+    cores: &mut CoreCount,
+) -> usize
+    requires some { 0 < r }
+    requires small { log_n ≤ 56 }
+    requires done { done ≤ all_mixes log_n }
+    requires room { O.count * table_words log_n r ≤ length table.old }
+    requires scratch { O.count * scratch_words r ≤ length scratch.old }
+    ensures done { result ≡ min (done + count) (all_mixes log_n) }
+    ensures mixed { (b : ℕ → List ℕ) → IsMixing O.pivot O.count b (32 * r) log_n done table.old scratch.old
+        → IsMixing O.pivot O.count b (32 * r) log_n result table.new scratch.new }
+    ensures counted { AreCountedAs O.simd ((result - done) * (O.count * (2 * r))) cores.old cores.new }
+{
+    let n = O::count();
+    let len = 32 * r;
+    let rows = 1usize << log_n;
+    let end = done + count.min(2 * rows - done);
+    let (x, rest) = scratch.split_at_mut(n * len);
+    let next = &mut rest[..n * len];
+    let table = &mut table[..n * len * rows];
+    let at = fill_rows::<O>(table, len, log_n, done, end, x, cores);
+    let at = mix_last::<O>(table, len, log_n, at, end, x, next, cores);
+    walk_on::<O>(table, len, log_n, at, end, x, next, cores);
+    end
+}
+
+// Step 2 from mix `done` on, up to `end`, but not the last one. Returns how many are done then.
+#[inline(always)]
+fn fill_rows<O: OrderedBlocks>(
+    table: &mut [u32],
+    len: usize,
+    log_n: u8,
+    done: usize,
+    end: usize,
+    x: &[u32],
+    cores: &mut CoreCount,
+) -> usize
+    requires row { IsRowLen len }
+    requires small { log_n ≤ 56 }
+    requires order { done ≤ end }
+    requires chunks { length x.now ≡ O.count * len }
+    requires table { length table.old ≡ 2 ^ log_n * (O.count * len) }
+    ensures done { result ≡ max done (min end (2 ^ log_n - 1)) }
+    ensures mixed { (b : ℕ → List ℕ) → IsMixing O.pivot O.count b len log_n done table.old x.now
+        → IsMixing O.pivot O.count b len log_n result table.new x.now }
+    ensures counted { AreCountedAs O.simd ((result - done) * (O.count * (2 * (len / 32)))) cores.old cores.new }
+{
+    let row_len = x.len();
+    let to = done.max(end.min((1usize << log_n) - 1));
+    'rows: for m in done..to {
+        mix_next::<O>(table, (m + 1) * row_len, row_len, m, len, cores);
+    }
+    to
+}
+
+// The last mix of step 2, after which X is in `x`, if it is the next one, and before `end`. Returns how many are done then.
+#[inline(always)]
+fn mix_last<O: OrderedBlocks>(
+    table: &[u32],
+    len: usize,
+    log_n: u8,
+    done: usize,
+    end: usize,
+    x: &mut [u32],
+    next: &mut [u32],
+    cores: &mut CoreCount,
+) -> usize
+    requires row { IsRowLen len }
+    requires small { log_n ≤ 56 }
+    requires order { done ≤ end }
+    requires filled { done < 2 ^ log_n - 1 → done ≡ end }
+    requires chunks { length x.old ≡ O.count * len }
+    requires scratch { length next.old ≡ length x.old }
+    requires table { length table.now ≡ 2 ^ log_n * (O.count * len) }
+    ensures order { done ≤ result }
+    ensures within { result ≤ end }
+    ensures filled { result < end → 2 ^ log_n ≤ result }
+    ensures mixed { (b : ℕ → List ℕ) → IsMixing O.pivot O.count b len log_n done table.now x.old
+        → IsMixing O.pivot O.count b len log_n result table.now x.new }
+    ensures counted { AreCountedAs O.simd ((result - done) * (O.count * (2 * (len / 32)))) cores.old cores.new }
+{
+    let last = (1usize << log_n) - 1;
+    if done != last || end == last {
+        return done;
+    }
+    recompute::<O>(part(x.len(), table, last), len, 1, x, next, cores);
+    done + 1
+}
+
+// Step 3 from mix `done` on, up to `end`.
+#[inline(always)]
+fn walk_on<O: OrderedBlocks>(
+    table: &[u32],
+    len: usize,
+    log_n: u8,
+    done: usize,
+    end: usize,
+    x: &mut [u32],
+    next: &mut [u32],
+    cores: &mut CoreCount,
+)
+    requires some { 0 < O.count }
+    requires row { IsRowLen len }
+    requires small { log_n ≤ 56 }
+    requires order { done ≤ end }
+    requires filled { done < end → 2 ^ log_n ≤ done }
+    requires chunks { length x.old ≡ O.count * len }
+    requires scratch { length next.old ≡ length x.old }
+    requires table { length table.now ≡ 2 ^ log_n * (O.count * len) }
+    ensures mixed { (b : ℕ → List ℕ) → IsMixing O.pivot O.count b len log_n done table.now x.old
+        → IsMixing O.pivot O.count b len log_n end table.now x.new }
+    ensures counted { AreCountedAs O.simd ((end - done) * (O.count * (2 * (len / 32)))) cores.old cores.new }
+{
+    if done == end {
+        return;
+    }
+    take_steps::<O>(x, table, next, &mut [], len, log_n, 0, end - done, cores);
+}
+
+/// Ends the scryptROMix of the chunks: writes them to `b`, in the place of those that it began with.
+pub fn end_chunks<O: OrderedBlocks>(b: &mut [u8], r: usize, scratch: &mut [u32])
+    requires some { 0 < r }
+    requires chunks { length b.old ≡ O.count * (128 * r) }
+    requires scratch { O.count * (32 * r) ≤ length scratch.old }
+    ensures value { (b' : ℕ → List ℕ) → (log_n : ℕ) → (table : List ℕ) → IsMixing O.pivot O.count b' (32 * r) log_n (all_mixes log_n) table scratch.old
+        → (k : ℕ) → k < O.count → part (128 * r) b.new k ≡ bytes_of (ro_mix (b' k) log_n) }
+{
+    let x = &mut scratch[..O::count() * (32 * r)];
+    // Step 4: B' = X.
+    O::shuffle_out(x);
+    write_words(x, b);
+}
