@@ -1,9 +1,9 @@
 """Puts the library into the package, with the licences.
 
-It is the file that SCRYPT_C_LIBRARY names, or that of a known name in the folder that it names, or else the one that
-`make lib` put into build/lib of the repository; a source archive has it in the package already, and takes no file from
-outside of itself, where another user may have put anything. What SCRYPT_C_PROVED names, if it is said, is a text about its
-proof, and goes beside the licences.
+It is the file that SCRYPT_C_LIBRARY names, or that of a known name in the folder that it names, or
+else the one that `make lib` put into build/lib of the repository; a source archive has it in the
+package already, and takes no file from outside of itself, where another user may have put anything.
+What SCRYPT_C_PROVED names, if it is said, is a text about its proof, and goes beside the licences.
 """
 
 import os
@@ -14,7 +14,8 @@ from hatchling.builders.hooks.plugin.interface import BuildHookInterface
 # The names of the library, on Linux and on Windows.
 NAMES = ["libscrypt_c.so.0", "scrypt_c.dll"]
 
-# What a library for Linux says of its processor, in the header of the file, and what Python calls that.
+# What a library for Linux says of its processor, in the header of the file, and what Python calls
+# that.
 MACHINES = {62: "x86_64", 183: "aarch64"}
 
 
@@ -24,8 +25,8 @@ def found(folder):
 
 
 def tag_of(library):
-    """The tag of a wheel with this library. The newest name that it takes from glibc is of 2.14, or of 2.17 for arm64,
-    and the tags for Linux ask for 2.17."""
+    """The tag of a wheel with this library. The newest name that it takes from glibc is of 2.14, or
+    of 2.17 for arm64, and the tags for Linux ask for 2.17."""
     if library[:2] == b"MZ":
         return "py3-none-win_amd64"
     machine = MACHINES[int.from_bytes(library[18:20], "little")]
@@ -35,7 +36,8 @@ def tag_of(library):
 class Library(BuildHookInterface):
     def initialize(self, version, build_data):
         root = pathlib.Path(self.root)
-        top = root if (root / "PKG-INFO").exists() else root / "../.."  # which each source archive has
+        is_archive = (root / "PKG-INFO").exists()
+        top = root if is_archive else root / "../.."
         named = pathlib.Path(os.environ.get("SCRYPT_C_LIBRARY") or top / "build/lib")
         files = build_data["force_include"]
         library, inside = named if named.is_file() else found(named), found(root / "scrypt_c")
@@ -45,10 +47,12 @@ class Library(BuildHookInterface):
         elif inside:
             library = inside
         else:
-            raise SystemExit(f"no {NAMES[0]} in {named}: build it by `make lib`, or name its folder in SCRYPT_C_LIBRARY")
+            how = "build it by `make lib`, or name its folder in SCRYPT_C_LIBRARY"
+            raise SystemExit(f"no {NAMES[0]} in {named}: {how}")
         is_wheel = self.target_name == "wheel"
         folder = f"{self.build_config.builder.artifact_project_id}.dist-info/" if is_wheel else ""
-        texts = [place / it for place in (top, top / "tools/release", root) for it in ("LICENSE", "NOTICES")]
+        places = top, top / "tools/release", root
+        texts = [place / it for place in places for it in ("LICENSE", "NOTICES")]
         if is_wheel and os.environ.get("SCRYPT_C_PROVED"):
             texts.append(pathlib.Path(os.environ["SCRYPT_C_PROVED"]))
         files |= {str(it): f"{folder}{it.name}" for it in texts if it.exists()}

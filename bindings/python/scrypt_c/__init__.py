@@ -11,14 +11,15 @@
     if hasher.check_needs_rehash(text):
         ...                                   # store hasher.hash(password) in its place
 
-An untrusted hash chooses its own cost: one that needs more than MOST_BYTES of memory, or more than MOST_WORK, four times
-the recommended work, raises TooCostlyError before any work. Both bounds are arguments of PasswordHasher. A hash with a key
-of fewer than LEAST_KEY_LEN bytes raises KeyTooShortError.
+An untrusted hash chooses its own cost: one that needs more than MOST_BYTES of memory, or more work
+than MOST_WORK, four times the recommended work, raises TooCostlyError before any work. Both bounds
+are arguments of PasswordHasher. A hash with a key of fewer than LEAST_KEY_LEN bytes raises
+KeyTooShortError. RefusedHashError is above both of them, and above InvalidHashError.
 
 `scrypt` has the signature of hashlib.scrypt. The GIL is released while a key is derived.
 
-The environment variable SCRYPT_C_LIBRARY names the file of the library, or its folder. Without it, the library inside
-this package is used, or else the one that the system's loader finds.
+The environment variable SCRYPT_C_LIBRARY names the file of the library, or its folder. Without it,
+the library inside this package is used, or else the one that the system's loader finds.
 """
 
 from .arguments import Bytes, Password
@@ -30,6 +31,7 @@ from .errors import (
     InvalidParamsError,
     InvalidSaltError,
     KeyTooShortError,
+    RefusedHashError,
     ScryptError,
     TooCostlyError,
     VerifyMismatchError,
@@ -55,6 +57,7 @@ __all__ = [
     "Params",
     "Password",
     "PasswordHasher",
+    "RefusedHashError",
     "ScryptError",
     "Stats",
     "TooCostlyError",

@@ -1,4 +1,5 @@
-"""Measures how long a verification takes on this machine, with the parameters that the options give or that fit a time."""
+"""Measures how long a verification takes on this machine, with the parameters that the options give
+or that fit a time."""
 
 from __future__ import annotations
 
@@ -18,12 +19,16 @@ PASSWORD = b"secret"
 
 def _options(arguments: Optional[Sequence[str]]) -> argparse.Namespace:
     parser = argparse.ArgumentParser(prog="python -m scrypt_c", description=__doc__)
-    parser.add_argument("-n", type=int, default=10, metavar="TIMES", help="how many verifications are measured (%(default)s)")
-    parser.add_argument("--log-n", type=int, default=RECOMMENDED_LOG_N, metavar="LOG_N", help="N is 2**LOG_N (%(default)s)")
-    parser.add_argument("-r", type=int, default=RECOMMENDED_R, help="the block size (%(default)s)")
-    parser.add_argument("-p", type=int, default=RECOMMENDED_P, help="the parallelization (%(default)s)")
-    parser.add_argument("-l", type=int, default=KEY_LEN, metavar="KEY_LEN", help="the length of the key in bytes (%(default)s)")
-    parser.add_argument("--seconds", type=float, help="find the parameters that take at most so long, instead of these")
+    for name, default, words in [
+        ("-n", 10, "how many verifications are measured"),
+        ("--log-n", RECOMMENDED_LOG_N, "the logarithm of N"),
+        ("-r", RECOMMENDED_R, "the block size"),
+        ("-p", RECOMMENDED_P, "the parallelization"),
+        ("-l", KEY_LEN, "the length of the key in bytes"),
+    ]:
+        parser.add_argument(name, type=int, default=default, help=f"{words} (%(default)s)")
+    words = "find the parameters that take at most so long, instead of these"
+    parser.add_argument("--seconds", type=float, help=words)
     options = parser.parse_args(arguments)
     if options.n < 1:
         parser.error(f"-n is positive, not {options.n}")
@@ -37,7 +42,8 @@ def main(arguments: Optional[Sequence[str]] = None) -> None:
         params = Params(*given) if options.seconds is None else calibrate(options.seconds)
         with PasswordHasher(*params) as hasher:
             text = hasher.hash(PASSWORD)
-            print(f"log_n={params.log_n}, r={params.r}, p={params.p}, key_len={params.key_len}: {params.memory} bytes")
+            costs = ", ".join(f"{name}={value}" for name, value in params._asdict().items())
+            print(f"{costs}: {params.memory} bytes")
             print(f"a hash: {text}")
             begun = time.perf_counter()
             for _ in range(options.n):

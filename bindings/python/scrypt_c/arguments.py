@@ -12,8 +12,8 @@ Password = Union[str, bytes, bytearray, memoryview]
 
 
 def raw_bytes(data: Bytes, what: str, kinds: str = "bytes-like") -> bytes:
-    """The bytes of a bytes-like object, without a copy if it is bytes. `bytes` alone would take a number for a length. A
-    subclass is copied: its `len` may be another than that of its buffer."""
+    """The bytes of a bytes-like object, without a copy if it is bytes. `bytes` would take a number
+    for a length. A subclass is copied: its `len` may be another than that of its buffer."""
     if type(data) is bytes:
         return data
     try:
@@ -34,7 +34,8 @@ def raw_password(password: Password) -> bytes:
 
 
 def raw_text(text: Union[str, bytes]) -> bytes:
-    """The bytes of a hash's text. The library refuses characters outside ASCII where the format does."""
+    """The bytes of a hash's text. The library refuses characters outside ASCII where the format
+    does."""
     if isinstance(text, str):
         return str.encode(text, errors="surrogatepass")
     if isinstance(text, bytes):
@@ -51,7 +52,8 @@ def number(value: int, what: str) -> int:
 
 
 def in_64_bits(value: int, what: str) -> int:
-    """A bound as C's types hold it: one above 64 bits allows all, and one below 1 as little as 1. A 0 is a default in C."""
+    """A bound as C's types hold it: one above 64 bits allows all, and one below 1 as little as 1.
+    In C a 0 is the default."""
     return min(max(number(value, what), 1), (1 << 64) - 1)
 
 

@@ -15,11 +15,12 @@ MOST_SECONDS = 1e9
 
 
 def calibrate(seconds: float, most_bytes: int = MOST_BYTES) -> Params:
-    """The parameters with which one derivation takes at most these seconds on this machine, now, in a table of at most so
-    many bytes; or TooCostlyError if even log_n=10 takes more. Run it on an idle machine.
+    """The parameters with which one derivation takes at most these seconds on this machine, now, in
+    a table of at most so many bytes. Raises TooCostlyError if even log_n=10 takes more. Run it on
+    an idle machine.
 
-    Memory comes first: N is as large as both bounds allow, and p takes the time that is left. It takes some four times
-    these seconds. `PasswordHasher(*calibrate(0.2))` makes hashes by them.
+    Memory comes first: N is as large as both bounds allow, and p takes the time that is left. It
+    takes some four times these seconds. `PasswordHasher(*calibrate(0.2))` makes hashes by them.
     """
     time_of(seconds, "seconds")
     if not 0 < seconds <= MOST_SECONDS:

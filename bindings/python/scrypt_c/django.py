@@ -1,13 +1,14 @@
 """Password hashers for Django, 3.2 and later.
 
     PASSWORD_HASHERS = [
-        "scrypt_c.django.PHCPasswordHasher",        # PHC texts, as other programs read them
-        "scrypt_c.django.ScryptPasswordHasher",     # reads what Django's own ScryptPasswordHasher wrote
+        "scrypt_c.django.PHCPasswordHasher",     # PHC texts, as other programs read them
+        "scrypt_c.django.ScryptPasswordHasher",  # reads those of Django's own ScryptPasswordHasher
         ...
     ]
 
-The first in the list makes new hashes; a hash that another one made is replaced at the next login. docs/MIGRATION.md of the
-repository has classes that hash the hashes of PBKDF2 and bcrypt once more, for users who don't log in.
+The first in the list makes new hashes; a hash that another one made is replaced at the next login.
+docs/MIGRATION.md of the repository has classes that hash the hashes of PBKDF2 and bcrypt once more,
+for users who don't log in.
 
 Parameters and bounds are attributes. Put a subclass of your own into the list to change them:
 
@@ -17,8 +18,9 @@ Parameters and bounds are attributes. Put a subclass of your own into the list t
     class OurDjangoHasher(ScryptPasswordHasher):
         work_factor, most_bytes = 2**16, 1 << 30
 
-Of a hash that is damaged or above the bounds, check_password raises an error. Where no view catches it, FalseIfRefused
-before the class makes it False, and logs the reason:
+For a hash that is damaged or above the bounds, check_password raises a RefusedHashError. Where no
+view catches it, put FalseIfRefused before the class: check_password returns False after the time of
+a wrong password, and the logger has the reason:
 
     class OurPasswordHasher(FalseIfRefused, PHCPasswordHasher):
         pass
@@ -36,32 +38,35 @@ from django.utils.translation import gettext_noop as _
 
 from .arguments import raw_password
 from .declared import RECOMMENDED_LOG_N, RECOMMENDED_P, RECOMMENDED_R
-from .errors import InvalidHashError, InvalidParamsError, KeyTooShortError, TooCostlyError, VerifyMismatchError
+from .errors import InvalidHashError, InvalidParamsError, RefusedHashError, VerifyMismatchError
 from .hasher import PasswordHasher
 from .key import derive_within, log_of
 from .params import MOST_BYTES, MOST_WORK, Params
-
-# What is wrong with a hash, and not with a password, the memory or the time.
-REFUSALS = (InvalidHashError, InvalidParamsError, KeyTooShortError, TooCostlyError)
 
 LOG = logging.getLogger(__name__)
 
 
 class FalseIfRefused:
-    """Before one of the hashers below: no password has a hash that is refused, and the log has the reason."""
+    """Before one of the hashers below: no password matches a hash that is refused, which takes the
+    time of a wrong password, and the log has the reason."""
 
     def verify(self, password: str, encoded: str) -> bool:
         try:
             return super().verify(password, encoded)  # type: ignore[misc]
-        except REFUSALS as error:
+        except RefusedHashError as error:
             LOG.error("a stored hash is refused: %s", error)
-            return False
+        self.encode(password, self.salt())  # type: ignore[attr-defined]
+        return False
 
     def must_update(self, encoded: str) -> bool:
         try:
             return super().must_update(encoded)  # type: ignore[misc]
-        except REFUSALS:
+        except RefusedHashError:
             return True
+
+
+def _invalid(why: str) -> InvalidHashError:
+    return InvalidHashError("SCRYPT_ENCODING_INVALID", why)
 
 
 class ScryptPasswordHasher(BasePasswordHasher):
@@ -74,7 +79,9 @@ class ScryptPasswordHasher(BasePasswordHasher):
     most_bytes = MOST_BYTES
     most_work = MOST_WORK
 
-    def encode(self, password: str, salt: str, n: Any = None, r: Any = None, p: Any = None) -> str:
+    def encode(
+        self, password: str, salt: str, n: Any = None, r: Any = None, p: Any = None
+    ) -> str:
         if password is None:
             raise TypeError("password must be provided.")
         if not salt or "$" in salt:
@@ -83,27 +90,36 @@ class ScryptPasswordHasher(BasePasswordHasher):
         r = self.block_size if r is None else r
         p = self.parallelism if p is None else p
         params = Params(log_of(n), r, p)
-        key = derive_within(raw_password(password), salt.encode(), params, self.most_bytes, self.most_work, 64)
+        bounds = self.most_bytes, self.most_work
+        key = derive_within(raw_password(password), salt.encode(), params, *bounds, 64)
         return f"{self.algorithm}${n}${salt}${r}${p}${base64.b64encode(key).decode()}"
 
     def decode(self, encoded: str) -> dict[str, Any]:
         try:
+            encoded.encode()  # refuses lone surrogates
             algorithm, n, salt, r, p, key = encoded.split("$", 6)
             numbers = {"work_factor": int(n), "block_size": int(r), "parallelism": int(p)}
         except ValueError:
-            raise InvalidHashError("SCRYPT_ENCODING_INVALID", "the text is not scrypt$N$SALT$r$p$KEY") from None
+            raise _invalid("the text is not scrypt$N$SALT$r$p$KEY") from None
         if algorithm != self.algorithm:
             raise ValueError(f"{algorithm} is not {self.algorithm}")
+        if not salt:
+            raise _invalid("the hash has no salt")
         return {"algorithm": algorithm, "salt": salt, "hash": key, **numbers}
 
     def verify(self, password: str, encoded: str) -> bool:
         it = self.decode(encoded)
-        made = self.encode(password, it["salt"], it["work_factor"], it["block_size"], it["parallelism"])
+        costs = it["work_factor"], it["block_size"], it["parallelism"]
+        try:
+            made = self.encode(password, it["salt"], *costs)
+        except InvalidParamsError as error:
+            raise _invalid(str(error)) from None
         return constant_time_compare(encoded, made)
 
     def must_update(self, encoded: str) -> bool:
         it = self.decode(encoded)
-        weaker = any(it[name] < getattr(self, name) for name in ("work_factor", "block_size", "parallelism"))
+        costs = "work_factor", "block_size", "parallelism"
+        weaker = any(it[name] < getattr(self, name) for name in costs)
         return weaker or must_update_salt(it["salt"], self.salt_entropy)
 
     def safe_summary(self, encoded: str) -> dict[str, Any]:
@@ -118,7 +134,8 @@ class ScryptPasswordHasher(BasePasswordHasher):
         }
 
     def harden_runtime(self, password: str, encoded: str) -> None:
-        """Does nothing: no further work makes a hash of smaller parameters take the time of larger ones."""
+        """Does nothing: no further work gives a hash of smaller parameters the time of larger
+        ones."""
 
 
 class PHCPasswordHasher(BasePasswordHasher):
@@ -139,12 +156,13 @@ class PHCPasswordHasher(BasePasswordHasher):
         return self.algorithm + self.hasher.hash(password, salt=salt.encode())
 
     def decode(self, encoded: str) -> dict[str, Any]:
-        """The parts, with the salt that `encode` was given; of another program's salt, each byte is a letter of Latin-1."""
+        """The parts, with the salt that `encode` was given; each byte of another program's salt is
+        a letter of Latin-1."""
         scheme, *parts = self._text(encoded).split("$")[1:]
         if scheme == "7":  # crypt(3) has the salt itself, after eleven letters of parameters
             parts[:1] = parts[0][:11], parts[0][11:]
         if len(parts) != 3:
-            raise InvalidHashError("SCRYPT_ENCODING_INVALID", "the text lacks its parameters, its salt or its key")
+            raise _invalid("the text lacks its parameters, its salt or its key")
         params, salt, key = parts
         if scheme != "7":
             salt = base64.b64decode(salt + "=" * (-len(salt) % 4)).decode("latin1")
@@ -157,7 +175,8 @@ class PHCPasswordHasher(BasePasswordHasher):
             return False
 
     def must_update(self, encoded: str) -> bool:
-        """Whether a login replaces the hash: it is weaker than new ones, or its salt is shorter than Django's 22 letters."""
+        """Whether a login replaces the hash: it is weaker than new ones, or its salt is shorter
+        than Django's 22 letters."""
         try:
             weaker = self.hasher.check_needs_rehash(self._text(encoded))
         except InvalidHashError:
@@ -174,4 +193,5 @@ class PHCPasswordHasher(BasePasswordHasher):
         }
 
     def harden_runtime(self, password: str, encoded: str) -> None:
-        """Does nothing: no further work makes a hash of smaller parameters take the time of larger ones."""
+        """Does nothing: no further work gives a hash of smaller parameters the time of larger
+        ones."""

@@ -1,9 +1,10 @@
-"""The exceptions of this package. Others are Python's: MemoryError, TypeError for a wrong type, ValueError for a closed
-hasher, TimeoutError, and OSError if the system has no random bytes."""
+"""The exceptions of this package. Others are Python's: MemoryError, TypeError for a wrong type,
+ValueError for a closed hasher, TimeoutError, and OSError if the system has no random bytes."""
 
 from __future__ import annotations
 
 from . import declared
+
 
 class ScryptError(Exception):
     """An error of this package; `name` is the name of the status in scrypt_c.h."""
@@ -20,20 +21,26 @@ class VerifyMismatchError(ScryptError):
     """The password is not that of the hash."""
 
 
-class InvalidHashError(ScryptError, ValueError):
-    """The text is not a hash that this package can read; `name` and the message give the reason."""
+class RefusedHashError(ScryptError, ValueError):
+    """The stored hash is refused, whatever the password is: one of the next three errors. A login
+    logs it, and answers as for a wrong password."""
+
+
+class InvalidHashError(RefusedHashError):
+    """The text is not a hash that this package reads; `name` and the message give the reason."""
+
+
+class TooCostlyError(RefusedHashError):
+    """The parameters need more memory or more work than the bounds allow. Nothing was derived."""
+
+
+class KeyTooShortError(RefusedHashError):
+    """The key in the hash is shorter than the hasher allows, so that too many wrong passwords match
+    it. Nothing was derived."""
 
 
 class InvalidParamsError(ScryptError, ValueError):
     """log_n, r and p, or key_len, are not accepted."""
-
-
-class TooCostlyError(ScryptError):
-    """The parameters need more memory, or more work, than the bounds allow. Nothing was derived."""
-
-
-class KeyTooShortError(ScryptError):
-    """The key in the hash is shorter than the hasher allows: too many wrong passwords match it. Nothing was derived."""
 
 
 class InvalidSaltError(ScryptError, ValueError):
@@ -61,10 +68,12 @@ KINDS: dict[int, type[Exception]] = {
 
 
 def check(status: int, about: str = "") -> None:
-    """Raises the error of a status that is not 0. `about` is what the call was given, without secrets."""
+    """Raises the error of a status that is not 0. `about` is what the call was given, without
+    secrets."""
     if status == 0:
         return
     newer = f"status {status}"
-    kind, (name, words) = KINDS.get(status, ScryptError), declared.WORDS.get(status, (newer, f"{newer} of a newer library"))
+    kind = KINDS.get(status, ScryptError)
+    name, words = declared.WORDS.get(status, (newer, f"{newer} of a newer library"))
     message = f"{words}{about and ': '}{about}"
     raise kind(name, message) if issubclass(kind, ScryptError) else kind(message)

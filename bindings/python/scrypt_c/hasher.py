@@ -1,4 +1,5 @@
-"""Password hashes, made and verified by the library's hasher, which has the queue, the bounds and the memory."""
+"""Password hashes, made and verified by the library's hasher: it has the queue, the bounds and the
+memory."""
 
 from __future__ import annotations
 
@@ -8,9 +9,18 @@ import threading
 from typing import Any, Callable, Literal, NamedTuple, Optional, Union
 
 from . import declared, library
-from .arguments import Bytes, Password, in_64_bits, number, raw_bytes, raw_password, raw_text, seconds
+from .arguments import (
+    Bytes,
+    Password,
+    in_64_bits,
+    number,
+    raw_bytes,
+    raw_password,
+    raw_text,
+    seconds,
+)
 from .declared import KEY_TOO_SHORT, NEEDS_REHASH, OUT_OF_MEMORY, SALT_INVALID, TIMEOUT, TOO_COSTLY
-from .errors import InvalidParamsError, check
+from .errors import InvalidParamsError, VerifyMismatchError, check
 from .params import Params, accepted, check_costs, needs_of
 
 
@@ -27,8 +37,8 @@ class Options(NamedTuple):
 
 
 class Stats(NamedTuple):
-    """How many calls wait and derive now, and how many were refused until now, as there was no memory or no turn in time. In
-    a child process, since the fork."""
+    """How many calls wait and derive now, and how many failed until now for want of memory or of a
+    slot in time. A child process counts from its fork on."""
 
     waiting: int
     deriving: int
@@ -36,20 +46,23 @@ class Stats(NamedTuple):
 
 
 class PasswordHasher:
-    """Makes password hashes with these parameters, and verifies passwords against hashes with any parameters.
+    """Makes password hashes with these parameters, and verifies passwords against hashes with any
+    parameters.
 
-    `mcf` makes `$7$` hashes of crypt(3) instead of PHC hashes. Any number of threads may use a hasher. At most one for
-    each processor derives at a time; the others wait in line, and raise TimeoutError after `timeout` seconds. Of those
-    that wait, verifications with the same N, r and p are done together, on some processors in less time than one after another.
-    No error, timeout or exception of one affects another.
+    `mcf` makes `$7$` hashes of crypt(3) instead of PHC hashes. Any number of threads may share a
+    hasher. At most one for each processor derives at a time; the others wait in a queue, first
+    come, first served, and raise TimeoutError after `timeout` seconds. Waiting verifications with
+    the same N, r and p are derived in one batch, which takes less time on some processors. An
+    error, timeout or exception of one affects no other.
 
-    A hasher holds at most `at_once` tables, whatever p is; the default is two for each processor, or as many of
-    `most_bytes` as the machine and its control group have room for. It keeps their memory for later calls until `close` or
-    the end of a `with` block. A call for which the system has no memory waits while another one derives.
+    A hasher holds at most `at_once` tables, whatever p is. The default is two for each processor,
+    or as many of `most_bytes` as the machine and its control group have room for. It keeps their
+    memory for later calls until `close` or the end of a `with` block.
 
-    A hash that needs more than `most_bytes` of memory, or whose `Params.work` is above `most_work`, is refused without
-    waiting. By default these are MOST_BYTES and MOST_WORK, or what new hashes need if that is more. A hash whose key has
-    fewer than LEAST_KEY_LEN bytes, or than `key_len` if that is less, is refused too.
+    A hash that needs more than `most_bytes` of memory, or whose `Params.work` is above `most_work`,
+    is refused without waiting. By default these are MOST_BYTES and MOST_WORK, or what new hashes
+    need if that is more. A hash whose key has fewer than LEAST_KEY_LEN bytes, or than `key_len` if
+    that is less, is refused too.
     """
 
     def __init__(
@@ -68,19 +81,21 @@ class PasswordHasher:
     ) -> None:
         self._params = Params(*accepted(log_n, r, p), number(key_len, "key_len"))
         if not 10 <= self._params.key_len <= 64:
-            raise InvalidParamsError("SCRYPT_INVALID_PARAMS", f"the key of a hash has 10 to 64 bytes, not {key_len}")
+            words = f"the key of a hash has 10 to 64 bytes, not {key_len}"
+            raise InvalidParamsError("SCRYPT_INVALID_PARAMS", words)
         salt_len = number(salt_len, "salt_len")
         if not 1 <= salt_len <= 64:
             check(SALT_INVALID, f"salt_len={salt_len}")
         if at_once is not None and number(at_once, "at_once") < 1:
             raise ValueError(f"at_once is positive, not {at_once}")
         self._timeout = seconds(timeout, "timeout")
-        # As they were passed: what is None depends on the machine, and a copy may be on another one.
+        # As they were passed: a None depends on the machine, and a copy may be on another one.
         most = {"most_bytes": most_bytes, "most_work": most_work, "at_once": at_once}
-        self._options: dict[str, Any] = {"salt_len": salt_len, "mcf": bool(mcf), **most, "timeout": timeout}
+        own = {"salt_len": salt_len, "mcf": bool(mcf), "timeout": timeout}
+        self._options: dict[str, Any] = {**own, **most}
         given = {name: in_64_bits(value, name) for name, value in most.items() if value is not None}
-        lens = self._params.key_len, salt_len
-        options = declared.Options(ctypes.sizeof(declared.Options), *self._params[:3], bool(mcf), *lens, **given)
+        first = ctypes.sizeof(declared.Options), *self._params[:3], bool(mcf)
+        options = declared.Options(*first, self._params.key_len, salt_len, **given)
         status = ctypes.c_int()
         self._c = library.hasher_new(options, status)
         check_costs(status.value, needs_of(self._params)[1], most_bytes, most_work)
@@ -108,13 +123,14 @@ class PasswordHasher:
         return f"PasswordHasher(log_n={log_n}, r={r}, p={p}, key_len={key_len}, {options})"
 
     def __reduce__(self) -> tuple[Callable[..., PasswordHasher], tuple[Any, ...], Any]:
-        """A copy, also in another process, is a new hasher with the same arguments, and the attributes of a subclass."""
+        """A copy, also in another process, is a new hasher with the same arguments and with the
+        attributes of a subclass."""
         attributes = {name: value for name, value in vars(self).items() if name != "_c"}
         return _copied, (type(self), self._params, self._options), attributes
 
     def close(self) -> None:
-        """Frees the memory that is kept. Derivations that have begun go on; those that wait, and later ones, raise
-        ValueError."""
+        """Frees the memory that is kept. Derivations that have begun go on; calls that wait, and
+        later ones, raise ValueError."""
         library.hasher_close(self._c)
 
     def __enter__(self) -> PasswordHasher:
@@ -129,20 +145,41 @@ class PasswordHasher:
         given = None if salt is None else raw_bytes(salt, "a salt")
         salt_len = len(given or b"")
         text = ctypes.create_string_buffer(library.text_capacity(salt_len))
-        self._check(self._run(library.hasher_hash, secret, len(secret), given, salt_len, text, len(text)))
+        arguments = secret, len(secret), given, salt_len, text, len(text)
+        self._check(self._run(library.hasher_hash, *arguments))
         return text.value.decode("ascii")
 
-    def verify(self, text: Union[str, bytes], password: Password) -> Literal[True]:
-        """Returns True if the password is that of the hash, in either format. Otherwise raises VerifyMismatchError, also
-        for a hash without salt or key; InvalidHashError if the text is not a scrypt hash, TooCostlyError if the hash
-        needs more than the bounds allow, and KeyTooShortError if its key is shorter than they allow. The errors of the
-        text alone are raised without waiting."""
-        raw, secret = raw_text(text), raw_password(password)
-        self._check(self._run(library.hasher_verify, secret, len(secret), raw, len(raw)), raw)
+    def verify(self, text: Union[str, bytes, None], password: Password) -> Literal[True]:
+        """Returns True if the password is that of the hash, in either format.
+
+        Otherwise raises VerifyMismatchError, also for a hash without a salt or a key; or, without
+        waiting, a RefusedHashError: InvalidHashError if the text is not a scrypt hash,
+        TooCostlyError if it needs more than the bounds allow, KeyTooShortError if its key is
+        shorter than they allow. With None in place of a hash, for a name that doesn't exist, it
+        derives as for a new hash, and raises VerifyMismatchError: so the time doesn't tell whether
+        there is such a name.
+        """
+        raw, secret = None if text is None else raw_text(text), raw_password(password)
+        arguments = secret, len(secret), raw, len(raw or b"")
+        self._check(self._run(library.hasher_verify, *arguments), raw)
         return True
 
+    def verify_and_update(
+        self, text: Union[str, bytes, None], password: Password
+    ) -> tuple[bool, Optional[str]]:
+        """Whether the password is that of the hash, and a new hash to store in its place if it is
+        and the old one is weaker than new ones, or else None. Raises what `verify` raises, but for
+        VerifyMismatchError."""
+        try:
+            self.verify(text, password)
+        except VerifyMismatchError:
+            return False, None
+        assert text is not None  # which matches no password
+        return True, self.hash(password) if self.check_needs_rehash(text) else None
+
     def check_needs_rehash(self, text: Union[str, bytes]) -> bool:
-        """Whether one of the parameters of the hash, or its key's length, is below that of new hashes."""
+        """Whether one of the parameters of the hash, or the length of its key, is below that of new
+        hashes."""
         raw = raw_text(text)
         status = library.hasher_needs_rehash(self._c, raw, len(raw))
         if status != NEEDS_REHASH:
@@ -150,21 +187,27 @@ class PasswordHasher:
         return status == NEEDS_REHASH
 
     def _run(self, call: Callable[..., int], *arguments: object) -> int:
-        """The status of a call, which waits for at most `timeout` seconds. Python runs handlers of signals when it has returned."""
-        most = threading.TIMEOUT_MAX if self._timeout is None else min(self._timeout, threading.TIMEOUT_MAX)
+        """The status of a call, which waits for at most `timeout` seconds. Python runs handlers of
+        signals when it has returned."""
+        most = threading.TIMEOUT_MAX
+        if self._timeout is not None:
+            most = min(self._timeout, most)
         return call(self._c, *arguments, math.ceil(1000 * most))
 
     def _check(self, status: int, text: Optional[bytes] = None) -> None:
-        """Raises the error of a status for this hash, or for a new one. Only a message that has parameters reads the hash."""
+        """Raises the error of a status for this hash, or for a new one. Only a message that has
+        parameters reads the hash."""
         if status not in (KEY_TOO_SHORT, OUT_OF_MEMORY, TOO_COSTLY):
             check(status, f"timeout={self._timeout}" if status == TIMEOUT else "")
             return
         most = self.options
+        bounds = most.most_bytes, most.most_work, most.least_key_len
         needs = needs_of(self._params)[1]
         if text is not None:  # which can be read, so that this writes what it needs
-            library.hash_needs(text, len(text), most.most_bytes, most.most_work, most.least_key_len, needs)
+            library.hash_needs(text, len(text), *bounds, needs)
         if status == KEY_TOO_SHORT:
-            check(status, f"its length is {needs.key_len}, and at least {most.least_key_len} is required")
+            least = f"at least {most.least_key_len} is required"
+            check(status, f"its length is {needs.key_len}, and {least}")
         check_costs(status, needs, most.most_bytes, most.most_work)
 
 

@@ -8,28 +8,44 @@ from typing import Optional
 from . import library
 from .arguments import Bytes, in_64_bits, number, raw_bytes
 from .declared import INVALID_OUTPUT_LEN, MAX_OUTPUT_LEN, TOO_COSTLY
-from .errors import InvalidParamsError, check
+from .errors import InvalidParamsError, TooCostlyError, check
 from .params import MOST, Params, accepted, check_costs, needs_of
 
 
-def scrypt(password: Bytes, *, salt: Bytes, n: int, r: int, p: int, maxmem: int = 0, dklen: int = 64) -> bytes:
+def scrypt(
+    password: Bytes,
+    *,
+    salt: Bytes,
+    n: int,
+    r: int,
+    p: int,
+    maxmem: int = 0,
+    dklen: int = 64,
+    max_work: Optional[int] = None,
+) -> bytes:
     """The key of `dklen` bytes, like hashlib.scrypt; `n` is a power of two.
 
-    With a `maxmem` above 0, at most so many bytes are used, and a derivation that needs more raises ValueError, as in
-    hashlib. With 0 there is no bound; hashlib's default is 32 MiB. If p is 2 or more, several tables make a derivation
-    faster, as long as there is room for them in `maxmem`, or in 129 MiB without a bound.
+    If `n`, `r` and `p` are not your own, bound them: TooCostlyError, which is a ValueError, if the
+    derivation needs more than `maxmem` bytes, or if its `Params.work` is above `max_work`. With a
+    `maxmem` of 0 there is no bound on memory, where hashlib has one of 32 MiB. If p is 2 or more,
+    several tables make a derivation faster, as long as there is room for them in `maxmem`, or in
+    129 MiB without a bound.
     """
     password, salt = raw_bytes(password, "a password"), raw_bytes(salt, "a salt")
     n, maxmem, dklen = number(n, "n"), number(maxmem, "maxmem"), number(dklen, "dklen")
-    log_n, r, p = accepted(log_of(n), r, p)
+    params = Params(*accepted(log_of(n), r, p))
     if maxmem < 0:
         raise ValueError(f"maxmem is not negative, as {maxmem} is")
-    needed = Params(log_n, r, p).memory  # refuses parameters that are not accepted
-    if 0 < maxmem < needed:
-        raise ValueError(f"n={n}, r={r}, p={p} need {needed} bytes, more than maxmem={maxmem}")
+    most_work = MOST if max_work is None else in_64_bits(max_work, "max_work")
+    most_bytes = in_64_bits(maxmem or MOST, "maxmem")
+    status, needs = needs_of(params, most_bytes, most_work)  # refuses what is not accepted
+    if status == TOO_COSTLY:
+        words = f"n={n}, r={r}, p={p} need {needs.bytes} bytes and a work of {needs.work}"
+        words += f", with maxmem={maxmem} and max_work={max_work}"
+        raise TooCostlyError("SCRYPT_TOO_COSTLY", words)
     if not 1 <= dklen <= MAX_OUTPUT_LEN:
         check(INVALID_OUTPUT_LEN, f"dklen={dklen}")
-    return _made(password, salt, Params(log_n, r, p), min(maxmem, MOST) or None, MOST, dklen)
+    return _made(password, salt, params, most_bytes if maxmem else None, MOST, dklen)
 
 
 def log_of(n: int) -> int:
@@ -39,14 +55,24 @@ def log_of(n: int) -> int:
     return n.bit_length() - 1
 
 
-def derive_within(password: bytes, salt: bytes, params: Params, most_bytes: int, most_work: int, dklen: int) -> bytes:
-    """The key, if the bounds allow a derivation with these parameters. Raises TooCostlyError, and InvalidParamsError."""
+def derive_within(
+    password: bytes, salt: bytes, params: Params, most_bytes: int, most_work: int, dklen: int
+) -> bytes:
+    """The key, if the bounds allow a derivation with these parameters. Raises TooCostlyError, and
+    InvalidParamsError."""
     bounds = in_64_bits(most_bytes, "most_bytes"), in_64_bits(most_work, "most_work")
     return _made(password, salt, params, *bounds, dklen)
 
 
-def _made(password: bytes, salt: bytes, params: Params, most_bytes: Optional[int], most_work: int, dklen: int) -> bytes:
-    """The key, within these bounds; None is the bound on several tables that the library has."""
+def _made(
+    password: bytes,
+    salt: bytes,
+    params: Params,
+    most_bytes: Optional[int],
+    most_work: int,
+    dklen: int,
+) -> bytes:
+    """The key, within these bounds; None is the library's own bound on several tables."""
     key = ctypes.create_string_buffer(dklen)
     given = password, len(password), salt, len(salt), *accepted(*params[:3])
     if most_bytes is None:
@@ -57,7 +83,8 @@ def _made(password: bytes, salt: bytes, params: Params, most_bytes: Optional[int
         needs = needs_of(params)[1]  # refuses parameters that are not accepted
         if status == TOO_COSTLY:
             check_costs(status, needs, most_bytes, most_work)
-        check(status, f"n={1 << needs.log_n}, r={needs.r}, p={needs.p} need {needs.bytes} bytes, and the key {dklen}")
+        costs = f"n={1 << needs.log_n}, r={needs.r}, p={needs.p}"
+        check(status, f"{costs} need {needs.bytes} bytes, and the key {dklen}")
     made = key.raw
     ctypes.memset(key, 0, dklen)
     return made

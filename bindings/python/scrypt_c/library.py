@@ -26,8 +26,9 @@ def _loaded() -> ctypes.CDLL:
         return ctypes.CDLL(place)
     except OSError as error:
         raise ImportError(
-            f"scrypt_c needs the library {FILE}, and {place} cannot be loaded ({error}). `make lib` in its repository "
-            "builds it, and `make install` installs it; or let SCRYPT_C_LIBRARY name the file, or its folder."
+            f"scrypt_c needs the library {FILE}, and {place} cannot be loaded ({error}). `make lib` "
+            "in its repository builds it, and `make install` installs it; or let SCRYPT_C_LIBRARY "
+            "name the file, or its folder."
         ) from error
 
 
@@ -38,12 +39,13 @@ class Needs(declared.Needs):
     """A scrypt_needs; as text, what the message of an error has."""
 
     def __str__(self) -> str:
-        return f"log_n={self.log_n}, r={self.r}, p={self.p} need {self.bytes} bytes and a work of {self.work}"
+        costs = f"log_n={self.log_n}, r={self.r}, p={self.p}"
+        return f"{costs} need {self.bytes} bytes and a work of {self.work}"
 
 
 class Hasher(ctypes.c_void_p):
-    """A scrypt_hasher, which is freed with this object. As ctypes makes the object, no exception of a signal handler can
-    come before there is one."""
+    """A scrypt_hasher, which is freed with this object. As ctypes makes the object, no exception of
+    a signal handler can come before there is one."""
 
     def __del__(self, free: Any = _lib.scrypt_hasher_free) -> None:
         free(self)
@@ -77,12 +79,16 @@ hasher_close = _declared("scrypt_hasher_close")
 
 if sys.implementation.name == "cpython":
     # The interpreter's own calls: on Windows they are in a DLL, and elsewhere in the program.
-    _untrack = _declared("PyObject_GC_UnTrack", ctypes.PyDLL(None, handle=getattr(sys, "dllhandle", None)))
+    _interpreter = ctypes.PyDLL(None, handle=getattr(sys, "dllhandle", None))
+    _untrack = _declared("PyObject_GC_UnTrack", _interpreter)
 
 
-def hasher_new(options: Optional[declared.Options], status: Optional[ctypes.c_int]) -> Hasher:
-    """The garbage collector finalizes the objects of a cycle in any order, and would free a hasher that the others still
-    use. It refers to nothing, so the collector need not know it: then it is freed when nothing refers to it."""
+def hasher_new(
+    options: Optional[declared.Options], status: Optional[ctypes.c_int]
+) -> Hasher:
+    """The garbage collector finalizes the objects of a cycle in any order, and would free a hasher
+    that the others still use. It refers to nothing, so the collector need not know it: then it is
+    freed when nothing refers to it."""
     hasher: Hasher = _hasher_new(options, status)
     if sys.implementation.name == "cpython":
         _untrack(hasher)

@@ -1,7 +1,7 @@
 """Converts hashes of other programs to texts that this package verifies, without the passwords.
 
-A damaged hash, one that no password matches, and one that neither format can store raise ValueError. `n` is N, a power of
-two.
+ValueError for a damaged hash, for one with a key of another length than its program writes, for one
+that no password matches, and for one that neither format can store. `n` is N, a power of two.
 """
 
 from __future__ import annotations
@@ -12,7 +12,8 @@ import re
 from .arguments import Bytes, number, raw_bytes
 from .params import Params, accepted, params_of
 
-_LETTERS = "./0123456789ABCDEFGHIJKLMNOPQRSTUVWXYZabcdefghijklmnopqrstuvwxyz"  # of `$7$` texts, each by its value
+# Of `$7$` texts, each by its value.
+_LETTERS = "./0123456789ABCDEFGHIJKLMNOPQRSTUVWXYZabcdefghijklmnopqrstuvwxyz"
 
 
 def _digits(value: int, count: int) -> str:
@@ -37,16 +38,20 @@ def _mcf_text(salt: bytes, key: bytes, log_n: int, r: int, p: int) -> str:
 
 
 def stored_text(salt: Bytes, key: Bytes, n: int, r: int, p: int) -> str:
-    """A PHC text if the lengths allow it, otherwise a `$7$` text. Of a PHC text's key only the first 64 bytes are kept,
-    which are the key of that length. An n below 64 is refused: it may be a log_n, and then no password would match."""
+    """A PHC text if the lengths allow it, otherwise a `$7$` text. Of a PHC text's key only the
+    first 64 bytes are kept, which are the key of that length. An n below 64 is refused: it may be a
+    log_n, and then no password would match."""
     if 1 <= number(n, "n") < 64:
-        raise ValueError(f"n is N, at least 64, and {n} may be its logarithm, log_n: n={1 << n} is N = 2**{n}")
+        meant = f"{n} may be its logarithm, log_n: n={1 << n} is N = 2**{n}"
+        raise ValueError(f"n is N, at least 64, and {meant}")
     return _text(salt, key, n, r, p)
 
 
-def _text(salt: Bytes, key: Bytes, n: int, r: int, p: int) -> str:
-    """What stored_text returns, with any N."""
+def _text(salt: Bytes, key: Bytes, n: int, r: int, p: int, key_len: int = 0) -> str:
+    """What stored_text returns, with any N, of a key of this length, if it isn't 0."""
     salt, key, n = raw_bytes(salt, "a salt"), raw_bytes(key, "a key"), number(n, "n")
+    if key_len and len(key) != key_len:
+        raise ValueError(f"the key has {len(key)} bytes, where the program writes {key_len}")
     if n < 1 or n & (n - 1):
         raise ValueError(f"n is a power of two, which {n} is not")
     if not key:
@@ -70,39 +75,50 @@ def _matched(pattern: str, stored: str, program: str) -> list[str]:
     return list(found.groups())
 
 
+def _unpadded(letters: str) -> bytes:
+    return base64.b64decode(letters + "=" * (-len(letters) % 4), validate=True)
+
+
 def from_passlib(stored: str) -> str:
     """Converts a hash of passlib that this package does not accept unchanged."""
     pattern = r"\$scrypt\$ln=(\d+),r=(\d+),p=(\d+)\$([^$]*)\$([^$]*)"
     log_n, r, p, *letters = _matched(pattern, stored, "passlib")
-    salt, key = (base64.b64decode(it.rstrip("=") + "=" * (-len(it.rstrip("=")) % 4), validate=True) for it in letters)
-    return _text(salt, key, 1 << min(int(log_n), 64), int(r), int(p))
+    salt, key = (_unpadded(it.rstrip("=")) for it in letters)
+    return _text(salt, key, 1 << min(int(log_n), 64), int(r), int(p), 32)
 
 
 def from_django(stored: str) -> str:
     """Converts a hash of Django 4.0 or later: `scrypt$n$salt$r$p$key`, with the salt as text."""
-    n, salt, r, p, key = _matched(r"scrypt\$(\d+)\$([^$]+)\$(\d+)\$(\d+)\$([^$]*)", stored, "Django")
-    return _text(salt.encode(), base64.b64decode(key, validate=True), int(n), int(r), int(p))
+    pattern = r"scrypt\$(\d+)\$([^$]+)\$(\d+)\$(\d+)\$([^$]*)"
+    n, salt, r, p, letters = _matched(pattern, stored, "Django")
+    key = base64.b64decode(letters, validate=True)
+    return _text(salt.encode(), key, int(n), int(r), int(p), 64)
 
 
 def from_werkzeug(stored: str) -> str:
     """Converts a hash of Werkzeug 2.3 or later: `scrypt:n:r:p$salt$key`, with the salt as text."""
-    n, r, p, salt, key = _matched(r"scrypt:(\d+):(\d+):(\d+)\$([^$]*)\$([0-9a-f]*)", stored, "Werkzeug")
-    return _text(salt.encode(), bytes.fromhex(key), int(n), int(r), int(p))
+    pattern = r"scrypt:(\d+):(\d+):(\d+)\$([^$]*)\$([0-9a-f]*)"
+    n, r, p, salt, key = _matched(pattern, stored, "Werkzeug")
+    return _text(salt.encode(), bytes.fromhex(key), int(n), int(r), int(p), 64)
 
 
 def from_crypt(stored: str) -> str:
     """Converts a `$7$` hash of crypt(3) whose salt has a `$`."""
-    params, salt, letters = _matched(r"\$7\$([./\dA-Za-z]{11})(.*)\$([./\dA-Za-z]*)", stored, "crypt(3)")
+    pattern = r"\$7\$([./\dA-Za-z]{11})(.*)\$([./\dA-Za-z]*)"
+    params, salt, letters = _matched(pattern, stored, "crypt(3)")
     parts = [letters[at : at + 4] for at in range(0, len(letters), 4)]
     if any(len(it) == 1 or _value(it) >> 8 * (len(it) - 1) for it in parts):
         raise ValueError("the last letters of the key encode no whole bytes")
     key = b"".join(_value(it).to_bytes(len(it) - 1, "little") for it in parts)
-    return _text(salt.encode(), key, 1 << _value(params[0]), _value(params[1:6]), _value(params[6:]))
+    costs = 1 << _value(params[0]), _value(params[1:6]), _value(params[6:])
+    return _text(salt.encode(), key, *costs, 32)
 
 
 def from_libscrypt(stored: str) -> str:
-    """Converts a hash of `libscrypt_hash`: `$s1$`, two hexadecimal digits each for log_n, r and p, the salt and the key."""
-    params, *letters = _matched(r"\$s1\$([\da-fA-F]{6})\$([^$]*)\$([^$]*)", stored, "libscrypt")
+    """Converts a hash of `libscrypt_hash`: `$s1$`, two hexadecimal digits each for log_n, r and p,
+    the salt and the key."""
+    pattern = r"\$s1\$([\da-fA-F]{6})\$([^$]*)\$([^$]*)"
+    params, *letters = _matched(pattern, stored, "libscrypt")
     log_n, r, p = bytes.fromhex(params)
     salt, key = (base64.b64decode(it, validate=True) for it in letters)
-    return _text(salt, key, 1 << log_n, r, p)
+    return _text(salt, key, 1 << log_n, r, p, 64)

@@ -15,7 +15,8 @@ MOST = 2**64 - 1
 
 
 def accepted(log_n: int, r: int, p: int) -> tuple[int, int, int]:
-    """The three, if they fit C's types: ctypes would truncate them. r and p are never 0, which could be a default in C."""
+    """The three, if they fit C's types: ctypes would truncate them. r and p are never 0, which
+    could be a default in C."""
     log_n, r, p = number(log_n, "log_n"), number(r, "r"), number(p, "p")
     if not (0 <= log_n <= 63 and 0 < r < 1 << 32 and 0 < p < 1 << 32):
         hint = "; log_n is the logarithm of N, and at most 63" if log_n > 63 else ""
@@ -24,7 +25,8 @@ def accepted(log_n: int, r: int, p: int) -> tuple[int, int, int]:
 
 
 class Params(NamedTuple):
-    """N = 2**log_n, the block size r, the parallelization p, and the length of a hash's key in bytes."""
+    """N = 2**log_n, the block size r, the parallelization p, and the length of a hash's key in
+    bytes."""
 
     log_n: int = declared.RECOMMENDED_LOG_N
     r: int = declared.RECOMMENDED_R
@@ -39,8 +41,8 @@ class Params(NamedTuple):
 
     @property
     def work(self) -> int:
-        """The work that `most_work` bounds, at most 2**64 - 1: the Salsa20/8 cores, and for PBKDF2 those of 32 more rows in
-        each chunk."""
+        """The work that `most_work` bounds, at most 2**64 - 1: the Salsa20/8 cores, and for PBKDF2
+        those of 32 more rows in each chunk."""
         return int(needs_of(self)[1].work)
 
     @property
@@ -49,8 +51,11 @@ class Params(NamedTuple):
         return int(needs_of(self)[1].bytes)
 
 
-def needs_of(params: Params, most_bytes: int = MOST, most_work: int = MOST) -> tuple[int, library.Needs]:
-    """What a derivation needs, and whether the bounds allow it: OK or TOO_COSTLY. Raises InvalidParamsError."""
+def needs_of(
+    params: Params, most_bytes: int = MOST, most_work: int = MOST
+) -> tuple[int, library.Needs]:
+    """Whether the bounds allow a derivation, OK or TOO_COSTLY, and what it needs. Raises
+    InvalidParamsError."""
     log_n, r, p = accepted(*params[:3])
     needs = library.Needs()
     status = int(library.params_need(log_n, r, p, most_bytes, most_work, needs))
@@ -71,14 +76,18 @@ RECOMMENDED = Params()
 MOST_BYTES, MOST_WORK, LEAST_KEY_LEN = _usual()
 
 
-def check_costs(status: int, needs: library.Needs, most_bytes: Optional[int], most_work: Optional[int]) -> None:
-    """Raises the error of a status of a derivation that needs this, for bounds of which None is a default."""
-    about = f"{needs}, with most_bytes={most_bytes} and most_work={most_work}" if status == TOO_COSTLY else str(needs)
-    check(status, about)
+def check_costs(
+    status: int, needs: library.Needs, most_bytes: Optional[int], most_work: Optional[int]
+) -> None:
+    """Raises the error of a status of a derivation that needs this. A bound that is None is the
+    default."""
+    bounds = f", with most_bytes={most_bytes} and most_work={most_work}"
+    check(status, f"{needs}{bounds if status == TOO_COSTLY else ''}")
 
 
 def params_of(text: Union[str, bytes]) -> Params:
-    """The parameters of a hash; `key_len` is 0 if it has no key. Raises InvalidHashError if it is not a scrypt hash."""
+    """The parameters of a hash; `key_len` is 0 if it has no key. Raises InvalidHashError if it is
+    not a scrypt hash."""
     raw = raw_text(text)
     found = ctypes.c_uint32(), ctypes.c_uint32(), ctypes.c_uint32(), ctypes.c_size_t()
     check(library.hash_params(raw, len(raw), *found))

@@ -5,8 +5,8 @@
 
     context = CryptContext(schemes=[scrypt])
 
-It reads and writes the texts of passlib.hash.scrypt, and has its options. A hash with fewer rounds than new ones needs an
-update, so verify_and_update replaces it, unless min_rounds allows fewer.
+It reads and writes the texts of passlib.hash.scrypt, and has its options. A hash with fewer rounds
+than new ones needs an update, so verify_and_update replaces it, unless min_rounds allows fewer.
 """
 
 from __future__ import annotations
@@ -27,11 +27,13 @@ class scrypt(passlib.hash.scrypt):  # passlib names handlers as their scheme
     most_work = MOST_WORK
 
     def _calc_checksum(self, secret: str | bytes) -> bytes:
-        params, bounds = Params(self.rounds, self.block_size, self.parallelism), (self.most_bytes, self.most_work)
+        params = Params(self.rounds, self.block_size, self.parallelism)
+        bounds = self.most_bytes, self.most_work
         return derive_within(raw_password(secret), self.salt, params, *bounds, self.checksum_size)
 
     def _calc_needs_update(self, **kwds: object) -> bool:
         # With vary_rounds new hashes may have fewer than default_rounds too.
-        if self.min_desired_rounds is None and not self.vary_rounds and self.rounds < self.default_rounds:
+        may_vary = self.min_desired_rounds is not None or self.vary_rounds
+        if not may_vary and self.rounds < self.default_rounds:
             return True
         return super()._calc_needs_update(**kwds)

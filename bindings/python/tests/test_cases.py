@@ -1,6 +1,7 @@
 """The verifications of bindings/cases.tsv."""
 
 import pathlib
+import pickle
 import unittest
 
 import scrypt_c
@@ -8,17 +9,32 @@ import scrypt_c
 CASES = pathlib.Path(__file__).parents[2] / "cases.tsv"
 
 
+def outcome(call, *arguments):
+    """The name of the status, and the error."""
+    try:
+        call(*arguments)
+        return "OK", None
+    except scrypt_c.ScryptError as error:
+        return error.name.removeprefix("SCRYPT_"), error
+
+
 class Cases(unittest.TestCase):
     def test_all(self):
         hasher = scrypt_c.PasswordHasher()
         for line in CASES.read_text("utf-8").splitlines()[1:]:
             status, password, text = line.split("\t")
-            try:
-                hasher.verify(text.replace("\\0", "\0"), password)
-                found = "OK"
-            except scrypt_c.ScryptError as error:
-                found = error.name.removeprefix("SCRYPT_")
+            text = text.replace("\\0", "\0")
+            found, error = outcome(hasher.verify, text, password)
             self.assertEqual(found, status, text)
+            refused = error is not None and status != "MISMATCH"
+            self.assertEqual(isinstance(error, scrypt_c.RefusedHashError), refused, text)
+            if error:
+                copy = pickle.loads(pickle.dumps(error))
+                same = type(error), error.name, str(error)
+                self.assertEqual((type(copy), copy.name, str(copy)), same)
+            for reads in (hasher.check_needs_rehash, scrypt_c.params_of):
+                unread = isinstance(error, scrypt_c.InvalidHashError)
+                self.assertEqual(outcome(reads, text)[0], status if unread else "OK", text)
 
 
 if __name__ == "__main__":

@@ -5,7 +5,8 @@ import hashlib
 import unittest
 
 from scrypt_c import PasswordHasher, params_of
-from scrypt_c.migration import from_crypt, from_django, from_libscrypt, from_passlib, from_werkzeug, stored_text
+from scrypt_c.migration import from_crypt, from_django, from_libscrypt
+from scrypt_c.migration import from_passlib, from_werkzeug, stored_text
 
 SALT, KEY = b"seasalt", hashlib.scrypt(b"pw", salt=b"seasalt", n=1024, r=8, p=1, dklen=64)
 B64, HEX = base64.b64encode(KEY).decode(), KEY.hex()
@@ -31,6 +32,7 @@ REFUSED = [
     ("a letter outside Base64, which others skip", from_django, DJANGO[:-10] + "!" + DJANGO[-10:]),
     ("a newline in the key", from_django, DJANGO[:-10] + "\n" + DJANGO[-10:]),
     ("the key is cut inside of a group", from_django, DJANGO[:-1]),
+    ("the key is cut after a group", from_django, DJANGO[:-8]),
     ("no key", from_django, DJANGO[: -len(B64)]),
     ("another method", from_django, DJANGO.replace("scrypt", "bcrypt")),
     ("a part too many", from_django, DJANGO + "$"),
@@ -38,17 +40,20 @@ REFUSED = [
     ("a letter outside hexadecimal", from_werkzeug, WERKZEUG[:-1] + "g"),
     ("a blank in the key", from_werkzeug, WERKZEUG[:-64] + " " + WERKZEUG[-64:]),
     ("half a byte", from_werkzeug, WERKZEUG[:-1]),
+    ("the key is cut", from_werkzeug, WERKZEUG[:-2]),
     ("no key", from_werkzeug, WERKZEUG[: -len(HEX)]),
     ("another method", from_werkzeug, WERKZEUG.replace("scrypt", "pbkdf2")),
     ("ln is 64", from_passlib, PASSLIB.replace("ln=10", "ln=64")),
     ("ln is very large", from_passlib, PASSLIB.replace("ln=10", "ln=" + 4000 * "9")),
     ("a letter outside Base64", from_passlib, PASSLIB[:-3] + "!" + PASSLIB[-2:]),
     ("a letter that encodes no byte", from_passlib, PASSLIB + "AA"),
+    ("the key is cut", from_passlib, PASSLIB[:-3]),
     ("the parameters in another order", from_passlib, PASSLIB.replace("ln=10,r=8", "r=8,ln=10")),
     ("no key", from_passlib, PASSLIB[: -len(UNPADDED)]),
     ("a letter outside its Base64", from_crypt, CRYPT[:-1] + "+"),
     ("a letter that encodes no byte", from_crypt, CRYPT + ".."),
     ("a bit that encodes no byte", from_crypt, CRYPT[:-1] + "z"),
+    ("the key is cut", from_crypt, CRYPT[:-3]),
     ("no salt and no key", from_crypt, CRYPT[:14]),
     ("no key", from_crypt, CRYPT[:18]),
     ("another method", from_crypt, CRYPT.replace("$7$", "$6$", 1)),
@@ -56,6 +61,7 @@ REFUSED = [
     ("a letter outside Base64", from_libscrypt, LIBSCRYPT.replace(SALT64, "c2V!c2FsdA==")),
     ("r is 0", from_libscrypt, LIBSCRYPT.replace("0a0801", "0a0001")),
     ("three digits", from_libscrypt, LIBSCRYPT.replace("0a0801", "0a081")),
+    ("the key is cut", from_libscrypt, LIBSCRYPT[:-8]),
     ("no key", from_libscrypt, LIBSCRYPT[: -len(B64)]),
 ]
 # Why, and what is passed in place of an accepted argument.
@@ -86,7 +92,8 @@ class Migration(unittest.TestCase):
         ]:
             text = convert(stored)
             self.assertTrue(hasher.verify(text, password), stored)
-            self.assertEqual(params_of(text)[:3], (8, 8, 1) if convert is from_crypt else (10, 8, 1))
+            log_n = 8 if convert is from_crypt else 10
+            self.assertEqual(params_of(text)[:3], (log_n, 8, 1))
 
     def test_refused(self):
         for why, convert, stored in REFUSED:
@@ -96,24 +103,29 @@ class Migration(unittest.TestCase):
     def test_keys(self):
         """Each length of a salt and of a key that a format has."""
         hasher = PasswordHasher(log_n=4, key_len=10)
-        for salt, length in [(SALT, 10), (SALT, 64), (SALT, 100), (b"", 32), (65 * b"a", 33), (b"", 64), (SALT, 16)]:
+        for salt, length in [
+            (SALT, 10), (SALT, 16), (SALT, 64), (SALT, 100), (b"", 32), (65 * b"a", 33), (b"", 64)
+        ]:
             key = hashlib.scrypt(b"pw", salt=salt, n=64, r=8, p=1, dklen=length)
-            self.assertTrue(hasher.verify(stored_text(salt, bytearray(key), 64, 8, 1), "pw"), (salt, length))
+            text = stored_text(salt, bytearray(key), 64, 8, 1)
+            self.assertTrue(hasher.verify(text, "pw"), (salt, length))
         short = stored_text(SALT, KEY[:9], 1024, 8, 1)
         self.assertEqual((short[:3], params_of(short)), ("$7$", (10, 8, 1, 9)))
 
     def test_a_log_n(self):
         """In place of N it is refused by name. A hash that names its N may have a small one."""
         for n in (1, 14, 16, 32, 63):
-            self.assertRaisesRegex(ValueError, f"^n is N, at least 64, and {n} may be its logarithm", stored_text, SALT, KEY, n, 8, 1)
+            words = f"^n is N, at least 64, and {n} may be its logarithm"
+            self.assertRaisesRegex(ValueError, words, stored_text, SALT, KEY, n, 8, 1)
         key = hashlib.scrypt(b"pw", salt=SALT, n=16, r=8, p=1, dklen=64)
         text = from_werkzeug(f"scrypt:16:8:1$seasalt${key.hex()}")
         self.assertTrue(PasswordHasher(log_n=4).verify(text, "pw"))
 
     def test_not_stored(self):
         for why, arguments in NOT_STORED:
+            named = {"salt": SALT, "key": KEY, "n": 1024, "r": 8, "p": 1, **arguments}
             with self.assertRaises(ValueError, msg=why):
-                print(stored_text(**{"salt": SALT, "key": KEY, "n": 1024, "r": 8, "p": 1, **arguments}))
+                print(stored_text(**named))
 
 
 if __name__ == "__main__":
