@@ -121,14 +121,11 @@ document-pages:
 wrong-bodies: $(LIBRARIES) proved-scrypt_examples
 	python3 -m tools.gate.wrong_bodies all $(CRATES)
 
-# The examples are copied, so they import their own modules by name.
-EXAMPLES = PYTHONPATH=.:bindings/python:examples/migration
-
 oracle: lib
 	cd crates/scrypt_tool && rt run -- key 0 1 1 1 "" > /dev/null < /dev/null
 	python3 -m tools.tests.oracle crates/scrypt_tool/out/scrypt_tool
 	python3 -m tools.tests.allocations crates/scrypt_tool/out/scrypt_tool
-	$(EXAMPLES) python3 examples/migration/test_migration.py crates/scrypt_tool/out/scrypt_tool $(if $(WORKER),--worker $(WORKER))
+	python3 -m tools.tests.migration crates/scrypt_tool/out/scrypt_tool
 	python3 -m tools.tests.hostile build/lib/libscrypt_c.so
 	python3 -m tools.tests.groups build/lib/libscrypt_c.so
 

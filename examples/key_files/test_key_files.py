@@ -58,6 +58,11 @@ class KeyFilesTest(unittest.TestCase):
         for open_file, file, _ in VECTORS:
             self.refuses("above the limits", open_file, file, PASSWORD, most_bytes=1 << 20)
             self.refuses("above the limits", open_file, file, PASSWORD, most_work=1 << 15)
+        file = VECTORS[1][1]
+        for log_n, message in ((20, "above"), (30, "above"), (63, "invalid"), (255, "invalid")):
+            costly = file[:7] + bytes([log_n]) + file[8:48]
+            costly += hashlib.sha256(costly).digest()[:16] + file[64:]
+            self.refuses(message, open_scrypt, costly, PASSWORD)
 
     def test_damaged_files(self):
         with mock.patch("key_files.scrypt", functools.cache(key_files.scrypt)):

@@ -1,0 +1,371 @@
+#!/usr/bin/env python3
+"""Converts hashes and keys that other programs make now, and verifies them by the program.
+
+usage: python3 -m tools.tests.migration PROGRAM [--seed N]
+
+Each part draws passwords, lets another program hash them, converts the hashes by the functions of
+Python's scrypt_c.migration (Go's by the Go package), and lets PROGRAM verify each with its password
+and with another one. What one of both refuses is tried too. The library is that of build/lib. What
+is not installed is named; the status is 1 if something differs.
+"""
+
+import argparse
+import base64
+import ctypes
+import hashlib
+import json
+import os
+import random
+import shutil
+import string
+import subprocess
+import sys
+import tempfile
+
+from tools.tests import crypt64, oracle
+from tools.tests.oracle import Missing, some_bytes
+from tools.tests.runs import unlimited
+
+os.environ.setdefault("SCRYPT_C_LIBRARY", "build/lib")
+sys.path.insert(0, "bindings/python")
+from scrypt_c import migration  # noqa: E402
+
+CASES = 20
+GO_SOURCES = "/usr/share/gocode"  # where Debian has the sources of Go's libraries
+
+# Texts of Django's own tests, each after its password: Django has scrypt from 4.0.
+DJANGO_TEXTS = [
+    ("lètmein", "scrypt$16384$seasalt$8$1$"
+     "Qj3+9PPyRjSJIebHnG81TMjsqtaIGxNQG/aEB/NYafTJ7tibgfYz71m0ldQESkXFRkdVCBhhY8mx7rQwite/Pw=="),
+    ("lètmein", "scrypt$16384$seasalt$8$5$"
+     "ECMIUp+LMxMSK8xB/IVyba+KYGTI7FTnet025q/1f/vBAVnnP3hdYqJuRi+mJn6ji6ze3Fbb7JEFPKGpuEf5vw=="),
+]
+
+# What passlib reads and the program does not: a part of a text with the salt `s`, another spelling.
+PASSLIB_SPELLINGS = [
+    ("ln=4", "ln=04", "ParamInvalid ln"),
+    ("$cw$", "$cw==$", "EncodingInvalid"),
+    ("$cw$", "$cx$", "EncodingInvalid"),
+]
+
+# What crypt(3) does not verify and the program does: log_n, r, p and the key's length, a password.
+CRYPT_REFUSES = [
+    ((0, 8, 1, 32), b"password"),
+    ((1, 8, 1, 32), b"password"),
+    ((4, 8, 1, 31), b"password"),
+    ((4, 8, 1, 33), b"password"),
+    ((4, 8, 1, 32), b"p" * 512),
+]
+
+NODE = """
+const { scryptSync } = require("crypto");
+for (const line of require("fs").readFileSync(0, "utf8").trim().split("\\n")) {
+  const [password, salt, N, r, p, length] = JSON.parse(line);
+  try {
+    const key = scryptSync(password, Buffer.from(salt, "hex"), length, { N, r, p });
+    console.log(key.toString("hex"));
+  } catch (error) { console.log(error.code); }
+}
+"""
+
+GO = """package main
+
+import (
+	"encoding/hex"
+	"encoding/json"
+	"fmt"
+	"os"
+
+	"golang.org/x/crypto/scrypt"
+	proved "nilomafy.example/scrypt"
+)
+
+func main() {
+	for in := json.NewDecoder(os.Stdin); in.More(); {
+		var password, letters string
+		var n, r, p, length int
+		if err := in.Decode(&[]any{&password, &letters, &n, &r, &p, &length}); err != nil {
+			panic(err)
+		}
+		salt, _ := hex.DecodeString(letters)
+		key, err := scrypt.Key([]byte(password), salt, n, r, p, length)
+		var text string
+		if err == nil {
+			text, err = proved.StoredText(salt, key, n, r, p)
+		}
+		if err != nil {
+			text = err.Error()
+		}
+		fmt.Println(text)
+	}
+}
+"""
+
+
+class Trial:
+    """The program, and what agreed of one tool."""
+
+    def __init__(self, program, rng):
+        self.program, self.rng, self.agreed, self.notes = program, rng, [], []
+
+    def check(self, agrees, *about):
+        self.agreed.append(bool(agrees))
+        if not agrees:
+            print("differs:", *about)
+
+    def verifies(self, text, password):
+        password = password.encode() if isinstance(password, str) else password
+        about, got, wanted = oracle.verified(self.program, text, password)
+        self.check(got == wanted, about, got)
+
+    def refuses(self, text, error):
+        got = unlimited(self.program, ["verify", text], b"password")
+        self.check(got == (2, "", f"hash refused: {error}\n"), text, got)
+
+    def converted(self, convert, text, password):
+        """A text that is refused as it is, and verified once it is converted."""
+        self.refuses(text, "EncodingInvalid")
+        self.verifies(convert(text), password)
+
+    def answer(self, words, password):
+        return unlimited(self.program, [str(it) for it in words], password)[1].strip()
+
+    def key(self, password, salt, log_n, r, p, length):
+        return bytes.fromhex(self.answer(["key", log_n, r, p, length, salt.hex()], password))
+
+    def hash_mcf(self, log_n, r, p, length, salt=b"salt", password=b"password"):
+        return self.answer(["hash", "mcf", log_n, r, p, salt.hex(), length], password)
+
+    def params(self):
+        """A small n, r and p."""
+        return 1 << self.rng.randrange(6, 11), self.rng.choice((1, 2, 8)), self.rng.randrange(1, 4)
+
+    def word(self, least=1, most=40):
+        letters = string.ascii_letters + string.digits
+        return "".join(self.rng.choices(letters, k=self.rng.randrange(least, most + 1)))
+
+    def cases(self):
+        """Passwords and salts that are text, and parameters."""
+        return [(self.word(), self.word(8, 32), *self.params()) for _ in range(CASES)]
+
+    def key_cases(self):
+        """Passwords, salts of any bytes in hexadecimal, parameters, and lengths of keys."""
+        salts = [(some_bytes(self.rng, 63) + b"!").hex() for _ in range(CASES)]
+        return [(self.word(), it, *self.params(), self.rng.randrange(10, 65)) for it in salts]
+
+
+def installed(command, package):
+    if not shutil.which(command):
+        raise Missing(f"{command} is not installed (package {package})")
+
+
+def answers(words, cases, **env):
+    """The lines that a program prints for these cases, each of which it reads as JSON."""
+    lines = "".join(json.dumps(case) + "\n" for case in cases)
+    ran = subprocess.run(words, input=lines, capture_output=True, text=True, check=True,
+                         env=os.environ | env)
+    return ran.stdout.splitlines()
+
+
+def passlib(trial):
+    scrypt = oracle.passlib()
+
+    def made(password, salt, n, r, p, **more):
+        costs = {"rounds": n.bit_length() - 1, "block_size": r, "parallelism": p}
+        return scrypt.using(salt=salt.encode(), **costs, **more).hash(password)
+
+    for case in trial.cases():
+        trial.verifies(made(*case), case[0])
+        trial.verifies(made(*case, ident="$7$"), case[0])
+    for salt in ["", *(trial.word(65, 200) for _ in range(9))]:
+        trial.converted(migration.from_passlib, made("pass", salt, *trial.params()), "pass")
+    text = made("password", "s", 16, 8, 1)
+    for old, new, error in PASSLIB_SPELLINGS:
+        other = text.replace(old, new)
+        trial.check(other != text and scrypt.verify("password", other), "passlib", other)
+        trial.refuses(other, error)
+        trial.verifies(migration.from_passlib(other), "password")
+
+
+def django(trial):
+    for password, text in DJANGO_TEXTS:
+        trial.converted(migration.from_django, text, password)
+    try:
+        from django.conf import settings
+        settings.configure()
+        from django.contrib.auth.hashers import ScryptPasswordHasher
+    except ImportError:
+        trial.notes.append("texts of its tests: Django 4 is not installed")
+        return
+    for case in trial.cases():
+        trial.converted(migration.from_django, ScryptPasswordHasher().encode(*case), case[0])
+
+
+def werkzeug(trial):
+    try:
+        from werkzeug.security import generate_password_hash
+        generate_password_hash("", "scrypt:128:1:1")
+    except (ImportError, TypeError, ValueError):
+        raise Missing("Werkzeug 2.3 is not installed (PyPI: werkzeug)") from None
+    for password, _, n, r, p in trial.cases():
+        # Its limit of 132 * n * r * p bytes is too small below n = 96.
+        method, length = f"scrypt:{max(n, 128)}:{r}:{p}", trial.rng.choice((1, 16, 64, 65, 200))
+        text = generate_password_hash(password, method, length)
+        trial.converted(migration.from_werkzeug, text, password)
+    trial.converted(migration.from_werkzeug, generate_password_hash("password"), "password")
+
+
+def libxcrypt(trial):
+    for password, salt, n, r, p in trial.cases():
+        params = crypt64.params(n.bit_length() - 1, r, p)
+        trial.verifies(oracle.crypt(password.encode(), f"{params}{salt}$"), password)
+        setting = f"{params}{salt[:20]}$a${salt}$"  # it takes a salt with a $
+        text = oracle.crypt(password.encode(), setting)
+        trial.check(text.startswith(setting), "crypt(3) refuses the salt", text)
+        trial.converted(migration.from_crypt, text, password)
+    key = hashlib.scrypt(b"password", salt=b"a+b", n=16, r=1, p=1, dklen=32)
+    texts = [(f"{crypt64.params(4, 1, 1)}a+b${crypt64.letters(key)}", b"password")]
+    texts += [(trial.hash_mcf(*params, password=it), it) for params, it in CRYPT_REFUSES]
+    for text, password in texts:
+        trial.verifies(text, password)
+        trial.check(oracle.crypt(password, text) != text, "crypt(3) verifies", text)
+
+
+def mkpasswd(trial):
+    installed("mkpasswd", "whois")
+    for password in (trial.word(), trial.word()):
+        words = ["mkpasswd", "--method=scrypt", "--stdin"]
+        text = subprocess.run(words, input=password, capture_output=True, text=True).stdout.strip()
+        trial.verifies(text, password)
+        trial.check(text.startswith(crypt64.params(14, 32, 1)), "other parameters", text)
+
+
+def libsodium(trial):
+    try:
+        from nacl import exceptions
+        from nacl.pwhash import scrypt
+    except ImportError:
+        raise Missing("PyNaCl is not installed (package python3-nacl)") from None
+    for password, *_ in trial.cases()[:10]:
+        text = scrypt.str(password.encode(), opslimit=32768, memlimit=1 << 24).decode()
+        trial.verifies(text, password)
+    for salt, length, is_verified in ((32, 32, True), (16, 32, False), (32, 33, False)):
+        text = trial.hash_mcf(4, 8, 1, length, trial.rng.randbytes(salt))
+        try:
+            trial.check(scrypt.verify(text.encode(), b"password") == is_verified, text)
+        except (exceptions.CryptoError, ValueError) as error:
+            trial.check(not is_verified, text, error)
+
+
+def libscrypt(trial):
+    try:
+        library = ctypes.CDLL("libscrypt.so.0")
+    except OSError:
+        raise Missing("libscrypt is not installed (package libscrypt0)") from None
+    for password, _, n, r, p in trial.cases():
+        text = ctypes.create_string_buffer(128)
+        library.libscrypt_hash(text, password.encode(), n, r, p)
+        trial.converted(migration.from_libscrypt, text.value.decode(), password)
+        salt = some_bytes(trial.rng, 15) + b"!"
+        key = trial.key(password.encode(), salt, n.bit_length() - 1, r, p, 64)
+        library.libscrypt_mcf(n, r, p, base64.b64encode(salt), base64.b64encode(key), text)
+        made = text.value.decode()
+        trial.check(library.libscrypt_check(text, password.encode()) > 0, "libscrypt", made)
+        trial.verifies(migration.from_libscrypt(made), password)
+
+
+def of_hashlib(trial):
+    for _ in range(2 * CASES):
+        password, (n, r, p) = some_bytes(trial.rng, 80), trial.params()
+        some, long = trial.rng.randrange(1, 200), trial.word(65, 300).encode()
+        plain, short = (some_bytes(trial.rng, 63) + b"!", some + 9), ("ö".encode(), some % 10 + 1)
+        salt, length = trial.rng.choice([plain, (b"", some), (long, some), short])
+        key = hashlib.scrypt(password, salt=salt, n=n, r=r, p=p, dklen=length)
+        trial.check(trial.key(password, salt, n.bit_length() - 1, r, p, length) == key, salt)
+        trial.verifies(migration.stored_text(salt, key, n, r, p), password)
+    for salt in (b"\xff" * 65, b"$" * 65):  # neither format has these
+        try:
+            trial.check(False, migration.stored_text(salt, key, n, r, p))
+        except ValueError:
+            trial.check(True)
+    for log_n, r, p in ((0, 8, 1), (16, 1, 1), (17, 8, 1)):
+        try:
+            hashlib.scrypt(b"", salt=b"", n=1 << log_n, r=r, p=p, dklen=10)
+            trial.check(False, "hashlib takes", log_n, r, p)
+        except ValueError:
+            trial.check(len(trial.key(b"", b"", log_n, r, p, 10)) == 10, log_n, r, p)
+
+
+def node(trial):
+    installed("node", "nodejs")
+    cases = trial.key_cases()
+    for (password, salt, *params, _), key in zip(cases, answers(["node", "-e", NODE], cases)):
+        text = migration.stored_text(bytes.fromhex(salt), bytes.fromhex(key), *params)
+        trial.verifies(text, password)
+    for n, r in ((1, 8), (1 << 16, 1), (1 << 17, 8)):
+        got = answers(["node", "-e", NODE], [("password", "00", n, r, 1, 32)])
+        trial.check(got == ["ERR_CRYPTO_INVALID_SCRYPT_PARAMS"], n, r, got)
+
+
+def go(trial):
+    installed("go", "golang-go")
+    if not os.path.isdir(f"{GO_SOURCES}/src/golang.org/x/crypto/scrypt"):
+        raise Missing("x/crypto is not installed (package golang-golang-x-crypto-dev)")
+    cases = trial.key_cases() + [("pass", "00", 1 << 16, 1, 1, 32), ("pass", "00", 1, 8, 1, 32)]
+    with tempfile.TemporaryDirectory() as folder:
+        shutil.copytree("bindings/go", f"{folder}/src/nilomafy.example/scrypt")
+        source = f"{folder}/main.go"
+        with open(source, "w", encoding="utf-8") as file:
+            file.write(GO)
+        paths = {"GO111MODULE": "off", "GOPATH": f"{folder}:{GO_SOURCES}", "GOFLAGS": ""}
+        *made, last = answers(["go", "run", source], cases, **paths)
+    for case, text in zip(cases, made):
+        trial.verifies(text, case[0])
+    trial.check(last == "scrypt: N must be > 1 and a power of 2", last)
+
+
+def openssl_key(password, salt, n, r, p, length):
+    """The status of `openssl kdf`, and the key."""
+    options = {"hexpass": password.encode().hex(), "hexsalt": salt, "n": n, "r": r, "p": p}
+    words = [word for name, it in options.items() for word in ("-kdfopt", f"{name}:{it}")]
+    words = ["openssl", "kdf", "-keylen", str(length), *words, "SCRYPT"]
+    ran = subprocess.run(words, capture_output=True, text=True)
+    return ran.returncode, bytes.fromhex(ran.stdout.strip().replace(":", ""))
+
+
+def openssl(trial):
+    installed("openssl", "openssl")
+    for case in trial.key_cases():
+        password, salt, *params, _ = case
+        text = migration.stored_text(bytes.fromhex(salt), openssl_key(*case)[1], *params)
+        trial.verifies(text, password)
+    for log_n, r, refused in ((0, 8, 1), (16, 1, 1), (21, 8, 1), (17, 8, 0), (20, 8, 0)):
+        status, _ = openssl_key("password", "00", 1 << log_n, r, 1, 32)
+        trial.check(bool(status) == bool(refused), log_n, r, status)
+
+
+PARTS = [passlib, django, werkzeug, libxcrypt, mkpasswd, libsodium, libscrypt, of_hashlib, node, go,
+         openssl]
+
+
+def main():
+    parser = argparse.ArgumentParser(usage=__doc__.split("usage: ")[1])
+    parser.add_argument("program")
+    parser.add_argument("--seed", type=int, default=7914)
+    args = parser.parse_args()
+    rng, is_well = random.Random(args.seed), True
+    for part in PARTS:
+        trial = Trial(os.path.abspath(args.program), rng)
+        try:
+            part(trial)
+        except Missing as missing:
+            print(f"{part.__name__}: {missing}: not run")
+            continue
+        is_well = is_well and all(trial.agreed)
+        notes = "".join(f" ({it})" for it in trial.notes)
+        print(f"{part.__name__}: {sum(trial.agreed)} of {len(trial.agreed)} agreed{notes}")
+    sys.exit(not is_well)
+
+
+if __name__ == "__main__":
+    main()
