@@ -13,7 +13,7 @@
 #   make dist      makes packages for Debian, Python, Go, Rust and npm, archives, the sources and their hashes in build/dist
 # To change it:
 #   make check     proves and tests what changed since the last check
-#   make mirror    writes what is made of the header of C, of the proved calls and of VERSION
+#   make generate  writes what packages declare of the header of C, as make lib does
 #   make documents checks the documents and the scripts, and reports every fault
 #   make wrong-bodies  tries all wrong code that a proof has to reject, of all crates or of CRATES="NAME .."
 #   make oracle    compares the program with independent implementations, and fails each of its allocations
@@ -90,13 +90,13 @@ test: kit
 	@python3 -m tools.gate.gate
 
 # Each check runs whatever the others find, so that one run reports every fault.
-DOCUMENTS = lint formats names mirror fit promises tests-of-gate tests-of-generate tests-of-tests tests-of-release pages
+DOCUMENTS = lint formats names version fit promises tests-of-gate tests-of-generate tests-of-tests tests-of-release pages
 documents:
 	@$(STEP) documents $(MAKE) --no-print-directory --keep-going --output-sync -j$$(nproc) documents-checked
 .PHONY: documents-checked $(DOCUMENTS:%=document-%)
 documents-checked: $(DOCUMENTS:%=document-%)
 	@echo "$(words $^) of $(words $^) checks of the documents and the scripts"
-document-lint:
+document-lint: generate
 	@tools/gate/lint.sh
 document-formats:
 	@if command -v rt > /dev/null; then find crates \( -name '*.rt' -o -name '*.antt' \) -not -path '*/out/*' \
@@ -104,8 +104,8 @@ document-formats:
 	else echo "the Rattle kit is not installed: not run: rattle fmt"; fi
 document-names:
 	@python3 -m tools.gate.docs
-document-mirror:
-	@python3 -m tools.generate.mirror --check
+document-version:
+	@python3 -m tools.release.version
 document-fit:
 	@python3 -m tools.gate.wrong_bodies fit
 document-promises:
@@ -206,9 +206,9 @@ kit:
 	  echo "The command rt of the Rattle kit isn't here: nothing was proved, built or run." >&2; exit 1; }
 
 # What is done seldom: each calls a script of the folder that it is about.
-.PHONY: mirror refused-by-tests dist-test thin parameters bounds compare-worker promises doc-test axioms
-mirror:
-	python3 -m tools.generate.mirror
+.PHONY: generate refused-by-tests dist-test thin parameters bounds compare-worker promises doc-test axioms
+generate:
+	@python3 -m tools.generate.declarations
 
 refused-by-tests: kit
 	python3 -m tools.gate.refused_by_tests

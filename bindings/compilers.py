@@ -21,7 +21,7 @@ import tempfile
 from pathlib import Path
 
 from tools import copies, prover_command
-from tools.generate import kit
+from tools.generate import declarations, kit
 
 CC = os.environ.get("CC", "cc")
 
@@ -122,7 +122,8 @@ def compare_level(level, clang, kept, test, room):
 
 def main(out="crates/scrypt_c/out", kept="crates/scrypt_c/out/incremental"):
     with tempfile.TemporaryDirectory() as room:
-        options = ["-std=gnu99", "-O2", "-Wall", "-Wextra", "-Werror", "-Ibindings/c"]
+        declarations.main(room)
+        options = ["-std=gnu99", "-O2", "-Wall", "-Wextra", "-Werror", "-Ibindings/c", f"-I{room}"]
         copies.run(CC, *options, "-o", f"{room}/test", "bindings/c/tests/test_compilers.c", "-ldl")
         shutil.copytree(kept, f"{room}/kept")
         for level, place in LEVELS.items():

@@ -5,6 +5,7 @@
 #include "calls.c"
 #undef BUFFERS
 #include "salt.c"
+#include "status.c"
 #include "hasher.c"
 #include "arena.c"
 #include "groups.c"

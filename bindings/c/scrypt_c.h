@@ -20,6 +20,8 @@
  *   parameters that take so many seconds             scrypt_calibrate                         no
  *   a salt for a new key or hash                     scrypt_draw_salt                         no
  *   the version of the library                       scrypt_version                           no
+ *   the words and the name of a status               scrypt_status_text; scrypt_status_name   no
+ *   whether a text was refused as no hash            scrypt_status_is_invalid_hash            no
  *
  * A call that is marked yes is a proved function, and a few lines of C that check for NULL and for N in place of log_n,
  * terminate the text, and clear what the function leaves in memory. The others are written in C over them. All C is tested. Parameters are accepted if r > 0, p > 0,
@@ -67,13 +69,6 @@
 #else
 #define SCRYPT_CHECKED
 #define SCRYPT_NONNULL
-#endif
-
-/* gcc and clang spell the keyword __inline__ in C before C99. */
-#if defined(__GNUC__) && !defined(__cplusplus)
-#define SCRYPT_HELPER static __inline__
-#else
-#define SCRYPT_HELPER static inline
 #endif
 
 #ifdef __cplusplus
@@ -472,37 +467,15 @@ int scrypt_draw_salt(uint8_t *salt, size_t len);
  * version of this header is SCRYPT_VERSION_STRING. */
 const char *scrypt_version(void);
 
-/* An English description of a status: an inline function of this header. */
-SCRYPT_HELPER const char *scrypt_status_text(int status) {
-  switch (status) {
-    case SCRYPT_OK: return "success";
-    case SCRYPT_MISMATCH: return "the password does not match, or the hash is weaker than wanted";
-    case SCRYPT_INVALID_PARAMS:
-      return "invalid scrypt parameters (r and p at least 1, 128 * r * 2^log_n below 2^64, r * p below 2^30, and a key in a "
-             "hash of 10 to 64 bytes)";
-    case SCRYPT_INVALID_OUTPUT_LEN: return "the length of the key is not 1 to 137438953440 bytes";
-    case SCRYPT_OUT_OF_MEMORY: return "out of memory";
-    case SCRYPT_ALGORITHM: return "the hash names another algorithm";
-    case SCRYPT_ENCODING_INVALID: return "the text is not a PHC or $7$ hash";
-    case SCRYPT_OUTPUT_SIZE: return "the key in the hash is empty, or too long";
-    case SCRYPT_HASH_PARAM_INVALID: return "ln, r or p in the hash is not a decimal in its range";
-    case SCRYPT_HASH_PARAMS_INVALID:
-      return "the parameters in the hash are not accepted, or it has one other than ln, r and p";
-    case SCRYPT_SALT_INVALID: return "a salt of a PHC hash has 1 to 64 bytes";
-    case SCRYPT_VERSION: return "the hash names a version, and scrypt has none";
-    case SCRYPT_BUFFER_SIZE: return "a buffer is too short or, for scrypt_key_thin, too long; or the text does not fit";
-    case SCRYPT_TOO_COSTLY: return "the parameters need more than is allowed";
-    case SCRYPT_NO_RANDOM_BYTES: return "the system has no random bytes";
-    case SCRYPT_KEY_TOO_SHORT: return "the key in the hash is shorter than is allowed";
-    case SCRYPT_NULL_POINTER: return "a pointer that may not be NULL is NULL";
-    case SCRYPT_CLOSED: return "the hasher is closed";
-    case SCRYPT_TIMEOUT: return "the hasher did not begin with it in time";
-    case SCRYPT_OPTIONS_SIZE: return "the size in the options of a hasher is not sizeof (scrypt_options)";
-    case SCRYPT_UNFINISHED: return "the derivation in steps is not at its end";
-    case SCRYPT_INVALID_PROGRESS: return "a derivation with these parameters cannot have come so far";
-    default: return "unknown status";
-  }
-}
+/* ---- Statuses ---- */
+
+/* An English description of a status, and its name in this header, which is NULL for a number that is no status. */
+const char *scrypt_status_text(int status);
+const char *scrypt_status_name(int status);
+
+/* Whether the text is not a hash that can be read, from SCRYPT_ALGORITHM to SCRYPT_VERSION above: neither the password nor
+ * the memory is at fault then. */
+int scrypt_status_is_invalid_hash(int status);
 
 #ifdef __cplusplus
 }

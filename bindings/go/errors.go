@@ -46,7 +46,7 @@ func (e Error) Error() string {
 // Is reports whether target is this error, or is ErrInvalidHash and this error is one of a text that is not a hash.
 func (e Error) Is(target error) bool {
 	if target == ErrInvalidHash {
-		return e >= ErrAlgorithm && e <= ErrVersion && e != ErrSaltInvalid
+		return C.scrypt_status_is_invalid_hash(C.int(e)) != 0
 	}
 	return target == e
 }

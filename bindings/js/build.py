@@ -5,7 +5,7 @@ usage: build.py         begins with the proofs that are kept in crates/scrypt_c/
        build.py KEPT    or in this folder
 
 The crate is proved for WebAssembly with a 64-bit memory and the mixer for it, and linked as build/wasm/scrypt64.wasm.
-scrypt.wasm is the same with a 32-bit memory. It needs the kit, and the libraries below the crate, which `make lib` proves.
+scrypt.wasm is the same with a 32-bit memory, and declared.js has the statuses. It needs the kit, and the libraries below the crate, which `make lib` proves.
 """
 
 import re
@@ -15,6 +15,7 @@ from pathlib import Path
 
 from bindings.js import lower
 from tools import copies
+from tools.generate import declarations
 
 TOP = Path(__file__).resolve().parents[2]
 
@@ -54,6 +55,7 @@ def prove(room, kept):
 
 
 def main(kept):
+    declarations.main()
     MADE.parent.mkdir(parents=True, exist_ok=True)
     # Not in the repository, in which rt refuses sources that are of no crate.
     with tempfile.TemporaryDirectory() as room:

@@ -39,15 +39,15 @@ def statuses_of(text):
     return {name: int(number) for name, number in re.findall(r"^  SCRYPT_(\w+) = (\d+)", text, re.M)}
 
 
-def errors_of_text(text):
-    """Those statuses of a header by which a text is not a hash."""
-    return list(statuses_of(re.search(r"^  /\* The text is not a hash.*?\*/\n(.*?)^  /\*", text, re.M | re.S)[1]))
-
-
 def words_of(text):
-    """What a header returns as the description of each status, by its name."""
-    found = re.findall(r'case SCRYPT_(\w+):\s*return ((?:"[^"]*"\s*)+);', text)
-    return {name: "".join(re.findall(r'"([^"]*)"', words)) for name, words in found}
+    """The words of each status by its name, as status.c has them."""
+    found = re.findall(r'ROW\((\w+), ((?:"[^"]*"\s*)+)\)', text)
+    return {name: "".join(re.findall('"([^"]*)"', words)) for name, words in found}
+
+
+def version_of(text):
+    """The version of a header."""
+    return re.search('^#define SCRYPT_VERSION_STRING "(.*)"$', text, re.M)[1]
 
 
 def numbers_of(text):

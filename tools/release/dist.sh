@@ -27,7 +27,7 @@ done
 (ARCH=$windows && . bindings/arch.sh && is_built "$build/lib/scrypt_c.dll" && is_built "$build/bin/scrypt_calibrate.exe")
 is_built bindings/js/scrypt.wasm
 python3 -B tools/release/proved.py check
-python3 -m tools.generate.mirror --check
+python3 -m tools.release.version
 rm -rf "$dist" "$parts"
 mkdir -p "$dist" "$parts"
 trap 'debian/rules clean > /dev/null 2>&1; rm -rf "$parts"' EXIT

@@ -30,6 +30,12 @@ int main(void) {
       check(strcmp(scrypt_status_text(status), scrypt_status_text(other)) != 0, "words of its own");
   check(status > SCRYPT_OPTIONS_SIZE, "the words of a status");
   for (; status < 99; status++) check(!has_words(status), "no status, or the words of the one before");
+  for (status = -1; status < 99; status++)
+    check((scrypt_status_name(status) != NULL) == has_words(status), "a name for each status");
+  check(strcmp(scrypt_status_name(SCRYPT_SALT_INVALID), "SCRYPT_SALT_INVALID") == 0, "its name");
+  for (status = -1; status < 99; status++)
+    check(scrypt_status_is_invalid_hash(status) == (status >= SCRYPT_ALGORITHM && status <= SCRYPT_VERSION &&
+                                                    status != SCRYPT_SALT_INVALID), "what a text is refused by");
   for (i = 0; i < sizeof ALLOWED / sizeof ALLOWED[0]; i++)
     check(strstr(scrypt_status_text(ALLOWED[i].status), ALLOWED[i].words) != NULL, ALLOWED[i].why);
   return failed;

@@ -3,7 +3,7 @@ ValueError for a closed hasher, TimeoutError, and OSError if the system has no r
 
 from __future__ import annotations
 
-from . import declared
+from . import declared, library
 
 
 class ScryptError(Exception):
@@ -51,9 +51,11 @@ class InvalidOutputLenError(ScryptError, ValueError):
     """The key is empty, or longer than scrypt allows."""
 
 
-# The exceptions of the statuses that a call of this package can return.
+# Where C has one text for two statuses.
+WORDS = {declared.MISMATCH: "the password does not match the hash"}
+
+# The exceptions of the statuses that a call of this package can return, but for those by which a text is no hash.
 KINDS: dict[int, type[Exception]] = {
-    **dict.fromkeys(declared.OF_TEXT, InvalidHashError),
     declared.MISMATCH: VerifyMismatchError,
     declared.INVALID_PARAMS: InvalidParamsError,
     declared.INVALID_OUTPUT_LEN: InvalidOutputLenError,
@@ -72,8 +74,9 @@ def check(status: int, about: str = "") -> None:
     secrets."""
     if status == 0:
         return
-    newer = f"status {status}"
-    kind = KINDS.get(status, ScryptError)
-    name, words = declared.WORDS.get(status, (newer, f"{newer} of a newer library"))
+    is_invalid = library.status_is_invalid_hash(status)
+    kind = InvalidHashError if is_invalid else KINDS.get(status, ScryptError)
+    name = (library.status_name(status) or b"status %d" % status).decode()
+    words = WORDS.get(status) or library.status_text(status).decode()
     message = f"{words}{about and ': '}{about}"
     raise kind(name, message) if issubclass(kind, ScryptError) else kind(message)

@@ -76,6 +76,9 @@ hasher_hash = _declared("scrypt_hasher_hash")
 hasher_key = _declared("scrypt_hasher_key")
 hasher_needs_rehash = _declared("scrypt_hasher_needs_rehash")
 hasher_close = _declared("scrypt_hasher_close")
+status_text = _declared("scrypt_status_text")
+status_name = _declared("scrypt_status_name")
+status_is_invalid_hash = _declared("scrypt_status_is_invalid_hash")
 
 if sys.implementation.name == "cpython":
     # The interpreter's own calls: on Windows they are in a DLL, and elsewhere in the program.

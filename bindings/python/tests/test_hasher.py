@@ -15,7 +15,7 @@ from scrypt_c import InvalidParamsError, InvalidSaltError, KeyTooShortError, Par
 from scrypt_c import PasswordHasher, TooCostlyError, VerifyMismatchError
 
 SMALL = PasswordHasher(log_n=4)
-RANGES = "r and p at least 1, 128 * r * 2**log_n below 2**64, r * p below 2**30"
+RANGES = "r and p at least 1, 128 * r * 2^log_n below 2^64, r * p below 2^30"
 KEY = "$c2FsdHNhbHQ$AAAAAAAAAAAAAAAAAAAA"  # a salt, and a key of 15 bytes
 B32, B64 = 1 << 32, 1 << 64
 

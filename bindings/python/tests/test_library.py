@@ -54,7 +54,9 @@ class Library(unittest.TestCase):
         """An exception for each status, except those that no call from here returns or lets through; and the defaults."""
         never = {getattr(declared, name) for name in ("OK", "BUFFER_SIZE", "NULL_POINTER", "OPTIONS_SIZE",
                                                  "UNFINISHED", "INVALID_PROGRESS")}
-        self.assertEqual(set(errors.KINDS), set(declared.WORDS) - never)
+        known = {it for it in range(256) if library.status_name(it)}
+        of_text = {it for it in known if library.status_is_invalid_hash(it)}
+        self.assertEqual(set(errors.KINDS), known - of_text - never)
         for hasher in (library.hasher_new(None, None), scrypt_c.PasswordHasher()._c):
             it = library.hasher_options(hasher).contents
             self.assertEqual((it.log_n, it.r, it.p, it.key_len), scrypt_c.RECOMMENDED)

@@ -1,11 +1,12 @@
 #!/usr/bin/env python3
-"""Writes what is made of bindings/c/scrypt_c.h, of the functions of crates/scrypt_c, and of VERSION: whole files, each of which says
-so in its first line, and the few numbers that a file cannot read.
+"""Writes what is made of bindings/c/scrypt_c.h and of the functions of crates/scrypt_c: the declarations of the packages
+for Python, Rust and JavaScript, and two lists in C. `make lib` calls it, and none of it is a file of the repository.
 
-usage: python3 -m tools.generate.mirror            writes it, and names the files that changed
-       python3 -m tools.generate.mirror --check    names the files that differ from what would be written
+usage: python3 -m tools.generate.declarations            writes the files of the packages
+       python3 -m tools.generate.declarations FOLDER     and the lists in C into this folder
 """
 
+import os
 import re
 import sys
 import textwrap
@@ -13,12 +14,10 @@ from pathlib import Path
 
 from tools.generate import header
 
-NOTE = "Made by tools/generate/mirror.py of "
+NOTE = "Made by tools/generate/declarations.py of "
 CALLS, STRUCTURES = header.calls_of(header.TEXT), header.structures_of(header.TEXT)
 STATUSES, NUMBERS = header.statuses_of(header.TEXT), header.NUMBERS
-OF_TEXT = header.errors_of_text(header.TEXT)
-# In place of what C has for the two statuses with the number 1.
-WORDS = header.words_of(header.TEXT) | {"MISMATCH": "the password does not match the hash"}
+VERSION = header.version_of(header.TEXT)
 
 
 def read(path):
@@ -58,9 +57,6 @@ def python():
     yield from ("", "import ctypes", "from ctypes import POINTER", "from typing import Any", "", "BYTES = ctypes.c_char_p")
     yield from (f"{short} = ctypes.c_{word if short == 'SIZE' else word.removesuffix('_t')}" for word, short in PYTHON.items())
     yield from ("", f'VERSION_STRING = "{VERSION}"', *(f"{name} = {number}" for name, number in (NUMBERS | STATUSES).items()))
-    yield from ("", "# The name and the words of each status.", "WORDS = {")
-    yield from (f'    {name}: ("SCRYPT_{name}", "{words.replace("^", "**")}"),' for name, words in WORDS.items())
-    yield from ("}", "", "# Those by which a text is not a hash.", f"OF_TEXT = [{', '.join(OF_TEXT)}]")
     for name, fields in STRUCTURES.items():
         pairs = ", ".join(f'("{header.name_of(it)}", {in_python(it)})' for it in fields)
         yield from ("", "", f"class {inside(name)}(ctypes.Structure):", *wrapped(f"    _fields_ = [{pairs}]", 8))
@@ -88,10 +84,6 @@ def rust():
     yield from ("use std::os::raw::{c_char, c_int, c_void};", "")
     yield from (f"pub const {name}: u64 = {number};" for name, number in NUMBERS.items())
     yield from ("", *(f"pub const {name}: c_int = {number};" for name, number in STATUSES.items()))
-    yield from ("", "/// The words of each status.", "#[rustfmt::skip]", f"pub const WORDS: [(c_int, &str); {len(WORDS)}] = [")
-    yield from (f'    ({name}, "{words}"),' for name, words in WORDS.items())
-    yield from ("];", "", "/// Those by which a text is not a hash.", "#[rustfmt::skip]")
-    yield from wrapped(f"pub const OF_TEXT: [c_int; {len(OF_TEXT)}] = [{', '.join(OF_TEXT)}];", 4)
     yield from ("", "/// `scrypt_hasher`, which the library alone looks into.", "#[repr(C)]", "pub struct RawHasher {",
                 "    _inside: [u8; 0],", "}")
     for name, fields in STRUCTURES.items():
@@ -114,13 +106,15 @@ def javascript():
     for name, number in proved.items():
         if number != str(STATUSES.get(name)):
             sys.exit(f"crates/scrypt_c/src/statuses.rt: {name} is {number}, and {STATUSES.get(name)} in the header")
-    yield f"// {NOTE}bindings/c/scrypt_c.h: the recommended parameters, the statuses and their words."
+    yield f"// {NOTE}bindings/c: the recommended parameters, the statuses and their words."
     yield from (f"export const {name} = {NUMBERS[name]};" for name in
                 ("RECOMMENDED_LOG_N", "RECOMMENDED_R", "RECOMMENDED_P", "SALT_LEN", "KEY_LEN"))
     yield from ("", *(f"export const {name} = {number};" for name, number in proved.items()))
     yield from ("", "/** The name and the words of each status. */", "export const WORDS = new Map([")
-    yield from (f"  [{name}, ['{name}', '{words.replace('2^log_n', 'N')}']]," 
-                for name, words in WORDS.items() if name in proved)
+    words = header.words_of(read("bindings/c/status.c"))
+    words["MISMATCH"] = "the password does not match the hash"  # where C has one text for the two statuses of that number
+    for name in filter(proved.get, words):
+        yield f"  [{name}, ['{name}', '{words[name].replace('2^log_n', 'N')}']],"
     yield "]);"
 
 
@@ -170,7 +164,7 @@ def each_call():
                 " * which whoever includes this list defines. The arguments are variables of arguments.h. The memory is HASHER, BUFFERS or",
                 " * NEITHER. P(argument) is a pointer that may not be NULL. */")
     unchecked = set(re.findall(r"SCRYPT_NONNULL\n\w+ (\w+)\(", header.TEXT))
-    for _, name, given in (it for it in CALLS if it[0] == "int"):
+    for _, name, given in (it for it in CALLS if it[0] == "int" and it[2] != ["int status"]):
         words = []
         for it in given:
             is_made = "*" in it and not it.startswith("const") and "scrypt_hasher" not in it
@@ -182,60 +176,30 @@ def each_call():
         yield from wrapped(f"CALL({name}, {memory}, ({text}))", 4)
 
 
-MADE = {
+PACKAGES = {
     "bindings/python/scrypt_c/declared.py": python,
     "bindings/rust/src/calls.rs": rust,
     "bindings/js/declared.js": javascript,
-    "bindings/c/proved_calls.h": proved_calls,
-    "bindings/c/tests/each_call.h": each_call,
 }
-
-# ---- Numbers in files that cannot read them ----
-
-VERSION = read("VERSION").strip()
-
-HEADER, USAGE, MANUAL = "bindings/c/scrypt_c.h", "crates/scrypt_commands/src/usage.rt", "bindings/cli/scrypt_tool.1"
-BYTES, WORK, LEAST = (NUMBERS[name] for name in ("MOST_BYTES", "MOST_WORK", "LEAST_KEY_LEN"))
-PARAMS = [NUMBERS[f"RECOMMENDED_{name}"] for name in ("LOG_N", "R", "P")]
-
-# A file, what is around the number there, and the number.
-PLACES = [
-    (HEADER, r'(#define SCRYPT_VERSION_STRING ")[^"]*(")', VERSION),
-    ("bindings/js/package.json", r'(^  "version": ")[^"]*(")', VERSION),
-    ("bindings/rust/Cargo.toml", r'(^version = ")[^"]*(")', VERSION),
-    (USAGE, r'(^pub const VERSION: &str = "scrypt_tool )[^"\\]*(\\n")', VERSION),
-    (USAGE, r"(LOG_N R P are )[\d ]*\d( and)", "{} {} {}".format(*PARAMS)),
-    (USAGE, r"(the most memory \()\d+( bytes\))", BYTES),
-    (USAGE, r"(\* R \* P \()\d+(\),)", WORK),
-    (USAGE, r"(the shortest key in bytes \()\d+( for verify)", LEAST),
-    (MANUAL, r"(^)[\d, and]*( are recommended\.$)", "{}, {} and {}".format(*PARAMS)),
-    (MANUAL, r"(^The most bytes of memory, )\d+( by default)", BYTES),
-    (MANUAL, r"( by default \()\d+( MiB\)\.$)", BYTES >> 20),
-    (MANUAL, r"(^It is )\d+( by default)", WORK),
-    (MANUAL, r"(^The least length of the key in bytes: )\d+( by default)", LEAST),
-]
+LISTS = {"proved_calls.h": proved_calls, "each_call.h": each_call}
 
 
-def wanted():
-    """The text of each file that is made, in whole or in part."""
-    texts = {path: "\n".join(make()) + "\n" for path, make in MADE.items()}
-    for path, pattern, number in PLACES:
-        texts[path], count = re.subn(pattern, rf"\g<1>{number}\g<2>", texts.get(path) or read(path), flags=re.M)
-        if count != 1:
-            sys.exit(f"{path}: {count} places for {number}: {pattern}")
-    return texts
+def write(path, make):
+    """Writes a file if it changes, in one step, since another build may do the same."""
+    text = "\n".join(make()) + "\n"
+    if not path.exists() or path.read_text("utf-8") != text:
+        path.parent.mkdir(parents=True, exist_ok=True)
+        room = path.with_name(f".{path.name}.{os.getpid()}")
+        room.write_text(text, "utf-8")
+        room.replace(path)
 
 
-def main(options):
-    if f"\n## [{VERSION}] - " not in read("CHANGELOG.md"):
-        sys.exit(f"CHANGELOG.md has no heading for version {VERSION}")
-    other = [(path, text) for path, text in wanted().items() if not Path(path).exists() or read(path) != text]
-    if options == ["--check"]:
-        sys.exit("\n".join(f"{path} differs from what it is made of: make mirror" for path, _ in other) or 0)
-    for path, text in other:
-        Path(path).write_text(text, "utf-8")
-        print(path)
+def main(folder=None):
+    for path, make in PACKAGES.items():
+        write(Path(path), make)
+    for name, make in LISTS.items() if folder else ():
+        write(Path(folder, name), make)
 
 
 if __name__ == "__main__":
-    main(sys.argv[1:])
+    main(*sys.argv[1:])

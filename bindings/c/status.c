@@ -1,0 +1,50 @@
+/* The names and the words of the statuses, which the packages ask for. Not proved. */
+#include "scrypt_c.h"
+
+#define ROW(name, text) [SCRYPT_##name] = {"SCRYPT_" #name, text}
+static const struct {
+  const char *name, *text;
+} STATUSES[] = {
+    ROW(OK, "success"),
+    ROW(MISMATCH, "the password does not match, or the hash is weaker than wanted"),
+    ROW(INVALID_PARAMS, "invalid scrypt parameters (r and p at least 1, 128 * r * 2^log_n below 2^64, "
+                        "r * p below 2^30, and a key in a hash of 10 to 64 bytes)"),
+    ROW(INVALID_OUTPUT_LEN, "the length of the key is not 1 to 137438953440 bytes"),
+    ROW(OUT_OF_MEMORY, "out of memory"),
+    ROW(ALGORITHM, "the hash names another algorithm"),
+    ROW(ENCODING_INVALID, "the text is not a PHC or $7$ hash"),
+    ROW(OUTPUT_SIZE, "the key in the hash is empty, or too long"),
+    ROW(HASH_PARAM_INVALID, "ln, r or p in the hash is not a decimal in its range"),
+    ROW(HASH_PARAMS_INVALID, "the parameters in the hash are not accepted, or it has one other than ln, r and p"),
+    ROW(SALT_INVALID, "a salt of a PHC hash has 1 to 64 bytes"),
+    ROW(VERSION, "the hash names a version, and scrypt has none"),
+    ROW(BUFFER_SIZE, "a buffer is too short or, for scrypt_key_thin, too long; or the text does not fit"),
+    ROW(TOO_COSTLY, "the parameters need more than is allowed"),
+    ROW(NO_RANDOM_BYTES, "the system has no random bytes"),
+    ROW(KEY_TOO_SHORT, "the key in the hash is shorter than is allowed"),
+    ROW(NULL_POINTER, "a pointer that may not be NULL is NULL"),
+    ROW(CLOSED, "the hasher is closed"),
+    ROW(TIMEOUT, "the hasher did not begin with it in time"),
+    ROW(OPTIONS_SIZE, "the size in the options of a hasher is not sizeof (scrypt_options)"),
+    ROW(UNFINISHED, "the derivation in steps is not at its end"),
+    ROW(INVALID_PROGRESS, "a derivation with these parameters cannot have come so far"),
+};
+#undef ROW
+
+static int is_status(int status) { return status >= 0 && (size_t)status < sizeof STATUSES / sizeof *STATUSES; }
+
+const char *scrypt_status_text(int status) { return is_status(status) ? STATUSES[status].text : "unknown status"; }
+
+const char *scrypt_status_name(int status) { return is_status(status) ? STATUSES[status].name : NULL; }
+
+int scrypt_status_is_invalid_hash(int status) {
+  switch (status) {
+    case SCRYPT_ALGORITHM:
+    case SCRYPT_ENCODING_INVALID:
+    case SCRYPT_OUTPUT_SIZE:
+    case SCRYPT_HASH_PARAM_INVALID:
+    case SCRYPT_HASH_PARAMS_INVALID:
+    case SCRYPT_VERSION: return 1;
+    default: return 0;
+  }
+}
