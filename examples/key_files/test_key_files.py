@@ -51,15 +51,16 @@ class KeyFilesTest(unittest.TestCase):
             with mock.patch("key_files.scrypt", wraps=key_files.scrypt) as ours:
                 open_file(file, PASSWORD)
             (password,), salt_and_params = ours.call_args
-            expected = hashlib.scrypt(password, **salt_and_params, maxmem=1 << 30)
-            self.assertEqual(key_files.scrypt(password, **salt_and_params), expected)
+            key = key_files.scrypt(password, **salt_and_params)
+            del salt_and_params["max_work"]
+            self.assertEqual(hashlib.scrypt(password, **salt_and_params), key)
 
     def test_limits(self):
         for open_file, file, _ in VECTORS:
-            self.refuses("above the limits", open_file, file, PASSWORD, most_bytes=1 << 20)
-            self.refuses("above the limits", open_file, file, PASSWORD, most_work=1 << 15)
+            self.refuses("maxmem=1048576", open_file, file, PASSWORD, maxmem=1 << 20)
+            self.refuses("max_work=32768", open_file, file, PASSWORD, max_work=1 << 15)
         file = VECTORS[1][1]
-        for log_n, message in ((20, "above"), (30, "above"), (63, "invalid"), (255, "invalid")):
+        for log_n, message in ((20, "need"), (30, "need"), (63, "invalid"), (255, "invalid")):
             costly = file[:7] + bytes([log_n]) + file[8:48]
             costly += hashlib.sha256(costly).digest()[:16] + file[64:]
             self.refuses(message, open_scrypt, costly, PASSWORD)
@@ -92,7 +93,7 @@ class KeyFilesTest(unittest.TestCase):
     def test_files_of_scrypt(self):
         with tempfile.TemporaryDirectory() as folder:
             source, target = Path(folder, "source"), Path(folder, "target")
-            limits = {"most_bytes": 2 << 30, "most_work": 1 << 26}
+            limits = {"maxmem": 2 << 30, "max_work": 1 << 26}
             for length, *params in ((0, 10, 8, 1), (1, 12, 1, 3), (9999, 14, 8, 2), (9, 20, 8, 1)):
                 source.write_bytes(os.urandom(length))
                 scrypt_enc(source, target, *params)

@@ -5,8 +5,8 @@ MAX_LOG_INS = 40  # at a time, in fewer threads than the server has; others are 
 
 
 class Scrypt(FalseIfRefused, PHCPasswordHasher):
-    """scrypt with the recommended parameters. No password matches a stored hash that is damaged or
-    too costly; the logger scrypt_c.django has the reason."""
+    """scrypt with the recommended parameters. A stored hash that is damaged or too costly is a wrong
+    password; the logger scrypt_c.django has the reason."""
 
     hasher = PasswordHasher(timeout=10)
 
@@ -22,7 +22,3 @@ class Scrypt(FalseIfRefused, PHCPasswordHasher):
         stats = self.hasher.stats()
         if stats.waiting + stats.deriving >= MAX_LOG_INS:
             raise TimeoutError("too many log-ins at a time")
-
-    def harden_runtime(self, password, encoded):
-        """Derives a key, so that a refused hash takes the time of a wrong password."""
-        self.hasher.hash(password)
