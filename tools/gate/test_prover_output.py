@@ -13,6 +13,7 @@ REFUSED, NO_GOAL = "fn x::walk::step: not proved\n", "REFUSED, BUT NO GOAL IS NA
 # What a check prints, the verdict on an edit of `walk::step`, and the reason for the row.
 VERDICTS = [
     (GOAL + REFUSED, "refused", "a goal of its proof"),
+    (GOAL.replace("step/", "+step/") + REFUSED, "refused", "a goal of its proof, if it calls itself"),
     (FOUND + REFUSED, "refused", "a clause, printed right before it"),
     ("fn x::walk::step: proved\n" + FOUND + "fn x::walk::step::fn-0: not proved\n", "refused", "a closure in it"),
     ("fn x::walk::step: proved\n", "NOT REFUSED", "proved"),
