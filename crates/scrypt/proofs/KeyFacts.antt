@@ -115,3 +115,5 @@ unfolding derived_key
 key_by-are_bytes c password salt n i = pbkdf2-are_bytes password _ n i
 
 pub ruleset same_keys = (same_key, padded_digest, padded_zero_byte)
+
+pub ruleset lengths = (length-key_by)

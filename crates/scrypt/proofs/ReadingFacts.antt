@@ -1,5 +1,5 @@
-use Rattle.std.proofs.Common.{◌≡◌, ◌↔◌, ◌≢◌, ◌⊎◌, ◌∙◌, ℕ, ◌≤◌, List, length, Ok, Err, inl, inr, true, false, refl, sym, ap, arith}
-use Rattle.std.specs.Prelude.{Bool, IfErr, None, Option, Result, Some, if◌then◌else◌, ok_or, ⊤, IsTrue}
+use Rattle.std.proofs.Common.{◌≡◌, ◌↔◌, ◌≢◌, ◌⊎◌, ◌∙◌, ℕ, ◌<◌, ◌≤◌, ◌-◌, ◌^◌, List, length, Ok, Err, inl, inr, true, false, refl, sym, ap, arith}
+use Rattle.std.specs.Prelude.{Bool, IfErr, None, Option, Result, Some, if◌then◌else◌, max, min, ok_or, ⊤, IsTrue}
 use Rattle.std.specs.Bool.{Decides}
 use Rattle.std.proofs.lemmas.Bool.Decides.{Decides-and, same_from_decides}
 use Rattle.std.proofs.lemmas.Slice.Eq.{bytes_eq-Decides}
@@ -13,8 +13,9 @@ use Rattle.scrypt.proofs.KeyFacts.{length-key_by}
 use Rattle.std.proofs.lemmas.Bool.{false_from_ne_true, le-ltb}
 use Rattle.scrypt.specs.Reading.{◌and_then◌, NamesNoPassword, Stored, checked, is_below, is_right, mapped, verdict, weaker}
 use Rattle.scrypt.specs.InBuffers.{are_enough}
-use Rattle.scrypt.specs.Limits.{are_within, buffers_bytes, work}
+use Rattle.scrypt.specs.Limits.{are_within, buffers_bytes, limits_for_new, work}
 use Rattle.scrypt.specs.declared.limits.Limits.{Limits}
+use Rattle.scrypt.specs.WithinLimits.{within}
 use Rattle.scrypt.specs.Workspace.{Workspace, hashed_in, verdict_in}
 
 -- what is read in two steps
@@ -130,6 +131,19 @@ pub within_decided : (limits : Limits) (c : Parameters) → Decides (are_within 
     ((buffers_bytes c.log_n c.r c.p ≤ limits.most_bytes) × (work c.log_n c.r c.p ≤ limits.most_work))
 unfolding are_within
 within_decided limits c = Decides-and _ _ (leb_decided _ _) (leb_decided _ _)
+
+admitted : (usual needed : ℕ) → needed < 2 ^ 64 → needed ≤ min (max usual needed) (2 ^ 64 - 1)
+admitted usual needed small = omega arith
+
+-- a made hash is within the limits of a hasher that makes such hashes, if 64 bits can say what it needs
+pub made_within : (usual : Limits) (c : Parameters) (password salt : List ℕ) (n : ℕ) (reading : Result Stored Refusal)
+    → reading ≡ Ok (made_stored c password salt) → n ≤ key_len_or_default c
+    → buffers_bytes c.log_n c.r c.p < 2 ^ 64 → work c.log_n c.r c.p < 2 ^ 64 → within (limits_for_new usual c n) reading ≡ reading
+made_within usual c password salt n reading is short bytes little =
+    let long = length-key_by c password salt (key_len_or_default c) in
+    let allowed = (within_decided (limits_for_new usual c n) (without_len c)).1 (admitted _ _ bytes, admitted _ _ little) in
+    let enough = (leb_decided (min usual.least_key_len n) (key_len_or_default c)).1 (omega arith) in
+    rw (is, allowed, long, enough) refl
 
 pub not_enough : (c : Parameters) (chunks table scratch : List ℕ) → ¬ IsTrue (are_enough c chunks table scratch)
     → are_enough c chunks table scratch ≡ false

@@ -13,14 +13,14 @@ ghost use Rattle.scrypt.specs.Accepted.{are_accepted, is_output_len, is_stored_l
 ghost use Rattle.scrypt_kernel.specs.BlockMix.{block_mix};
 ghost use Rattle.scrypt_kernel.specs.Salsa.{salsa20_8};
 ghost use Rattle.scrypt.specs.ChunkOrder.{NamesEachOnce, mixed_in_order};
+ghost use Rattle.scrypt.specs.Hashing.{key_len_or_default};
 ghost use Rattle.scrypt.specs.KeyOfParams.{key_by};
 ghost use Rattle.scrypt_kernel.specs.Diagonal.{AreInverse, IsBlockMixBy, diagonal_core, diagonal_order, inverse_pivot, pivot, standard_order};
 ghost use Rattle.scrypt.specs.Key.{derived_key, mixed_chunks};
 ghost use Rattle.scrypt.specs.ThinKey.{thin_key};
 ghost use Rattle.scrypt.specs.Cost.{chunks_bytes, cost, hash_cost, lengths_cost, scratch_words, table_words, thin_cost};
 ghost use Rattle.scrypt.specs.InBuffers.{are_enough};
-ghost use Rattle.scrypt.specs.Limits.{are_within, buffers_bytes, work};
-ghost use Rattle.scrypt.specs.declared.limits.Limits.{Limits};
+ghost use Rattle.scrypt.specs.Limits.{are_within, buffers_bytes, limits_for_new, work};
 ghost use Rattle.scrypt_kernel.specs.Table.{extra_rows};
 ghost use Rattle.scrypt.specs.McfParams.{params_letters, five_letter_number};
 ghost use Rattle.scrypt.specs.McfHash.{HashIsRefused as McfHashIsRefused, IsMadeHash as IsMadeMcf, IsMcfHashText, made_hash, mcf_text, read_fields, read_mcf};
@@ -28,6 +28,7 @@ ghost use Rattle.scrypt.specs.PhcParams.{params_of_pairs, written_pairs};
 ghost use Rattle.scrypt.specs.PhcHash.{HashIsRefused, IsMadeHash, phc_params, read_phc};
 ghost use Rattle.scrypt.specs.Reading.{IsOfText, NamesNoPassword, Stored, verdict, weaker};
 ghost use Rattle.scrypt.specs.StoredHash.{is_mcf_text, is_stored_text, params_reading, reading};
+ghost use Rattle.scrypt.specs.WithinLimits.{within};
 ghost use Rattle.scrypt.specs.declared.limits.Limits.{Limits};
 
 /// A shorter key is the beginning of a longer one, for any two lengths.
@@ -122,13 +123,22 @@ pub fn parameters_are_those_of_the_reading()
     ensures refused { (text : List ℕ) (why : Refusal) → params_reading text ≡ Err why → reading text ≡ Err why }
 {}
 
-/// The text of a hash made from a password with accepted parameters verifies against that password,
-/// and is not weaker than these parameters ask for.
-#[tactic(auto, using(crate::proofs::PhcHashFacts::made_hashes, crate::proofs::StoredHashFacts::made_texts))]
+/// The text of a hash made from a password with accepted parameters verifies against that password, and is not weaker than
+/// these parameters ask for. A PHC text is read as the parameters, the salt and the key that it was made of, and it is within
+/// [`Limits::for_new`](crate::Limits::for_new), if 64 bits can say what its derivation needs. A key has the length asked for.
+#[tactic(auto, using(crate::proofs::PhcHashFacts::made_hashes, crate::proofs::StoredHashFacts::made_texts, crate::proofs::KeyFacts::lengths, crate::proofs::ReadingFacts::made_within))]
 pub fn made_texts_are_accepted()
     ensures phc { (c : Parameters) (password salt : List ℕ) (hash : PasswordHash) → IsTrue (are_accepted c.log_n c.r c.p)
         → IsTrue (is_stored_len c.output_len) → IsSalt salt → IsMadeHash c password salt hash
         → (verdict password (reading (hash_text hash)) ≡ Ok tt) × (weaker c (reading (hash_text hash)) ≡ Ok false) }
+    ensures phc_read { (c : Parameters) (password salt : List ℕ) (hash : PasswordHash) → IsTrue (are_accepted c.log_n c.r c.p)
+        → IsTrue (is_stored_len c.output_len) → IsSalt salt → IsMadeHash c password salt hash
+        → reading (hash_text hash) ≡ Ok (record { params = without_len c; salt = salt; key = key_by c password salt (key_len_or_default c) }) }
+    ensures phc_within { (usual : Limits) (c : Parameters) (password salt : List ℕ) (hash : PasswordHash) (n : ℕ)
+        → IsTrue (are_accepted c.log_n c.r c.p) → IsTrue (is_stored_len c.output_len) → IsSalt salt → IsMadeHash c password salt hash
+        → n ≤ key_len_or_default c → buffers_bytes c.log_n c.r c.p < 2 ^ 64 → work c.log_n c.r c.p < 2 ^ 64
+        → within (limits_for_new usual c n) (reading (hash_text hash)) ≡ reading (hash_text hash) }
+    ensures key_len { (c : Parameters) (password salt : List ℕ) (n : ℕ) → length (key_by c password salt n) ≡ n }
     ensures mcf { (c : Parameters) (password salt text : List ℕ) → IsMadeMcf c password salt text
         → (verdict password (reading text) ≡ Ok tt) × (weaker c (reading text) ≡ Ok false) }
 {}

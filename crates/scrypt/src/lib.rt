@@ -32,6 +32,7 @@ mod rehashing;
 mod stepping;
 mod stored_hash;
 mod stored_parts;
+mod texts;
 mod verifying;
 mod wiping;
 
@@ -54,4 +55,5 @@ pub use stepping::{
     Cancelled, FinishError, Progress, begin, cores_done, finish, is_within, scrypt_in_steps, step,
 };
 pub use stored_hash::StoredHash;
+pub use texts::hash_text;
 pub use wiping::wipe;

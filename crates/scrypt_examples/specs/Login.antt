@@ -1,18 +1,13 @@
 -- Enrolling and logging in.
-use Rattle.std.specs.Prelude.{◌≡◌, ℕ, ◌+◌, ◌*◌, ◌≤◌, List, Bool, true, false, Option, None, Some, Result, Ok, Err, string_bytes, ⊤, IsTrue}
+use Rattle.std.specs.Prelude.{◌≡◌, ℕ, ◌+◌, ◌*◌, ◌≤◌, List, Bool, true, false, Option, None, Some, Result, Ok, Err, string_bytes, ⊤}
 use Rattle.password_hash.specs.Refusal.{Refusal, PasswordInvalid}
-use Rattle.scrypt.specs.Accepted.{are_accepted, Parameters}
+use Rattle.scrypt.specs.Accepted.{Parameters}
 use Rattle.scrypt.specs.PhcHash.{IsMadeText}
 use Rattle.scrypt.specs.Reading.{verdict, weaker}
 use Rattle.scrypt.specs.StoredHash.{reading}
 use Rattle.scrypt_kernel.specs.declared.cores.count.CoreCount.{CoreCount}
 use Rattle.scrypt_examples.specs.declared.login.LoginOutcome.{LoginOutcome}
 use Rattle.scrypt_examples.specs.declared.login.LoginOutcome.TheVariants.{In, InWithNewText, Refused}
-
--- parameters that hashing takes, with no length: it makes a key of 32 bytes
-pub record AreWanted (c : Parameters) : Type 0 where
-  pub accepted : IsTrue (are_accepted c.log_n c.r c.p)
-  pub no_len : c.output_len ≡ None
 
 -- The text is that of a hash made with these parameters of the password and the salt; so it lets the password
 -- in, and is not weaker than wanted.

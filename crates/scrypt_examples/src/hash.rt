@@ -7,9 +7,8 @@ ghost use Rattle.scrypt.specs.PhcHash.{IsMadeText};
 ghost use Rattle.scrypt.specs.Reading.{IsVerdict, with_refusal};
 ghost use Rattle.scrypt.specs.StoredHash.{reading};
 
-use password_hash::{PasswordHasher, Result};
-use scrypt::phc::PasswordHash;
-use scrypt::{Scrypt, StoredHash};
+use password_hash::Result;
+use scrypt::{Params, StoredHash, hash_text};
 use std::alloc::Global;
 
 /// The text to store: `$scrypt$..`. The salt is drawn at random.
@@ -18,8 +17,7 @@ pub fn stored_text(alloc: Global, password: &[u8], salt: [u8; 16]) -> Result<Str
         IsMadeText recommended_parameters password.now salt (string_bytes text)) }
     ensures err { IfErr result (λ e. e ≡ OutOfMemory) }
 {
-    let hash: PasswordHash = Scrypt::new().hash_password(alloc, password, salt)?;
-    Ok(hash.to_string(alloc)?)
+    hash_text(alloc, password, salt, &Params::default())
 }
 
 /// Returns `Ok` if the stored text accepts the password, and `PasswordInvalid` if it does not.

@@ -7,12 +7,11 @@ ghost use Rattle.scrypt.specs.Accepted.{are_accepted};
 ghost use Rattle.scrypt.specs.McfHash.{IsMadeHash as IsMadeMcf};
 ghost use Rattle.scrypt.specs.Reading.{verdict, weaker};
 ghost use Rattle.scrypt.specs.StoredHash.{reading};
-ghost use Rattle.scrypt_examples.specs.Login.{AreWanted, IsEnrolled, let_in, lets_in, new_text};
+ghost use Rattle.scrypt_examples.specs.Login.{IsEnrolled, let_in, lets_in, new_text};
 
 use password_hash::{Error, PasswordHasher, Result, mcf};
 use scrypt::laws::made_texts_are_accepted;
-use scrypt::phc::PasswordHash;
-use scrypt::{InvalidParams, Params, Scrypt, StoredHash};
+use scrypt::{InvalidParams, Params, Scrypt, StoredHash, hash_text};
 use std::alloc::Global;
 
 /// The outcome of a login.
@@ -30,7 +29,6 @@ pub enum LoginOutcome {
 #[derive(Clone, Copy)]
 pub struct LoginPolicy {
     wanted: Params,
-    pub ghost are_wanted: { AreWanted wanted },
 }
 
 impl LoginPolicy {
@@ -54,10 +52,7 @@ impl LoginPolicy {
             IsEnrolled self.now.wanted password.now salt (string_bytes text)) }
         ensures err { IfErr result (λ e. e ≡ OutOfMemory) }
     {
-        made_texts_are_accepted();
-        let hasher = Scrypt::new_with_params(self.wanted);
-        let hash: PasswordHash = hasher.hash_password(alloc, password, salt)?;
-        Ok(hash.to_string(alloc)?)
+        hash_text(alloc, password, salt, &self.wanted)
     }
 
     /// The `$7$` text to store for a new user of a system that reads crypt(3) texts. The salt is drawn at random.

@@ -1,0 +1,24 @@
+use Rattle.std.proofs.Common.{rules}
+use Rattle.password_hash.specs.Phc.{IsSalt}
+use Rattle.scrypt.proofs.texts.hash_text.Goals as goal
+
+pub returns : goal.returns
+returns c =
+    let params = c.args.params.now in
+    let hash = c.in_ok-hash.hash in
+    let made = rw c.new_with_params.ensures.value at c.in_ok-hash.ensures.ok in
+    let printed = c.in_ok-to_string.ensures.ok in
+    let salt : IsSalt c.args.salt = record { are_bytes = λ i. search rules; enough = search rules; fits = search rules } in
+    let accepted = c.expose_invariant.ensures.accepted in
+    let stored = c.expose_invariant.ensures.stored in
+    let law = c.made_texts_are_accepted.ensures.phc params c.args.password.now c.args.salt hash accepted stored salt made in
+    let read = c.made_texts_are_accepted.ensures.phc_read params c.args.password.now c.args.salt hash accepted stored salt made in
+    record {
+      made = (hash, made, printed);
+      read = rw printed read;
+      accepts = rw printed law.0;
+      strong = rw printed law.1;
+      within = λ usual n short bytes little. rw printed (c.made_texts_are_accepted.ensures.phc_within usual params c.args.password.now
+          c.args.salt hash n accepted stored salt made short bytes little);
+      err = tt;
+    }
