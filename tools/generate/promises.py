@@ -1,7 +1,6 @@
-"""Writes docs/PROMISES.md from the sources: the public functions of each file with a checksum of their clauses, and the
-definitions to review for the two promises at its top, with a checksum of all definitions of each crate.
-
-Everything but tools/generate/not_promised.md is generated, without the kit and without packages.
+"""Writes docs/PROMISES.md: fills the places {name} of tools/generate/promises.md from the sources, without the kit and without
+packages. These are the clauses of a key and of a verdict with their definitions, the headline, the definitions to review, the
+public functions of each file, and checksums of each crate's clauses and definitions.
 
 usage: python3 -m tools.generate.promises          writes the page
        python3 -m tools.generate.promises check    refuses a page that differs from the sources, another number of lines to read in TRUST,
@@ -10,12 +9,12 @@ usage: python3 -m tools.generate.promises          writes the page
 """
 
 import hashlib
+import itertools
 import json
 import os
 import re
 import sys
 import textwrap
-from collections import Counter
 
 from tools.generate import comments
 from tools.generate.library import Library
@@ -23,7 +22,7 @@ from tools.generate.views import Views
 from tools.generate import kit
 from tools.generate.sources import read
 
-PAGE = "docs/PROMISES.md"
+PAGE, TEMPLATE = "docs/PROMISES.md", "tools/generate/promises.md"
 
 # Relations that are not about calls: the shape of a model, and the laws of a derived relation.
 OF_MODELS = {"laws", "view", "invariant", "inverse_ok", "Value", "inverse", "inverse_invariant", "view_ok"}
@@ -33,43 +32,16 @@ KEY = ["scrypt::Params::new accepted", *(f"scrypt::scrypt_counted {it}" for it i
 VERDICT = [f"scrypt::StoredHash::{it}" for it in ("verify_with_buffers verdict", "verify_with_buffers left")]
 VERDICT += ["scrypt::StoredHash::read reading"]
 
-TEXT = """# Promises
-
-Written by `make promises` from the sources, and compared with them by `make documents`.
-
-Every call returns, no index leaves its slice, and nothing panics or overflows. The public functions below have clauses,
-which are proved for every input. A clause is above its function's body; the packages have all of them in one file,
-`CLAUSES.md`, and `make doc` makes pages of them, on which each name is a link.
-
-{headline}
-
-Want of memory is the error `OutOfMemory`, and the buffers are those of `scrypt_with_buffers`.
-
-{verifying}
-
-The clauses count cores, and the blocks that SHA-256 compresses. That each is counted, and each core computed for that
-count, is checked by reading.
-
-{not_promised}
-
-## What to review
-
-The definitions that the promises above rest on, that of the key and that of the verdict, in reading order. Comments
-are not counted.
-
-{reading}
-
-## What is proved
-
-The public functions of each file, and its traits and implementations that have clauses; the number of clauses of each,
-and a checksum of the text of these clauses. If a promise changes, so does its checksum.
-
-{functions}
-
-The definitions of each crate, public or not, in files of `specs/`:
-
-{definitions}
-"""
+# What the page quotes: functions with their clauses, and definitions with the comments on them, which name the standard's steps.
+QUOTED = {
+    "clauses_of_a_key": [("scrypt", "derivation", ["scrypt"])],
+    "definitions_of_a_key": [
+        ("scrypt", "Key", ["mixed_chunk", "mixed_chunks", "mixed_b", "derived_key"]),
+        ("scrypt_kernel", "RoMix", ["row", "integerify", "walk", "ro_mix"]),
+    ],
+    "clauses_of_a_verdict": [("scrypt", "stored_hash", ["StoredHash::verify"])],
+    "definitions_of_a_verdict": [("scrypt", "Reading", ["is_right", "verdict", "IsVerdict"])],
+}
 
 CLAUSES = """# Every clause
 
@@ -122,19 +94,46 @@ def functions(library):
         rows = []
         for source, found in files(library, crate):
             names = ", ".join(f"`{name_of(item)}` {len(clauses)}" for item, clauses in found)
-            texts = checksum(text_of(*it) for it in found)
-            rows.append(f"| [{source.module or crate}](../{os.path.normpath(source.path)}) | {names} | `{texts}` |")
+            rows.append(filled(f"[{source.module or crate}](../{os.path.normpath(source.path)}): {names}", "- "))
         if rows:
-            yield "\n".join([f"### {crate}\n", "| file | functions, with the number of clauses | checksum |", "|---|---|---|", *rows, ""])
+            yield "\n".join([f"### {crate}\n", *rows, ""])
 
 
-def definitions(library):
-    yield "| crate | files | definitions | checksum |\n|---|---|---|---|"
+def checksums(library):
+    yield "| crate | with clauses | checksum | definitions | checksum |\n|---|---|---|---|---|"
     for crate in library.crates():
-        found = [it for module in library.specs_of(crate) for it in module.definitions.values()]
-        if found:
-            count = sum(bool(module.definitions) for module in library.specs_of(crate))
-            yield f"| {crate} | {count} | {len(found)} | `{checksum(it.text for it in found)}` |"
+        promises = [it for _, found in files(library, crate) for it in found]
+        texts = [it.text for module in library.specs_of(crate) for it in module.definitions.values()]
+        parts = [*map(lambda it: text_of(*it), promises)], texts
+        yield " | ".join([f"| {crate}", *(f"{len(it)} | `{checksum(it)}`" for it in parts)]) + " |"
+
+
+def quoted_function(library, crate, module, name):
+    """The head of a function as the source has it, with its clauses and without its body."""
+    source = library.sources[crate][module]
+    item = next(it for it in source.items if it.kind == "fn" and name_of(it) == name)
+    return textwrap.dedent("\n".join(source.text.splitlines()[item.line - 1 : item.opened - 1]))
+
+
+def quoted_definition(library, crate, module, name):
+    """A definition as its file has it, with the comment above it."""
+    it = library.modules[f"Rattle.{crate}.specs.{module}"]
+    lines, definition = read(it.path).splitlines(), it.definitions[name]
+    above = list(itertools.takewhile(lambda line: line.startswith("--"), reversed(lines[: definition.line - 1])))
+    return "\n".join([*reversed(above), definition.text])
+
+
+def quoted(library, place):
+    """Blocks of code, one for each file, after its name and the sentences with which it begins."""
+    for crate, module, names in QUOTED[place]:
+        if module in library.sources[crate]:
+            path, language, quote, comment = library.sources[crate][module].path, "rust", quoted_function, ""
+        else:
+            it = library.modules[f"Rattle.{crate}.specs.{module}"]
+            path, language, quote, comment = it.path, "agda", quoted_definition, f": {it.comment}"
+        text = "\n\n".join(quote(library, crate, module, name) for name in names)
+        path = os.path.normpath(path)
+        yield filled(f"[{path}](../{path}){comment}") + f"\n\n```{language}\n{text}\n```\n"
 
 
 def clauses(library):
@@ -147,32 +146,35 @@ def clauses(library):
                 yield "\n".join(filter(None, [f"`{name_of(item)}`{': ' if words else ''}{words}", f"\n```\n{text_of(item, its)}\n```\n"]))
 
 
-def reading(views, title, clauses):
-    """What to read for a promise, in reading order, with the lines of each file."""
-    parts, totals = [], Counter()
-    for module, shown in views.reading(views.clauses(clauses)):
-        crate, lines = module.name.split(".")[1], sum(it.lines for it in shown)
-        totals[crate] += lines
-        parts.append(f"  - [{crate}/{module.short}](../{module.path}), {lines} lines: {named(it.name for it in shown)}")
-    count = sum(len(shown) for _, shown in views.reading(views.clauses(clauses)))
-    by_crate = ", ".join(f"{lines} in {crate}" for crate, lines in totals.items())
-    return "\n".join([f"- For {title}: {count} definitions of {totals.total()} lines ({by_crate}).", *parts])
+def reading(views):
+    """What to read for the two promises, in reading order, with the lines of each file."""
+    known = set()
+    for title, clauses in (("For the key", KEY), ("For the verdict, with those of the key", VERDICT)):
+        modules = views.reading(views.clauses(clauses))
+        every = [it for _, shown in modules for it in shown]
+        yield filled(f"{title}: {len(every)} definitions of {sum(it.lines for it in every)} lines.", "- ")
+        for module, shown in modules:
+            if new := [it for it in shown if it.key not in known]:
+                file = f"[{module.name.split('.')[1]}/{module.short}](../{module.path})"
+                yield filled(f"{file}, {sum(it.lines for it in new)} lines: {named(it.name for it in new)}", "  - ")
+        known |= {it.key for it in every}
 
 
-def filled(text):
-    return textwrap.fill(text, 120, break_long_words=False, break_on_hyphens=False)
+def filled(text, begin=""):
+    options = {"break_long_words": False, "break_on_hyphens": False}
+    return textwrap.fill(text, 100, initial_indent=begin, subsequent_indent=" " * len(begin), **options)
 
 
 def page(views):
-    phrases = json.loads(read("tools/generate/headline.json"))
-    return TEXT.format(
-        headline=filled("".join(it[0] for it in phrases["headline"])),
-        verifying=filled(", ".join(it[0] for it in phrases["verifying"]) + "."),
-        not_promised=read("tools/generate/not_promised.md").strip(),
-        reading="\n".join([reading(views, "the key", KEY), reading(views, "the verdict", VERDICT)]),
-        functions="\n".join(functions(views.library)).strip(),
-        definitions="\n".join(definitions(views.library)),
-    )
+    library, phrases = views.library, json.loads(read("tools/generate/headline.json"))
+    parts = {place: "\n".join(quoted(library, place)).strip() for place in QUOTED}
+    parts |= {
+        "headline": textwrap.indent(filled("".join(it[0] for it in phrases["headline"])), "> "),
+        "reading": "\n".join(reading(views)),
+        "functions": "\n".join(functions(library)).strip(),
+        "checksums": "\n".join(checksums(library)),
+    }
+    return re.sub(r"^\{(\w+)\}$", lambda found: parts[found[1]], read(TEMPLATE), flags=re.M)
 
 
 def wrong(views):
@@ -181,9 +183,9 @@ def wrong(views):
     if read(PAGE) != page(views):
         yield f"{PAGE} differs from the sources: make promises"
     key, verdict = (sum(it.lines for _, shown in views.reading(views.clauses(its)) for it in shown) for its in (KEY, VERDICT))
-    lines = f"{key} lines for the key, {verdict} for the verdict"
-    if lines not in read("docs/TRUST.md"):
-        yield f"docs/TRUST.md: what to read is {lines}"
+    for path, lines in {"docs/TRUST.md": f"{key} lines for the key, {verdict} for the verdict", "README.md": f"[{verdict} lines]"}.items():
+        if lines not in read(path):
+            yield f"{path}: what to read is {lines}"
 
 
 def main():
