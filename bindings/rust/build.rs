@@ -1,7 +1,7 @@
-//! Finds the library libscrypt_c: the file that SCRYPT_C_LIBRARY names, or the one in the folder that it names, or else the
-//! static one that this crate has for the target, or else what pkg-config finds. It takes nothing from the folders around
-//! the crate, where another user may have put anything. For a target that the library isn't made for, it
-//! says so.
+//! Finds the library libscrypt_c: the file that SCRYPT_C_LIBRARY names, or the one in the folder
+//! that it names, or else the static one that this crate has for the target, or else what
+//! pkg-config finds. It takes nothing from the folders around the crate, where another user may
+//! have put anything. For a target that the library isn't made for, it says so.
 
 use std::path::Path;
 use std::process::Command;
@@ -62,7 +62,8 @@ fn bundled() -> &'static str {
     }
 }
 
-/// Links what pkg-config finds: that of the machine for its own programs, and for another target one that the caller names.
+/// Links what pkg-config finds: that of the machine for its own programs, and for another target
+/// one that the caller names.
 fn link_by_pkg_config() -> Result<(), String> {
     let (host, target) = (std::env::var("HOST"), std::env::var("TARGET"));
     let program = match std::env::var("PKG_CONFIG") {
@@ -96,8 +97,8 @@ fn check_target() -> Result<(), String> {
     }
     let target = std::env::var("TARGET").unwrap_or_default();
     Err(format!(
-        "scrypt_c is for Linux on x86_64 and on aarch64, and for Windows on x86_64 with the GNU tools, not for {target} \
-         ({system} on {processor})"
+        "scrypt_c is for Linux on x86_64 and on aarch64, and for Windows on x86_64 with the GNU \
+         tools, not for {target} ({system} on {processor})"
     ))
 }
 
@@ -119,9 +120,10 @@ fn main() {
     };
     if let Err(why) = linked {
         eprintln!(
-            "scrypt_c needs the library libscrypt_c: {why}. Use the crate of a release, which has it; or run make lib in the \
-             repository; or install it (of a release: the package libscrypt-c-dev or its archive; of the sources: make lib \
-             install); or let SCRYPT_C_LIBRARY name its folder or its file."
+            "scrypt_c needs the library libscrypt_c: {why}. Use the crate of a release, which has \
+             it; or run make lib in the repository; or install it (of a release: the package \
+             libscrypt-c-dev or its archive; of the sources: make lib install); or let \
+             SCRYPT_C_LIBRARY name its folder or its file."
         );
         std::process::exit(1);
     }

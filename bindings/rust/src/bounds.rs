@@ -2,8 +2,10 @@
 
 use crate::calls::{self, scrypt_params_need, RawNeeds, OK};
 use crate::Params;
+use std::fmt;
 
-/// The bounds above which a derivation is refused: an untrusted hash chooses its own cost, which may be days of work.
+/// The bounds above which a derivation is refused: an untrusted hash chooses its own cost, which
+/// may be days of work.
 #[derive(Clone, Copy, Debug, PartialEq, Eq)]
 pub struct Bounds {
     /// The most bytes of its buffers, as [`Params::memory`] counts them.
@@ -13,11 +15,13 @@ pub struct Bounds {
 }
 
 impl Bounds {
-    /// The default bounds of the library, which admit four times the work of the recommended parameters.
+    /// The default bounds of the library, which admit four times the work of the recommended
+    /// parameters.
     pub const USUAL: Bounds =
         Bounds { most_bytes: calls::MOST_BYTES as usize, most_work: calls::MOST_WORK };
 
-    /// The least length of the key in a hash that a [`Hasher`](crate::Hasher) verifies, unless new keys are shorter.
+    /// The least length of the key in a hash that a [`Hasher`](crate::Hasher) verifies, unless new
+    /// keys are shorter.
     pub const LEAST_KEY_LEN: usize = calls::LEAST_KEY_LEN as usize;
 
     /// Whether a derivation with these parameters is within the bounds.
@@ -29,13 +33,42 @@ impl Bounds {
     }
 }
 
+/// What a derivation needs, and the bounds that it exceeds.
+#[derive(Clone, Copy, Debug, PartialEq, Eq)]
+pub struct Cost {
+    /// Its parameters.
+    pub params: Params,
+    /// The number of bytes of its buffers, as [`Params::memory`] counts them.
+    pub memory: u64,
+    /// Its work, as [`Params::work`] counts it.
+    pub work: u64,
+    /// What is allowed.
+    pub bounds: Bounds,
+}
+
+impl Cost {
+    pub(crate) fn of(params: Params, bounds: Bounds) -> Cost {
+        Cost { params, memory: params.memory(), work: params.work(), bounds }
+    }
+}
+
+impl fmt::Display for Cost {
+    fn fmt(&self, f: &mut fmt::Formatter<'_>) -> fmt::Result {
+        let Cost { params, memory, work, bounds } = self;
+        let (log_n, r, p) = (params.log_n(), params.r(), params.p());
+        write!(f, "log_n={log_n}, r={r}, p={p} need {memory} bytes and a work of {work}, with ")?;
+        write!(f, "most_bytes={} and most_work={}", bounds.most_bytes, bounds.most_work)
+    }
+}
+
 impl Default for Bounds {
     fn default() -> Bounds {
         Bounds::USUAL
     }
 }
 
-/// The constants are those of a hasher that is made without options, which is not freed, so that they can be read.
+/// The constants are those of a hasher that is made without options, which is not freed, so that
+/// they can be read.
 #[cfg(test)]
 #[test]
 fn usual_bounds_of_the_library() {

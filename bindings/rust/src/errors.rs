@@ -1,8 +1,9 @@
 //! Why calls fail.
 
 use crate::calls::*;
-use std::ffi::CStr;
+use crate::Cost;
 use std::fmt;
+use std::os::raw::c_int;
 
 /// The parameters are not accepted.
 #[derive(Clone, Copy, Debug, PartialEq, Eq)]
@@ -47,10 +48,17 @@ pub enum Error {
     /// The hash names a version, and scrypt has none.
     Version,
     /// The parameters need more memory or more work than is allowed. Nothing was derived.
-    /// [`Hasher::refusal`](crate::Hasher::refusal) has the numbers.
-    TooCostly,
-    /// The key in the hash is shorter than is allowed: too many wrong passwords match it. Nothing was derived.
-    KeyTooShort,
+    TooCostly(Cost),
+    /// The key in the hash has fewer bytes than is allowed: too many wrong passwords match it.
+    /// Nothing was derived.
+    KeyTooShort {
+        /// How many bytes the key has.
+        len: usize,
+        /// How many it has at least in a hash that is verified.
+        min: usize,
+    },
+    /// No parameters take as little time and memory as [`calibrate`](crate::calibrate()) was given.
+    NoParams,
     /// The system has no random bytes for a salt.
     NoRandomBytes,
     /// The hasher is closed.
@@ -61,8 +69,8 @@ pub enum Error {
     Status(i32),
 }
 
-// The statuses that a call of this crate can return, and the error of each.
-const BY_STATUS: [(i32, Error); 16] = [
+// The errors that are a status and nothing else.
+const BY_STATUS: [(c_int, Error); 14] = [
     (MISMATCH, Error::PasswordInvalid),
     (INVALID_PARAMS, Error::InvalidParams),
     (INVALID_OUTPUT_LEN, Error::InvalidOutputLen),
@@ -74,8 +82,6 @@ const BY_STATUS: [(i32, Error); 16] = [
     (HASH_PARAMS_INVALID, Error::ParamsInvalid),
     (SALT_INVALID, Error::SaltInvalid),
     (VERSION, Error::Version),
-    (TOO_COSTLY, Error::TooCostly),
-    (KEY_TOO_SHORT, Error::KeyTooShort),
     (NO_RANDOM_BYTES, Error::NoRandomBytes),
     (CLOSED, Error::Closed),
     (TIMEOUT, Error::Timeout),
@@ -107,9 +113,27 @@ impl Error {
         found.map_or(Error::Status(status), |it| it.1)
     }
 
-    /// Whether the text is not a hash that this crate can read, so that neither the password nor the memory is at fault.
+    // The status whose words the error has.
+    fn status(&self) -> c_int {
+        match self {
+            Error::TooCostly(_) => TOO_COSTLY,
+            Error::KeyTooShort { .. } => KEY_TOO_SHORT,
+            Error::Status(status) => *status,
+            plain => BY_STATUS.iter().find(|it| it.1 == *plain).map_or(OK, |it| it.0),
+        }
+    }
+
+    /// Whether the text is not a hash that this crate can read, so that neither the password nor
+    /// the memory is at fault.
     pub fn is_invalid_hash(&self) -> bool {
-        self.status().map_or(false, |it| unsafe { scrypt_status_is_invalid_hash(it) } != 0)
+        OF_TEXT.contains(&self.status())
+    }
+
+    /// Whether a stored hash is refused, whatever the password is: `TooCostly`, `KeyTooShort`, and
+    /// the errors of [`Error::is_invalid_hash`]. A login logs it, and answers as for a wrong
+    /// password.
+    pub fn is_refused(&self) -> bool {
+        self.is_invalid_hash() || matches!(self.status(), TOO_COSTLY | KEY_TOO_SHORT)
     }
 
     // The status that C returns for this error.
@@ -153,11 +177,15 @@ impl fmt::Display for DeriveError {
 
 impl fmt::Display for Error {
     fn fmt(&self, f: &mut fmt::Formatter<'_>) -> fmt::Result {
-        match (self, self.status()) {
-            (Error::Status(status), _) => write!(f, "status {status} of a newer library"),
-            // C has one text for two statuses of this number.
-            (_, Some(MISMATCH)) => f.write_str("the password does not match the hash"),
-            (_, status) => f.write_str(text_of(status.unwrap_or(-1))),
+        let words = WORDS.iter().find(|it| it.0 == self.status()).map_or("", |it| it.1);
+        match self {
+            Error::NoParams => f.write_str("even log_n=10, r=8, p=1 take more time, or memory"),
+            Error::Status(status) => write!(f, "status {status} of a newer library"),
+            Error::TooCostly(cost) => write!(f, "{words}: {cost}"),
+            Error::KeyTooShort { len, min } => {
+                write!(f, "{words}: its length is {len}, and at least {min} is required")
+            }
+            _ => f.write_str(words),
         }
     }
 }
@@ -173,14 +201,16 @@ mod tests {
     /// Each status of the header is an error with words, unless it cannot come.
     #[test]
     fn statuses_of_the_header() {
-        for status in (0..256).filter(|it| !unsafe { scrypt_status_name(*it) }.is_null()) {
-            let cannot_come = matches!(
-                status,
-                OK | BUFFER_SIZE | NULL_POINTER | OPTIONS_SIZE | UNFINISHED | INVALID_PROGRESS
-            );
-            let (error, text) = (Error::of(status), text_of(status));
-            assert_eq!(matches!(error, Error::Status(_)), cannot_come, "{text}");
-            assert!(cannot_come || status == MISMATCH || error.to_string() == text, "{error}");
+        for (status, words) in WORDS {
+            let cannot_come =
+                [OK, BUFFER_SIZE, NULL_POINTER, OPTIONS_SIZE, UNFINISHED, INVALID_PROGRESS]
+                    .contains(&status);
+            let has_numbers = [TOO_COSTLY, KEY_TOO_SHORT].contains(&status);
+            let error = Error::of(status);
+            assert_eq!(matches!(error, Error::Status(_)), cannot_come || has_numbers, "{words}");
+            assert!(cannot_come || has_numbers || error.to_string() == words, "{error}");
+            assert_eq!(error.is_invalid_hash(), OF_TEXT.contains(&status), "{words}");
         }
+        assert_eq!(Error::Status(99).to_string(), "status 99 of a newer library");
     }
 }

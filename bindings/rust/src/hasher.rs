@@ -1,7 +1,8 @@
 //! Password hashes.
 
 use crate::calls::*;
-use crate::{Bounds, Error, Params};
+use crate::{Bounds, Cost, Error, Params};
+use std::os::raw::c_int;
 use std::ptr::{null, NonNull};
 use std::sync::Arc;
 use std::time::Duration;
@@ -25,16 +26,18 @@ pub struct Options {
     pub format: Format,
     /// The length of the salt of a new hash, 1 to 64 bytes.
     pub salt_len: usize,
-    /// How many tables may exist at the same time. 0, the default, means two for each processor, or as many of the bound on
-    /// bytes as the machine and its control group have room for.
+    /// How many tables may exist at the same time. 0, the default, means two for each processor, or
+    /// as many of the bound on bytes as the machine and its control group have room for.
     pub at_once: usize,
-    /// How many derivations may run at the same time. 0, the default, means one for each processor that the process may
-    /// use, by its affinity and its CPU quota.
+    /// How many derivations may run at the same time. 0, the default, means one for each processor
+    /// that the process may use, by its affinity and its CPU quota.
     pub processors: usize,
-    /// How long a call waits for a free processor before it returns `Timeout`, rounded up to milliseconds. `None`, the
-    /// default, means without a bound. The time of a derivation does not count.
+    /// How long a call waits for a free processor before it returns `Timeout`, rounded up to
+    /// milliseconds. `None`, the default, means without a bound. The time of a derivation does not
+    /// count.
     pub timeout: Option<Duration>,
-    /// The bounds above which a hash is refused: by default [`Bounds::USUAL`], or what new hashes need if that is more.
+    /// The bounds above which a hash is refused: by default [`Bounds::USUAL`], or what new hashes
+    /// need if that is more.
     pub bounds: Option<Bounds>,
 }
 
@@ -65,14 +68,16 @@ pub struct Stats {
 
 /// Makes password hashes, and verifies passwords against hashes of either format.
 ///
-/// Any number of threads may use it, and its clones are the same hasher. At most one thread for each processor derives at
-/// a time, and the others wait, first come, first served, at most for [`Options::timeout`]. Of those that wait,
-/// verifications with the same N, r and p are derived together if there are tables for them, which on some processors takes
-/// less time than one after another. No error of one affects another.
+/// Any number of threads may use it, and its clones are the same hasher. At most one thread for
+/// each processor derives at a time, and the others wait, first come, first served, at most for
+/// [`Options::timeout`]. Of those that wait, verifications with the same N, r and p are derived
+/// together if there are tables for them, which on some processors takes less time than one after
+/// another. No error of one affects another.
 ///
-/// A hasher holds at most [`Options::at_once`] tables, whatever p is, and keeps their memory for later calls until it is
-/// closed or dropped.  A hash that needs more than the bounds is refused without waiting, and so is one whose key has fewer
-/// than [`Bounds::LEAST_KEY_LEN`] bytes, or than new keys if that is less.
+/// A hasher holds at most [`Options::at_once`] tables, whatever p is, and keeps their memory for
+/// later calls until it is closed or dropped.  A hash that needs more than the bounds is refused
+/// without waiting, and so is one whose key has fewer than [`Bounds::LEAST_KEY_LEN`] bytes, or than
+/// new keys if that is less.
 ///
 /// After a fork the hasher works in the child too, which has none of the parent's calls and memory.
 #[derive(Clone, Debug)]
@@ -84,7 +89,8 @@ struct Inner {
     options: Options,
 }
 
-// SAFETY: any thread may make any call of the library on a hasher, except to free it during another call.
+// SAFETY: any thread may make any call of the library on a hasher, except to free it during another
+// call.
 unsafe impl Send for Inner {}
 unsafe impl Sync for Inner {}
 
@@ -111,8 +117,8 @@ impl Hasher {
     ///
     /// # Errors
     ///
-    /// `SaltInvalid` unless the salt has 1 to 64 bytes, `TooCostly` if new hashes need more than the bounds, and
-    /// `OutOfMemory`.
+    /// `SaltInvalid` unless the salt has 1 to 64 bytes, `TooCostly` if new hashes need more than
+    /// the bounds, and `OutOfMemory`.
     pub fn new(options: Options) -> Result<Hasher, Error> {
         let Options { params, format, salt_len, at_once, processors, bounds, .. } = options;
         if salt_len == 0 {
@@ -138,6 +144,10 @@ impl Hasher {
         // SAFETY: both are this function's own, and the options have their size.
         match NonNull::new(unsafe { scrypt_hasher_new(&raw, &mut status) }) {
             Some(raw) => Ok(Hasher(Arc::new(Inner { raw, options }))),
+            None if status == TOO_COSTLY => {
+                let bounds = options.bounds.unwrap_or_default();
+                Err(Error::TooCostly(Cost::of(params, bounds)))
+            }
             None => Err(Error::of(status)),
         }
     }
@@ -163,7 +173,8 @@ impl Hasher {
     /// What the hasher does now, for metrics.
     pub fn stats(&self) -> Stats {
         let mut now = RawStats::default();
-        // SAFETY: the hasher is there until this returns, and the place is this function's own; so the status is OK.
+        // SAFETY: the hasher is there until this returns, and the place is this function's own; so
+        // the status is OK.
         unsafe { scrypt_hasher_stats(self.raw(), &mut now) };
         Stats { waiting: now.waiting, deriving: now.deriving, refused: now.refused }
     }
@@ -181,7 +192,8 @@ impl Hasher {
     ///
     /// # Errors
     ///
-    /// `SaltInvalid` unless the salt of a PHC hash has 1 to 64 bytes, `Closed`, `Timeout` and `OutOfMemory`.
+    /// `SaltInvalid` unless the salt of a PHC hash has 1 to 64 bytes, `Closed`, `Timeout` and
+    /// `OutOfMemory`.
     pub fn hash_with_salt(&self, password: impl AsRef<[u8]>, salt: &[u8]) -> Result<String, Error> {
         self.text(password.as_ref(), Some(salt))
     }
@@ -189,11 +201,12 @@ impl Hasher {
     fn text(&self, password: &[u8], salt: Option<&[u8]>) -> Result<String, Error> {
         // NULL asks for a random salt, of at most 64 bytes. The pointer of a slice is never NULL.
         let (salt, salt_len) = salt.map_or((null(), 0), |it| (it.as_ptr(), it.len()));
-        // SAFETY: the hasher is there until this returns, and each pointer is that of a slice of the length after it.
+        // SAFETY: the hasher is there until this returns, and each pointer is that of a slice of
+        // the length after it.
         #[rustfmt::skip]
         let write = |text: &mut [u8]| unsafe {
-            scrypt_hasher_hash(self.raw(), password.as_ptr().cast(), password.len(), salt.cast(), salt_len,
-                text.as_mut_ptr().cast(), text.len(), self.most_ms())
+            scrypt_hasher_hash(self.raw(), password.as_ptr().cast(), password.len(),
+                salt.cast(), salt_len, text.as_mut_ptr().cast(), text.len(), self.most_ms())
         };
         text_by(write, salt_len.max(64))
     }
@@ -202,8 +215,8 @@ impl Hasher {
     ///
     /// # Errors
     ///
-    /// `InvalidOutputLen` if the output is empty or longer than scrypt allows, `Closed`, `Timeout` and `OutOfMemory`, which leave
-    /// the output unchanged.
+    /// `InvalidOutputLen` if the output is empty or longer than scrypt allows, `Closed`, `Timeout`
+    /// and `OutOfMemory`, which leave the output unchanged.
     pub fn key(
         &self,
         password: impl AsRef<[u8]>,
@@ -211,11 +224,12 @@ impl Hasher {
         output: &mut [u8],
     ) -> Result<(), Error> {
         let password = password.as_ref();
-        // SAFETY: the hasher is there until this returns, and each pointer is that of a slice of the length after it.
+        // SAFETY: the hasher is there until this returns, and each pointer is that of a slice of
+        // the length after it.
         #[rustfmt::skip]
         let status = unsafe {
-            scrypt_hasher_key(self.raw(), password.as_ptr().cast(), password.len(), salt.as_ptr().cast(), salt.len(),
-                output.as_mut_ptr(), output.len(), self.most_ms())
+            scrypt_hasher_key(self.raw(), password.as_ptr().cast(), password.len(),
+                salt.as_ptr().cast(), salt.len(), output.as_mut_ptr(), output.len(), self.most_ms())
         };
         Error::check(status)
     }
@@ -224,67 +238,79 @@ impl Hasher {
     ///
     /// # Errors
     ///
-    /// Those of [`Error::is_invalid_hash`]; `PasswordInvalid` for a wrong password, and for a hash without salt or key;
-    /// `TooCostly` if the hash needs more than the bounds; `KeyTooShort` if its key is shorter than they allow; `Closed`,
-    /// `Timeout` and `OutOfMemory`. An error of the text alone is returned without waiting.
+    /// `PasswordInvalid` for a wrong password, and for a hash without salt or key. Those of
+    /// [`Error::is_refused`], without waiting: `TooCostly` if the hash needs more than the bounds,
+    /// `KeyTooShort` if its key is shorter than they allow, and others if the text is not a hash.
+    /// `Closed`, `Timeout` and `OutOfMemory`.
     pub fn verify(&self, text: &str, password: impl AsRef<[u8]>) -> Result<(), Error> {
-        let password = password.as_ref();
-        // SAFETY: the hasher is there until this returns, and each pointer is that of a slice of the length after it.
-        #[rustfmt::skip]
-        let status = unsafe {
-            scrypt_hasher_verify(self.raw(), password.as_ptr().cast(), password.len(), text.as_ptr().cast(), text.len(),
-                self.most_ms())
-        };
-        Error::check(status)
+        self.verify_optional(Some(text), password)
     }
 
-    /// Whether one of the parameters of the hash, or its key's length, is below that of new hashes. This also works on a
-    /// closed hasher.
+    /// Like [`Hasher::verify`], with `None` for a name that doesn't exist: this derives as for a
+    /// new hash, and returns `PasswordInvalid`, so that the time doesn't tell whether there is such
+    /// a name.
+    ///
+    /// # Errors
+    ///
+    /// Those of [`Hasher::verify`].
+    pub fn verify_optional(
+        &self,
+        text: Option<&str>,
+        password: impl AsRef<[u8]>,
+    ) -> Result<(), Error> {
+        let password = password.as_ref();
+        // NULL stands for no hash. The pointer of a text is never NULL.
+        let (at, len) = text.map_or((null(), 0), |it| (it.as_ptr(), it.len()));
+        // SAFETY: the hasher is there until this returns, and each pointer is that of a slice of
+        // the length after it.
+        #[rustfmt::skip]
+        let status = unsafe {
+            scrypt_hasher_verify(self.raw(), password.as_ptr().cast(), password.len(),
+                at.cast(), len, self.most_ms())
+        };
+        match (status, text) {
+            (TOO_COSTLY | KEY_TOO_SHORT, Some(text)) => Err(self.refusal(status, text)),
+            _ => Error::check(status),
+        }
+    }
+
+    // The error of one of these two statuses, with its numbers.
+    fn refusal(&self, status: c_int, text: &str) -> Error {
+        let mut needs = RawNeeds::default();
+        // SAFETY: the hasher is there until this returns, its options do not change, and the
+        // pointer is that of a text of this length.
+        let of = unsafe {
+            let of = &*scrypt_hasher_options(self.raw());
+            let (bytes, work, min) = (of.most_bytes, of.most_work, of.least_key_len);
+            scrypt_hash_needs(text.as_ptr().cast(), text.len(), bytes, work, min, &mut needs);
+            of
+        };
+        let bounds = Bounds { most_bytes: of.most_bytes, most_work: of.most_work };
+        match Params::of_library(needs.log_n, needs.r, needs.p) {
+            Ok(params) if status == TOO_COSTLY => Error::TooCostly(Cost::of(params, bounds)),
+            Ok(_) => Error::KeyTooShort { len: needs.key_len, min: of.least_key_len },
+            Err(why) => why.into(),
+        }
+    }
+
+    /// Whether one of the parameters of the hash, or its key's length, is below that of new hashes.
+    /// This also works on a closed hasher.
     ///
     /// # Errors
     ///
     /// Those of [`Error::is_invalid_hash`].
     pub fn needs_rehash(&self, text: &str) -> Result<bool, Error> {
         let (hasher, text, len) = (self.raw(), text.as_ptr().cast(), text.len());
-        // SAFETY: the hasher is there until this returns, and the pointer is that of a text of this length.
+        // SAFETY: the hasher is there until this returns, and the pointer is that of a text of this
+        // length.
         match unsafe { scrypt_hasher_needs_rehash(hasher, text, len) } {
             NEEDS_REHASH => Ok(true),
             other => Error::check(other).map(|()| false),
         }
     }
 
-    /// In words, for a log: what the hash needs, and what the bounds are, if verifying it returns `TooCostly` or `KeyTooShort`, or else
-    /// what is wrong with the text. `None` if the hash is within the bounds. It needs no memory of the hasher, and works on a closed one.
-    ///
-    /// ```
-    /// # let hasher = scrypt_c::Hasher::default();
-    /// let text = "$scrypt$ln=30,r=8,p=1$c2FsdHNhbHQ$AAAAAAAAAAAAAAAAAAAAAAAAAAAAAAAAAAAAAAAAAAA";
-    /// if let Err(error) = hasher.verify(text, "hunter42") {
-    ///     eprintln!("{}", hasher.refusal(text).unwrap_or(error.to_string()));
-    /// }
-    /// ```
-    pub fn refusal(&self, text: &str) -> Option<String> {
-        let mut needs = RawNeeds::default();
-        // SAFETY: the hasher is there until this returns, its options do not change, and the pointer is that of a text of this length.
-        let (status, of) = unsafe {
-            let of = &*scrypt_hasher_options(self.raw());
-            let (bytes, work, len) = (of.most_bytes, of.most_work, of.least_key_len);
-            let text_at = text.as_ptr().cast();
-            (scrypt_hash_needs(text_at, text.len(), bytes, work, len, &mut needs), of)
-        };
-        match Error::check(status) {
-            Ok(()) => None,
-            Err(why @ (Error::TooCostly | Error::KeyTooShort)) => Some(format!(
-                "{why}: log_n={}, r={}, p={} need {} bytes and a work of {}, and the key has {} bytes; most_bytes is {}, \
-                 most_work is {}, and the least key has {} bytes",
-                needs.log_n, needs.r, needs.p, needs.bytes, needs.work, needs.key_len, of.most_bytes, of.most_work, of.least_key_len
-            )),
-            Err(why) => Some(why.to_string()),
-        }
-    }
-
-    /// Frees the memory that the hasher and its clones keep. Calls that wait, and later ones, return `Closed`; a derivation
-    /// that has begun goes on.
+    /// Frees the memory that the hasher and its clones keep. Calls that wait, and later ones,
+    /// return `Closed`; a derivation that has begun goes on.
     pub fn close(&self) {
         // SAFETY: the hasher is there until this returns.
         unsafe { scrypt_hasher_close(self.raw()) }

@@ -1,5 +1,5 @@
-//! scrypt (RFC 7914) and its password hashes, on top of the library libscrypt_c over proved code. This crate is
-//! tested, not proved.
+//! scrypt (RFC 7914) and its password hashes, on top of the library libscrypt_c over proved code.
+//! This crate is tested, not proved.
 //!
 //! ```
 //! use scrypt_c::{Error, Hasher};
@@ -14,9 +14,9 @@
 //! # }
 //! ```
 //!
-//! [`scrypt()`], [`Params`] and [`Scrypt`](struct@Scrypt) have the names of the crate `scrypt` 0.12; the traits in
-//! [`password_hash`] and [`kdf`] are this crate's own. With the feature `password-hash`, `Scrypt` also implements the
-//! traits of the crate `password-hash` 0.4.
+//! [`scrypt()`] and [`Params`] have the names of the crate `scrypt`. With the feature
+//! `password-hash`, the type `Scrypt` implements the traits of the crate `password-hash` 0.4, as
+//! that of `scrypt` 0.10 does.
 #![warn(missing_docs)]
 
 // README's examples are tested as those above.
@@ -24,30 +24,23 @@
 #[doc = include_str!("../README.md")]
 struct Readme;
 
-mod algorithm;
 mod bounds;
 mod calls;
 pub mod errors;
 mod hasher;
-pub mod kdf;
-pub mod mcf;
 pub mod migration;
 mod params;
-pub mod password_hash;
-pub mod phc;
 #[cfg(feature = "password-hash")]
 mod traits_0_4;
 
-pub use algorithm::Scrypt;
-pub use bounds::Bounds;
+pub use bounds::{Bounds, Cost};
 pub use errors::{DeriveError, Error, InvalidParams};
 pub use hasher::{Format, Hasher, Options, Stats};
-pub use kdf::{Kdf, Pbkdf};
 pub use params::{calibrate, params_of, Params};
 #[cfg(feature = "password-hash")]
 pub use password_hash_0_4;
 #[cfg(feature = "password-hash")]
-pub use traits_0_4::ALG_ID;
+pub use traits_0_4::{Scrypt, ALG_ID};
 
 use calls::{scrypt_draw_salt, scrypt_key, OK};
 
@@ -65,8 +58,8 @@ use calls::{scrypt_draw_salt, scrypt_key, OK};
 ///
 /// # Errors
 ///
-/// `InvalidOutputLen` if the output is empty or longer than scrypt allows, and `OutOfMemory` if the memory is not
-/// available. Both leave the output unchanged.
+/// `InvalidOutputLen` if the output is empty or longer than scrypt allows, and `OutOfMemory` if the
+/// memory is not available. Both leave the output unchanged.
 pub fn scrypt(
     password: &[u8],
     salt: &[u8],
@@ -74,7 +67,8 @@ pub fn scrypt(
     output: &mut [u8],
 ) -> Result<(), DeriveError> {
     let Params { log_n, r, p, .. } = *params;
-    // SAFETY: each pointer is that of a slice of the length after it, and the output is borrowed for this call alone.
+    // SAFETY: each pointer is that of a slice of the length after it, and the output is borrowed
+    // for this call alone.
     let status = unsafe {
         scrypt_key(
             password.as_ptr().cast(),

@@ -1,4 +1,5 @@
-//! Converts hashes of other programs to texts that a [`Hasher`](crate::Hasher) verifies, without the passwords.
+//! Converts hashes of other programs to texts that a [`Hasher`](crate::Hasher) verifies, without
+//! the passwords.
 
 use crate::{params_of, Error, Params};
 
@@ -6,8 +7,9 @@ const BASE64: &[u8; 64] = b"ABCDEFGHIJKLMNOPQRSTUVWXYZabcdefghijklmnopqrstuvwxyz
 // Of `$7$` texts.
 const LETTERS: &[u8; 64] = b"./0123456789ABCDEFGHIJKLMNOPQRSTUVWXYZabcdefghijklmnopqrstuvwxyz";
 
-/// A text of a salt and a key: a PHC text if the lengths allow it, otherwise a `$7$` text. Of a PHC text's key only the
-/// first 64 bytes are kept, which are the key of that length. The length in `params` is ignored.
+/// A text of a salt and a key: a PHC text if the lengths allow it, otherwise a `$7$` text. Of a PHC
+/// text's key only the first 64 bytes are kept, which are the key of that length. The length in
+/// `params` is ignored.
 ///
 /// # Errors
 ///

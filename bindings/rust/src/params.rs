@@ -35,7 +35,8 @@ impl Params {
     ///
     /// # Errors
     ///
-    /// `InvalidParams` unless `r` and `p` are positive, `128 * r * 2^log_n` is below `2^64` and `r * p` below `2^30`.
+    /// `InvalidParams` unless `r` and `p` are positive, `128 * r * 2^log_n` is below `2^64` and `r
+    /// * p` below `2^30`.
     pub fn new(log_n: u8, r: u32, p: u32) -> Result<Params, InvalidParams> {
         let params = Params { log_n, r, p, len: None };
         params.needs().map(|_| params)
@@ -52,7 +53,7 @@ impl Params {
         }
     }
 
-    fn of_library(log_n: u32, r: u32, p: u32) -> Result<Params, InvalidParams> {
+    pub(crate) fn of_library(log_n: u32, r: u32, p: u32) -> Result<Params, InvalidParams> {
         Params::new(u8::try_from(log_n).map_err(|_| InvalidParams)?, r, p)
     }
 
@@ -105,8 +106,8 @@ impl Params {
         (4 * u128::from(self.r) * u128::from(self.p)) << self.log_n
     }
 
-    /// The work, which [`Bounds`](crate::Bounds) limit, at most `u64::MAX`: `4 * (N + 32) * r * p` Salsa20/8 cores, where 32
-    /// stands for PBKDF2.
+    /// The work, which [`Bounds`](crate::Bounds) limit, at most `u64::MAX`: `4 * (N + 32) * r * p`
+    /// Salsa20/8 cores, where 32 stands for PBKDF2.
     pub fn work(&self) -> u64 {
         self.needs().map_or(u64::MAX, |it| it.work)
     }
@@ -133,7 +134,8 @@ impl Default for Params {
 /// Those of [`Error::is_invalid_hash`].
 pub fn params_of(text: &str) -> Result<(Params, usize), Error> {
     let (mut log_n, mut r, mut p, mut key_len) = (0, 0, 0, 0);
-    // SAFETY: the pointer is that of a text of this length, and the four places are this function's own.
+    // SAFETY: the pointer is that of a text of this length, and the four places are this function's
+    // own.
     let status = unsafe {
         let text_at = text.as_ptr().cast();
         scrypt_hash_params(text_at, text.len(), &mut log_n, &mut r, &mut p, &mut key_len)
@@ -142,17 +144,21 @@ pub fn params_of(text: &str) -> Result<(Params, usize), Error> {
     Ok((Params::of_library(log_n, r, p)?, key_len))
 }
 
-/// Finds parameters by measuring this machine, now: the greatest `log_n` whose table has at most `most_bytes` bytes, and then
-/// the greatest `p`, with which one derivation takes at most the target; `r` is 8. It takes some four times the target.
+/// Finds parameters by measuring this machine, now: the greatest `log_n` whose table has at most
+/// `most_bytes` bytes, and then the greatest `p`, with which one derivation takes at most the
+/// target; `r` is 8. It takes some four times the target.
 ///
 /// # Errors
 ///
-/// `TooCostly` if even a `log_n` of 10 takes longer, or needs more; `OutOfMemory`.
+/// `NoParams` if even a `log_n` of 10 takes longer, or needs more; `OutOfMemory`.
 pub fn calibrate(target: Duration, most_bytes: usize) -> Result<Params, Error> {
     let (mut log_n, mut r, mut p) = (0, 0, 0);
     // SAFETY: the three places are this function's own.
     let status =
         unsafe { scrypt_calibrate(target.as_secs_f64(), most_bytes, &mut log_n, &mut r, &mut p) };
+    if status == TOO_COSTLY {
+        return Err(Error::NoParams);
+    }
     Error::check(status)?;
     Ok(Params::of_library(log_n, r, p)?)
 }

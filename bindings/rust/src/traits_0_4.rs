@@ -1,6 +1,6 @@
-//! The traits of the crate `password-hash`, 0.4.
+//! scrypt as a value, with the traits of the crate `password-hash` 0.4.
 
-use crate::{scrypt, Bounds, DeriveError, InvalidParams, Params, Scrypt};
+use crate::{scrypt, Bounds, DeriveError, InvalidParams, Params};
 use password_hash_0_4::errors::InvalidValue;
 use password_hash_0_4::{
     Decimal, Error, Ident, Output, ParamsString, PasswordHash, PasswordHasher, Result, Salt,
@@ -8,6 +8,40 @@ use password_hash_0_4::{
 
 /// The identifier of scrypt in a PHC text.
 pub const ALG_ID: Ident<'static> = Ident::new_unwrap("scrypt");
+
+/// scrypt with the parameters of new hashes, as the type of the crate `scrypt`.
+///
+/// It allocates memory for each derivation. A [`Hasher`](crate::Hasher) keeps its memory, limits
+/// how many derivations run at the same time, and has bounds that the caller sets.
+#[derive(Clone, Copy, Debug, Default, PartialEq, Eq)]
+pub struct Scrypt {
+    params: Params,
+}
+
+/// scrypt with the recommended parameters: a constant with the name of its type, like the value of
+/// the crate `scrypt` 0.10.
+///
+/// ```
+/// use scrypt_c::password_hash_0_4::{PasswordHash, PasswordHasher, PasswordVerifier, SaltString};
+/// use scrypt_c::Scrypt;
+///
+/// # fn main() -> scrypt_c::password_hash_0_4::Result<()> {
+/// let mut drawn = [0; 16];
+/// scrypt_c::draw_salt(&mut drawn).expect("random bytes of the system");
+/// let salt = SaltString::b64_encode(&drawn)?;
+/// let text = Scrypt.hash_password(b"hunter42", &salt)?.to_string();
+/// Scrypt.verify_password(b"hunter42", &PasswordHash::new(&text)?)?;
+/// # Ok(())
+/// # }
+/// ```
+#[allow(non_upper_case_globals)]
+pub const Scrypt: Scrypt = Scrypt { params: Params::RECOMMENDED };
+
+impl From<Params> for Scrypt {
+    fn from(params: Params) -> Scrypt {
+        Scrypt { params }
+    }
+}
 
 impl PasswordHasher for Scrypt {
     type Params = Params;
@@ -51,8 +85,9 @@ impl PasswordHasher for Scrypt {
     }
 }
 
-/// The parameters of a hash, which verifying reads: `ParamValueInvalid(TooLong)` if they need more than
-/// [`Bounds::USUAL`]. The key may have 10 bytes, as in the format, since the length of new keys is not known here.
+/// The parameters of a hash, which verifying reads: `ParamValueInvalid(TooLong)` if they need more
+/// than [`Bounds::USUAL`]. The key may have 10 bytes, as in the format, since the length of new
+/// keys is not known here.
 impl TryFrom<&PasswordHash<'_>> for Params {
     type Error = Error;
 
@@ -64,7 +99,8 @@ impl TryFrom<&PasswordHash<'_>> for Params {
         if hash.version.is_some() {
             return Err(Error::Version);
         }
-        // What a text without these parameters or without a key means, whatever is recommended for new hashes.
+        // What a text without these parameters or without a key means, whatever is recommended for
+        // new hashes.
         let (mut log_n, mut r, mut p, implied_len) = (17, 8, 1, 32);
         for (name, value) in hash.params.iter() {
             match name.as_str() {

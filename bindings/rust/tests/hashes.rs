@@ -1,7 +1,7 @@
-//! Makes hashes in both formats, and verifies passwords by them. The errors of texts are in traits.rs.
+//! Makes hashes in both formats, and verifies passwords by them. cases.rs has the errors of texts.
 
-use scrypt_c::{params_of, scrypt, Bounds, DeriveError, Error, Format, Hasher, Options, Params};
-use std::time::Duration;
+use scrypt_c::{params_of, scrypt, Bounds, Cost, Error, Format, Hasher, Options, Params};
+use std::time::{Duration, Instant};
 
 fn small() -> Options {
     Options { params: Params::new(4, 8, 1).unwrap(), ..Options::default() }
@@ -23,7 +23,7 @@ fn hashes() {
         assert_eq!(hasher.needs_rehash(wanted), Ok(false));
         let [drawn, other] = [hasher.hash("pw").unwrap(), hasher.hash("pw").unwrap()];
         assert!(drawn != other && drawn.len() == len, "{drawn} {other}");
-        assert_eq!(hasher.verify(&drawn, "pw"), Ok(()));
+        assert_eq!(hasher.verify_optional(Some(&drawn), "pw"), Ok(()));
         let long = hasher.hash_with_salt("", &[1; 1000]);
         assert_eq!(long.and_then(|it| hasher.verify(&it, "")).is_ok(), format == Format::Mcf);
     }
@@ -31,16 +31,28 @@ fn hashes() {
     let longer = Hasher::new(Options { params, ..small() }).unwrap();
     assert_eq!(longer.hash_with_salt("", b""), Err(Error::SaltInvalid), "not a random one");
     assert_eq!(longer.needs_rehash(PHC), Ok(true));
-    assert_eq!(longer.needs_rehash("$7$"), Err(Error::EncodingInvalid));
+    let (mut key, mut wanted) = ([0; 100], [0; 100]);
+    scrypt(b"pw", b"salt", &params, &mut wanted).unwrap();
+    assert_eq!((longer.key("pw", b"salt", &mut key), key), (Ok(()), wanted));
+    assert_eq!(longer.key("pw", b"", &mut []), Err(Error::InvalidOutputLen));
 }
 
+/// A name that doesn't exist has the time of a wrong password, and its error.
 #[test]
-fn keys() {
-    let (mut key, mut wanted) = ([0; 100], [0; 100]);
-    scrypt(b"pw", b"salt", &small().params, &mut wanted).unwrap();
-    let hasher = Hasher::new(small()).unwrap();
-    assert_eq!((hasher.key("pw", b"salt", &mut key), key), (Ok(()), wanted));
-    assert_eq!(hasher.key("pw", b"", &mut []), Err(Error::InvalidOutputLen));
+fn no_hash() {
+    let params = Params::new(16, 8, 1).unwrap();
+    let hasher = Hasher::new(Options { params, ..Options::default() }).unwrap();
+    let text = hasher.hash("pw").unwrap();
+    let fastest = |text: Option<&str>| {
+        let timed = |_| {
+            let begun = Instant::now();
+            assert_eq!(hasher.verify_optional(text, "PW"), Err(Error::PasswordInvalid));
+            begun.elapsed()
+        };
+        (0..5).map(timed).min().unwrap()
+    };
+    let (of_none, of_wrong) = (fastest(None), fastest(Some(&text)));
+    assert!(of_none > of_wrong / 3 && of_none < of_wrong * 3, "{of_none:?} {of_wrong:?}");
 }
 
 /// Each default is replaced by its value.
@@ -63,7 +75,7 @@ fn options() {
     assert_eq!(Hasher::new(given).unwrap().options(), given);
 }
 
-/// Each bound is passed on as it is, and 0 is not the default.
+/// Each bound is passed on as it is, and 0 is not the default. The error has the numbers.
 #[test]
 fn bounds() {
     let params = Params::new_with_output_len(6, 3, 5, 15).unwrap();
@@ -71,18 +83,25 @@ fn bounds() {
     assert_eq!((params.memory(), params.cores()), (bytes as u64, cores));
     assert_eq!(params.work(), work);
     let text = Hasher::new(Options { params, ..small() }).unwrap().hash("pw").unwrap();
-    assert_eq!(params_of(&text), Ok((Params::new(6, 3, 5).unwrap(), 15)));
-    for (most_bytes, most_work, wanted) in [
-        (bytes, work, Ok(())),
-        (bytes - 1, work, Err(Error::TooCostly)),
-        (bytes, work - 1, Err(Error::TooCostly)),
-        (0, work, Err(Error::TooCostly)),
-    ] {
+    let plain = Params::new(6, 3, 5).unwrap();
+    assert_eq!(params_of(&text), Ok((plain, 15)));
+    for (most_bytes, most_work) in [(bytes, work), (bytes - 1, work), (bytes, work - 1), (0, work)]
+    {
         let bounds = Bounds { most_bytes, most_work };
+        let allowed = bounds == Bounds { most_bytes: bytes, most_work: work };
+        let cost = |params| Cost { params, memory: bytes as u64, work, bounds };
+        let wanted = |params| if allowed { Ok(()) } else { Err(Error::TooCostly(cost(params))) };
+        assert_eq!(bounds.allow(&params), allowed, "{bounds:?}");
         let made = Hasher::new(Options { params, bounds: Some(bounds), ..small() });
-        assert_eq!(made.and_then(|it| it.verify(&text, "pw")), wanted, "{bounds:?}");
-        assert_eq!(bounds.allow(&params), wanted.is_ok(), "{bounds:?}");
+        assert_eq!(made.map(drop), wanted(params), "{bounds:?}");
+        if most_bytes > 0 {
+            let params = Params::new_with_output_len(4, 1, 1, 15).unwrap();
+            let hasher = Hasher::new(Options { params, bounds: Some(bounds), ..small() }).unwrap();
+            assert_eq!(hasher.verify(&text, "pw"), wanted(plain), "{bounds:?}");
+        }
     }
+    let short = Hasher::new(small()).unwrap().verify(&text, "pw").unwrap_err();
+    assert_eq!(short, Error::KeyTooShort { len: 15, min: 16 });
     let params = Params::new(19, 8, 1).unwrap();
     assert!(!Bounds::default().allow(&params));
     assert!(Hasher::new(Options { params, ..small() }).is_ok(), "above the usual, and asked for");
@@ -93,49 +112,25 @@ fn bounds() {
     assert_eq!(Hasher::new(large).unwrap().hash("").err(), Some(Error::OutOfMemory));
 }
 
-/// Why a hash is refused: the words of the error of `verify`, and the numbers of the hash and of the bounds.
+/// In words, for a log.
 #[test]
 fn refusals() {
-    let bounds = Bounds { most_bytes: 128 * 8 * (16 + 1 + 2), most_work: 4 * (16 + 32) * 8 };
-    let hasher = Hasher::new(Options { bounds: Some(bounds), ..small() }).unwrap();
-    let of = |params: &str, key_len: usize| {
-        format!("$scrypt${params}$c2FsdHNhbHQ${}", "A".repeat((8 * key_len + 5) / 6))
-    };
-    let most = "; most_bytes is 19456, most_work is 1536, and the least key has 16 bytes";
-    for (text, error, numbers) in [
+    let hasher = Hasher::default();
+    for (text, wanted) in [
         (
-            of("ln=5,r=8,p=1", 32),
-            Error::TooCostly,
-            "need 35840 bytes and a work of 2048, and the key has 32 bytes",
+            "$scrypt$ln=19,r=8,p=1$c2FsdHNhbHQ$AAAAAAAAAAAAAAAAAAAAAA",
+            "the parameters need more than is allowed: log_n=19, r=8, p=1 need 536873984 bytes and \
+             a work of 16778240, with most_bytes=269484032 and most_work=16781312",
         ),
         (
-            of("ln=4,r=8,p=2", 64),
-            Error::TooCostly,
-            "need 20480 bytes and a work of 3072, and the key has 64 bytes",
+            "$scrypt$ln=4,r=8,p=1$c2FsdHNhbHQ$AAAAAAAAAAAAAAAAAAAA",
+            "the key in the hash is shorter than is allowed: its length is 15, and at least 16 is \
+             required",
         ),
-        (
-            of("ln=4,r=8,p=1", 15),
-            Error::KeyTooShort,
-            "need 19456 bytes and a work of 1536, and the key has 15 bytes",
-        ),
+        ("$7$", "the text is not a PHC or $7$ hash"),
     ] {
-        assert_eq!(hasher.verify(&text, ""), Err(error));
-        let params = text.split('$').nth(2).unwrap().replace("ln=", "log_n=").replace(',', ", ");
-        let wanted = format!("{error}: {params} {numbers}{most}");
-        assert_eq!(hasher.refusal(&text), Some(wanted));
+        let error = hasher.verify(text, "").unwrap_err();
+        assert_eq!((error.to_string().as_str(), error.is_refused()), (wanted, true));
     }
-    assert_eq!(hasher.refusal(PHC), None, "as much as is allowed");
-    assert_eq!(hasher.refusal("$scrypt$"), Some(Error::EncodingInvalid.to_string()));
-    hasher.close();
-    assert_eq!(hasher.refusal(PHC), None, "on a closed one too");
-}
-
-#[test]
-fn each_error_becomes_the_widest() {
-    let large = Params::new(56, 1, 1).unwrap();
-    let key = |params, output: &mut [u8]| scrypt(b"", b"", &params, output).map_err(Error::from);
-    assert_eq!(Params::new(64, 8, 1).map_err(Error::from), Err(Error::InvalidParams));
-    assert_eq!(key(small().params, &mut []), Err(Error::InvalidOutputLen));
-    assert_eq!(key(large, &mut [0]), Err(Error::OutOfMemory));
-    assert_eq!(Error::from(DeriveError::Status(99)), Error::Status(99));
+    assert!(!Error::PasswordInvalid.is_refused() && !Error::Timeout.is_refused());
 }

@@ -1,6 +1,6 @@
 //! A hasher that threads share.
 
-use scrypt_c::{mcf, phc, DeriveError, Error, Hasher, InvalidParams, Options, Params, Scrypt};
+use scrypt_c::{DeriveError, Error, Hasher, InvalidParams, Options, Params};
 use std::cell::RefCell;
 use std::panic::{catch_unwind, AssertUnwindSafe, RefUnwindSafe, UnwindSafe};
 use std::sync::atomic::{AtomicU32, Ordering};
@@ -16,9 +16,8 @@ fn with(log_n: u8, p: u32, at_once: usize) -> Hasher {
 fn types() {
     fn anywhere<T: Send + Sync + UnwindSafe + RefUnwindSafe + Unpin + 'static>() {}
     anywhere::<Hasher>();
-    anywhere::<(Options, Params, Scrypt)>();
+    anywhere::<(Options, Params)>();
     anywhere::<(Error, DeriveError, InvalidParams)>();
-    anywhere::<(phc::PasswordHash, mcf::PasswordHash)>();
 }
 
 /// A password whose bytes panic takes nothing with it.
@@ -38,7 +37,8 @@ fn panics() {
     assert_eq!(hasher.verify(&text, "pw"), Ok(()));
 }
 
-/// A hasher that is dropped goes on for its clones, in other threads too, and closing one closes all.
+/// A hasher that is dropped goes on for its clones, in other threads too, and closing one closes
+/// all.
 #[test]
 fn clones() {
     let (hasher, other) = (with(4, 1, 1), with(4, 1, 1));
@@ -83,7 +83,8 @@ fn timeouts() {
     }
 }
 
-/// A hasher is freed last: a value that is dropped, also one of a thread that ends, still uses its own.
+/// A hasher is freed last: a value that is dropped, also one of a thread that ends, still uses its
+/// own.
 #[test]
 fn drops() {
     struct Login(Hasher);

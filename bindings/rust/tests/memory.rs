@@ -1,0 +1,29 @@
+//! The memory of hashers, in a process of its own: threads of other tests map tables meanwhile.
+#![cfg(target_os = "linux")]
+
+use scrypt_c::{Hasher, Options, Params};
+
+/// How many KiB of this process are in memory.
+fn resident() -> usize {
+    let status = std::fs::read_to_string("/proc/self/status").unwrap();
+    let line = status.lines().find(|it| it.starts_with("VmRSS")).unwrap();
+    line.split_whitespace().nth(1).unwrap().parse().unwrap()
+}
+
+/// A hasher has `at_once` tables, whatever p and the processors are, and gives them back when its
+/// last clone is dropped.
+#[test]
+fn memory() {
+    let params = Params::new(16, 8, 4).unwrap();
+    let options = Options { params, at_once: 1, processors: 4, ..Options::default() };
+    let before = resident();
+    let hashers: Vec<_> = (0..4).map(|_| Hasher::new(options).unwrap()).collect();
+    for hasher in &hashers {
+        hasher.clone().hash("pw").unwrap();
+    }
+    let held = resident().saturating_sub(before);
+    drop(hashers);
+    let left = resident().saturating_sub(before);
+    let (most, few) = (260 << 10, 4 << 10);
+    assert!(held < most && held > most - 2 * few && left < few, "{held} KiB, then {left}");
+}
