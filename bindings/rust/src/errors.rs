@@ -2,6 +2,7 @@
 
 use crate::calls::*;
 use crate::Cost;
+use std::ffi::CStr;
 use std::fmt;
 use std::os::raw::c_int;
 
@@ -126,7 +127,8 @@ impl Error {
     /// Whether the text is not a hash that this crate can read, so that neither the password nor
     /// the memory is at fault.
     pub fn is_invalid_hash(&self) -> bool {
-        OF_TEXT.contains(&self.status())
+        // SAFETY: a status is a number, which it looks up.
+        unsafe { scrypt_status_is_invalid_hash(self.status()) != 0 }
     }
 
     /// Whether a stored hash is refused, whatever the password is: `TooCostly`, `KeyTooShort`, and
@@ -135,15 +137,14 @@ impl Error {
     pub fn is_refused(&self) -> bool {
         self.is_invalid_hash() || matches!(self.status(), TOO_COSTLY | KEY_TOO_SHORT)
     }
-
-    // The status that C returns for this error.
-    fn status(&self) -> Option<i32> {
-        BY_STATUS.iter().find(|it| it.1 == *self).map(|it| it.0)
-    }
 }
 
 // What the library says of a status.
-fn text_of(status: i32) -> &'static str {
+fn words_of(status: c_int) -> &'static str {
+    if status == MISMATCH {
+        return "the password does not match the hash"; // which C has one text for, and for another
+    }
+    // SAFETY: the text is one of the library's own, which ends with NUL and is never freed.
     unsafe { CStr::from_ptr(scrypt_status_text(status)) }.to_str().unwrap_or_default()
 }
 
@@ -177,7 +178,7 @@ impl fmt::Display for DeriveError {
 
 impl fmt::Display for Error {
     fn fmt(&self, f: &mut fmt::Formatter<'_>) -> fmt::Result {
-        let words = WORDS.iter().find(|it| it.0 == self.status()).map_or("", |it| it.1);
+        let words = words_of(self.status());
         match self {
             Error::NoParams => f.write_str("even log_n=10, r=8, p=1 take more time, or memory"),
             Error::Status(status) => write!(f, "status {status} of a newer library"),
@@ -201,15 +202,14 @@ mod tests {
     /// Each status of the header is an error with words, unless it cannot come.
     #[test]
     fn statuses_of_the_header() {
-        for (status, words) in WORDS {
+        for status in (0..256).filter(|it| !unsafe { scrypt_status_name(*it) }.is_null()) {
             let cannot_come =
                 [OK, BUFFER_SIZE, NULL_POINTER, OPTIONS_SIZE, UNFINISHED, INVALID_PROGRESS]
                     .contains(&status);
             let has_numbers = [TOO_COSTLY, KEY_TOO_SHORT].contains(&status);
-            let error = Error::of(status);
+            let (error, words) = (Error::of(status), words_of(status));
             assert_eq!(matches!(error, Error::Status(_)), cannot_come || has_numbers, "{words}");
             assert!(cannot_come || has_numbers || error.to_string() == words, "{error}");
-            assert_eq!(error.is_invalid_hash(), OF_TEXT.contains(&status), "{words}");
         }
         assert_eq!(Error::Status(99).to_string(), "status 99 of a newer library");
     }
