@@ -180,28 +180,16 @@ int scrypt_hash_params(const char *text, size_t text_len, uint32_t *log_n, uint3
   return status;
 }
 
-#define THESE(needs) &needs.tables, &needs.chunks_len, &needs.table_len, &needs.scratch_len, &needs.bytes, &needs.work
 int scrypt_hash_needs(const char *text, size_t text_len, size_t most_bytes, uint64_t most_work, size_t least_key_len,
                       scrypt_needs *needs) {
-  scrypt_needs made = {0, 0, 0, 0, 0, 0, 0, 0, 0, 0};
-  uint8_t log_n = 0;
-  int status;
   TAKE(text);
   REFUSE_IF(needs == NULL);
-  status = cleared_scrypt_hash_needs(text, text_len, most_bytes, most_work, least_key_len, &log_n, &made.r, &made.p,
-                                     &made.key_len, THESE(made));
-  made.log_n = log_n;
-  if (status == SCRYPT_OK || status == SCRYPT_TOO_COSTLY || status == SCRYPT_KEY_TOO_SHORT) *needs = made;
-  return status;
+  return cleared_scrypt_hash_needs(text, text_len, most_bytes, most_work, least_key_len, needs);
 }
 
 int scrypt_params_need(uint32_t log_n, uint32_t r, uint32_t p, size_t most_bytes, uint64_t most_work, scrypt_needs *needs) {
-  scrypt_needs made = {log_n, r, p, 0, 0, 0, 0, 0, 0, 0};
-  int status;
   REFUSE_IF(needs == NULL);
-  status = cleared_scrypt_params_need(in_8_bits(log_n), r, p, most_bytes, most_work, THESE(made));
-  if (status == SCRYPT_OK || status == SCRYPT_TOO_COSTLY) *needs = made;
-  return status;
+  return cleared_scrypt_params_need(in_8_bits(log_n), r, p, most_bytes, most_work, needs);
 }
 
 int scrypt_limits_for_new(uint32_t log_n, uint32_t r, uint32_t p, size_t key_len, size_t *most_bytes, uint64_t *most_work,

@@ -108,10 +108,16 @@ export class Instance {
     return Number(this.big(taken));
   }
 
+  // Takes the place of a scrypt_needs, and returns it with those of its fields after log_n, r and p.
+  #takeNeeds() {
+    const { at } = this.take(72);
+    return [at, ...Array.from({ length: 7 }, (_, i) => ({ at: at + BigInt(16 + 8 * i) }))];
+  }
+
   /** The buffers of a derivation within limits. */
   buffersFor(params, mostBytes, mostWork) {
-    const sizes = this.words(6);
-    const status = this.#status('scrypt_params_need', [...params, mostBytes, mostWork, ...places(sizes)]);
+    const [needs, , ...sizes] = this.#takeNeeds();
+    const status = this.#status('scrypt_params_need', [...params, mostBytes, mostWork, needs]);
     this.#needs = inWords(sizes.slice(4).map((it) => this.big(it)), [mostBytes, mostWork]);
     if (status !== OK) throw this.#refusal(status);
     return this.buffers(sizes);
@@ -119,9 +125,9 @@ export class Instance {
 
   /** The buffers for verifying a hash, or none if it is refused: the call that verifies it says why, before it looks at them. */
   buffersOf(text, limits) {
-    const [params, sizes] = [this.words(4), this.words(6)];
-    const status = this.#status('scrypt_hash_needs', [text, ...limits, ...places(params), ...places(sizes)]);
-    this.#needs = inWords([...sizes.slice(4), params[3]].map((it) => this.big(it)), limits);
+    const [needs, keyLength, ...sizes] = this.#takeNeeds();
+    const status = this.#status('scrypt_hash_needs', [text, ...limits, needs]);
+    this.#needs = inWords([...sizes.slice(4), keyLength].map((it) => this.big(it)), limits);
     return status === OK ? this.buffers(sizes) : [1, 4, 4].map((size) => this.take(0, size));
   }
 

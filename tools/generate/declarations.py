@@ -120,7 +120,7 @@ def javascript():
 
 # ---- C ----
 
-C = {"u8": "uint8_t", "u32": "uint32_t", "u64": "uint64_t", "usize": "size_t", "i32": "int"}
+C = {"u8": "uint8_t", "u32": "uint32_t", "u64": "uint64_t", "usize": "size_t", "i32": "int", "Needs": "scrypt_needs"}
 
 
 def in_c(name, kind):
@@ -137,10 +137,19 @@ def in_c(name, kind):
     return [f"{'' if slice_of[1] else 'const '}{word} *{name}", f"size_t {length}"]
 
 
+def check_layout(path, text):
+    """Refuses a structure of the proved calls whose fields are not those of the header's."""
+    for name, fields in re.findall(r"^#\[repr\(C\)\]\n.*?^pub struct (\w+) \{\n(.*?)^\}", text, re.M | re.S):
+        own = [f"{C[kind]} {field}" for field, kind in re.findall(r"pub (\w+): (\w+),", fields)]
+        if own != STRUCTURES[C[name]]:
+            sys.exit(f"{path}: {name} has other fields than {C[name]} in the header: {', '.join(own)}")
+
+
 def proved():
     """The kind, the name and the arguments of each proved call."""
     call = re.compile(r'^pub extern "C" fn (\w+)(?:<.*?>)?\((.*?)\)( -> i32)?$', re.M | re.S)
     for path in sorted(Path("crates/scrypt_c/src").glob("*.rt")):
+        check_layout(path, read(path))
         for name, given, status in call.findall(read(path)):
             pairs = re.findall(r"(\w+): ((?:[^,\[]|\[[^\]]*\])+)", given)
             kind = "CALL" if status else "PROCEDURE"

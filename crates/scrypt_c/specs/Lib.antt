@@ -8,6 +8,8 @@ pub mod Texts
 pub mod Statuses
 -- the statuses of what a call needs within limits
 pub mod Limits
+-- what a derivation needs
+pub mod Needs
 -- the parameters of new hashes, and how their texts are copied to the caller
 pub mod Made
 -- what is left in the caller's buffers

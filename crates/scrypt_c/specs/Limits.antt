@@ -1,9 +1,8 @@
 -- The status of what parameters need within limits.
-use Rattle.std.specs.Prelude.{◌≡◌, ◌⊎◌, ◌↔◌, ℕ, ℤ, ◌+◌, ◌-◌, ◌*◌, ◌^◌, if◌then◌else◌, min, nat_lt, pos, length, IsTrue, None}
+use Rattle.std.specs.Prelude.{◌≡◌, ◌⊎◌, ◌↔◌, ℕ, ℤ, ◌+◌, ◌*◌, ◌^◌, if◌then◌else◌, min, nat_lt, pos, IsTrue, None}
 use Rattle.scrypt.specs.Accepted.{are_accepted, Parameters}
 use Rattle.scrypt.specs.Cost.{chunks_bytes, scratch_words, table_words}
-use Rattle.scrypt.specs.Limits.{are_within, buffers_bytes, tables_within, work}
-use Rattle.scrypt.specs.Reading.{Stored}
+use Rattle.scrypt.specs.Limits.{are_within, tables_within}
 use Rattle.scrypt.specs.declared.limits.Limits.{Limits}
 
 -- these limits
@@ -14,14 +13,6 @@ limits_of most_bytes most_work least_key_len =
 -- these parameters, without a length
 abbrev pub params_of : ℕ → ℕ → ℕ → Parameters
 params_of log_n r p = record { log_n = log_n; r = r; p = p; output_len = None }
-
--- the bytes of the buffers of a derivation with these parameters, if 64 bits can say it
-abbrev pub bytes_needed : Parameters → ℕ
-bytes_needed c = min (buffers_bytes c.log_n c.r c.p) (2 ^ 64 - 1)
-
--- its work, if 64 bits can say it
-abbrev pub work_needed : Parameters → ℕ
-work_needed c = min (work c.log_n c.r c.p) (2 ^ 64 - 1)
 
 -- The bytes that the buffers of a key may have together: those with as many tables as fit into `most_bytes`, at most
 -- `most_tables`. A table of fewer than 2 ^ 14 words is mixed faster alone: then 0, which is one table.
@@ -37,10 +28,3 @@ pub record IsNeedStatus (most_bytes most_work log_n r p : ℕ) (status : ℤ) : 
   pub costly : (status ≡ pos 13)
       ↔ (IsTrue (are_accepted log_n r p) × (¬ IsTrue (are_within (limits_of most_bytes most_work 0) (params_of log_n r p))))
   pub one : (status ≡ pos 0) ⊎ (status ≡ pos 2) ⊎ (status ≡ pos 13)
-
--- these are the parameters of what was read, and the length of its key
-pub record AreRead (s : Stored) (log_n r p key_len : ℕ) : Type 0 where
-  pub log_n_is : log_n ≡ s.params.log_n
-  pub r_is : r ≡ s.params.r
-  pub p_is : p ≡ s.params.p
-  pub key_len_is : key_len ≡ length s.key

@@ -1,11 +1,11 @@
 //! What a call needs, within limits, before it allocates.
 
-ghost use Rattle.std.specs.Prelude.{◌≡◌, ◌≢◌, ◌↔◌, ◌⊎◌, IfOk, OnErr, IsTrue};
+ghost use Rattle.std.specs.Prelude.{◌≡◌, ◌≢◌, ◌↔◌, ◌⊎◌, IfOk, OnErr, IsTrue, length};
 ghost use Rattle.scrypt.specs.Accepted.{are_accepted};
-ghost use Rattle.scrypt.specs.Limits.{limits_for_new, tables_within};
+ghost use Rattle.scrypt.specs.Limits.{limits_for_new};
 ghost use Rattle.scrypt.specs.WithinLimits.{within};
-ghost use Rattle.scrypt_c.specs.Buffers.{AreBuffers};
-ghost use Rattle.scrypt_c.specs.Limits.{AreRead, IsNeedStatus, bytes_needed, limits_of, params_of, work_needed};
+ghost use Rattle.scrypt_c.specs.Limits.{IsNeedStatus, limits_of, params_of};
+ghost use Rattle.scrypt_c.specs.Needs.{needs_of};
 ghost use Rattle.scrypt_c.specs.Statuses.{result_status};
 ghost use Rattle.scrypt_c.specs.Texts.{bytes_reading};
 
@@ -14,11 +14,26 @@ use crate::texts::stored_hash;
 use scrypt::laws::{parameters_are_those_of_the_reading, reading_names_no_password};
 use scrypt::{BufferLens, LimitedError, Limits, Params};
 
-/// Returns in `log_n`, `r`, `p` and `key_len` what the text of a hash encodes; in `chunks_len` (bytes), `table_len` and
-/// `scratch_len` (words) the lengths of the buffers that verifying with it needs; and in `tables`, which is 1 to 4 and at
-/// most `p`, how many tables and how many scratches of these lengths it can use if the buffers have at most `most_bytes`
-/// bytes together; and how many `bytes` they have with one table, and the `work`, each at most `2^64 - 1`. Does not
-/// allocate.
+/// What a derivation needs: its parameters, and the length of the key if it is that of a hash; how many tables and scratches
+/// it can use, which is 1 to 4 and at most `p`; the lengths of the chunks in bytes, and of one table and one scratch in words; and
+/// how many bytes its buffers have with one table, and its work, each at most `2^64 - 1`.
+#[repr(C)]
+#[derive(Clone, Copy)]
+pub struct Needs {
+    pub log_n: u32,
+    pub r: u32,
+    pub p: u32,
+    pub key_len: usize,
+    pub tables: usize,
+    pub chunks_len: usize,
+    pub table_len: usize,
+    pub scratch_len: usize,
+    pub bytes: u64,
+    pub work: u64,
+}
+
+/// Returns in `needs` what verifying with the text of a hash needs, if the buffers may have `most_bytes` bytes together. Does
+/// not allocate.
 ///
 /// Returns `OK`, or the first of these: the errors of `scrypt_verify` for a hash that cannot be read, `MISMATCH` for one
 /// without a salt or a key among them, and then nothing is written; `TOO_COSTLY` if the buffers have more than
@@ -31,28 +46,11 @@ pub extern "C" fn scrypt_hash_needs(
     most_bytes: usize,
     most_work: u64,
     least_key_len: usize,
-    log_n: &mut u8,
-    r: &mut u32,
-    p: &mut u32,
-    key_len: &mut usize,
-    tables: &mut usize,
-    chunks_len: &mut usize,
-    table_len: &mut usize,
-    scratch_len: &mut usize,
-    bytes: &mut u64,
-    work: &mut u64,
+    needs: &mut Needs,
 ) -> i32
     ensures status { result ≡ result_status (within (limits_of most_bytes most_work least_key_len) (bytes_reading text.now)) }
-    ensures read { IfOk (bytes_reading text.now) (λ s. AreRead s log_n.new r.new p.new key_len.new) }
-    ensures tables { IfOk (bytes_reading text.now) (λ s. tables.new ≡ tables_within most_bytes s.params) }
-    ensures lens { IfOk (bytes_reading text.now)
-        (λ s. AreBuffers s.params.log_n s.params.r s.params.p 0 chunks_len.new table_len.new scratch_len.new) }
-    ensures bytes { IfOk (bytes_reading text.now) (λ s. bytes.new ≡ bytes_needed s.params) }
-    ensures work { IfOk (bytes_reading text.now) (λ s. work.new ≡ work_needed s.params) }
-    ensures unread { OnErr (bytes_reading text.now) ((log_n.new ≡ log_n.old) × (r.new ≡ r.old) × (p.new ≡ p.old)
-        × (key_len.new ≡ key_len.old) × (tables.new ≡ tables.old)) }
-    ensures refused { OnErr (bytes_reading text.now) ((chunks_len.new ≡ chunks_len.old) × (table_len.new ≡ table_len.old)
-        × (scratch_len.new ≡ scratch_len.old) × (bytes.new ≡ bytes.old) × (work.new ≡ work.old)) }
+    ensures read { IfOk (bytes_reading text.now) (λ s. needs.new ≡ needs_of most_bytes s.params (length s.key)) }
+    ensures unread { OnErr (bytes_reading text.now) (needs.new ≡ needs.old) }
 {
     parameters_are_those_of_the_reading();
     reading_names_no_password();
@@ -73,27 +71,12 @@ pub extern "C" fn scrypt_hash_needs(
     let Ok((params, len)) = hash.params_and_key_len() else {
         unreachable!();
     };
-    *log_n = params.log_n();
-    *r = params.r();
-    *p = params.p();
-    *key_len = len;
-    write_needs(
-        &params,
-        most_bytes,
-        tables,
-        chunks_len,
-        table_len,
-        scratch_len,
-        bytes,
-        work,
-    );
+    *needs = needs_of(&params, len, most_bytes);
     status
 }
 
-/// Returns in `chunks_len` (bytes), `table_len` and `scratch_len` (words) the lengths of the buffers that a derivation
-/// with these parameters needs, and in `tables`, which is 1 to 4 and at most `p`, how many tables and how many scratches
-/// of these lengths it can use if the buffers have at most `most_bytes` bytes together; and in `bytes` how many they have
-/// with one table, and in `work` the work, each at most `2^64 - 1`. Does not allocate.
+/// Returns in `needs` what a derivation with these parameters needs, if the buffers may have `most_bytes` bytes together. Does
+/// not allocate.
 ///
 /// Returns `OK`, or the first of these: `INVALID_PARAMS` if the parameters are not accepted, and then nothing is written;
 /// and `TOO_COSTLY` as `scrypt_hash_needs` does, and then the same is written as on `OK`.
@@ -104,35 +87,16 @@ pub extern "C" fn scrypt_params_need(
     p: u32,
     most_bytes: usize,
     most_work: u64,
-    tables: &mut usize,
-    chunks_len: &mut usize,
-    table_len: &mut usize,
-    scratch_len: &mut usize,
-    bytes: &mut u64,
-    work: &mut u64,
+    needs: &mut Needs,
 ) -> i32
     ensures status { IsNeedStatus most_bytes most_work log_n r p result }
-    ensures tables { result ≢ INVALID_PARAMS → tables.new ≡ tables_within most_bytes (params_of log_n r p) }
-    ensures lens { result ≢ INVALID_PARAMS → AreBuffers log_n r p 0 chunks_len.new table_len.new scratch_len.new }
-    ensures bytes { result ≢ INVALID_PARAMS → bytes.new ≡ bytes_needed (params_of log_n r p) }
-    ensures work { result ≢ INVALID_PARAMS → work.new ≡ work_needed (params_of log_n r p) }
-    ensures refused { result ≡ INVALID_PARAMS → (tables.new ≡ tables.old) × (chunks_len.new ≡ chunks_len.old)
-        × (table_len.new ≡ table_len.old) × (scratch_len.new ≡ scratch_len.old) × (bytes.new ≡ bytes.old)
-        × (work.new ≡ work.old) }
+    ensures needs { result ≢ INVALID_PARAMS → needs.new ≡ needs_of most_bytes (params_of log_n r p) 0 }
+    ensures refused { result ≡ INVALID_PARAMS → needs.new ≡ needs.old }
 {
     let Ok(params) = Params::new(log_n, r, p) else {
         return INVALID_PARAMS;
     };
-    write_needs(
-        &params,
-        most_bytes,
-        tables,
-        chunks_len,
-        table_len,
-        scratch_len,
-        bytes,
-        work,
-    );
+    *needs = needs_of(&params, 0, most_bytes);
     let limits = Limits {
         most_bytes,
         most_work,
@@ -144,29 +108,23 @@ pub extern "C" fn scrypt_params_need(
     OK
 }
 
-// Writes what a derivation with these parameters needs.
-fn write_needs(
-    params: &Params,
-    most_bytes: usize,
-    tables: &mut usize,
-    chunks_len: &mut usize,
-    table_len: &mut usize,
-    scratch_len: &mut usize,
-    bytes: &mut u64,
-    work: &mut u64,
-)
-    ensures tables { tables.new ≡ tables_within most_bytes params.now }
-    ensures lens { AreBuffers params.now.log_n params.now.r params.now.p 0 chunks_len.new table_len.new scratch_len.new }
-    ensures bytes { bytes.new ≡ bytes_needed params.now }
-    ensures work { work.new ≡ work_needed params.now }
+// Returns what a derivation with these parameters needs.
+fn needs_of(params: &Params, key_len: usize, most_bytes: usize) -> Needs
+    ensures { result ≡ needs_of most_bytes params.now key_len }
 {
-    *tables = BufferLens::tables_within(params, most_bytes);
     let lens = BufferLens::of(params);
-    *chunks_len = lens.chunks;
-    *table_len = lens.table;
-    *scratch_len = lens.scratch;
-    *bytes = lens.bytes().min(u128::from(u64::MAX)) as u64;
-    *work = params.work().min(u128::from(u64::MAX)) as u64;
+    Needs {
+        log_n: u32::from(params.log_n()),
+        r: params.r(),
+        p: params.p(),
+        key_len,
+        tables: BufferLens::tables_within(params, most_bytes),
+        chunks_len: lens.chunks,
+        table_len: lens.table,
+        scratch_len: lens.scratch,
+        bytes: lens.bytes().min(u128::from(u64::MAX)) as u64,
+        work: params.work().min(u128::from(u64::MAX)) as u64,
+    }
 }
 
 /// Returns the default limits of a hasher that makes hashes with these parameters and keys of `key_len` bytes: the usual

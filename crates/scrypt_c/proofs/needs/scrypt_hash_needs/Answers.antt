@@ -21,41 +21,5 @@ pub returns-clause-read : goal.returns-clause-read
 returns-clause-read c =
     let read = c.in-Ok-params_and_key_len in
     let whole = c.parameters_are_those_of_the_reading.ensures.whole c.in-Ok.hash in
-    rw c.in-Ok.ensures.reading (of_read (reading c.in-Ok.hash) _ (read.params, read.len) _ whole read.ensures.value (λ s params len. record {
-      log_n_is = rw params (search rules);
-      r_is = rw params (search rules);
-      p_is = rw params (search rules);
-      key_len_is = rw len (search rules);
-    }))
-
-pub returns-clause-tables : goal.returns-clause-tables
-returns-clause-tables c =
-    let read = c.in-Ok-params_and_key_len in
-    let whole = c.parameters_are_those_of_the_reading.ensures.whole c.in-Ok.hash in
     rw c.in-Ok.ensures.reading (of_read (reading c.in-Ok.hash) _ (read.params, read.len) _ whole read.ensures.value
-    (λ s params len. rw params (search rules)))
-
-pub returns-clause-lens : goal.returns-clause-lens
-returns-clause-lens c =
-    let read = c.in-Ok-params_and_key_len in
-    let whole = c.parameters_are_those_of_the_reading.ensures.whole c.in-Ok.hash in
-    rw c.in-Ok.ensures.reading (of_read (reading c.in-Ok.hash) _ (read.params, read.len) _ whole read.ensures.value
-    (λ s params len. record {
-      chunks_are = rw params (search (rules, c.write_needs.ensures.lens.chunks_are));
-      table_is = rw params (search (rules, c.write_needs.ensures.lens.table_is));
-      scratch_is = rw params (search (rules, c.write_needs.ensures.lens.scratch_is));
-    }))
-
-pub returns-clause-bytes : goal.returns-clause-bytes
-returns-clause-bytes c =
-    let read = c.in-Ok-params_and_key_len in
-    let whole = c.parameters_are_those_of_the_reading.ensures.whole c.in-Ok.hash in
-    rw c.in-Ok.ensures.reading (of_read (reading c.in-Ok.hash) _ (read.params, read.len) _ whole read.ensures.value
-    (λ s params len. rw params (search rules)))
-
-pub returns-clause-work : goal.returns-clause-work
-returns-clause-work c =
-    let read = c.in-Ok-params_and_key_len in
-    let whole = c.parameters_are_those_of_the_reading.ensures.whole c.in-Ok.hash in
-    rw c.in-Ok.ensures.reading (of_read (reading c.in-Ok.hash) _ (read.params, read.len) _ whole read.ensures.value
-    (λ s params len. rw params (search rules)))
+    (λ s params len. rw (params, len) (search rules)))
