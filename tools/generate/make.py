@@ -121,7 +121,7 @@ class Pages:
         """A complaint if TRUST has another number of lines of the kit."""
         of_key, of_verdict = (kit_pages.lines_for(self.views, self.views.clauses(it)) for it in (promises.KEY, promises.VERDICT))
         said = f"{of_key} lines for the key, {of_verdict} for the verdict"
-        is_said = self.library.kit.identity is None or said in read(f"{self.library.folder}/docs/TRUST.md")
+        is_said = self.library.kit.identity is None or said in " ".join(read(f"{self.library.folder}/docs/TRUST.md").split())
         return [] if is_said else [f"docs/TRUST.md: what to read of the kit is {said}"]
 
     def front(self):

@@ -184,7 +184,7 @@ def wrong(views):
         yield f"{PAGE} differs from the sources: make promises"
     key, verdict = (sum(it.lines for _, shown in views.reading(views.clauses(its)) for it in shown) for its in (KEY, VERDICT))
     for path, lines in {"docs/TRUST.md": f"{key} lines for the key, {verdict} for the verdict", "README.md": f"[{verdict} lines]"}.items():
-        if lines not in read(path):
+        if lines not in " ".join(read(path).split()):
             yield f"{path}: what to read is {lines}"
 
 
