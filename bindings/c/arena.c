@@ -16,26 +16,27 @@ void arena_free(struct arena *arena) {
   arena->room = 0;
 }
 
-size_t arena_room(struct arena *arena, const scrypt_needs *one, size_t most) {
-  for (; most > 0; most--) {
-    if (one->bytes <= arena->room / most) return most;
+size_t arena_reserve(struct arena *arena, const scrypt_needs *one, size_t max) {
+  for (; max > 0; max--) {
+    if (one->bytes <= arena->room / max) return max;
     arena_free(arena);
-    if (one->bytes > (SIZE_MAX - HUGE_PAGE) / most) continue;
-    arena->mapping = (uint8_t *)map_zeros(most * one->bytes + HUGE_PAGE);
+    if (one->bytes > (SIZE_MAX - HUGE_PAGE) / max) continue;
+    arena->mapping = (uint8_t *)map_zeros(max * one->bytes + HUGE_PAGE);
     if (arena->mapping == NULL) continue;
-    arena->room = most * one->bytes;
-    leave_out_of_child(arena->mapping, arena->room + HUGE_PAGE);
+    arena->room = max * one->bytes;
+    drop_on_fork(arena->mapping, arena->room + HUGE_PAGE);
     /* The rest of the last huge page is left out, so that it takes no whole one. */
     ask_for_huge_pages(front_of(arena), arena->room / HUGE_PAGE * HUGE_PAGE);
-    return most;
+    return max;
   }
   return 0;
 }
 
-struct buffers arena_buffers(const struct arena *arena, const scrypt_needs *one, size_t count, size_t logins) {
+struct buffers arena_buffers(const struct arena *arena, const scrypt_needs *one, size_t tables,
+                             size_t logins) {
   struct buffers of;
-  of.table_len = count * one->table_len;
-  of.scratch_len = count * one->scratch_len;
+  of.table_len = tables * one->table_len;
+  of.scratch_len = tables * one->scratch_len;
   of.chunks_len = logins * one->chunks_len;
   of.table = (uint32_t *)(void *)front_of(arena);
   of.scratch = of.table + of.table_len;

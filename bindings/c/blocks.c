@@ -69,7 +69,7 @@ static uint8_t *with_head(uint8_t *block, uint8_t *start, size_t len) {
 /* Whether the first page, to which this writes, is a huge one: then its end is in memory too. */
 static int is_huge(uint8_t *block) {
   *(volatile uint8_t *)block = 0;
-  return is_in_memory(block + HUGE_PAGE - LARGEST_PAGE);
+  return is_resident(block + HUGE_PAGE - LARGEST_PAGE);
 }
 
 static void *map_block(size_t len) {
@@ -80,7 +80,7 @@ static void *map_block(size_t len) {
   block = start + LARGEST_PAGE;
   block += (HUGE_PAGE - (uintptr_t)block % HUGE_PAGE) % HUGE_PAGE;
   with_head(block, start, len);
-  if (len <= MOST_POPULATED && !is_huge(block)) populate_pages(block, len); /* which takes longer if they are huge */
+  if (len <= MOST_POPULATED && !is_huge(block)) prefault(block, len); /* which takes longer if they are huge */
   return block;
 }
 

@@ -4,12 +4,6 @@
 
 #include "scrypt_c.h"
 
-struct buffers {
-  uint8_t *chunks;
-  uint32_t *table, *scratch;
-  size_t chunks_len, table_len, scratch_len;
-};
-
 /* NULL is allowed for no bytes, but not by the proved calls. */
 static inline int is_null(const void *bytes, size_t len) { return bytes == NULL && len > 0; }
 static inline const uint8_t *bytes_of(const void *bytes) {
@@ -21,9 +15,5 @@ static inline uint8_t in_8_bits(uint32_t log_n) { return log_n < 64 ? (uint8_t)l
 
 /* How many tables pay on this processor, at most SCRYPT_MOST_LOGINS. */
 size_t tables_that_pay(void);
-
-/* The key in these buffers, of which the chunks and the scratch are zeros afterwards. */
-int key_in_buffers(const void *password, size_t password_len, const void *salt, size_t salt_len, uint32_t log_n, uint32_t r,
-                   uint32_t p, uint8_t *output, size_t output_len, const struct buffers *of);
 
 #endif

@@ -22,31 +22,30 @@ int64_t now_ns(void) {
   return (int64_t)now.tv_sec * NS_OF_SECOND + now.tv_nsec;
 }
 
-int can_sleep_shortly(void) { return 1; }
+int can_sleep_briefly(void) { return 1; }
 
-void take_mutex(mutex *it) { (void)pthread_mutex_lock(it); }
+void mutex_lock(mutex *it) { (void)pthread_mutex_lock(it); }
 
-void give_mutex(mutex *it) { (void)pthread_mutex_unlock(it); }
+void mutex_unlock(mutex *it) { (void)pthread_mutex_unlock(it); }
 
-/* Not by pthread_cond_t, which asks for glibc 2.34 if it is to wait by the clock that nobody sets, and is a point of cancellation. */
-void sleep_until(condition *it, mutex *with, int64_t ns) {
-  const struct timespec time = {.tv_sec = (time_t)(ns / NS_OF_SECOND), .tv_nsec = (long)(ns % NS_OF_SECOND)};
-  uint32_t wakes = it->wakes;
-  give_mutex(with);
-  (void)syscall(SYS_futex, &it->wakes, FUTEX_WAIT_BITSET_PRIVATE, wakes, ns == FOR_EVER ? NULL : &time, NULL, FUTEX_BITSET_MATCH_ANY);
-  take_mutex(with);
+/* Not by pthread_cond_t, which asks for glibc 2.34 if it is to wait by the monotonic clock, and is
+ * a cancellation point. */
+void condition_wait(condition *it, mutex *with, int64_t deadline_ns) {
+  const struct timespec deadline = {.tv_sec = (time_t)(deadline_ns / NS_OF_SECOND),
+                                    .tv_nsec = (long)(deadline_ns % NS_OF_SECOND)};
+  uint32_t signals = it->signals;
+  mutex_unlock(with);
+  (void)syscall(SYS_futex, &it->signals, FUTEX_WAIT_BITSET_PRIVATE, signals,
+                deadline_ns == NO_DEADLINE ? NULL : &deadline, NULL, FUTEX_BITSET_MATCH_ANY);
+  mutex_lock(with);
 }
 
-void begin_condition(condition *it) { it->wakes = 0; }
-
-void wake(condition *it) {
-  it->wakes++;
-  (void)syscall(SYS_futex, &it->wakes, FUTEX_WAKE_PRIVATE, 1);
+void condition_signal(condition *it) {
+  it->signals++;
+  (void)syscall(SYS_futex, &it->signals, FUTEX_WAKE_PRIVATE, 1);
 }
 
-void end_condition(condition *it) { (void)it; }
-
-void let_others_run(void) { (void)sched_yield(); }
+void yield_processor(void) { (void)sched_yield(); }
 
 /* ---- Memory ---- */
 
@@ -58,10 +57,10 @@ void *map_zeros(size_t size) {
 int unmap(void *at, size_t size) { return munmap(at, size) == 0; }
 
 /* Refused by Linux before 4.14. */
-void wipe_in_child(void *at, size_t size) { (void)madvise(at, size, MADV_WIPEONFORK); }
+void wipe_on_fork(void *at, size_t size) { (void)madvise(at, size, MADV_WIPEONFORK); }
 
-/* What is refused is left, so that a child has both a table and what says where it is, or neither. */
-void leave_out_of_child(void *at, size_t size) {
+/* What is refused is left, so that a child has both a table and its address, or neither. */
+void drop_on_fork(void *at, size_t size) {
   if (madvise(at, size, MADV_WIPEONFORK) == 0) (void)madvise(at, size, MADV_DONTFORK);
 }
 
@@ -73,12 +72,12 @@ void ask_for_huge_pages(void *at, size_t size) {
 #endif
 }
 
-int is_in_memory(void *page) {
+int is_resident(void *page) {
   unsigned char is_there = 0;
   return mincore(page, 1, &is_there) == 0 && (is_there & 1) != 0;
 }
 
-void populate_pages(void *at, size_t size) {
+void prefault(void *at, size_t size) {
 #ifdef MADV_POPULATE_WRITE
   (void)madvise(at, size, MADV_POPULATE_WRITE);
 #else
@@ -88,7 +87,7 @@ void populate_pages(void *at, size_t size) {
 
 /* ---- The rest ---- */
 
-int draw_bytes(uint8_t *bytes, size_t len) {
+int random_bytes(uint8_t *bytes, size_t len) {
   size_t done = 0;
   while (done < len) {
     long drawn = syscall(SYS_getrandom, bytes + done, len - done, 0);
@@ -103,13 +102,14 @@ int draw_bytes(uint8_t *bytes, size_t len) {
 #define ROOT ""
 #endif
 
-/* What a file of a control group allows, which may be "max" or, of version 1, -1; SIZE_MAX if it does not limit. A quota is
- * rounded up to processors. */
+/* What a file of a control group allows, which may be "max" or, of version 1, -1; SIZE_MAX if it
+ * does not limit. A quota is rounded up to processors. */
 static size_t limit_of(const char *folder, const char *name, const char *period_name) {
   char path[1024];
   long number = 0, period = 0;
   FILE *file;
-  if (snprintf(path, sizeof path, ROOT "/sys/fs/cgroup%s/%s", folder, name) >= (int)sizeof path) return SIZE_MAX;
+  int len = snprintf(path, sizeof path, ROOT "/sys/fs/cgroup%s/%s", folder, name);
+  if (len >= (int)sizeof path) return SIZE_MAX;
   file = fopen(path, "re");
   if (file == NULL) return SIZE_MAX;
   if (fscanf(file, "%ld %ld", &number, &period) < 1) number = 0;
@@ -121,22 +121,26 @@ static size_t limit_of(const char *folder, const char *name, const char *period_
 
 static size_t least(size_t one, size_t other) { return one < other ? one : other; }
 
-/* The least limit of the control group of this process, and of those around it: of version 2, whose path is in the line "0::PATH".
- * In a container the path may be one of the host; then what is mounted is the group of the container. */
+/* The least limit of the control group of this process, and of those around it: of version 2, whose
+ * path is in the line "0::PATH". In a container the path may be one of the host; then what is
+ * mounted is the group of the container. */
 static size_t least_of_groups(const char *name) {
   char line[1024] = "", *path = line + 3, *slash;
   size_t most = limit_of("", name, NULL);
   FILE *file = fopen(ROOT "/proc/self/cgroup", "re");
-  while (file != NULL && fgets(line, sizeof line, file) != NULL && strncmp(line, "0::", 3) != 0) line[0] = '\0';
+  while (file != NULL && fgets(line, sizeof line, file) != NULL && strncmp(line, "0::", 3) != 0)
+    line[0] = '\0';
   if (file != NULL) (void)fclose(file);
   if (strncmp(line, "0::", 3) != 0) return most;
   path[strcspn(path, "\n")] = '\0';
-  for (; (slash = strrchr(path, '/')) != NULL; *slash = '\0') most = least(most, limit_of(path, name, NULL));
+  for (; (slash = strrchr(path, '/')) != NULL; *slash = '\0')
+    most = least(most, limit_of(path, name, NULL));
   return most;
 }
 
 size_t processors_of_process(void) {
-  size_t quota = least(least_of_groups("cpu.max"), limit_of("/cpu", "cpu.cfs_quota_us", "cpu.cfs_period_us")), count = 0;
+  size_t of_version_1 = limit_of("/cpu", "cpu.cfs_quota_us", "cpu.cfs_period_us"), count = 0;
+  size_t quota = least(least_of_groups("cpu.max"), of_version_1);
   cpu_set_t set;
   if (sched_getaffinity(0, sizeof set, &set) == 0) count = (size_t)CPU_COUNT(&set);
   else if (sysconf(_SC_NPROCESSORS_ONLN) > 0) count = (size_t)sysconf(_SC_NPROCESSORS_ONLN);
@@ -146,7 +150,8 @@ size_t processors_of_process(void) {
 
 size_t memory_of_process(void) {
   size_t most = least(least_of_groups("memory.max"), least_of_groups("memory.high"));
+  long pages = sysconf(_SC_PHYS_PAGES);
   most = least(most, limit_of("/memory", "memory.limit_in_bytes", NULL));
-  if (sysconf(_SC_PHYS_PAGES) > 0) most = least(most, (size_t)sysconf(_SC_PHYS_PAGES) * (size_t)sysconf(_SC_PAGESIZE));
+  if (pages > 0) most = least(most, (size_t)pages * (size_t)sysconf(_SC_PAGESIZE));
   return most;
 }

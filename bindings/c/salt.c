@@ -5,7 +5,7 @@
 
 int scrypt_draw_salt(uint8_t *salt, size_t len) {
   if (is_null(salt, len)) return SCRYPT_NULL_POINTER;
-  return draw_bytes(salt, len) ? SCRYPT_OK : SCRYPT_NO_RANDOM_BYTES;
+  return random_bytes(salt, len) ? SCRYPT_OK : SCRYPT_NO_RANDOM_BYTES;
 }
 
 int scrypt_hash_new(const void *password, size_t password_len, char *text, size_t capacity) {

@@ -12,51 +12,54 @@ int64_t now_ns(void) {
   LARGE_INTEGER now, each_second;
   (void)QueryPerformanceCounter(&now);
   (void)QueryPerformanceFrequency(&each_second);
-  return now.QuadPart / each_second.QuadPart * NS_OF_SECOND + now.QuadPart % each_second.QuadPart * NS_OF_SECOND / each_second.QuadPart;
+  return now.QuadPart / each_second.QuadPart * NS_OF_SECOND +
+         now.QuadPart % each_second.QuadPart * NS_OF_SECOND / each_second.QuadPart;
 }
 
-/* A sleep ends with a tick of the system, of which there are 64 in a second unless the process asks for more. */
-int can_sleep_shortly(void) { return 0; }
+/* A sleep ends with a tick of the system, of which there are 64 in a second unless the process asks
+ * for more. */
+int can_sleep_briefly(void) { return 0; }
 
-void take_mutex(mutex *it) { AcquireSRWLockExclusive(it); }
+void mutex_lock(mutex *it) { AcquireSRWLockExclusive(it); }
 
-void give_mutex(mutex *it) { ReleaseSRWLockExclusive(it); }
+void mutex_unlock(mutex *it) { ReleaseSRWLockExclusive(it); }
 
-/* For a day at most, in whole milliseconds, of which there is one at least: with none a thread would spin. */
-void sleep_until(condition *it, mutex *with, int64_t ns) {
-  int64_t ms = ns == FOR_EVER ? 86400000 : (ns - now_ns()) / NS_OF_MILLISECOND + 1;
-  (void)SleepConditionVariableSRW(it, with, (DWORD)(ms < 1 ? 1 : ms > 86400000 ? 86400000 : ms), 0);
+/* For a day at most, in whole milliseconds, of which there is one at least: with none a thread
+ * would spin. */
+void condition_wait(condition *it, mutex *with, int64_t deadline_ns) {
+  int64_t day = 86400000;
+  int64_t ms = deadline_ns == NO_DEADLINE ? day : (deadline_ns - now_ns()) / NS_OF_MILLISECOND + 1;
+  (void)SleepConditionVariableSRW(it, with, (DWORD)(ms < 1 ? 1 : ms > day ? day : ms), 0);
 }
 
-void begin_condition(condition *it) { InitializeConditionVariable(it); }
+void condition_signal(condition *it) { WakeConditionVariable(it); }
 
-void wake(condition *it) { WakeConditionVariable(it); }
-
-void end_condition(condition *it) { (void)it; }
-
-void let_others_run(void) { (void)SwitchToThread(); }
+void yield_processor(void) { (void)SwitchToThread(); }
 
 /* ---- Memory ---- */
 
-/* The system promises all of it now, so that no write finds too little; each page is taken when it is first used. */
-void *map_zeros(size_t size) { return VirtualAlloc(NULL, size, MEM_RESERVE | MEM_COMMIT, PAGE_READWRITE); }
+/* The system promises all of it now, so that no write finds too little; each page is taken when it
+ * is first used. */
+void *map_zeros(size_t size) {
+  return VirtualAlloc(NULL, size, MEM_RESERVE | MEM_COMMIT, PAGE_READWRITE);
+}
 
 int unmap(void *at, size_t size) { return (void)size, VirtualFree(at, 0, MEM_RELEASE) != 0; }
 
-void wipe_in_child(void *at, size_t size) { (void)at, (void)size; }
+void wipe_on_fork(void *at, size_t size) { (void)at, (void)size; }
 
-void leave_out_of_child(void *at, size_t size) { (void)at, (void)size; }
+void drop_on_fork(void *at, size_t size) { (void)at, (void)size; }
 
 /* Large pages are for those alone who may lock memory, and are locked themselves. */
 void ask_for_huge_pages(void *at, size_t size) { (void)at, (void)size; }
 
-int is_in_memory(void *page) { return (void)page, 0; }
+int is_resident(void *page) { return (void)page, 0; }
 
-void populate_pages(void *at, size_t size) { (void)at, (void)size; }
+void prefault(void *at, size_t size) { (void)at, (void)size; }
 
 /* ---- The rest ---- */
 
-int draw_bytes(uint8_t *bytes, size_t len) {
+int random_bytes(uint8_t *bytes, size_t len) {
   while (len > 0) {
     ULONG some = len < (1 << 30) ? (ULONG)len : 1 << 30;
     if (BCryptGenRandom(NULL, bytes, some, BCRYPT_USE_SYSTEM_PREFERRED_RNG) != 0) return 0;
@@ -68,25 +71,29 @@ int draw_bytes(uint8_t *bytes, size_t len) {
 
 static size_t all_processors(void) { return GetActiveProcessorCount(ALL_PROCESSOR_GROUPS); }
 
-/* Those of its affinity. A mask is of one group, of at most 64 processors; in several groups a process may use all of them. */
+/* Those of its affinity. A mask is of one group, of at most 64 processors; in several groups a
+ * process may use all of them. */
 static size_t processors_of_affinity(void) {
   USHORT groups[64] = {0}, count = sizeof groups / sizeof *groups;
   DWORD_PTR of_process, of_system;
   size_t all = 0, i;
   if (GetActiveProcessorGroupCount() == 1) count = 1;
   else if (!GetProcessGroupAffinity(GetCurrentProcess(), &count, groups)) return all_processors();
-  if (count == 1 && GetProcessAffinityMask(GetCurrentProcess(), &of_process, &of_system) && of_process != 0)
+  if (count == 1 && GetProcessAffinityMask(GetCurrentProcess(), &of_process, &of_system) &&
+      of_process != 0)
     return (size_t)__builtin_popcountll(of_process);
   for (i = 0; i < count; i++) all += GetActiveProcessorCount(groups[i]);
   return all;
 }
 
-/* What the job of this process, or of its container, says; of those around it nothing can be asked. */
+/* What the job of this process, or of its container, says; of those around it nothing can be
+ * asked. */
 static int is_in_job(JOBOBJECTINFOCLASS which, void *limits, DWORD size) {
   return QueryInformationJobObject(NULL, which, limits, size, NULL) != 0;
 }
 
-/* In parts of 10,000 of all processors. Older headers don't have MaxRate, in the upper half of CpuRate. */
+/* In parts of 10,000 of all processors. Older headers don't have MaxRate, in the upper half of
+ * CpuRate. */
 #define MIN_MAX_RATE 0x10
 static size_t quota_of_job(void) {
   JOBOBJECT_CPU_RATE_CONTROL_INFORMATION rate = {0};
@@ -116,7 +123,9 @@ size_t memory_of_process(void) {
   }
   if (!is_in_job(JobObjectExtendedLimitInformation, &job, sizeof job)) return least;
   flags = job.BasicLimitInformation.LimitFlags;
-  if ((flags & JOB_OBJECT_LIMIT_PROCESS_MEMORY) && job.ProcessMemoryLimit < least) least = job.ProcessMemoryLimit;
-  if ((flags & JOB_OBJECT_LIMIT_JOB_MEMORY) && job.JobMemoryLimit < least) least = job.JobMemoryLimit;
+  if ((flags & JOB_OBJECT_LIMIT_PROCESS_MEMORY) && job.ProcessMemoryLimit < least)
+    least = job.ProcessMemoryLimit;
+  if ((flags & JOB_OBJECT_LIMIT_JOB_MEMORY) && job.JobMemoryLimit < least)
+    least = job.JobMemoryLimit;
   return least;
 }

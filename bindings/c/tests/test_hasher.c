@@ -1,185 +1,313 @@
-/* The hasher: order, groups, ends of waits, closing, memory that is refused, and forks, each at a time that a row says.
- * test_hasher_parts.c has its options, errors and numbers, and test_hasher_load.c what happens at any time. test.sh runs all three plain
- * and under checkers. */
+/* The hasher in threads: order, batches, timeouts, closing, memory that is refused, and forks.
+ * test_queue.c tries its decisions in every order, test_hasher_parts.c has its options, errors and
+ * numbers, and test_hasher_load.c what happens at any time. */
 #include "test_hasher.h"
 
-/* ---- One row: calls, what happens meanwhile, and what comes of them ----
- * A to F start a call that verifies the right password, a to f one with a wrong password, K one for a key; the hasher is
- * settled after each. - before a letter: the call waits for 200 ms. Then: . the group that began first ends; $ close; | fork; m no
- * more than one table of A can be mapped at a time; ~ 300 ms pass; % moments in which others may join last until the comma; !N a signal
- * to the thread of call N. */
-static const struct class { uint8_t log_n; uint32_t r, p; } CLASSES[] = {
-    {4, 8, 1}, {5, 8, 1}, {4, 8, 2}, {4, 8, 16}, {4, 16, 1}, {4, 8, 4}, {13, 8, 1}};
-static const struct row {
-  const char *why;
-  size_t processors, at_once, widest;
-  const char *script, *groups, *results; /* what is in groups in the end, and the statuses */
-} ROWS[] = {
-    {"first come, first served", 1, 1, 4, "AbaKAcA", "0 1 2 3 4 5 6", "=xx==x="},
-    {"pairs pass what is not like them", 1, 2, 4, "ABaCAdbEaA", "0 16 24 3:2 5:2 7 89", "==x==xx=x="},
-    {"groups of three", 1, 3, 4, "AbaBAKaA", "0 13 246 5 7", "=xx===x="},
-    {"groups of four", 1, 4, 4, "AaAaAaAbB", "0 1234 56 78", "=x=x=x=x="},
-    {"a processor on which three pay", 1, 4, 3, "AaAaAaA", "0 123 456", "=x=x=x="},
-    {"with p of 2, two in four tables", 1, 4, 4, "CcCcC", "0:2 12:4 34:4", "=x=x="},
-    {"with p of 2 and three tables, alone in two", 1, 3, 4, "CcC", "0:2 1:2 2:2", "=x="},
-    {"with p of 4 and of 16, alone in four", 1, 4, 4, "FfDd", "0:4 1:4 2:4 3:4", "=x=x"},
-    {"a cheap one is not taken along by a costly one of the same N and r", 1, 4, 4, "DaDA", "0:4 13 2:4", "=x=="},
-    {"equal N * r * p is not enough", 1, 4, 4, "ACEcEA", "0 13:4 24 5", "===x=="},
-    {"a key is alone, and is passed by those that are alike", 1, 2, 4, "AAKKA", "0 14 2 3", "====="},
-    {"two turns, of which the second has two tables", 2, 3, 4, "AaAaA..", "0 1 2 34", "=x=x="},
-    {"more tables than turns can use", 1, 1000, 4, "AaAaAa", "0 1234 5", "=x=x=x"},
-    {"more processors than tables", 64, 2, 4, "AaA", "0 1 2", "=x="},
-    {"in the moment of one that leads, those that are like it join", 1, 4, 4, "%GgKAG,", "014~ 2 3", "=x==="},
-    {"with those that waited before, and as many as have room", 1, 4, 4, "GgG%.gGAg,", "0~ 1234~ 5 6~", "=x=x==x"},
-    {"a full group has no moment", 1, 2, 4, "GgG", "0~ 12", "=x="},
-    {"nor one with a table for one", 1, 1, 4, "Gg", "0 1", "=x"},
-    {"nor one while a turn is free", 2, 4, 4, "GgG..", "0 1~ 2~", "=x="},
-    {"a turn's share of all calls, so that no processor is idle", 2, 8, 4, "AaAaA..", "0 1 23 4", "=x=x="},
-    {"a wait ends in time, and is nobody's partner", 1, 4, 4, "A-aA~.", "0 2", "=t="},
-    {"a wait that ends behind one that goes on", 1, 1, 4, "AB-a-b~-A~.", "0 1", "==ttt"},
-    {"time is no bound for who has a turn, or is a partner", 1, 2, 4, "-Aa-A.~", "0 12", "=x="},
-    {"closed while one derives", 1, 4, 4, "AaBK$a", "0", "=cccc"},
-    {"closed while a group derives", 1, 4, 4, "AaA.BKa$", "0 12", "=x=ccc"},
-    {"closed in a moment", 1, 4, 4, "%Gg$,", "0~", "=c"},
-    {"memory is refused for a group: each alone, one after another", 1, 4, 4, "mAaAaA....", "0 1 2 3 4", "=x=x="},
-    {"memory is refused for one: only for that one", 1, 1, 4, "AmBaA", "0 2 3", "=mx="},
-    {"a signal ends no wait", 1, 2, 4, "AaA!1!2!0", "0 12", "=x="},
-    {"fork while one waits", 1, 2, 4, "Aa|", "0 1", "=x"},
-    {"while a group derives", 1, 2, 4, "AaA.|", "0 12", "=x="},
-};
+/* What a call derives: keys, and verifications with these parameters. */
+enum kind { NONE, KEYS, A, B, P2, P4, P16, R16, LONG };
+static const struct { uint8_t log_n; uint32_t r, p; } PARAMS[] = {
+    [KEYS] = {4, 8, 1}, [A] = {4, 8, 1},    [B] = {5, 8, 1},     [P2] = {4, 8, 2},
+    [P4] = {4, 8, 4},   [P16] = {4, 8, 16}, [R16] = {4, 16, 1},  [LONG] = {13, 8, 1}};
 
-struct thread {
+/* A scenario: calls in a hasher, in which no derivation ends unless the test says so. Each second
+ * verification has a wrong password. */
+static const char *scenario;
+static scrypt_hasher *hasher;
+static size_t mapped_before;
+static int started, over;
+static struct thread {
   pthread_t id;
-  scrypt_hasher *hasher;
-  char text[SCRYPT_PHC_CAPACITY], password[2], how, kind;
-  int status;
-};
-static int over;
+  char text[SCRYPT_PHC_CAPACITY], password[2];
+  enum kind kind;
+  int64_t timeout_ms;
+  int status, wanted;
+} all[16];
 
-static void *run_call(void *of) {
+static void *run_thread(void *of) {
   struct thread *it = (struct thread *)of;
-  int64_t most_ms = it->how == '-' ? 200 : it->password[0] % 2 == 0 ? INT64_MAX : -1; /* both are without a bound */
   uint8_t key[4];
-  it->status = it->kind == 'K' ? scrypt_hasher_key(it->hasher, it->password, 1, "", 0, key, 4, most_ms)
-                               : scrypt_hasher_verify(it->hasher, it->password, 1, it->text, strlen(it->text), most_ms);
+  it->status = it->kind == KEYS
+                   ? scrypt_hasher_key(hasher, it->password, 1, "", 0, key, 4, it->timeout_ms)
+                   : verify(hasher, it->text, it->password, it->timeout_ms);
   (void)ADD(over, 1);
   return NULL;
 }
 
-/* Whether each call that was started is in the hasher or over, and each one that leads derives or is in its moment. */
-static int is_settled(scrypt_hasher *hasher, int started) {
+/* Whether each call is in the hasher or over, and each leader derives or is in its window. */
+static int is_settled(void) {
   struct look at = look_at(hasher);
-  return READ(over) + (int)(at.stats.waiting + at.stats.deriving) == started && READ(inside) + READ(in_moments) == at.leading;
+  int calls = READ(over) + (int)(at.stats.waiting + at.stats.deriving);
+  return calls == started && READ(inside) + READ(in_windows) == at.leading;
 }
 
 /* Until it is so twice. */
-static void settle(scrypt_hasher *hasher, int started, const char *why) {
+static void settle(void) {
   int settled = 0;
-  until((settled = is_settled(hasher, started) ? settled + 1 : 0) == 2);
-  expect(settled == 2, "%s: %d calls are not settled", why, started);
+  until((settled = is_settled() ? settled + 1 : 0) == 2);
+  expect(settled == 2, "%s: %d calls are not settled", scenario, started);
 }
 
-static void start(struct thread *it, int number, char how, char kind, scrypt_hasher *hasher) {
-  const struct class *class = &CLASSES[kind == 'K' ? 0 : (kind | 32) - 'a'];
-  it->hasher = hasher;
-  it->how = how;
-  it->kind = kind;
-  it->password[0] = (char)('0' + number);
-  make_text(it->text, kind >= 'a' ? "other" : it->password, class->log_n, class->r, class->p);
-  expect(pthread_create(&it->id, NULL, run_call, it) == 0, "no thread");
-}
-
-static void act(char what, scrypt_hasher *hasher, const char *why) {
-  static const scrypt_needs ONE = {4, 8, 1, 32, 1, 1024, 16 * 256, 512, 1024 + 4 * (16 * 256 + 512), 0};
-  int before = READ(ended);
-  if (what == '$') scrypt_hasher_close(hasher);
-  if (what == 'm') WRITE(most_mapped, ONE.bytes + HUGE_PAGE);
-  if (what == '~') usleep(300000);
-  if (what == '|') fork_here(hasher, why);
-  if (what == '%' || what == ',') WRITE(moments_last, what == '%');
-  if (what != '.') return;
-  WRITE(passed, READ(passed) + 1);
-  until(READ(ended) != before);
-}
-
-static void check_row(const struct row *row, scrypt_hasher *hasher, const struct thread *all, int started) {
-  static const char LETTERS[] = "=x??m????????????ct";
-  char results[32] = "", in_order[256] = "", *end = in_order;
-  scrypt_stats stats = {1, 1, 1};
-  uint64_t refused = 0;
-  for (int i = 0; i < started; i++) {
-    results[i] = LETTERS[all[i].status];
-    refused += all[i].status == SCRYPT_OUT_OF_MEMORY || all[i].status == SCRYPT_TIMEOUT;
-  }
-  IS(scrypt_hasher_stats(hasher, &stats), SCRYPT_OK);
-  expect(stats.waiting == 0 && stats.deriving == 0 && stats.refused == refused, "%s: %d refused", row->why, (int)stats.refused);
-  for (int i = 0; i < begun; i++) end += sprintf(end, "%s%s", i > 0 ? " " : "", groups[i]);
-  expect(strcmp(results, row->results) == 0, "%s: %s, not %s", row->why, results, row->results);
-  expect(strcmp(in_order, row->groups) == 0, "%s: groups %s, not %s", row->why, in_order, row->groups);
-  expect(look_at(hasher).is_idle, "%s: not idle", row->why);
-}
-
-static void nothing_in_handler(int number) { (void)number; }
-
-static void run_row(const struct row *row) {
-  struct thread all[16];
-  size_t before = READ(mapped), queue;
-  scrypt_hasher *hasher = made(row->processors, row->at_once, 4);
-  const char *at;
-  char how = ' ';
-  int started = 0, i;
+static void begin(const char *name, size_t processors, size_t at_once) {
+  scenario = name;
+  mapped_before = READ(mapped);
+  hasher = new_hasher(processors, at_once, 4);
   memset(all, 0, sizeof all);
-  queue = size_of_queue(hasher);
-  WRITE(widest, row->widest);
+  memset(batches, 0, sizeof batches);
+  started = 0;
   WRITE(over, 0);
   WRITE(is_stopped, 1);
-  for (at = row->script; *at != '\0'; at++) {
-    if (*at == '-') how = *at;
-    else if (*at == '!') pthread_kill(all[at[1] - '0'].id, SIGUSR1), at++;
-    else if (strchr(".$|m~%,", *at) != NULL) act(*at, hasher, row->why);
-    else start(&all[started], started, how, *at, hasher), started++, how = ' ';
-    settle(hasher, started, row->why);
-  }
-  WRITE(is_stopped, 0);
-  for (i = 0; i < started; i++) pthread_join(all[i].id, NULL);
-  WRITE(most_mapped, SIZE_MAX);
-  check_row(row, hasher, all, started);
+}
+
+/* Returns the number of the call, which is the first letter of its password. */
+static int start_within(enum kind kind, int64_t timeout_ms) {
+  struct thread *it = &all[started];
+  int is_wrong = started % 2 == 1 && kind != KEYS;
+  it->kind = kind;
+  it->timeout_ms = timeout_ms;
+  it->wanted = is_wrong ? SCRYPT_MISMATCH : SCRYPT_OK;
+  it->password[0] = (char)('0' + started);
+  make_text(it->text, is_wrong ? "other" : it->password, PARAMS[kind].log_n, PARAMS[kind].r,
+            PARAMS[kind].p);
+  expect(pthread_create(&it->id, NULL, run_thread, it) == 0, "no thread");
+  started++;
+  settle();
+  return started - 1;
+}
+
+static void start(enum kind kind) { start_within(kind, started % 2 == 0 ? -1 : INT64_MAX); }
+
+static void start_all(const enum kind *kinds) {
+  for (; *kinds != NONE; kinds++) start(*kinds);
+}
+
+static void let_windows_last(int last) {
+  WRITE(windows_last, last);
+  settle();
+}
+
+/* Lets the batch end that began first. */
+static void end_first(void) {
+  int before = READ(ended);
+  WRITE(passed, READ(passed) + 1);
+  until(READ(ended) != before);
+  settle();
+}
+
+static void close_now(void) {
   scrypt_hasher_close(hasher);
-  expect(READ(mapped) == before + queue, "%s: closed, with %zu bytes", row->why, READ(mapped) - before);
-  scrypt_hasher_free(hasher);
-  expect(READ(mapped) == before, "%s: %zu bytes are left", row->why, READ(mapped) - before);
+  settle();
 }
 
-static void rows(void) {
-  for (size_t i = 0; i < sizeof ROWS / sizeof ROWS[0]; i++)
-    if (HAS_FORKS || strpbrk(ROWS[i].script, "|!") == NULL) run_row(&ROWS[i]);
+static void let_all_end(void) {
+  WRITE(is_stopped, 0);
+  until(READ(over) == started);
 }
 
-/* Without memory for the hasher, what is wrong with its options is found first. */
-static void options_without_memory(void) {
-  static const struct { const char *why; scrypt_options with; int status; } OPTIONS[] = {
-      {"another size", {.size = 1, .key_len = 9}, SCRYPT_OPTIONS_SIZE},
-      {"a key of 9 bytes", {.size = sizeof(scrypt_options), .key_len = 9, .salt_len = 65}, SCRYPT_INVALID_PARAMS},
-      {"a salt of 65", {.size = sizeof(scrypt_options), .salt_len = 65, .most_bytes = 1}, SCRYPT_SALT_INVALID},
-      {"too few bytes", {.size = sizeof(scrypt_options), .most_bytes = 1}, SCRYPT_TOO_COSTLY},
-      {"nothing", {.size = sizeof(scrypt_options)}, SCRYPT_OUT_OF_MEMORY}};
-  is_malloc_refused = 1;
-  for (size_t i = 0; i < sizeof OPTIONS / sizeof OPTIONS[0]; i++) {
-    int status = -1;
-    IS(scrypt_hasher_new(&OPTIONS[i].with, &status), NULL);
-    expect(status == OPTIONS[i].status, "%s: %d", OPTIONS[i].why, status);
+/* Lets all derivations end. Then the batches were these, in their order. */
+static void end(const char *wanted_batches) {
+  char in_order[256] = "", *at = in_order;
+  scrypt_stats stats = {1, 1, 1};
+  uint64_t refused = 0;
+  let_all_end();
+  for (int i = 0; i < started; i++) {
+    pthread_join(all[i].id, NULL);
+    expect(all[i].status == all[i].wanted, "%s: %d of call %d", scenario, all[i].status, i);
+    refused += all[i].status == SCRYPT_OUT_OF_MEMORY || all[i].status == SCRYPT_TIMEOUT;
   }
-  is_malloc_refused = 0;
+  for (int i = 0; i < begun; i++) at += sprintf(at, "%s%s", i > 0 ? " " : "", batches[i].calls);
+  expect(strcmp(in_order, wanted_batches) == 0, "%s: batches %s", scenario, in_order);
+  IS(scrypt_hasher_stats(hasher, &stats), SCRYPT_OK);
+  expect(stats.refused == refused && look_at(hasher).is_idle, "%s: not idle", scenario);
+  WRITE(max_mapped, SIZE_MAX);
+  scrypt_hasher_close(hasher);
+  expect(READ(mapped) == mapped_before + size_of_queue(hasher), "%s: closed", scenario);
+  scrypt_hasher_free(hasher);
+  expect(READ(mapped) == mapped_before, "%s: memory is left", scenario);
 }
+
+/* ---- Batches: all calls come while the first ones derive ---- */
+
+static const struct {
+  const char *why;
+  size_t processors, at_once, interleave;
+  enum kind calls[11];
+  const char *batches;
+} BATCHES[] = {
+    {"first come, first served", 1, 1, 4, {A, B, A, KEYS, A, P2, A}, "0 1 2 3 4 5 6"},
+    {"two pass what is not compatible", 1, 2, 4, {A, B, A, B, A, A, B, A, A}, "0 13 24 57 6 8"},
+    {"three", 1, 3, 4, {A, B, A, B, A, KEYS, A, A}, "0 13 246 5 7"},
+    {"four", 1, 4, 4, {A, A, A, A, A, A, A, B, B}, "0 1234 56 78"},
+    {"a processor on which three pay", 1, 4, 3, {A, A, A, A, A, A, A}, "0 123 456"},
+    {"with p of 2, two in four tables", 1, 4, 4, {P2, P2, P2, P2, P2}, "0 12 34"},
+    {"with p of 2 and three tables, alone in two", 1, 3, 4, {P2, P2, P2}, "0 1 2"},
+    {"with p of 4 and of 16, alone in four", 1, 4, 4, {P4, P4, P16, P16}, "0 1 2 3"},
+    {"a cheap one doesn't join a costly one", 1, 4, 4, {P16, A, P16, A}, "0 13 2"},
+    {"N * r * p is not enough", 1, 4, 4, {A, P2, R16, B, R16, A}, "0 1 24 3 5"},
+    {"a key is alone, and compatible calls pass it", 1, 2, 4, {A, A, KEYS, KEYS, A}, "0 14 2 3"},
+    {"more tables than slots can use", 1, 1000, 4, {A, A, A, A, A, A}, "0 1234 5"},
+    {"more processors than tables", 64, 2, 4, {A, A, A}, "0 1 2"},
+};
+
+/* As many tables as the batch has chunks and the slot has. */
+static void check_tables(size_t at_once, const enum kind *calls) {
+  size_t width = at_once / hasher->slots < interleave ? at_once / hasher->slots : interleave;
+  for (int i = 0; i < begun; i++) {
+    size_t chunks = strlen(batches[i].calls) * PARAMS[calls[*batches[i].calls - '0']].p;
+    IS((size_t)batches[i].tables, chunks < width ? chunks : width);
+  }
+}
+
+static void in_batches(void) {
+  for (size_t i = 0; i < sizeof BATCHES / sizeof *BATCHES; i++) {
+    WRITE(interleave, BATCHES[i].interleave);
+    begin(BATCHES[i].why, BATCHES[i].processors, BATCHES[i].at_once);
+    start_all(BATCHES[i].calls);
+    let_all_end();
+    check_tables(BATCHES[i].at_once, BATCHES[i].calls);
+    end(BATCHES[i].batches);
+  }
+  WRITE(interleave, 4);
+}
+
+static void share_of_a_slot(void) {
+  begin("two slots, of which the second has two tables", 2, 3);
+  start_all((enum kind[]){A, A, A, A, A, NONE});
+  end_first();
+  end_first();
+  end("0 1 2 34");
+  begin("no batch is so large that a processor is idle", 2, 8);
+  start_all((enum kind[]){A, A, A, A, A, NONE});
+  end_first();
+  end_first();
+  end("0 1 23 4");
+}
+
+static void in_a_window(void) {
+  begin("compatible calls that come in the window of a leader join it", 1, 4);
+  let_windows_last(1);
+  start_all((enum kind[]){LONG, LONG, KEYS, A, LONG, NONE});
+  let_windows_last(0);
+  end("014~ 2 3");
+  begin("after those that waited before, and as many as have room", 1, 4);
+  start_all((enum kind[]){LONG, LONG, LONG, NONE});
+  let_windows_last(1);
+  end_first();
+  start_all((enum kind[]){LONG, LONG, A, LONG, NONE});
+  let_windows_last(0);
+  end("0~ 1234~ 5 6~");
+  begin("a full batch has no window", 1, 2);
+  start_all((enum kind[]){LONG, LONG, LONG, NONE});
+  end("0~ 12");
+  begin("nor a slot with one table", 1, 1);
+  start_all((enum kind[]){LONG, LONG, NONE});
+  end("0 1");
+  begin("nor while a slot is free", 2, 4);
+  start_all((enum kind[]){LONG, LONG, LONG, NONE});
+  end_first();
+  end("0 1~ 2~");
+}
+
+/* ---- Other ends of a wait ---- */
+
+static void timeouts(void) {
+  begin("a wait ends in time, and joins nobody", 1, 4);
+  start(A);
+  all[start_within(A, 200)].wanted = SCRYPT_TIMEOUT;
+  start(A);
+  until(READ(over) == 1);
+  end_first();
+  end("0 2");
+  begin("a wait ends behind one that goes on", 1, 1);
+  start_all((enum kind[]){A, B, NONE});
+  for (int i = 0; i < 3; i++) all[start_within(A, 200)].wanted = SCRYPT_TIMEOUT;
+  until(READ(over) == 3);
+  end("0 1");
+  begin("there is no timeout for who leads or follows", 1, 2);
+  start_within(A, 200);
+  start(A);
+  start_within(A, 200);
+  end_first();
+  usleep(300000);
+  end("0 12");
+}
+
+static void closed(void) {
+  begin("closed while one derives", 1, 4);
+  start_all((enum kind[]){A, A, B, KEYS, NONE});
+  for (int i = 1; i < 4; i++) all[i].wanted = SCRYPT_CLOSED;
+  close_now();
+  start(A);
+  all[4].wanted = SCRYPT_CLOSED;
+  end("0");
+  begin("closed while a batch derives", 1, 4);
+  start_all((enum kind[]){A, A, A, NONE});
+  end_first();
+  start_all((enum kind[]){B, KEYS, NONE});
+  for (int i = 3; i < 5; i++) all[i].wanted = SCRYPT_CLOSED;
+  close_now();
+  end("0 12");
+  begin("closed in a window", 1, 4);
+  let_windows_last(1);
+  start_all((enum kind[]){LONG, LONG, NONE});
+  all[1].wanted = SCRYPT_CLOSED;
+  close_now();
+  let_windows_last(0);
+  end("0~");
+}
+
+static void memory_refused(void) {
+  begin("memory for one table: a batch is derived one after another", 1, 4);
+  WRITE(max_mapped, hasher->needs.bytes + HUGE_PAGE);
+  start_all((enum kind[]){A, A, A, A, A, NONE});
+  for (int i = 0; i < 4; i++) end_first();
+  end("0 1 2 3 4");
+  begin("memory for one table of another size: an error of that call alone", 1, 1);
+  start(A);
+  WRITE(max_mapped, hasher->needs.bytes + HUGE_PAGE);
+  start_all((enum kind[]){B, A, A, NONE});
+  all[1].wanted = SCRYPT_OUT_OF_MEMORY;
+  end("0 2 3");
+}
+
+#if HAS_FORKS
+static void nothing(int number) { (void)number; }
+
+static void signals(void) {
+  const struct sigaction action = {.sa_handler = nothing};
+  sigaction(SIGUSR1, &action, NULL);
+  begin("a signal ends no wait", 1, 2);
+  start_all((enum kind[]){A, A, A, NONE});
+  for (int i = 0; i < 3; i++) pthread_kill(all[i].id, SIGUSR1);
+  settle();
+  end_first();
+  for (int i = 1; i < 3; i++) pthread_kill(all[i].id, SIGUSR1);
+  settle();
+  end("0 12");
+}
+
+static void forks(void) {
+  begin("fork while one derives and one waits", 1, 2);
+  start_all((enum kind[]){A, A, NONE});
+  fork_here(hasher, scenario);
+  end("0 1");
+  begin("fork while a batch derives", 1, 2);
+  start_all((enum kind[]){A, A, A, NONE});
+  end_first();
+  fork_here(hasher, scenario);
+  end("0 12");
+}
+#endif
 
 int main(void) {
+  RUN(in_batches);
+  RUN(share_of_a_slot);
+  RUN(in_a_window);
+  RUN(timeouts);
+  RUN(closed);
+  RUN(memory_refused);
 #if HAS_FORKS
-  const struct sigaction action = {.sa_handler = nothing_in_handler};
-  sigaction(SIGUSR1, &action, NULL);
-#else
-  (void)nothing_in_handler;
+  RUN(signals);
+  RUN(forks);
 #endif
-  RUN(rows);
-  RUN(options_without_memory);
   return failed;
 }

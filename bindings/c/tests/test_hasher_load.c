@@ -1,11 +1,11 @@
 /* The hasher under load, forked, closed and freed at any time: no wrong verdict, no hang. */
-#define LEAST_MOMENT_NS 0
+#define MIN_LINGER_NS 0
 #include "test_hasher.h"
 
 #ifdef __SANITIZE_THREAD__ /* which knows no child of several threads */
-#define MOST_FORKS 0
-#elif !defined MOST_FORKS /* valgrind, in which each takes seconds, has none */
-#define MOST_FORKS 4
+#define FORKS 0
+#elif !defined FORKS /* valgrind, in which each takes seconds, has none */
+#define FORKS 4
 #endif
 
 static char texts[3][SCRYPT_PHC_CAPACITY];
@@ -37,16 +37,19 @@ static void at_any_time(void) {
   pthread_t all[16];
   for (size_t round = 0; round < 24; round++) {
     size_t processors = PROCESSORS[round % 3];
-    scrypt_hasher *hasher = made(processors, round % 4 * processors + 1, 4);
+    scrypt_hasher *hasher = new_hasher(processors, round % 4 * processors + 1, 4);
     for (int i = 0; i < 16; i++) pthread_create(&all[i], NULL, verify_until_closed, hasher);
     until(READ(running) == 16);
     expect(READ(running) == 16, "cancelled in a call, or not begun");
     if (READ(running) != 16) _exit(1); /* its threads would go on in the next test */
-    for (int i = 0; i < MOST_FORKS; i++) usleep((useconds_t)(rand() % 500)), fork_here(hasher, "forked at any time");
+    for (int i = 0; i < FORKS; i++) {
+      usleep((useconds_t)(rand() % 500));
+      fork_here(hasher, "forked at any time");
+    }
     scrypt_hasher_close(hasher);
     for (int i = 0; i < 16; i++) pthread_join(all[i], NULL);
     expect(look_at(hasher).is_idle, "idle after load");
-    if (MOST_FORKS > 0) fork_here(hasher, "closed");
+    if (FORKS > 0) fork_here(hasher, "closed");
     scrypt_hasher_free(hasher);
   }
 }
@@ -61,7 +64,7 @@ static void *verify_one(void *hasher) {
 static void freed_when_they_returned(void) {
   pthread_t all[5];
   for (int round = 0; round < 200; round++) {
-    scrypt_hasher *hasher = made(1, (size_t)(1 + round % 4), 4);
+    scrypt_hasher *hasher = new_hasher(1, (size_t)(1 + round % 4), 4);
     WRITE(is_stopped, 1);
     for (int i = 0; i < 5; i++) pthread_create(&all[i], NULL, verify_one, hasher);
     WRITE(passed, round % 3);

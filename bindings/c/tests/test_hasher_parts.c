@@ -1,34 +1,45 @@
-/* The hasher: its options, errors, verdicts, numbers of turns and of tables, many waits, and calibration. */
+/* The hasher: its options, errors, verdicts, slots and tables, many waits, and calibration. */
 #include "test_hasher.h"
 
 #define OF(...) {sizeof(scrypt_options), __VA_ARGS__, 1, 1}
+static const struct {
+  const char *why;
+  scrypt_options with;
+  int status;
+} OPTIONS[] = {
+    {"N = 1", OF(0, 1, 1, 0, 0, 0, 0, 0, 0), SCRYPT_OK},
+    {"log_n alone", OF(4, 0, 0, 0, 0, 0, 0, 0, 0), SCRYPT_INVALID_PARAMS},
+    {"N in place of log_n", OF(16384, 8, 1, 0, 0, 0, 0, 0, 0), SCRYPT_INVALID_PARAMS},
+    {"a key of 9 bytes", OF(4, 8, 1, 0, 9, 65, 0, 0, 0), SCRYPT_INVALID_PARAMS},
+    {"a key of 65", OF(4, 8, 1, 0, 65, 0, 0, 0, 0), SCRYPT_INVALID_PARAMS},
+    {"a key that is too short", OF(4, 8, 1, 0, 20, 0, 0, 0, 21), SCRYPT_INVALID_PARAMS},
+    {"or just long enough", OF(4, 8, 1, 0, 20, 0, 0, 0, 20), SCRYPT_OK},
+    {"a salt of 65, before memory", OF(4, 8, 1, 0, 0, 65, 1, 0, 0), SCRYPT_SALT_INVALID},
+    {"too few bytes", OF(14, 8, 1, 0, 0, 0, 1 << 20, 0, 0), SCRYPT_TOO_COSTLY},
+    {"too little work", OF(14, 8, 1, 0, 0, 0, 0, 1 << 10, 0), SCRYPT_TOO_COSTLY},
+    {"above the default limits, which follow", OF(20, 8, 4, 0, 0, 0, 0, 0, 0), SCRYPT_OK},
+    {"a size of another version", {.size = 1, .key_len = 9}, SCRYPT_OPTIONS_SIZE},
+    {"more slots than any machine has",
+     {sizeof(scrypt_options), 4, 8, 1, 0, 0, 0, 0, 0, 0, SIZE_MAX, SIZE_MAX}, SCRYPT_OK}};
+
+/* Without memory for a hasher, what is wrong with its options is found first. */
 static void options(void) {
-  static const struct { const char *why; scrypt_options with; int status; } OPTIONS[] = {
-      {"N = 1", OF(0, 1, 1, 0, 0, 0, 0, 0, 0), SCRYPT_OK},
-      {"log_n alone", OF(4, 0, 0, 0, 0, 0, 0, 0, 0), SCRYPT_INVALID_PARAMS},
-      {"N in place of log_n", OF(16384, 8, 1, 0, 0, 0, 0, 0, 0), SCRYPT_INVALID_PARAMS},
-      {"a key of 9 bytes", OF(4, 8, 1, 0, 9, 0, 0, 0, 0), SCRYPT_INVALID_PARAMS},
-      {"a key of 65", OF(4, 8, 1, 0, 65, 0, 0, 0, 0), SCRYPT_INVALID_PARAMS},
-      {"a key that is shorter than allowed", OF(4, 8, 1, 0, 20, 0, 0, 0, 21), SCRYPT_INVALID_PARAMS},
-      {"or as short", OF(4, 8, 1, 0, 20, 0, 0, 0, 20), SCRYPT_OK},
-      {"a salt of 65", OF(4, 8, 1, 0, 0, 65, 0, 0, 0), SCRYPT_SALT_INVALID},
-      {"too few bytes", OF(14, 8, 1, 0, 0, 0, 1 << 20, 0, 0), SCRYPT_TOO_COSTLY},
-      {"too little work", OF(14, 8, 1, 0, 0, 0, 0, 1 << 10, 0), SCRYPT_TOO_COSTLY},
-      {"above the usual bounds, which follow", OF(20, 8, 4, 0, 0, 0, 0, 0, 0), SCRYPT_OK},
-      {"more than any has", {sizeof(scrypt_options), 4, 8, 1, 0, 0, 0, 0, 0, 0, SIZE_MAX, SIZE_MAX}, SCRYPT_OK}};
   for (size_t i = 0; i < sizeof OPTIONS / sizeof OPTIONS[0]; i++) {
-    int status = -1;
-    scrypt_hasher *hasher = scrypt_hasher_new(&OPTIONS[i].with, &status);
-    expect(status == OPTIONS[i].status && (hasher != NULL) == (status == SCRYPT_OK), "%s: %d", OPTIONS[i].why, status);
-    scrypt_hasher_free(hasher);
+    for (is_malloc_refused = 0; is_malloc_refused < 2; is_malloc_refused++) {
+      int status = -1, wanted = OPTIONS[i].status;
+      scrypt_hasher *hasher = scrypt_hasher_new(&OPTIONS[i].with, &status);
+      if (is_malloc_refused && wanted == SCRYPT_OK) wanted = SCRYPT_OUT_OF_MEMORY;
+      expect(status == wanted && (hasher != NULL) == (wanted == SCRYPT_OK), "%s", OPTIONS[i].why);
+      scrypt_hasher_free(hasher);
+    }
+    is_malloc_refused = 0;
   }
-  size_t *older = (size_t *)calloc(1, sizeof *older); /* of a version with fewer options */
-  int status = -1;
-  IS(scrypt_hasher_new((const scrypt_options *)older, &status), NULL);
-  IS(status, SCRYPT_OPTIONS_SIZE);
-  free(older);
+}
+
+static void defaults(void) {
   scrypt_hasher *hasher = scrypt_hasher_new(NULL, NULL);
   const scrypt_options *with = scrypt_hasher_options(hasher);
+  int status = -1;
   IS(with->log_n, SCRYPT_RECOMMENDED_LOG_N);
   IS(with->r, SCRYPT_RECOMMENDED_R);
   IS(with->p, SCRYPT_RECOMMENDED_P);
@@ -37,77 +48,93 @@ static void options(void) {
   IS(with->most_bytes, SCRYPT_MOST_BYTES);
   IS(with->most_work, SCRYPT_MOST_WORK);
   IS(with->least_key_len, SCRYPT_LEAST_KEY_LEN);
-  expect(with->processors == processors_of_process() && with->at_once == 2 * with->processors, "turns");
-  expect(scrypt_hasher_options(NULL) == NULL, "no options of NULL");
+  IS(with->processors, processors_of_process());
+  IS(with->at_once, 2 * with->processors);
+  IS(scrypt_hasher_options(NULL), NULL);
   scrypt_hasher_free(hasher);
-  WRITE(most_mapped, 10);
+  WRITE(max_mapped, 10);
   IS(scrypt_hasher_new(NULL, &status), NULL);
   IS(status, SCRYPT_OUT_OF_MEMORY);
-  WRITE(most_mapped, SIZE_MAX);
+  WRITE(max_mapped, SIZE_MAX);
+}
+
+#define TEXT_OF(params, more) "$scrypt$ln=" params "$c2FsdHNhbHQ$AAAAAAAAAAAAAAAAAAAA" more
+static void refused(void) {
+  char text[SCRYPT_PHC_CAPACITY], mcf[SCRYPT_MCF_CAPACITY(3)], good[SCRYPT_PHC_CAPACITY];
+  scrypt_options with = {sizeof with, 4, 8, 2, 1, 0, 0, 0, 0, 0, 1, 1};
+  scrypt_hasher *phc = new_hasher(1, 1, 4), *of_mcf = scrypt_hasher_new(&with, NULL);
+  uint8_t key[32];
+  make_text(good, "right", 4, 8, 1);
+  IS(verify(phc, "", "", -1), SCRYPT_ENCODING_INVALID);
+  IS(verify(phc, TEXT_OF("19,r=8,p=1", "AA"), "", -1), SCRYPT_TOO_COSTLY);
+  IS(verify(phc, TEXT_OF("4,r=8,p=32768", "AA"), "", -1), SCRYPT_TOO_COSTLY);
+  IS(verify(phc, TEXT_OF("4,r=8,p=1", ""), "", -1), SCRYPT_KEY_TOO_SHORT);
+  IS(verify(NULL, good, "", -1), SCRYPT_NULL_POINTER);
+  IS(scrypt_hasher_verify(phc, NULL, 1, good, strlen(good), -1), SCRYPT_NULL_POINTER);
+  IS(scrypt_hasher_verify(phc, "", 0, NULL, 1, -1), SCRYPT_NULL_POINTER);
+  IS(scrypt_hasher_hash(phc, "a", 1, NULL, 1, text, sizeof text, -1), SCRYPT_NULL_POINTER);
+  IS(scrypt_hasher_hash(phc, "a", 1, "", 0, text, sizeof text, -1), SCRYPT_SALT_INVALID);
+  IS(scrypt_hasher_hash(phc, "a", 1, good, 65, text, sizeof text, -1), SCRYPT_SALT_INVALID);
+  IS(scrypt_hasher_hash(phc, "a", 1, NULL, 0, text, sizeof text - 1, -1), SCRYPT_BUFFER_SIZE);
+  IS(scrypt_hasher_hash(phc, "a", 1, NULL, 0, NULL, 0, -1), SCRYPT_BUFFER_SIZE);
+  IS(scrypt_hasher_hash(phc, "a", 1, NULL, 0, NULL, 1, -1), SCRYPT_NULL_POINTER);
+  IS(scrypt_hasher_hash(of_mcf, "a", 1, "abc", 3, mcf, sizeof mcf - 1, -1), SCRYPT_BUFFER_SIZE);
+  IS(scrypt_hasher_hash(of_mcf, "a", 1, "a", SIZE_MAX, mcf, sizeof mcf, -1), SCRYPT_BUFFER_SIZE);
+  IS(scrypt_hasher_key(phc, "pw", 2, "salt", 4, key, 0, -1), SCRYPT_INVALID_OUTPUT_LEN);
+  IS(scrypt_hasher_needs_rehash(NULL, good, 1), SCRYPT_NULL_POINTER);
+  phc->queue->slots[0].is_taken = 1;
+  IS(verify(phc, good, "right", 0), SCRYPT_TIMEOUT);
+  IS(verify(phc, good, "right", 2), SCRYPT_TIMEOUT);
+  phc->queue->slots[0].is_taken = 0;
+  scrypt_hasher_close(phc);
+  expect(look_at(phc).is_idle, "closed");
+  IS(verify(phc, "", "", -1), SCRYPT_ENCODING_INVALID); /* the errors of the text come first */
+  IS(verify(phc, good, "right", -1), SCRYPT_CLOSED);
+  IS(scrypt_hasher_hash(phc, "a", 1, NULL, 0, text, sizeof text, -1), SCRYPT_CLOSED);
+  scrypt_hasher_free(phc);
+  scrypt_hasher_free(of_mcf);
 }
 
 static void calls(void) {
   char text[SCRYPT_PHC_CAPACITY], mcf[SCRYPT_MCF_CAPACITY(3)], good[SCRYPT_PHC_CAPACITY];
   scrypt_options with = {sizeof with, 4, 8, 2, 1, 0, 0, 0, 0, 0, 1, 1};
-  scrypt_hasher *hasher = made(1, 1, 4), *of_mcf = scrypt_hasher_new(&with, NULL);
-  const struct arena *kept = &of_mcf->queue->turns[0].arena;
+  scrypt_hasher *phc = new_hasher(1, 1, 4), *of_mcf = scrypt_hasher_new(&with, NULL);
+  const struct arena *kept = &of_mcf->queue->slots[0].arena;
   uint8_t key[32];
   make_text(good, "right", 4, 8, 1);
-  IS(verify(hasher, "", "", -1), SCRYPT_ENCODING_INVALID);
-  IS(verify(hasher, "$scrypt$ln=19,r=8,p=1$c2FsdHNhbHQ$AAAAAAAAAAAAAAAAAAAAAA", "", -1), SCRYPT_TOO_COSTLY); /* bytes */
-  IS(verify(hasher, "$scrypt$ln=4,r=8,p=32768$c2FsdHNhbHQ$AAAAAAAAAAAAAAAAAAAAAA", "", -1), SCRYPT_TOO_COSTLY);
-  IS(verify(hasher, "$scrypt$ln=4,r=8,p=1$c2FsdHNhbHQ$AAAAAAAAAAAAAAAAAAAA", "", -1), SCRYPT_KEY_TOO_SHORT);
-  IS(verify(NULL, good, "", -1), SCRYPT_NULL_POINTER);
-  IS(scrypt_hasher_verify(hasher, NULL, 1, good, strlen(good), -1), SCRYPT_NULL_POINTER);
-  IS(scrypt_hasher_verify(hasher, "", 0, NULL, 1, -1), SCRYPT_NULL_POINTER);
-  IS(scrypt_hasher_hash(hasher, "a", 1, NULL, 1, text, sizeof text, -1), SCRYPT_NULL_POINTER);
-  IS(scrypt_hasher_hash(hasher, "a", 1, "", 0, text, sizeof text, -1), SCRYPT_SALT_INVALID);
-  IS(scrypt_hasher_hash(hasher, "a", 1, NULL, 0, text, sizeof text - 1, -1), SCRYPT_BUFFER_SIZE);
-  IS(scrypt_hasher_hash(hasher, "a", 1, NULL, 0, NULL, 0, -1), SCRYPT_BUFFER_SIZE);
-  IS(scrypt_hasher_hash(hasher, "a", 1, NULL, 0, NULL, 1, -1), SCRYPT_NULL_POINTER);
-  IS(scrypt_hasher_hash(of_mcf, "a", 1, "abc", 3, mcf, sizeof mcf - 1, -1), SCRYPT_BUFFER_SIZE);
-  IS(scrypt_hasher_hash(of_mcf, "a", 1, "abc", SIZE_MAX, mcf, sizeof mcf, -1), SCRYPT_BUFFER_SIZE);
-  IS(scrypt_hasher_hash(hasher, "right", 5, NULL, 0, text, sizeof text, -1), SCRYPT_OK);
+  IS(scrypt_hasher_hash(phc, "right", 5, NULL, 0, text, sizeof text, -1), SCRYPT_OK);
   IS(scrypt_hasher_hash(of_mcf, NULL, 0, "abc", 3, mcf, sizeof mcf, 0), SCRYPT_OK);
-  expect(strncmp(text, "$scrypt$ln=4,r=8,p=1$", 21) == 0 && strncmp(mcf, "$7$2", 4) == 0, "texts %s, %s", text, mcf);
+  IS(strncmp(text, "$scrypt$ln=4,r=8,p=1$", 21), 0);
+  IS(strncmp(mcf, "$7$2", 4), 0);
   IS(verify(of_mcf, text, "right", -1), SCRYPT_OK);
-  IS(verify(hasher, mcf, "", -1), SCRYPT_OK);
-  IS(verify(hasher, mcf, "a", -1), SCRYPT_MISMATCH);
-  IS(scrypt_hasher_needs_rehash(hasher, text, strlen(text)), SCRYPT_OK);
+  IS(verify(phc, mcf, "", -1), SCRYPT_OK);
+  IS(verify(phc, mcf, "a", -1), SCRYPT_MISMATCH);
+  IS(scrypt_hasher_needs_rehash(phc, text, strlen(text)), SCRYPT_OK);
   IS(scrypt_hasher_needs_rehash(of_mcf, text, strlen(text)), SCRYPT_NEEDS_REHASH);
-  IS(scrypt_hasher_needs_rehash(NULL, text, 1), SCRYPT_NULL_POINTER);
-  IS(scrypt_hasher_key(hasher, "pw", 2, "salt", 4, key, 0, -1), SCRYPT_INVALID_OUTPUT_LEN);
   IS(scrypt_hasher_key(of_mcf, "pw", 2, NULL, 0, key, 32, -1), SCRYPT_OK);
-  for (size_t i = 4 * of_mcf->needs.table_len; i < kept->room; i++) expect(front_of(kept)[i] == 0, "byte %zu is kept", i);
-  IS(verify(hasher, good, "right", -1), SCRYPT_OK);
-  hasher->queue->turns[0].is_taken = 1;
-  IS(verify(hasher, good, "right", 0), SCRYPT_TIMEOUT);
-  IS(verify(hasher, good, "right", 2), SCRYPT_TIMEOUT);
-  hasher->queue->turns[0].is_taken = 0;
-  scrypt_hasher_close(hasher);
-  expect(look_at(hasher).is_idle, "closed");
-  IS(verify(hasher, "", "", -1), SCRYPT_ENCODING_INVALID); /* the errors of the text come first */
-  IS(verify(hasher, good, "right", -1), SCRYPT_CLOSED);
-  IS(scrypt_hasher_hash(hasher, "a", 1, NULL, 0, text, sizeof text, -1), SCRYPT_CLOSED);
-  scrypt_hasher_free(hasher);
+  for (size_t i = 4 * of_mcf->needs.table_len; i < kept->room; i++) IS(front_of(kept)[i], 0);
+  IS(verify(phc, good, "right", -1), SCRYPT_OK);
+  scrypt_hasher_free(phc);
   scrypt_hasher_free(of_mcf);
 }
 
-/* A login without a hash is derived as a new hash is, and never accepted. */
-static void no_hash(void) {
-  static const scrypt_options OPTIONS[] = {
-      {sizeof(scrypt_options), 4, 8, 1, 0, 0, 0, 0, 0, 0, 1, 1},   {sizeof(scrypt_options), 0, 1, 1, 0, 10, 1, 0, 0, 0, 1, 1},
-      {sizeof(scrypt_options), 1, 2, 3, 0, 64, 64, 0, 0, 0, 1, 1}, {sizeof(scrypt_options), 5, 1, 1 << 12, 1, 11, 2, 0, 0, 0, 1, 1}};
-  for (size_t i = 0; i < sizeof OPTIONS / sizeof OPTIONS[0]; i++) {
-    scrypt_hasher *hasher = scrypt_hasher_new(&OPTIONS[i], NULL);
+/* A login without a hash costs what a new hash costs, and is never accepted. */
+static void decoy(void) {
+  static const scrypt_options PARAMS[] = {
+      OF(4, 8, 1, 0, 0, 0, 0, 0, 0), OF(0, 1, 1, 0, 10, 1, 0, 0, 0),
+      OF(1, 2, 3, 0, 64, 64, 0, 0, 0), OF(5, 1, 1 << 12, 1, 11, 2, 0, 0, 0)};
+  for (size_t i = 0; i < sizeof PARAMS / sizeof PARAMS[0]; i++) {
+    scrypt_hasher *hasher = scrypt_hasher_new(&PARAMS[i], NULL);
+    const char *text = hasher->decoy;
     scrypt_needs needs = {0}, *new = &hasher->needs;
-    most_inside = most_tables = 4;
+    max_inside = max_tables = 4;
     IS(scrypt_hasher_verify(hasher, "right", 5, NULL, 0, -1), SCRYPT_MISMATCH);
     IS(scrypt_hasher_verify(hasher, NULL, 0, NULL, 0, -1), SCRYPT_MISMATCH);
     IS(scrypt_hasher_verify(hasher, NULL, 1, NULL, 0, -1), SCRYPT_NULL_POINTER);
-    IS(scrypt_hash_needs(hasher->no_hash, strlen(hasher->no_hash), SIZE_MAX, UINT64_MAX, 0, &needs), SCRYPT_OK);
-    expect(needs.log_n == new->log_n && needs.r == new->r && needs.p == new->p && needs.work == new->work, "another cost");
+    IS(scrypt_hash_needs(text, strlen(text), SIZE_MAX, UINT64_MAX, 0, &needs), SCRYPT_OK);
+    expect(needs.log_n == new->log_n && needs.r == new->r && needs.p == new->p, "parameters");
     IS(needs.key_len, hasher->options.key_len);
+    IS(strlen(text) - 15 - (8 * needs.key_len + 5) / 6, hasher->options.salt_len);
     all_match = 1;
     IS(scrypt_hasher_verify(hasher, "right", 5, NULL, 0, -1), SCRYPT_MISMATCH);
     all_match = 0;
@@ -120,7 +147,7 @@ static void no_hash(void) {
 /* Who derives alone takes no room for others. */
 static void room_for_one(void) {
   size_t before = READ(mapped);
-  scrypt_hasher *hasher = made(1, 4, 4);
+  scrypt_hasher *hasher = new_hasher(1, 4, 4);
   char text[SCRYPT_PHC_CAPACITY];
   make_text(text, "right", 4, 8, 1);
   IS(verify(hasher, text, "right", -1), SCRYPT_OK);
@@ -128,16 +155,17 @@ static void room_for_one(void) {
   scrypt_hasher_free(hasher);
 }
 
+#if HAS_FORKS
 /* A child maps what it needs, and gives that back; of its parents it has nothing. */
 static int generation(scrypt_hasher *hasher, const char *text, int more) {
-#if HAS_FORKS
-  void *of_parent = hasher->queue->turns[0].arena.mapping;
+  void *of_parent = hasher->queue->slots[0].arena.mapping;
   pid_t child = fork();
   int status = -1;
-  if (child > 0) return waitpid(child, &status, 0) == child && WIFEXITED(status) && WEXITSTATUS(status) == 0;
+  if (child > 0) return waitpid(child, &status, 0) == child && status == 0;
   mapped = 0;
-#if defined __x86_64__ && !defined __SANITIZE_THREAD__ /* that maps there itself; other processors are tested in an emulator, which takes no such advice */
-  expect(madvise(of_parent, LARGEST_PAGE, MADV_NORMAL) != 0 && errno == ENOMEM, "a child has what its parent mapped");
+#if defined __x86_64__ && !defined __SANITIZE_THREAD__
+  /* Elsewhere an emulator takes no such advice, and this sanitizer maps there itself. */
+  expect(madvise(of_parent, LARGEST_PAGE, MADV_NORMAL) != 0 && errno == ENOMEM, "of the parent");
 #else
   (void)of_parent;
 #endif
@@ -147,13 +175,10 @@ static int generation(scrypt_hasher *hasher, const char *text, int more) {
   scrypt_hasher_close(hasher);
   IS(READ(mapped), 0);
   _exit(failed);
-#else
-  return (void)hasher, (void)text, (void)more, 1;
-#endif
 }
 
 static void generations(void) {
-  scrypt_hasher *hasher = made(1, 1, 4);
+  scrypt_hasher *hasher = new_hasher(1, 1, 4);
   char text[SCRYPT_PHC_CAPACITY];
   make_text(text, "right", 4, 8, 1);
   IS(verify(hasher, text, "right", -1), SCRYPT_OK);
@@ -161,44 +186,50 @@ static void generations(void) {
   IS(verify(hasher, text, "right", -1), SCRYPT_OK);
   scrypt_hasher_free(hasher);
 }
+#endif
 
 /* A part of the derivation, at most a millisecond, and none below 50 microseconds. */
-static void moments(void) {
-  static const struct { uint8_t log_n; uint32_t p; int64_t ns; } MOMENTS[] = {
-      {4, 1, 0}, {12, 1, 0}, {12, 2, 52428}, {13, 1, 52428}, {14, 1, 104857}, {17, 1, 838860}, {18, 1, 1000000}};
+static void windows(void) {
+  static const struct {
+    uint8_t log_n;
+    uint32_t p;
+    int64_t ns;
+  } WINDOWS[] = {{4, 1, 0},       {12, 1, 0},      {12, 2, 52428},  {13, 1, 52428},
+                 {14, 1, 104857}, {17, 1, 838860}, {18, 1, 1000000}};
   scrypt_needs needs;
-  for (size_t i = 0; i < sizeof MOMENTS / sizeof MOMENTS[0]; i++) {
-    IS(scrypt_params_need(MOMENTS[i].log_n, 8, MOMENTS[i].p, SIZE_MAX, UINT64_MAX, &needs), SCRYPT_OK);
-    expect(moment_of(&needs) == MOMENTS[i].ns, "a moment for (%d, 8, %u)", MOMENTS[i].log_n, MOMENTS[i].p);
+  for (size_t i = 0; i < sizeof WINDOWS / sizeof WINDOWS[0]; i++) {
+    IS(scrypt_params_need(WINDOWS[i].log_n, 8, WINDOWS[i].p, SIZE_MAX, UINT64_MAX, &needs), 0);
+    IS(linger_ns(&needs), WINDOWS[i].ns);
   }
 }
 
 /* Waits that end in a mixed order take the time of their number. */
 static void many_waits(void) {
   enum { N = 80000 };
-  scrypt_hasher *hasher = made(1, 1, 4);
+  static const int STATUSES[] = {SCRYPT_OK, SCRYPT_MISMATCH, SCRYPT_OK, SCRYPT_MISMATCH};
+  scrypt_hasher *hasher = new_hasher(1, 1, 4);
   struct queue *queue = hasher->queue;
-  struct call *all = (struct call *)calloc(N + 1, sizeof *all), *group[4] = {&all[0]}, *it;
+  struct call *all = (struct call *)calloc(N + 1, sizeof *all), *batch[4] = {&all[0]}, *it;
   clock_t begun_at = clock();
-  take_mutex(&queue->lock);
-  for (int i = 0; i <= N; i++) all[i].login.text = "", begin_condition(&all[i].woken), enter(hasher, &all[i]);
+  mutex_lock(&queue->lock);
+  for (int i = 0; i <= N; i++) enter(hasher, &all[i]);
   for (int i = 0; i < N; i++) {
     it = &all[1 + i * 7919L % N];
-    leave_line(queue, it);
-    if (i % 2 == 0) *it = (struct call){.login = it->login, .woken = it->woken}, enter(hasher, it);
+    dequeue(queue, it);
+    if (i % 2 == 0) enter(hasher, it);
   }
   it = queue->first;
-  for (int i = 0; i < 1000; i++, it = it->next) it->needs.r = 1;
-  IS(gather(hasher, group, 1, 4), 1); /* it looks no further */
+  for (int i = 0; i < MAX_SCANNED; i++, it = it->next) it->needs.r = 1;
+  IS(extend_batch(hasher, batch, 1, 4), 1); /* it looks no further */
   all[0].needs.r = 1;
-  IS(gather(hasher, group, 1, 4), 4);
+  IS(extend_batch(hasher, batch, 1, 4), 4);
   IS(queue->stats.waiting, N / 2 - 3);
-  give_mutex(&queue->lock);
+  mutex_unlock(&queue->lock);
   scrypt_hasher_close(hasher);
-  take_mutex(&queue->lock);
-  finish(hasher, group, (int[]){SCRYPT_OK, SCRYPT_MISMATCH, SCRYPT_OK, SCRYPT_MISMATCH}, 4);
-  IS(group[3]->status, SCRYPT_MISMATCH);
-  give_mutex(&queue->lock);
+  mutex_lock(&queue->lock);
+  finish(hasher, batch, STATUSES, 4);
+  IS(batch[3]->status, SCRYPT_MISMATCH);
+  mutex_unlock(&queue->lock);
   expect(look_at(hasher).is_idle, "not idle");
   expect(clock() - begun_at < 5 * CLOCKS_PER_SEC, "not linear");
   scrypt_hasher_free(hasher);
@@ -207,20 +238,24 @@ static void many_waits(void) {
 
 /* How many tables a hasher with 64 processors may have, which its options show. */
 static void memory(void) {
-  static const struct { const char *why; size_t memory, most_bytes, at_once; } ROWS[] = {
-      {"two for each processor", SIZE_MAX, 1 << 14, 128},
-      {"three of the default, and the rest of the process", (size_t)1 << 30, 0, 3},
-      {"or six", (size_t)1 << 30, 129 << 20, 6},
-      {"not one of the default, but one of a new hash", (size_t)1 << 28, 0, 1},
-      {"six of new hashes, as nobody has room for the largest", (size_t)1 << 30, SIZE_MAX, 6},
-      {"one at least", 1000, 0, 1}};
-  for (size_t i = 0; i < sizeof ROWS / sizeof ROWS[0]; i++) {
-    scrypt_options with = {.size = sizeof with, .most_bytes = ROWS[i].most_bytes, .processors = 64};
+  static const size_t GIB = (size_t)1 << 30;
+  const struct {
+    const char *why;
+    size_t memory, most_bytes, at_once;
+  } MEMORY[] = {{"two for each processor", SIZE_MAX, 1 << 14, 128},
+                {"three of the default, and the rest of the process", GIB, 0, 3},
+                {"or six", GIB, 129 << 20, 6},
+                {"not one of the default, but one of a new hash", GIB / 4, 0, 1},
+                {"six of new hashes, as nobody has room for the largest", GIB, SIZE_MAX, 6},
+                {"one at least", 1000, 0, 1}};
+  for (size_t i = 0; i < sizeof MEMORY / sizeof MEMORY[0]; i++) {
+    scrypt_options with = {.size = sizeof with, .processors = 64};
     scrypt_hasher *hasher;
+    with.most_bytes = MEMORY[i].most_bytes;
     if (with.most_bytes == 1 << 14) with.log_n = 4, with.r = 1, with.p = 1;
-    memory_there = ROWS[i].memory;
+    memory_there = MEMORY[i].memory;
     hasher = scrypt_hasher_new(&with, NULL);
-    expect(hasher != NULL && scrypt_hasher_options(hasher)->at_once == ROWS[i].at_once, "%s", ROWS[i].why);
+    expect(scrypt_hasher_options(hasher)->at_once == MEMORY[i].at_once, "%s", MEMORY[i].why);
     scrypt_hasher_free(hasher);
   }
   memory_there = SIZE_MAX;
@@ -233,16 +268,20 @@ static void calibrated(void) {
   IS(scrypt_calibrate(1, ((size_t)1 << 20) - 1, &log_n, &r, &p), SCRYPT_TOO_COSTLY);
   expect(log_n == 0 && r == 0 && p == 0, "unchanged");
   IS(scrypt_calibrate(9, (size_t)1 << 20, &log_n, &r, &p), SCRYPT_OK);
-  expect(log_n == 10 && r == 8 && p > 1, "the table as large as the bound, and p takes the time: %d %u %u", log_n, r, p);
+  expect(log_n == 10 && r == 8 && p > 1, "the largest table, then p: %u %u %u", log_n, r, p);
 }
 
 int main(void) {
   RUN(options);
+  RUN(defaults);
+  RUN(refused);
   RUN(calls);
-  RUN(no_hash);
+  RUN(decoy);
   RUN(room_for_one);
+#if HAS_FORKS
   RUN(generations);
-  RUN(moments);
+#endif
+  RUN(windows);
   RUN(many_waits);
   RUN(memory);
   RUN(calibrated);

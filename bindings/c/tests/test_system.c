@@ -30,10 +30,10 @@ static void *count_with_the_lock(void *unused) {
   int i;
   for (i = 0; i < ROUNDS; i++) {
     long before;
-    take_mutex(&shared.lock);
+    mutex_lock(&shared.lock);
     before = shared.count;
     shared.count = before + 1;
-    give_mutex(&shared.lock);
+    mutex_unlock(&shared.lock);
   }
   return unused;
 }
@@ -54,10 +54,10 @@ static int word, went_on;
 static void *sleep_for_long(void *unused) {
   int before;
   (void)pthread_setcanceltype(PTHREAD_CANCEL_DEFERRED, &before);
-  take_mutex(&lock);
-  while (word == 0) sleep_until(&woken, &lock, word == 0 ? FOR_EVER : now_ns() + 10 * SECOND);
+  mutex_lock(&lock);
+  while (word == 0) condition_wait(&woken, &lock, word == 0 ? NO_DEADLINE : now_ns() + 10 * SECOND);
   went_on = 1;
-  give_mutex(&lock);
+  mutex_unlock(&lock);
   return unused;
 }
 
@@ -65,25 +65,23 @@ static void sleeps(void) {
   int64_t begun = now_ns(), end = begun + 30 * MS;
   pthread_t thread;
   int count = 0;
-  begin_condition(&woken);
-  take_mutex(&lock);
-  for (; now_ns() < end; count++) sleep_until(&woken, &lock, end);
+  mutex_lock(&lock);
+  for (; now_ns() < end; count++) condition_wait(&woken, &lock, end);
   check(count < 10, "a sleep lasts until its end");
-  sleep_until(&woken, &lock, end); /* which is over */
+  condition_wait(&woken, &lock, end); /* which is over */
   check(now_ns() - begun < SECOND, "a sleep ends in time");
   check(pthread_create(&thread, NULL, sleep_for_long, NULL) == 0, "a thread");
   end = now_ns() + 50 * MS;
-  while (now_ns() < end) sleep_until(&woken, &lock, end); /* until it sleeps; who is cancelled sleeps on */
+  while (now_ns() < end) condition_wait(&woken, &lock, end); /* until it sleeps; who is cancelled sleeps on */
   (void)pthread_cancel(thread);
   end = now_ns() + 50 * MS;
-  while (now_ns() < end) sleep_until(&woken, &lock, end);
+  while (now_ns() < end) condition_wait(&woken, &lock, end);
   check(!went_on, "a thread sleeps");
   word = 1;
-  wake(&woken);
-  give_mutex(&lock);
+  condition_signal(&woken);
+  mutex_unlock(&lock);
   (void)pthread_join(thread, NULL);
   check(went_on, "who is woken goes on");
-  end_condition(&woken);
 }
 
 /* ---- Memory ---- */
@@ -109,14 +107,14 @@ static void memory(void) {
   mapped[1] = (uint8_t *)map_zeros(LEN);
   mapped[2] = (uint8_t *)map_zeros(LEN);
   mapped[3] = (uint8_t *)map_zeros(LEN);
-  wipe_in_child(mapped[1], LEN);
-  wipe_in_child(mapped[2] + LEN / 2, LEN / 2);
-  leave_out_of_child(mapped[3], LEN);
+  wipe_on_fork(mapped[1], LEN);
+  wipe_on_fork(mapped[2] + LEN / 2, LEN / 2);
+  drop_on_fork(mapped[3], LEN);
   for (i = 0; i < 4; i++) {
     check(mapped[i] != NULL && are_all(mapped[i], LEN, 0), "zeros are mapped");
     if (mapped[i] == NULL) return;
     ask_for_huge_pages(mapped[i], LEN);
-    populate_pages(mapped[i], LEN);
+    prefault(mapped[i], LEN);
     memset(mapped[i], 7, LEN);
   }
   while_mapped();

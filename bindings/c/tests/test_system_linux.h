@@ -18,7 +18,7 @@ static int child_finds_zeros(void) {
 
 static void while_mapped(void) {
   int i;
-  for (i = 0; i < 4; i++) check(is_in_memory(mapped[i]), "what was written is in memory");
+  for (i = 0; i < 4; i++) check(is_resident(mapped[i]), "what was written is in memory");
   in_a_child(child_finds_zeros, "a child");
 }
 

@@ -1,12 +1,10 @@
-/* For the tests of the hasher on Windows, which has no forks and no signals: rows and tests with these are left out. */
+/* For the tests of the hasher on Windows, which has no forks and no signals. */
 #include <pthread.h>
 #include <stdio.h>
 #include <stdlib.h>
 #include <string.h>
 #include <time.h>
 
-enum { SIGUSR1 = 30 };
-#define pthread_kill(thread, number) ((void)(thread), (void)(number))
 #define _exit(status) ExitProcess((UINT)(status))
 
 /* No sleep is shorter than a millisecond. */

@@ -1,0 +1,78 @@
+/* The options of a hasher, and what follows from them. Not proved. */
+#define _GNU_SOURCE
+#include "options.h"
+
+#include "system.h"
+
+#include <string.h>
+
+#define MAX_SLOTS 8192 /* as many processors as Linux can have */
+
+#define DEFAULT(field, value) \
+  if (with->field == 0) with->field = (value)
+
+/* Two tables for each processor, or as many as fit into 7/8 of the memory: of the largest that are
+ * allowed or, if not one of these does, of new hashes. */
+static size_t default_at_once(const scrypt_options *with, const scrypt_needs *new) {
+  size_t memory = memory_of_process(), usable = memory - memory / 8;
+  size_t fit = usable / with->most_bytes;
+  size_t two = with->processors > SIZE_MAX / 2 ? SIZE_MAX : 2 * with->processors;
+  if (fit == 0) fit = usable / new->bytes;
+  return fit == 0 ? 1 : fit < two ? fit : two;
+}
+
+int complete_options(const scrypt_options *given, scrypt_options *with, scrypt_needs *needs) {
+  size_t most_bytes, least_key_len;
+  uint64_t most_work;
+  int status;
+  if (given != NULL && given->size != sizeof *with) return SCRYPT_OPTIONS_SIZE;
+  *with = given != NULL ? *given : (scrypt_options){.size = sizeof *with};
+  if (with->log_n == 0 && with->r == 0 && with->p == 0) {
+    with->log_n = SCRYPT_RECOMMENDED_LOG_N;
+    with->r = SCRYPT_RECOMMENDED_R;
+    with->p = SCRYPT_RECOMMENDED_P;
+  }
+  DEFAULT(key_len, SCRYPT_KEY_LEN);
+  DEFAULT(salt_len, SCRYPT_SALT_LEN);
+  DEFAULT(processors, processors_of_process());
+  if (with->key_len < 10 || with->key_len > 64) return SCRYPT_INVALID_PARAMS;
+  status = scrypt_limits_for_new(with->log_n, with->r, with->p, with->key_len, &most_bytes,
+                                 &most_work, &least_key_len);
+  if (status != SCRYPT_OK) return status;
+  DEFAULT(most_bytes, most_bytes);
+  DEFAULT(most_work, most_work);
+  DEFAULT(least_key_len, least_key_len);
+  /* Otherwise new hashes would be refused. */
+  if (with->least_key_len > with->key_len) return SCRYPT_INVALID_PARAMS;
+  if (with->salt_len > MAX_SALT_LEN) return SCRYPT_SALT_INVALID;
+  status = scrypt_params_need(with->log_n, with->r, with->p, with->most_bytes, with->most_work,
+                              needs);
+  if (status != SCRYPT_OK) return status;
+  DEFAULT(at_once, default_at_once(with, needs));
+  return SCRYPT_OK;
+}
+
+size_t slots_of(const scrypt_options *with) {
+  size_t slots = with->at_once < with->processors ? with->at_once : with->processors;
+  return slots < MAX_SLOTS ? slots : MAX_SLOTS;
+}
+
+size_t width_of_slot(const scrypt_options *with, size_t slots, size_t place) {
+  size_t width = with->at_once / slots + (place >= slots - with->at_once % slots);
+  return width < tables_that_pay() ? width : tables_that_pay();
+}
+
+/* A $7$ hash, whose salt is dots and whose key is zeros. */
+void write_decoy(char text[SCRYPT_PHC_CAPACITY], const scrypt_options *with) {
+  static const char LETTERS[] = "./0123456789ABCDEFGHIJKLMNOPQRSTUVWXYZabcdefghijklmnopqrstuvwxyz";
+  size_t key_letters = (8 * with->key_len + 5) / 6, i;
+  memset(text, 0, SCRYPT_PHC_CAPACITY);
+  memcpy(text, "$7$", 3);
+  text[3] = LETTERS[with->log_n];
+  for (i = 0; i < 5; i++) {
+    text[4 + i] = LETTERS[with->r >> 6 * i & 63];
+    text[9 + i] = LETTERS[with->p >> 6 * i & 63];
+  }
+  memset(text + 14, '.', with->salt_len + 1 + key_letters);
+  text[14 + with->salt_len] = '$';
+}

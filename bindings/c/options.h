@@ -1,0 +1,22 @@
+/* The options of a hasher, and what follows from them. */
+#ifndef OPTIONS_H
+#define OPTIONS_H
+
+#include "groups.h"
+
+#define MAX_SALT_LEN 64
+
+/* Writes the options that were given, or none if NULL, with defaults in place of zeros, and what a
+ * new hash needs. Returns the errors of scrypt_hasher_new. */
+int complete_options(const scrypt_options *given, scrypt_options *with, scrypt_needs *needs);
+
+/* How many calls may derive at a time. */
+size_t slots_of(const scrypt_options *with);
+
+/* How many tables a slot has: the last slots have one more if not all can have the same. */
+size_t width_of_slot(const scrypt_options *with, size_t slots, size_t place);
+
+/* Writes a hash that costs as much as a new one, for logins without a hash. */
+void write_decoy(char text[SCRYPT_PHC_CAPACITY], const scrypt_options *with);
+
+#endif
