@@ -222,7 +222,7 @@ dist-test:
 	tools/release/arm64_machine.sh
 
 thin: lib
-	python3 -m tools.bench.thin $(MEASURED) 2 docs/thin.svg
+	python3 -m tools.bench.thin $(MEASURED) 2
 
 parameters: lib
 	python3 -m tools.bench.parameters $(MEASURED) 15 docs/parameters.svg

@@ -1,10 +1,10 @@
 """Measures key derivation with smaller tables: memory, cores and time, for s from 0 to 6.
 
-usage: python3 -m tools.bench.thin LIBRARY [RUNS [PICTURE]]
+usage: python3 -m tools.bench.thin LIBRARY [RUNS]
 
 LIBRARY is the shared C library of this repository. The table keeps one row in 2^s. The time is the minimum of RUNS runs (by
 default 3). A step recomputes (2^s - 1) / 2 rows on average, so 2 * N * r * p * (2 + (2^s - 1) / 2) cores are expected. Each
-key is compared with hashlib's. With PICTURE, time over memory is drawn there as SVG.
+key is compared with hashlib's.
 """
 
 import ctypes
@@ -12,7 +12,6 @@ import hashlib
 import sys
 import time
 
-from tools.bench import picture
 from tools import ours
 
 PARAMS = [(17, 8, 1), (20, 8, 1)]
@@ -71,10 +70,6 @@ def main():
         print(f"\n| s at {params} | table, MiB | expected cores | seconds |\n|---|---|---|---|")
         for s, mib, cores, taken in rows:
             print(f"| {s} | {mib:g} | {cores:.3g} | {taken:.3f} |")
-    if len(sys.argv) > 3:
-        title = "seconds for a key; beside each point its seconds, at (log_n, r, p)"
-        lines = {str(params): [(mib, taken, f"{taken:.2g}") for _, mib, _, taken in rows] for params, rows in results.items()}
-        picture.draw(sys.argv[3], title, lines, (0.25, 1, 4, 16))
 
 
 if __name__ == "__main__":

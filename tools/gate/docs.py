@@ -1,7 +1,7 @@
 """Compares the documents with the sources, and refuses what does not fit.
 
 Refused are: a name in a document that no source has; a link that leads nowhere, or whose words name a definition that
-its file doesn't have; an example in Rust that is not a part of the file that it names; a call in docs/data_path.dot
+its file doesn't have; an example in Rust that is not a part of the file that it names; a call in the graph of CONTRIBUTING
 that its function doesn't make; a module of proofs without a comment in its crate's proofs/Lib.antt; and a proof of a
 caller that names a proof of a library, since callers are proved from public clauses alone. docs/PROMISES.md is
 compared by tools/generate/promises.py.
@@ -124,7 +124,7 @@ def names_of(source, item):
 def missing_calls(path, crates):
     """The edges of a picture that are not calls: the first function's body doesn't have the second one's name."""
     known = [(source, item) for crate in crates for source in crate.values() for item in source.items if item.kind == "fn"]
-    for edge in re.findall(r'"([\w:]+)" -> "([\w:]+)"', read(path)):
+    for edge in re.findall(r'\["([\w:]+)"\] -->(?:\|.*\|)? \w+\["([\w:]+)"\]', read(path)):
         caller, called = ([function for function in known if name in names_of(*function)] for name in edge)
         lines = [line for source, item in caller for line in source.text.splitlines()[item.opened : item.last]]
         if not called or not re.search(rf"\b{called[0][1].name}(::<.*>)?\(", "\n".join(lines)):
@@ -144,7 +144,7 @@ def main():
     for wanted in [f"axioms={len(axioms)}", *axioms]:
         if f"`{wanted}`" not in trust:
             found.append(f"docs/TRUST.md: {wanted} of tools/generate/axioms.txt is not there")
-    found += missing_calls("docs/data_path.dot", [read_crate(name, f"crates/{name}") for name in ("scrypt", "scrypt_kernel")])
+    found += missing_calls("CONTRIBUTING.md", [read_crate(name, f"crates/{name}") for name in ("scrypt", "scrypt_kernel")])
     sys.exit("\n".join(found) or 0)
 
 
