@@ -1,5 +1,8 @@
 // What is refused, and why.
-import { BUFFER_SIZE, MISMATCH, OUT_OF_MEMORY, WORDS } from './declared.js';
+import {
+  ALGORITHM, BUFFER_SIZE, ENCODING_INVALID, HASH_PARAMS_INVALID, HASH_PARAM_INVALID, KEY_TOO_SHORT, MISMATCH, OUTPUT_SIZE, OUT_OF_MEMORY,
+  TOO_COSTLY, VERSION, WORDS,
+} from './declared.js';
 
 /** Why a call was refused: `code` for programs, `message` for people. Neither holds a secret. */
 export class ScryptError extends Error {
@@ -9,6 +12,29 @@ export class ScryptError extends Error {
     this.code = code;
   }
 }
+
+/** A stored hash was refused: its text is no hash of scrypt, it costs more than the limits allow, or its key is shorter. */
+export class RefusedHashError extends ScryptError {
+  constructor(code, message) {
+    super(code, message);
+    this.name = 'RefusedHashError';
+  }
+}
+
+const REFUSALS = new Set([
+  ALGORITHM, ENCODING_INVALID, HASH_PARAMS_INVALID, HASH_PARAM_INVALID, KEY_TOO_SHORT, OUTPUT_SIZE, TOO_COSTLY, VERSION,
+].map((status) => WORDS.get(status)[0]));
+
+/** The error of a call that reads the text of a hash, and perhaps takes a password, in bytes. */
+export function errorOfHash(error, password = new Uint8Array()) {
+  if (!REFUSALS.has(error.code)) return error;
+  const isSwapped = error.code === 'ENCODING_INVALID' && /^\$(scrypt|7)\$/.test(new TextDecoder().decode(password.subarray(0, 8)));
+  return new RefusedHashError(error.code, error.message + (isSwapped ? ': verify takes the password first, and then the text' : ''));
+}
+
+/** The error that a worker told of. */
+export const errorNamed = ({ name, code = 'INTERNAL', message }) =>
+  new (name === 'RefusedHashError' ? RefusedHashError : ScryptError)(code, message);
 
 /** Another password, or: needs a new hash. */
 export const NO = MISMATCH;

@@ -19,7 +19,7 @@ export type PartialParams = { [K in keyof Params]?: Params[K] | undefined };
 export type ReadParams = Params & { dkLen: number };
 
 export interface KeyOptions extends Params {
-  /** The most bytes of memory; 2 ** 30 + 2 ** 20 if left out. */
+  /** The most bytes of memory; 2 ** 30 + 2 ** 20 if left out, or 7/8 of what the container has, if that is less. */
   maxmem?: number | undefined;
   /** The most work, 4 * (N + 32) * r * p; no limit if left out. */
   maxwork?: number | undefined;
@@ -30,7 +30,7 @@ export interface HashOptions extends PartialParams {
   salt?: Bytes | undefined;
   /** `'phc'`, the default: `$scrypt$..`; or `'mcf'`, as crypt(3) has it: `$7$..`. */
   format?: 'phc' | 'mcf' | undefined;
-  /** The most bytes of memory; 2 ** 30 + 2 ** 20 if left out. */
+  /** The most bytes of memory; 2 ** 30 + 2 ** 20 if left out, or 7/8 of what the container has, if that is less. */
   maxmem?: number | undefined;
 }
 
@@ -47,8 +47,17 @@ export interface VerifyOptions extends PartialParams {
   minKeyLength?: number | undefined;
 }
 
-export interface Abortable {
-  /** Ends the work, and the promise is rejected with the signal's reason. */
+export interface CallOptions {
+  /** Ends the call while it waits, and a key between two steps too: the promise is rejected with the signal's reason. */
+  signal?: AbortSignal | undefined;
+  /** The most milliseconds that the call waits for a worker, which may have to start; no limit if left out. */
+  timeout?: number | undefined;
+}
+
+export interface StepOptions {
+  /** Is called some hundred times a second with how much is done, from 0 to 1. What it throws ends the call, and rejects the promise. */
+  onProgress?: ((fraction: number) => void) | undefined;
+  /** Ends the call between two steps, and the promise is rejected with the signal's reason. */
   signal?: AbortSignal | undefined;
 }
 
@@ -85,41 +94,60 @@ export type ErrorCode =
   | 'HASH_PARAM_INVALID'
   /** The parameters in the hash are not accepted, or one in PHC form is not ln, r or p. */
   | 'HASH_PARAMS_INVALID'
+  /** No worker was free within `timeout`. */
+  | 'TIMEOUT'
+  /** `maxQueue` calls wait for a worker already. */
+  | 'QUEUE_FULL'
   /** The engine lacks WebAssembly with vectors. */
   | 'UNSUPPORTED'
   /** The module was not found or not allowed to be compiled. The next call tries again. */
   | 'LOAD_FAILED'
   /**
-   * The worker at the address in the message did not start, or ended. The next call starts another one. This thread may be one that
-   * cannot start workers: use `load()`.
+   * The worker at the address in the message ended, or did not start and there is no other one. The next call starts another one. This
+   * thread may be one that cannot start workers: use `load()`.
    */
   | 'WORKER_FAILED'
   /** A fault of this package. */
   | 'INTERNAL';
 
 export class ScryptError extends Error {
-  private constructor();
+  protected constructor();
   readonly code: ErrorCode;
 }
 
+/** A stored hash is refused: the text is not one of scrypt, it costs more than the limits allow, or its key is shorter. */
+export class RefusedHashError extends ScryptError {
+  private constructor();
+}
+
 /** Derives a key, in a worker. */
-export function scrypt(password: Bytes, salt: Bytes, options: KeyOptions & Abortable): Promise<Uint8Array>;
+export function scrypt(password: Bytes, salt: Bytes, options: KeyOptions & StepOptions & CallOptions): Promise<Uint8Array>;
 /** Makes the text of a hash with a random salt, in a worker. */
-export function hash(password: Bytes, options?: HashOptions & Abortable): Promise<string>;
-/** Whether the password is that of the text, in a worker. A text that is not a hash of scrypt is an error. */
-export function verify(password: Bytes, text: Bytes, options?: VerifyOptions & Abortable): Promise<boolean>;
+export function hash(password: Bytes, options?: HashOptions & CallOptions): Promise<string>;
+/**
+ * Whether the password is that of the text, in a worker. A text that is not a hash of scrypt is a `RefusedHashError`. Without a text,
+ * as for a user who does not exist, it is `false` after the work of a new hash.
+ */
+export function verify(password: Bytes, text: Bytes | null | undefined, options?: VerifyOptions & CallOptions): Promise<boolean>;
 /** Whether the hash of the text is weaker than one with these options. */
 export function needsRehash(text: Bytes, options?: PartialParams): Promise<boolean>;
 /** The parameters of the text of a hash, and the length of its key: 0 if it has none. */
 export function params(text: Bytes): Promise<ReadParams>;
+/**
+ * Sets how many workers there may be: as many as the machine has processors, but at most four, and in Node no more than fit into 7/8 of
+ * the memory of the machine or the container, if it is left out. And how many calls may wait for a worker: 1000, if it is left out.
+ */
+export function configure(options: { maxWorkers?: number | undefined; maxQueue?: number | undefined }): void;
 /** Whether this engine has WebAssembly with vectors. */
 export function isSupported(): boolean;
 
 /** The same calls in the caller's own thread, which waits for them. */
 export interface Scrypt {
   scrypt(password: Bytes, salt: Bytes, options: KeyOptions): Uint8Array;
+  /** The same in steps of some 10 ms, between which a page paints. */
+  scryptAsync(password: Bytes, salt: Bytes, options: KeyOptions & StepOptions): Promise<Uint8Array>;
   hash(password: Bytes, options?: HashOptions): string;
-  verify(password: Bytes, text: Bytes, options?: VerifyOptions): boolean;
+  verify(password: Bytes, text: Bytes | null | undefined, options?: VerifyOptions): boolean;
   needsRehash(text: Bytes, options?: PartialParams): boolean;
   params(text: Bytes): ReadParams;
   /**

@@ -1,29 +1,30 @@
 // scrypt (RFC 7914) and its password hashes. What computes is proved; this code around it is tested.
-import { copiesOf, optionsOf } from './arguments.js';
+import { copiesOf, isNone, optionsOf } from './arguments.js';
 import { Scrypt } from './core.js';
-import { ScryptError } from './errors.js';
+import { RefusedHashError, ScryptError } from './errors.js';
 import { compile, isSupported, load } from './load.js';
-import { call } from './workers.js';
+import { call, configure } from './workers.js';
 
-export { ScryptError, isSupported, load };
+export { RefusedHashError, ScryptError, configure, isSupported, load };
 
 /** Derives a key, in a worker. */
 export async function scrypt(password, salt, given) {
-  const { signal, ...options } = optionsOf(given, 'scrypt', 'signal');
-  return call('scrypt', [...copiesOf({ password, salt }), options], signal);
+  const { onProgress, signal, timeout, ...options } = optionsOf(given, 'scrypt', 'steps', 'worker');
+  return call('scrypt', [...copiesOf({ password, salt }), options], { onProgress, signal, timeout });
 }
 
 /** Makes the text of a hash with a random salt, in a worker. */
 export async function hash(password, given) {
-  const { signal, salt, ...options } = optionsOf(given, 'hash', 'signal');
+  const { signal, timeout, salt, ...options } = optionsOf(given, 'hash', 'worker');
   const [copy, saltCopy] = copiesOf(salt === undefined ? { password } : { password, salt });
-  return call('hash', [copy, { ...options, salt: saltCopy }], signal);
+  return call('hash', [copy, { ...options, salt: saltCopy }], { signal, timeout });
 }
 
-/** Whether the password is that of the text, in a worker. */
+/** Whether the password is that of the text, in a worker. Without a text it is not, after the work of a new hash. */
 export async function verify(password, text, given) {
-  const { signal, ...options } = optionsOf(given, 'verify', 'signal');
-  return call('verify', [...copiesOf({ password, text }), options], signal);
+  const { signal, timeout, ...options } = optionsOf(given, 'verify', 'worker');
+  const [copy, textCopy] = copiesOf(isNone(text) ? { password } : { password, text });
+  return call('verify', [copy, textCopy, options], { signal, timeout });
 }
 
 // The calls that read a text take microseconds. The memory for a long one is not kept.

@@ -6,15 +6,20 @@ import { outOfMemory } from './errors.js';
 const port = typeof WorkerGlobalScope === 'function' ? globalThis : process.getBuiltinModule('node:worker_threads').parentPort;
 let own; // the module that was given last
 let scrypt;
+let controller; // of the last call
 
-const refusal = ({ code, message }) => ({ value: undefined, error: { code, message } });
+const refusal = ({ name, code, message }) => ({ value: undefined, error: { name, code, message } });
+const onProgress = (progress) => port.postMessage({ progress });
 
 // The bytes are wiped before the caller has the answer.
-async function answer({ module, name, args }) {
+async function answer({ module, name, args, isReporting }) {
+  controller = new AbortController();
+  const options = { ...args.at(-1), signal: controller.signal, onProgress: isReporting ? onProgress : undefined };
   try {
     if (module !== undefined) [own, scrypt] = [module, undefined];
     scrypt ??= await Scrypt.of(own);
-    return { value: scrypt[name](...args), error: undefined };
+    const method = scrypt[`${name}Async`] ?? scrypt[name]; // in steps, if it has some
+    return { value: await method.call(scrypt, ...args.slice(0, -1), options), error: undefined };
   } catch (error) {
     return refusal(error);
   } finally {
@@ -22,7 +27,12 @@ async function answer({ module, name, args }) {
   }
 }
 
+// An abort of a call that was answered meanwhile ends no other one, since that comes after it.
 port.onmessage = async ({ data }) => {
+  if (data.isAborted) {
+    controller.abort();
+    return;
+  }
   const given = await answer(data);
   const { value } = given;
   try {
@@ -37,3 +47,5 @@ port.onmessage = async ({ data }) => {
 port.onmessageerror = () => {
   throw new Error('a call could not be read');
 };
+
+port.postMessage({ isReady: true });

@@ -1,14 +1,26 @@
 // Calls in workers, so that the thread of a page or of a server goes on meanwhile.
-import { bytesAmong } from './arguments.js';
-import { ScryptError, outOfMemory } from './errors.js';
+import { amount, bytesAmong, optionsOf } from './arguments.js';
+import { ScryptError, errorNamed, outOfMemory } from './errors.js';
 import { compile } from './load.js';
+import { MAX_WORKERS } from './machine.js';
 
-const MOST_WORKERS = Math.max(1, Math.min(globalThis.navigator?.hardwareConcurrency ?? 4, 4));
 const IDLE_MS = 5000; // after which a worker ends, and its memory is free
+const MAX_TIMER = 2 ** 31 - 1; // milliseconds: a longer timer fires at once
+
+let [maxWorkers, maxQueue] = [MAX_WORKERS, 1000];
 
 const workers = new Set(); // those that have not ended
 const idle = [];
-const waiting = new Set(); // calls that no worker has yet, the first of them first
+const waiting = []; // calls that no worker has yet, in the order in which they were made
+let isFull = false; // a further worker could not start
+
+/** Sets how many workers there may be, and how many calls may wait for one. */
+export function configure(given) {
+  const options = optionsOf(given, 'configure');
+  const most = amount(options.maxWorkers, 'maxWorkers', maxWorkers, 1);
+  maxQueue = amount(options.maxQueue, 'maxQueue', maxQueue);
+  maxWorkers = most;
+}
 
 function start() {
   // Bundlers look for exactly this expression.
@@ -18,8 +30,6 @@ function start() {
   if (!threads) throw new Error('this thread cannot start workers; use load()');
   // Without the program's flags: `--input-type` is an error where a file is run.
   const worker = new threads.Worker(new URL('./worker.js', import.meta.url), { execArgv: [] });
-  // A worker that waits doesn't keep the program from ending.
-  worker.unref();
   worker.on('message', (data) => worker.onmessage({ data }));
   worker.on('error', (error) => worker.onerror(error));
   worker.on('messageerror', (error) => worker.onmessageerror(error));
@@ -27,13 +37,23 @@ function start() {
   return worker;
 }
 
+// A worker is given a call once it says that it is ready: so a call that waits for one that cannot start is not lost.
 function started() {
-  const worker = start();
-  worker.onmessage = ({ data }) => answered(worker, data);
-  worker.onerror = (event) => end(worker, failed(event));
-  worker.onmessageerror = worker.onerror;
-  workers.add(worker);
-  return worker;
+  try {
+    const worker = Object.assign(start(), { isReady: false });
+    worker.onmessage = ({ data }) => said(worker, data);
+    worker.onerror = (event) => end(worker, failed(event));
+    worker.onmessageerror = worker.onerror;
+    workers.add(worker);
+  } catch (cause) {
+    cannotStart(failed(cause));
+  }
+}
+
+// The calls wait for the other workers, if there are some.
+function cannotStart(reason) {
+  isFull = workers.size > 0;
+  if (!isFull) for (const call of waiting.splice(0)) call.reject(reason);
 }
 
 function end(worker, reason) {
@@ -42,19 +62,36 @@ function end(worker, reason) {
   clearTimeout(worker.timer);
   worker.terminate();
   worker.call?.reject(reason);
-  queueMicrotask(assign); // not now, since the same abort may end calls that wait
-}
-
-// A worker that ended is not idle again: Node delivers what it had posted before.
-function answered(worker, { value, error }) {
-  if (!workers.has(worker) || worker.call === undefined) return;
-  const { call } = worker;
-  rest(worker);
-  if (error) call.reject(new ScryptError(error.code ?? 'INTERNAL', error.message));
-  else call.resolve(value);
+  if (worker.isReady) isFull = false;
+  else cannotStart(reason);
   assign();
 }
 
+// A worker that ended is not idle again: Node delivers what it had posted before.
+function said(worker, { isReady = false, progress, value, error }) {
+  const { call } = worker;
+  if (!workers.has(worker) || isReady !== (call === undefined)) return;
+  if (progress !== undefined) {
+    report(call, progress);
+    return;
+  }
+  worker.isReady = true;
+  rest(worker);
+  if (error) call.reject(errorNamed(error));
+  else if (!isReady) call.resolve(value);
+  assign();
+}
+
+function report(call, progress) {
+  if (call.isOver) return;
+  try {
+    call.onProgress(progress);
+  } catch (cause) {
+    leave(call, cause);
+  }
+}
+
+// A worker that waits doesn't keep the program from ending.
 function rest(worker) {
   worker.call = undefined;
   worker.unref?.();
@@ -63,26 +100,26 @@ function rest(worker) {
   idle.push(worker);
 }
 
-// Gives the calls that wait to workers that are idle, and to new ones.
+const starting = () => [...workers].filter((it) => !it.isReady).length;
+
+// In an overload those who have waited long are about to leave, and then their work is lost. So the last one goes first while more
+// than two wait for each worker, and otherwise the first one.
+const next = () => (waiting.length > 2 * workers.size ? waiting.pop() : waiting.shift());
+
+// Gives the calls that wait to workers that are idle, and starts others.
 function assign() {
-  for (const call of waiting) {
-    if (idle.length === 0 && workers.size >= MOST_WORKERS) return;
-    waiting.delete(call);
-    try {
-      give(idle.pop() ?? started(), call);
-    } catch (cause) {
-      call.reject(failed(cause));
-    }
-  }
+  while (idle.length > 0 && waiting.length > 0) give(idle.pop(), next());
+  while (!isFull && workers.size < maxWorkers && waiting.length > starting()) started();
 }
 
 function give(worker, call) {
   clearTimeout(worker.timer);
+  clearTimeout(call.timer);
   worker.ref?.();
   worker.call = call;
   call.worker = worker;
-  const { module, name, args } = call;
-  const message = worker.module === module ? { name, args } : { module, name, args };
+  const { module, name, args, onProgress } = call;
+  const message = { module: worker.module === module ? undefined : module, name, args, isReporting: onProgress !== undefined };
   try {
     worker.postMessage(message, bytesAmong(args).map((it) => it.buffer));
     worker.module = module;
@@ -98,44 +135,46 @@ const address = () => import.meta.url.replace(/[^/]*$/, 'worker.js');
 const failed = (cause) =>
   new ScryptError('WORKER_FAILED', `${address()} did not start, or ended: ${cause.message || 'is it there, and allowed here?'}`, { cause });
 
+function enqueue(call) {
+  waiting.push(call);
+  assign();
+  const isLast = waiting.at(-1) === call;
+  if (isLast && waiting.length > maxQueue + starting()) {
+    leave(call, new ScryptError('QUEUE_FULL', `${maxQueue} calls wait for a worker already (maxQueue)`));
+  }
+}
+
+// A call that a worker has begun with ends between two steps, so that the worker and its memory are there for the next one.
+function leave(call, reason) {
+  call.isOver = true;
+  if (waiting.includes(call)) waiting.splice(waiting.indexOf(call), 1);
+  if (call.worker?.call === call) call.worker.postMessage({ isAborted: true });
+  call.reject(reason);
+}
+
 // Until the call is answered, refused or aborted: also while the module is fetched, and while the call waits for a worker.
-async function answer(call, signal) {
-  const onAbort = () => abort(call, signal.reason);
-  const answered = new Promise((resolve, reject) => {
-    const over = (finish) => (value) => {
-      call.isOver = true; // at once: its worker may have another call when the promise goes on
-      finish(value);
-    };
-    Object.assign(call, { resolve: over(resolve), reject: over(reject) });
-  });
+async function answer(call, signal, timeout) {
+  const answered = new Promise((resolve, reject) => { Object.assign(call, { resolve, reject }); });
+  const onAbort = () => leave(call, signal.reason);
+  const onTimeout = () => leave(call, new ScryptError('TIMEOUT', `no worker was free within ${timeout} ms (timeout)`));
   signal?.addEventListener('abort', onAbort);
+  if (timeout !== undefined) call.timer = setTimeout(onTimeout, Math.min(timeout, MAX_TIMER));
   compile().then((module) => {
-    if (call.isOver) return;
-    waiting.add(Object.assign(call, { module }));
-    assign();
+    if (!call.isOver) enqueue(Object.assign(call, { module }));
   }, call.reject);
   try {
     return await answered;
   } finally {
+    clearTimeout(call.timer);
     signal?.removeEventListener('abort', onAbort);
   }
 }
 
-function abort(call, reason) {
-  if (call.isOver) return;
-  if (call.worker !== undefined) {
-    end(call.worker, reason);
-    return;
-  }
-  waiting.delete(call);
-  call.reject(reason);
-}
-
-/** Calls a method of Scrypt in a worker. The bytes of `args` are given away. An abort ends the worker. */
-export async function call(name, args, signal) {
+/** Calls a method of Scrypt in a worker. The bytes of `args` are given away. */
+export async function call(name, args, { signal, timeout, onProgress }) {
   try {
     signal?.throwIfAborted();
-    return await answer({ name, args, isOver: false, worker: undefined }, signal);
+    return await answer({ name, args, onProgress, isOver: false }, signal, amount(timeout, 'timeout'));
   } finally {
     for (const it of bytesAmong(args)) if (it.length > 0) it.fill(0); // what no worker was given
   }

@@ -8,7 +8,7 @@ import { memoryChecks } from './memory.js';
 import { sourceChecks } from './sources.js';
 import { bytes, equal, hex, instead, opened, refused, works } from './support.js';
 
-const { hash, isSupported, load, needsRehash, params, scrypt, verify } = workers;
+const { RefusedHashError, hash, isSupported, load, needsRehash, params, scrypt, verify } = workers;
 
 const shown = (call, it) => `${call} ${typeof it} ${Object.entries(it ?? {}).map(String)}`;
 
@@ -63,7 +63,8 @@ const REFUSED = [
   ]),
   ...BYTES.flatMap(([code, it]) => [
     [code, (api) => api.scrypt(it, '', OF), it], [code, (api) => api.scrypt('secret', it, OF), it], [code, (api) => api.hash(it, OF), it],
-    [code, (api) => api.verify(it, '$7$'), it], [code, (api) => api.verify('secret', it), it], [code, (api) => api.params(it), it], [code, (api) => api.needsRehash(it), it],
+    [code, (api) => api.verify(it, '$7$'), it], [code, (api) => api.params(it), it], [code, (api) => api.needsRehash(it), it],
+    ...(it === null || it === undefined ? [] : [[code, (api) => api.verify('secret', it), it]]),
   ]),
   ...['N', 'r', 'p'].map((name) => ['INVALID_TYPE', (api) => api.scrypt('secret', '', { ...OF, [name]: undefined }), name]),
   ['INVALID_TYPE', (api) => api.scrypt('secret', ''), 'no parameters'],
@@ -188,7 +189,7 @@ function workerChecks() {
   // The first one, since it needs that no worker is idle.
   list['a worker that cannot start'] = async () => {
     const Throws = class { constructor() { throw new Error('blocked'); } };
-    const Silent = class { postMessage() { setTimeout(() => this.onerror({ message: 'blocked' })); } terminate() {} };
+    const Silent = class { constructor() { setTimeout(() => this.onerror({ message: 'blocked' })); } terminate() {} };
     for (const Kind of [Throws, Silent]) {
       await instead(globalThis, 'Worker', Kind, async () => {
         await refused('WORKER_FAILED', () => scrypt('', '', OF), 'its address', `${new URL('../worker.js', import.meta.url)} did not start`);
@@ -219,7 +220,13 @@ function workerChecks() {
     await instead(WebAssembly, 'instantiate', async () => { throw new RangeError('no room'); }, () => refused('OUT_OF_MEMORY', () => load()));
   };
   for (const [password, salt, N, r, p, key] of VECTORS) {
-    list[`vector ${N},${r},${p}`] = async () => equal(hex(await scrypt(password, salt, { N, r, p, dkLen: 64 })), key);
+    list[`vector ${N},${r},${p}`] = async () => {
+      const seen = [];
+      const found = await scrypt(password, salt, { N, r, p, dkLen: 64, onProgress: (fraction) => seen.push(fraction) });
+      equal(hex(found), key);
+      equal(seen.at(-1), 1, 'progress');
+      equal(seen.every((it, i) => it > (seen[i - 1] ?? 0)), true, 'progress grows');
+    };
   }
   list['a new hash'] = async () => {
     const text = await hash('pässword 🔑');
@@ -267,6 +274,32 @@ function workerChecks() {
     for (const signal of [{}, 1]) await refused('TypeError', () => scrypt('', '', { ...OF, signal }));
     equal(performance.now() - begun < 30000, true, 'time');
     await works(workers);
+  };
+  list['a call that is left in its steps'] = async () => {
+    const own = await load();
+    for (const api of [scrypt, own.scryptAsync.bind(own)]) {
+      const abort = new AbortController();
+      const stop = (work) => refused('AbortError', () => api('', '', { N: 2 ** 18, r: 8, p: 1, signal: abort.signal, onProgress: work }));
+      await Promise.all([stop((it) => it > 0.1 && abort.abort())]);
+      await refused('TypeError', () => api('', '', { ...OF, onProgress: () => { throw new TypeError('its own'); } }));
+      equal(hex(await api('', '', { N: 16, r: 1, p: 1, dkLen: 4 })), '77d65762', 'the next call');
+    }
+    equal(own.memory > 2 ** 28, true, 'the same memory');
+  };
+  list['no hash'] = async () => {
+    for (const api of [workers, await load()]) {
+      for (const text of [null, undefined]) equal(await api.verify('', text, OF), false, `${text}`);
+      await refused('TOO_COSTLY', () => api.verify('', null, { maxmem: 1 }));
+    }
+  };
+  list['hashes that are refused'] = async () => {
+    const text = await hash('', OF);
+    for (const api of [workers, await load()]) {
+      for (const call of [() => api.verify('', 'x'), () => api.params('x'), () => api.needsRehash('x'), () => api.verify('', text, { maxmem: 1 })]) {
+        await refused('RefusedHashError', () => Promise.resolve().then(call).catch((error) => { throw error instanceof RefusedHashError ? { name: error.name } : error; }));
+      }
+      await refused('ENCODING_INVALID', () => api.verify(text, 'secret'), 'swapped', 'verify takes the password first');
+    }
   };
   list['options that cannot be copied'] = async () => {
     for (let i = 0; i < 6; i++) await refused('INVALID_TYPE', () => scrypt('', '', { ...OF, maxmem: () => {} }));

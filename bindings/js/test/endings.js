@@ -3,83 +3,119 @@ import { equal, instead, refused } from './support.js';
 
 const later = (ms = 0) => new Promise((resolve) => { setTimeout(resolve, ms); });
 
-const KEY = Uint8Array.of(1);
-const args = () => [new Uint8Array(1), new Uint8Array(1), {}];
-
-// Runs a check with workers that answer by `answer`, which are listed as they are made, and with a copy of workers.js that has no others.
-async function withWorkers(name, answer, check) {
-  const made = [];
-  class Acting {
-    constructor() { made.push(this); }
-    postMessage(message) {
-      this.message = message;
-      if (!this.isEnded) answer(this, message);
-    }
-    terminate() { this.isEnded = true; }
+async function until(condition) {
+  for (let i = 0; !condition(); i++) {
+    if (i > 500) throw new Error(`in vain: ${condition}`);
+    await later(1);
   }
-  await instead(globalThis, 'Worker', Acting, async () => {
-    const { call } = await import(`../workers.js?${name}`);
-    await check(call, made);
-  });
 }
 
-const answers = (worker) => setTimeout(() => worker.onmessage({ data: { value: KEY } }));
+const [KEY, OTHER] = [Uint8Array.of(1), Uint8Array.of(2)];
+const args = () => [new Uint8Array(1), new Uint8Array(1), {}];
 
-// Waits until so many workers have a call.
-async function until(made, count) {
-  while (made.filter((it) => it.message).length < count) await later(1);
+// Runs a check with workers that start if `starts` says so, and a copy of workers.js that has no others.
+async function withWorkers(name, check, starts = () => true) {
+  const made = [];
+  class Acting {
+    constructor() {
+      Object.assign(this, { sent: [], isEnded: false });
+      made.push(this);
+      const does = starts(made.length);
+      setTimeout(() => (does ? this.says({ isReady: true }) : this.onerror({ message: 'no room' })));
+    }
+    postMessage(message) { this.sent.push(message); }
+    says(data) { this.onmessage({ data }); }
+    terminate() { this.isEnded = true; }
+  }
+  await instead(globalThis, 'Worker', Acting, async () => check(await import(`../workers.js?${name}`), made));
 }
 
 /** The checks of calls in workers. */
 export function endingChecks() {
   const list = {};
-  list['an answer that comes after an abort'] = () => withWorkers('late', () => {}, async (call, made) => {
+  list['an abort leaves the worker, and ends no other call'] = () => withWorkers('abort', async ({ call, configure }, made) => {
+    configure({ maxWorkers: 1 });
     const abort = new AbortController();
-    const refusal = refused('AbortError', () => call('scrypt', args(), abort.signal));
-    await until(made, 1);
+    const aborted = refused('AbortError', () => call('scrypt', args(), { signal: abort.signal }));
+    await until(() => made[0]?.sent.length === 1);
+    const next = call('scrypt', args(), {});
     abort.abort();
-    await refusal;
-    made[0].onmessage({ data: { value: KEY } });
-    const next = call('scrypt', args());
-    for (let i = 0; i < 50 && made.length < 2; i++) await later(1);
-    equal(made.length, 2, 'workers');
-    answers(made[1]);
-    equal(await next, KEY, 'the next call');
+    await aborted;
+    equal(made[0].sent[1].isAborted, true, 'what the worker is told');
+    made[0].says({ value: KEY }); // its answer was under way
+    await until(() => made[0].sent.length === 3);
+    abort.abort();
+    made[0].says({ value: OTHER });
+    equal(await next, OTHER, 'the next call');
+    equal(`${made.length} ${made[0].isEnded}`, '1 false', 'workers');
   });
-  list['an abort just after an answer'] = () => withWorkers('after', () => {}, async (call, made) => {
+  list['an abort just after an answer'] = () => withWorkers('after', async ({ call, configure }, made) => {
+    configure({ maxWorkers: 1 });
     const abort = new AbortController();
-    const calls = [call('scrypt', args(), abort.signal), ...Array.from({ length: 5 }, () => call('scrypt', args()))];
-    await until(made, 1);
-    await later(10);
-    const most = made.length;
-    // The first worker is given another call at once, which is not the one that is aborted.
-    made[0].onmessage({ data: { value: KEY } });
+    const calls = [call('scrypt', args(), { signal: abort.signal }), call('scrypt', args(), {})];
+    await until(() => made[0]?.sent.length === 1);
+    // The worker is given the next call at once, which is not the one that is aborted.
+    made[0].says({ value: KEY });
     abort.abort();
-    for (let i = 0; i < 2; i++) {
-      await later(1);
-      for (const worker of made) worker.onmessage({ data: { value: KEY } });
-    }
-    equal((await Promise.all(calls)).every((it) => it === KEY), true, 'the others');
-    equal(made.length, most, 'workers');
+    equal(made[0].sent.filter((it) => it.isAborted).length, 0, 'aborts');
+    made[0].says({ value: OTHER });
+    equal((await Promise.all(calls)).map((it) => it[0]).join(), '1,2', 'both answers');
   });
   list['a worker that fails in the midst of a call'] = async () => {
     for (const event of ['onerror', 'onmessageerror']) {
-      await withWorkers(event, (worker) => setTimeout(() => worker[event]({ message: 'no more' })), async (call, made) => {
-        await Promise.all(Array.from({ length: 9 }, () => refused('WORKER_FAILED', () => call('scrypt', args()), event, 'no more')));
-        equal(made.every((it) => it.isEnded), true, 'ended');
+      await withWorkers(event, async ({ call, configure }, made) => {
+        configure({ maxWorkers: 1 });
+        const refusal = refused('WORKER_FAILED', () => call('scrypt', args(), {}), event, 'no more');
+        await until(() => made[0]?.sent.length === 1);
+        const next = call('scrypt', args(), {});
+        made[0][event]({ message: 'no more' });
+        await refusal;
+        made[0].says({ value: KEY }); // what it had posted before: an ended worker is not idle
+        await until(() => made[1]?.sent.length === 1);
+        made[1].says({ value: OTHER });
+        equal(await next, OTHER, 'the next call');
+        equal(made.map((it) => it.isEnded).join(), 'true,false', 'ended');
       });
     }
   };
-  list['aborts of calls that wait'] = () => withWorkers('waiting', (worker) => { worker.answer = () => answers(worker); }, async (call, made) => {
-    const aborts = Array.from({ length: 9 }, () => new AbortController());
-    const calls = aborts.map(({ signal }) => call('scrypt', args(), signal).catch((error) => error.name));
-    await until(made, 1);
-    await later(10);
-    const most = made.length;
-    for (const abort of aborts.slice(most)) abort.abort();
-    equal(`${await Promise.all(calls.slice(most))}`, `${Array(9 - most).fill('AbortError')}`, 'at once');
-    for (const worker of made) worker.answer();
-    equal((await Promise.all(calls.slice(0, most))).every((it) => it === KEY), true, 'the others');
+  list['workers that cannot start'] = async () => {
+    await withWorkers('further', async ({ call }, made) => {
+      const calls = Array.from({ length: 3 }, () => call('scrypt', args(), {}));
+      for (let i = 1; i <= 3; i++) {
+        await until(() => made[0]?.sent.length === i);
+        made[0].says({ value: KEY });
+      }
+      equal((await Promise.all(calls)).length, 3, 'calls wait for the one that did');
+    }, (count) => count === 1);
+    await withWorkers('none', async ({ call }) => {
+      await Promise.all(Array.from({ length: 9 }, () => refused('WORKER_FAILED', () => call('scrypt', args(), {}), 'none', 'no room')));
+    }, () => false);
+  };
+  list['more calls than workers'] = () => withWorkers('overload', async ({ call, configure }, made) => {
+    configure({ maxWorkers: 1, maxQueue: 3 });
+    const answers = [];
+    const add = (i, options = {}) => call('scrypt', args(), options).then(() => answers.push(i), ({ code }) => answers.push(code));
+    const first = add(0);
+    await until(() => made[0]?.sent.length === 1);
+    const others = [1, 2, 3].map((i) => add(i));
+    await refused('QUEUE_FULL', () => call('scrypt', args(), {}));
+    for (let i = 2; i <= 4; i++) {
+      made[0].says({ value: KEY });
+      await until(() => made[0].sent.length === i);
+    }
+    await add('late', { timeout: 1 });
+    made[0].says({ value: KEY });
+    await Promise.all([first, ...others]);
+    // The newest one first, while more than two wait for a worker.
+    equal(answers.join(), '0,3,1,TIMEOUT,2', 'the order');
+    for (const timeout of [-1, NaN]) await refused('INVALID_LIMIT', () => call('scrypt', args(), { timeout }));
+    for (const it of [{ maxWorkers: 0 }, { maxWorkers: -1 }, { maxQueue: NaN }]) await refused('INVALID_LIMIT', () => configure(it));
   });
+  list['as many workers as fit'] = async () => {
+    for (const [mib, wanted] of [[0, 4], [187, 1], [512, 1], [700, 2], [1024, 3], [2048, 4]]) {
+      const process = { constrainedMemory: () => mib * 2 ** 20, getBuiltinModule: () => ({ availableParallelism: () => 8, totalmem: () => 2 ** 40 }) };
+      await instead(globalThis, 'process', process, async () => equal((await import(`../machine.js?${mib}`)).MAX_WORKERS, wanted, `${mib} MiB`));
+    }
+  };
   return list;
 }

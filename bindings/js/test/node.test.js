@@ -32,7 +32,8 @@ const PROGRAMS = [
     }`, 'AbortError $scrypt$ln\n'.repeat(5)],
   ['a worker that ends by itself', `const { EventEmitter } = process.getBuiltinModule('node:events');
     process.getBuiltinModule('node:worker_threads').Worker = class extends EventEmitter {
-      ref() {} unref() {} terminate() {} postMessage() { setTimeout(() => this.emit('exit', 3)); }
+      constructor() { super(); setTimeout(() => this.emit('exit', 3)); }
+      terminate() {}
     };
     for (let i = 0; i < 5; i++) console.log(await hash('', { N: 2 }).catch(({ code }) => code));`, 'WORKER_FAILED\n'.repeat(5)],
 ];
@@ -49,7 +50,7 @@ const EDGE = `
 import { readFileSync } from 'node:fs';
 import { SourceTextModule, createContext } from 'node:vm';
 const module = new WebAssembly.Module(readFileSync(new URL('./scrypt.wasm', '${PACKAGE}')));
-const classes = { AbortSignal, EventTarget, TextDecoder, TextEncoder, URL };
+const classes = { AbortSignal, EventTarget, TextDecoder, TextEncoder, URL, clearTimeout, setTimeout };
 const context = createContext({ ...classes, console, crypto, module }, { codeGeneration: { strings: false, wasm: false } });
 const made = new Map();
 const initializeImportMeta = (meta, { identifier }) => { meta.url = identifier; };

@@ -1,12 +1,14 @@
 // Compiled by tsc with `strict`, and not run: that the types fit what is called, and refuse what they should.
-import { Bytes, ErrorCode, Scrypt, ScryptError, hash, isSupported, load, needsRehash, params, scrypt, verify } from 'scrypt-proved';
+import { Bytes, ErrorCode, RefusedHashError, Scrypt, ScryptError, configure, hash, isSupported, load, needsRehash, params, scrypt, verify } from 'scrypt-proved';
 
 const signal = new AbortController().signal;
 
 export async function calls(password: Bytes): Promise<string | undefined> {
   const key: Uint8Array = await scrypt(password, new Uint8Array(16), { N: 2 ** 17, r: 8, p: 1, dkLen: 64, maxmem: Infinity, signal });
   const text: string = await hash(new DataView(key.buffer), { p: 2, salt: 'salt', format: 'mcf', signal });
-  const isRight: boolean = await verify(password, text, { maxwork: 2 ** 30, minKeyLength: 10 });
+  const isRight: boolean = await verify(password, text, { maxwork: 2 ** 30, minKeyLength: 10, timeout: 1000 });
+  const isOfNobody: boolean = await verify(password, null) || await verify(password, undefined);
+  configure({ maxWorkers: 1, maxQueue: Infinity });
   // What is undefined is left out.
   const none = { N: undefined, dkLen: undefined, maxmem: undefined, signal: undefined };
   await hash('', { ...none, salt: undefined, format: undefined });
@@ -14,16 +16,17 @@ export async function calls(password: Bytes): Promise<string | undefined> {
   await needsRehash('', { N: 2 ** 18, dkLen: undefined });
   await scrypt('', '', { ...none, N: 2, r: 8, p: 1, maxwork: undefined });
   const own: Scrypt = await load(new URL('./scrypt.wasm', 'https://example.org/'));
+  await own.scryptAsync('', '', { N: 2, r: 8, p: 1, signal, onProgress: (fraction) => fraction.toFixed() });
   const { N, r, p, dkLen } = own.params(text);
   const same: typeof own.params extends (text: Bytes) => infer R ? R : never = await params(text);
   const needs: boolean = own.needsRehash(text) && (await needsRehash(text, { N, r, p, dkLen }));
   try {
     own.verify(password, own.hash(password)) && own.scrypt(password, key, same);
   } catch (error) {
-    const code: ErrorCode | null = error instanceof ScryptError ? error.code : null;
+    const code: ErrorCode | null = error instanceof RefusedHashError || error instanceof ScryptError ? error.code : null;
     return code === 'TOO_COSTLY' ? error instanceof Error ? error.message : '' : undefined;
   }
-  return isRight && needs && isSupported() ? `${own.memory}` : undefined;
+  return (isRight || isOfNobody) && needs && isSupported() ? `${own.memory}` : undefined;
 }
 
 export const refused = [
@@ -35,6 +38,8 @@ export const refused = [
   () => hash(5),
   // @ts-expect-error: no such format
   () => hash('', { format: 'bcrypt' }),
+  // @ts-expect-error: a hash has no steps
+  () => hash('', { onProgress: () => {} }),
   // @ts-expect-error: a misspelt name
   () => verify('', '', { maxMem: 5 }),
   // @ts-expect-error: only this package makes these
