@@ -4,8 +4,8 @@
 #                  calls the library from C and Python
 # To use it:
 #   make lib       proves and builds the libraries for C into build/lib, with code for x86-64-v2 and for x86-64-v3
-#                  with ARCH, which bindings/README.md explains, those for another processor, and the program, or those for
-#                  Windows, into build/ARCH
+#                  with PRESET=arm64 those for that processor, and the program, or with PRESET=windows those for Windows,
+#                  into build/PRESET
 #   make install   installs what is built below prefix=/usr/local, and honours DESTDIR
 #   make uninstall removes what was installed last; with the same DESTDIR
 #   make js        proves and builds the module for JavaScript into bindings/js, and tests it in Node and in Chromium
@@ -130,13 +130,12 @@ oracle: lib
 	python3 -m tools.tests.groups build/lib/libscrypt_c.so
 
 # For another processor of Linux the program is built too.
-PRESET = $(or $(PRESET_OF_$(ARCH)),native)
-PRESET_OF_aarch64-linux-gnu = arm64
-PRESET_OF_x86_64-w64-mingw32 = windows
+PRESET ?= native
+export PRESET
 # rt lib leaves both levels of x86-64 under one name, so the newer one is moved.
 PROVE_native = cd crates/scrypt_c && rt lib --cpu x86-64-v3 && mkdir -p out/x86-64-v3 && mv out/libscrypt_c.a out/x86-64-v3/ && rt lib
-PROVE_arm64 = python3 -m bindings.cross $(ARCH) out/arm64 scrypt_c scrypt_tool
-PROVE_windows = python3 -m bindings.bitcode $(ARCH) out/windows
+PROVE_arm64 = python3 -m bindings.cross arm64 scrypt_c scrypt_tool
+PROVE_windows = python3 -m bindings.bitcode
 lib: kit
 	$(MAKE) -j$(SIDE_BY_SIDE) proved-scrypt$(if $(filter arm64,$(PRESET)),_commands)
 	$(PROVE_$(PRESET))

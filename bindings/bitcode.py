@@ -1,11 +1,11 @@
 #!/usr/bin/env python3
 """Compiles the crate scrypt_c for Windows, a target that the kit doesn't have, from what the kit gave its clang for
-Linux: the same text of LLVM, by the same clang, with the same options. What it makes is in crates/scrypt_c/PROVED, for
-each level of x86-64.
+Linux: the same text of LLVM, by the same clang, with the same options. What it makes is in crates/scrypt_c/out/windows,
+for each level of x86-64.
 
-usage: python3 -m bindings.bitcode ARCH PROVED [MADE]
+usage: python3 -m bindings.bitcode [MADE]
 
-ARCH and PROVED are as in bindings/arch.sh. MADE is a folder like crates/scrypt_c/out, with the library that the kit
+MADE is a folder like crates/scrypt_c/out, with the library that the kit
 built for each level, and beside it the folder `given` with what its clang was given. Without MADE the crate is proved
 and built before, from the proofs that a check of it kept.
 
@@ -21,11 +21,14 @@ import sys
 import tempfile
 from pathlib import Path
 
-from bindings.compilers import LEVELS
 from tools import copies
 from tools.generate import kit
 
-LINUX = "x86_64-unknown-linux-gnu"
+TARGET = "x86_64-w64-mingw32"
+OUT = Path("crates/scrypt_c/out/windows")
+
+# Where the library of each level is, in a folder like crates/scrypt_c/out.
+LEVELS = {"x86-64-v2": "libscrypt_c.a", "x86-64-v3": "x86-64-v3/libscrypt_c.a"}
 
 # What the kit's clang is given for Linux, by the names that the kit gives its own files.
 SOURCE, OBJECT = "module.bc", "module.o"
@@ -43,7 +46,7 @@ DEFINED = re.compile(r"^define .*", re.M)
 def prove(room):
     """Proves and builds the crate for each level, and returns the folder MADE."""
     crate, kept = room / "scrypt_c", "crates/scrypt_c/out/incremental"
-    copies.copy_crate("scrypt_c", crate, LINUX)
+    copies.copy_crate("scrypt_c", crate, "Vectors")
     for level, place in LEVELS.items():
         made, toolchain = (room / "made" / place).parent, room / f"toolchain-{level}"
         made.mkdir(parents=True, exist_ok=True)
@@ -93,30 +96,28 @@ def check(archive, given, text, room):
         sys.exit(f"{given}: compiled for Linux, this isn't the object in {archive}")
 
 
-def build(arch, archive, output, room):
+def build(archive, output, room):
     """Makes the archive for Windows of that for Linux."""
     given = archive.parent / "given"
     text = printed(given, room)
     check(archive, given, text, room)
     changed, made = room / "windows.ll", room / "scrypt_c.o"
     changed.write_text(for_windows(text.read_text("utf-8")), "utf-8")
-    compile_as_given(given, changed, made, f"--target={arch}", *FOR_WINDOWS)
+    compile_as_given(given, changed, made, f"--target={TARGET}", *FOR_WINDOWS)
     output.parent.mkdir(parents=True, exist_ok=True)
     output.unlink(missing_ok=True)
     copies.run(tool("llvm-ar"), "rcs", output, made)
 
 
-def main(arch, proved, made=None):
+def main(made=None):
     # Not in the repository, in which rt refuses sources that are of no crate.
     with tempfile.TemporaryDirectory() as room:
         folder = Path(made) if made else prove(Path(room))
         for level, place in LEVELS.items():
-            build(arch, folder / place, Path("crates/scrypt_c", proved, place), Path(room))
-            print(f"{level}: for Linux it is what the kit built, byte by byte; compiled for {arch}", flush=True)
+            build(folder / place, OUT / place, Path(room))
+            print(f"{level}: for Linux it is what the kit built, byte by byte; compiled for {TARGET}", flush=True)
 
 
 if __name__ == "__main__":
     os.chdir(copies.TOP)
-    if not sys.argv[2:]:
-        sys.exit(__doc__)
     main(*sys.argv[1:])

@@ -3,15 +3,15 @@
 # only the names of other libraries. Prints what is not installed, by its Debian package, and fails if a caller fails.
 # With the word short, which the gate uses: ctest, and the tests from Python and of the drop-in names that take seconds.
 # Before all that it checks that the libraries keep blocks in registers, and tries the program's completions. With
-# the ARCH of another processor: ctest, and the answers of the program, in Debian's emulator. With that of
-# Windows: ctest in Wine, and without the word short the tests from Go and Rust, and the wheel for Python.
+# PRESET=arm64: ctest, and the answers of the program, in Debian's emulator. With
+# PRESET=windows: ctest in Wine, and without the word short the tests from Go and Rust, and the wheel for Python.
 set -eu
 unset CDPATH
 cd "$(dirname "$0")/.."
-. bindings/arch.sh
+. bindings/preset.sh
 if [ "$system" = windows ]; then library=libscrypt_c.a; else library=libscrypt_c.so; fi
-python3 -B tools/bench/registers.py "$build/lib/libscrypt_c.a" $([ "$preset" != native ] || echo "$build/lib/$library")
-(cd bindings/c && ctest --preset $preset -j"$(nproc)")
+python3 -B tools/bench/registers.py "$build/lib/libscrypt_c.a" $([ "$PRESET" != native ] || echo "$build/lib/$library")
+(cd bindings/c && ctest --preset $PRESET -j"$(nproc)")
 if [ "$system" = windows ]; then
   if [ "${1:-}" != short ]; then for caller in python go rust; do bindings/$caller/test.sh; done; fi
   exit

@@ -1,10 +1,11 @@
 #!/usr/bin/env python3
 """Proves and compiles the crate scrypt_c and the program scrypt_tool for another processor than the kit's own, with the mixer for
-that (tools/copies.py). What it makes is in crates/NAME/PROVED.
+that (tools/copies.py). What it makes is in crates/NAME/out/PRESET.
 
-usage: python3 -m bindings.cross ARCH PROVED NAME[=KEPT] ..
+usage: python3 -m bindings.cross PRESET NAME[=KEPT] ..
 
-ARCH and PROVED are as in bindings/arch.sh. NAME is scrypt_c or scrypt_tool, and KEPT a folder of proofs of the crate that are kept.
+PRESET is one of bindings/c/CMakePresets.json with a target of the kit. NAME is scrypt_c or scrypt_tool, and KEPT a folder of proofs of
+the crate that are kept.
 
 It needs the kit, and the libraries below, which `make lib` and `make run` prove: they are the same for each processor. Without KEPT it
 begins with what it kept itself, or a check of the crate did.
@@ -16,7 +17,7 @@ import sys
 import tempfile
 from pathlib import Path
 
-from tools import copies
+from tools import copies, presets
 from tools.generate import kit
 
 MADE = {"scrypt_c": "libscrypt_c.a", "scrypt_tool": "scrypt_tool.o"}
@@ -25,34 +26,33 @@ MADE = {"scrypt_c": "libscrypt_c.a", "scrypt_tool": "scrypt_tool.o"}
 IS_GATE = "PROVED_LIBRARIES" in os.environ
 
 
-def begin(name, proved, given):
+def begin(name, preset, given):
     """The folder of kept proofs to begin with, or none."""
-    own = [] if IS_GATE else [f"crates/{name}/{proved}/kept", f"crates/{name}/out/incremental"]
+    own = [] if IS_GATE else [f"crates/{name}/out/{preset}/kept", f"crates/{name}/out/incremental"]
     return next((it for it in [given, *own] if os.path.isdir(it)), None)
 
 
-def build(room, target, proved, name, given):
+def build(room, preset, name, given):
     """Proves and builds a copy of a crate."""
-    out = Path(f"crates/{name}/{proved}").resolve()
+    out, of_kit = Path(f"crates/{name}/out/{preset}").resolve(), presets.vendor(preset)["kit"]
     out.mkdir(parents=True, exist_ok=True)
-    copies.copy_crate(name, room / name, target)
-    options = ["--toolchain", f"{kit.located()}/toolchain", "--backend", "llvm", "--target", target]
-    verdict = copies.build(name, room / name, out / MADE[name], *options, kept=begin(name, proved, given))
+    copies.copy_crate(name, room / name, of_kit["mixer"])
+    options = ["--toolchain", f"{kit.located()}/toolchain", "--backend", "llvm", "--target", of_kit["target"]]
+    verdict = copies.build(name, room / name, out / MADE[name], *options, kept=begin(name, preset, given))
     shutil.rmtree(out / "kept", ignore_errors=True)
     shutil.move(room / name / "kept", out / "kept")
     print(f"== {name}-{out.name}\n{verdict}", flush=True)
 
 
-def main(arch, proved, *words):
-    target = arch.replace("-linux-", "-unknown-linux-")
+def main(preset, *words):
     # Not in the repository, in which rt refuses sources that are of no crate.
     with tempfile.TemporaryDirectory() as room:
         for name, _, given in (it.partition("=") for it in words):
-            build(Path(room), target, proved, name, given)
+            build(Path(room), preset, name, given)
 
 
 if __name__ == "__main__":
     os.chdir(copies.TOP)
-    if not sys.argv[3:] or not {it.partition("=")[0] for it in sys.argv[3:]} <= MADE.keys():
+    if not sys.argv[2:] or not {it.partition("=")[0] for it in sys.argv[2:]} <= MADE.keys():
         sys.exit(__doc__)
     main(*sys.argv[1:])

@@ -15,14 +15,6 @@ from tools.generate import kit
 
 TOP = Path(__file__).resolve().parents[1]
 
-# How chunks are mixed there (crates/scrypt/src/mixers.rt). The crates themselves have that for x86-64.
-MIXERS = {
-    "x86_64-unknown-linux-gnu": "Vectors",
-    "aarch64-unknown-linux-gnu": "Words",
-    "wasm64-unknown-unknown": "Pairs",
-}
-
-
 def run(*words, cwd=None):
     """What a command prints. If it fails, this ends with that."""
     how = {"stdout": subprocess.PIPE, "stderr": subprocess.STDOUT, "text": True, "errors": "replace"}
@@ -32,15 +24,16 @@ def run(*words, cwd=None):
     return ran.stdout
 
 
-def copy_crate(name, to, target, left_out=()):
-    """Copies a crate for a target, without these functions and their proofs."""
+def copy_crate(name, to, mixer, left_out=()):
+    """Copies a crate without these functions and their proofs. `mixer` says how chunks are mixed
+    (crates/scrypt/src/mixers.rt); the crates themselves have Vectors, for x86-64."""
     for part in "src", "specs", "proofs":
         if os.path.isdir(f"crates/{name}/{part}"):
             shutil.copytree(f"crates/{name}/{part}", to / part)
     for function in left_out:
         leave_out(to, function)
     chosen = to / "src/target.rt"
-    text, count = re.subn(r"::Vectors\b", f"::{MIXERS[target]}", chosen.read_text("utf-8"))
+    text, count = re.subn(r"::Vectors\b", f"::{mixer}", chosen.read_text("utf-8"))
     if count != 1:
         sys.exit(f"{chosen}: {count} mixers")
     chosen.write_text(text, "utf-8")

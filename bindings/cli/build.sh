@@ -1,23 +1,26 @@
 #!/bin/sh
 # Links the program that is installed: the proved one, whose reads of the standard input go by terminal.c.
-# usage: build.sh                   links build/bin/scrypt_tool
-#        build.sh PROGRAM OUTPUT    PROGRAM is crates/scrypt_tool/out/scrypt_tool, which has its object beside it
-# With the ARCH of another processor it links what was proved for that, into build/ARCH/bin.
+# usage: build.sh                   links build/bin/scrypt_tool; for the machine that PRESET names
+#                                   (c/CMakePresets.json), whose library is built, into its folder
+#        build.sh PROGRAM OUTPUT    PROGRAM is crates/scrypt_tool/out/scrypt_tool, with its object beside it
 set -eu
 unset CDPATH
-folder=$(cd "$(dirname "$0")" && pwd)
-. "$folder/../arch.sh"
-if [ $# = 0 ]; then
-  cd "$folder/../.."
-  exec bindings/cli/build.sh crates/scrypt_tool/$proved/scrypt_tool "$build/bin/scrypt_tool"
+cd "$(dirname "$0")/../.."
+if [ "${PRESET:-native}" = native ]; then
+  build=build proved=out CC=${CC:-cc} objcopy=objcopy
+  kit=$(dirname "$(rt doc)")
+  kit_c="$kit/c/libos_c.a $kit/c/liblibc_c.a"
+else # the kit has its C for x86-64 alone
+  . bindings/preset.sh
+  proved=out/$PRESET
+  kit_c="bindings/cli/kit_os.c bindings/c/kit_heap.c -Dclearing_malloc=malloc -Dclearing_realloc=realloc"
+  kit_c="$kit_c -Dclearing_free=free"
 fi
-kit=$(dirname "$(rt doc)")
-kit_c="$kit/c/libos_c.a $kit/c/liblibc_c.a"
-if [ -z "$is_kits" ]; then kit_c="$folder/kit_os.c $folder/../c/kit_heap.c -Dclearing_malloc=malloc -Dclearing_realloc=realloc -Dclearing_free=free"; fi
+program=${1:-crates/scrypt_tool/$proved/scrypt_tool} output=${2:-$build/bin/scrypt_tool}
 object=$(mktemp --suffix=.o)
 trap 'rm -f "$object"' EXIT
-"${tools}objcopy" --redefine-sym read=read_or_ask "$1.o" "$object"
-mkdir -p "$(dirname "$2")"
+"$objcopy" --redefine-sym read=read_or_ask "$program.o" "$object"
+mkdir -p "$(dirname "$output")"
+# shellcheck disable=SC2086 # words without spaces
 $CC -std=gnu99 -O2 -Wall -Wextra -fstack-protector-strong -U_FORTIFY_SOURCE -D_FORTIFY_SOURCE=2 \
-  -Wl,-z,relro -Wl,-z,now -o "$2" \
-  "$object" "$folder/terminal.c" $kit_c
+  -Wl,-z,relro -Wl,-z,now -o "$output" "$object" bindings/cli/terminal.c $kit_c

@@ -4,7 +4,7 @@
 set -eu
 unset CDPATH
 cd "$(dirname "$0")/../.."
-. bindings/arch.sh
+. bindings/preset.sh
 begin_test
 ours=$lib/libscrypt_drop_in.so
 

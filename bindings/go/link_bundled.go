@@ -2,8 +2,8 @@
 
 package scrypt
 
-// #cgo CFLAGS: -I${SRCDIR} -DSCRYPT_BUNDLED
-// #cgo linux,amd64 LDFLAGS: ${SRCDIR}/libscrypt_c.a -lpthread
-// #cgo arm64 LDFLAGS: ${SRCDIR}/libscrypt_c_arm64.a -lpthread
-// #cgo windows LDFLAGS: ${SRCDIR}/libscrypt_c_windows.a -lbcrypt
+// #cgo CFLAGS: -I${SRCDIR}
+// #cgo linux,amd64 LDFLAGS: ${SRCDIR}/libscrypt_c_linux_x86_64.a -lpthread
+// #cgo linux,arm64 LDFLAGS: ${SRCDIR}/libscrypt_c_linux_aarch64.a -lpthread
+// #cgo windows,amd64 LDFLAGS: ${SRCDIR}/libscrypt_c_windows_x86_64.a -lbcrypt
 import "C"

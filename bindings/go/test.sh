@@ -1,13 +1,12 @@
 #!/bin/sh
 # Tests the Go module with the library of build/lib, and installs it as go get and go mod vendor do. With the word short:
-# its own tests alone. With the ARCH of Windows: these in Wine.
+# its own tests alone. With PRESET=windows: these in Wine.
 set -eu
 unset CDPATH
 cd "$(dirname "$0")/../.."
-. bindings/arch.sh
+. bindings/preset.sh
 begin_test
-package=${packages%% *}
-has go golang-go && has "$CC" "${package:-gcc}" || exit 0
+has go golang-go && has "$CC" gcc || exit 0
 export GOPROXY=off GOFLAGS=-modcacherw GOCACHE="${GOCACHE:-$room/cache}" GOMODCACHE="$room/modules"
 module=nilomafy.example/scrypt
 version=v$(sed 's/+.*//' VERSION)
@@ -41,9 +40,9 @@ refused() {
   fi
   grep -q "$words" "$room/log" || { cat "$room/log"; exit 1; }
 }
-refused 'error.*libscrypt_c.a, .* are not in' go build .
+refused 'error.*scrypt_c.h is not in' go build .
 cp "$lib/scrypt_c.h" "$room/bare"
-cp "$lib/libscrypt_c.a" "$room/bare"
+cp "$lib/libscrypt_c.a" "$room/bare/$bundled"
 (cd "$room/bare" && go build .)
 refused 'undefined: scrypt_needs_cgo' env CGO_ENABLED=0 go build .
 echo "a build without the library or without cgo says what is missing"
@@ -96,26 +95,26 @@ cp "$room/program/program" "$room/empty"
 if [ "$(id -u)" = 0 ]; then test "$(chroot "$room/empty" /program)" = true; else test "$("$room/empty/program")" = true; fi
 echo "run in an empty folder"
 if has musl-gcc musl-tools; then by_line musl-gcc; test "$("$room/program/program")" = true; fi
-arm64=build/aarch64-linux-gnu/lib/libscrypt_c.a
+arm64=build/arm64/lib/libscrypt_c.a
 if has aarch64-linux-gnu-gcc gcc-aarch64-linux-gnu; then
   if [ -f $arm64 ]; then
-    cp $arm64 "$room/program/vendor/$module/libscrypt_c_arm64.a"
+    cp $arm64 "$room/program/vendor/$module/libscrypt_c_linux_aarch64.a"
     by_line aarch64-linux-gnu-gcc
     readelf -h "$room/program/program" | grep -q AArch64
     echo "built for arm64"
     in_program go build -mod=vendor -o program .
-  else echo "$arm64 was not built (make lib ARCH=aarch64-linux-gnu): not run: a program for arm64"; fi
+  else echo "$arm64 was not built (make lib PRESET=arm64): not run: a program for arm64"; fi
 fi
 
-windows=build/x86_64-w64-mingw32/lib/libscrypt_c.a
+windows=build/windows/lib/libscrypt_c.a
 if has x86_64-w64-mingw32-gcc gcc-mingw-w64-x86-64-posix; then
   if [ -f $windows ]; then
-    cp $windows "$room/program/vendor/$module/libscrypt_c_windows.a"
+    cp $windows "$room/program/vendor/$module/libscrypt_c_windows_x86_64.a"
     by_line x86_64-w64-mingw32-gcc
     test "$(head -c 2 "$room/program/program.exe")" = MZ
     echo "built for Windows"
     in_program go build -mod=vendor -o program .
-  else echo "$windows was not built (make lib ARCH=x86_64-w64-mingw32): not run: a program for Windows"; fi
+  else echo "$windows was not built (make lib PRESET=windows): not run: a program for Windows"; fi
 fi
 
 if has pkg-config pkg-config; then

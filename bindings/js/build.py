@@ -43,7 +43,7 @@ def other_calls():
 def prove(room, kept):
     """Proves the crate, and returns what the linker takes."""
     crate, toolchain, archive = (room / name for name in ("scrypt_c", "toolchain", "libscrypt_c.a"))
-    copies.copy_crate("scrypt_c", crate, TARGET, left_out=other_calls())
+    copies.copy_crate("scrypt_c", crate, "Pairs", left_out=other_calls())
     copies.copy_toolchain(toolchain, VECTORS)
     options = ["--target", TARGET, "--toolchain", toolchain, "--backend", "llvm"]
     verdict = copies.build("scrypt_c", crate, archive, *options, kept=kept)

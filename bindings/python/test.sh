@@ -4,7 +4,7 @@
 set -eu
 unset CDPATH
 cd "$(dirname "$0")/../.."
-. bindings/arch.sh
+. bindings/preset.sh
 begin_test
 python=/usr/bin/python3 # which has Debian's packages
 export PYTHONDONTWRITEBYTECODE=1 SCRYPT_C_LIBRARY="$lib" PYTHONPATH="$PWD/bindings/python"

@@ -54,12 +54,8 @@ fn link_named(folder: &Path, name: &str) -> Result<(), String> {
 }
 
 /// The name of the library that the crate has for a system and a processor.
-fn bundled() -> &'static str {
-    match (target_has("OS").as_str(), target_has("ARCH").as_str()) {
-        ("windows", _) => "libscrypt_c_windows.a",
-        (_, "aarch64") => "libscrypt_c_arm64.a",
-        _ => "libscrypt_c.a",
-    }
+fn bundled() -> String {
+    format!("libscrypt_c_{}_{}.a", target_has("OS"), target_has("ARCH"))
 }
 
 /// Links what pkg-config finds: that of the machine for its own programs, and for another target
@@ -84,29 +80,7 @@ fn link_by_pkg_config() -> Result<(), String> {
     link(Path::new(String::from_utf8_lossy(&found.stdout).trim()))
 }
 
-/// Refuses a target that there is no library for.
-fn check_target() -> Result<(), String> {
-    let (system, processor) = (target_has("OS"), target_has("ARCH"));
-    let is_known = match system.as_str() {
-        "linux" => ["x86_64", "aarch64"].contains(&processor.as_str()),
-        "windows" => processor == "x86_64" && target_has("ENV") == "gnu",
-        _ => false,
-    };
-    if is_known && target_has("ENDIAN") == "little" && target_has("POINTER_WIDTH") == "64" {
-        return Ok(());
-    }
-    let target = std::env::var("TARGET").unwrap_or_default();
-    Err(format!(
-        "scrypt_c is for Linux on x86_64 and on aarch64, and for Windows on x86_64 with the GNU \
-         tools, not for {target} ({system} on {processor})"
-    ))
-}
-
 fn main() {
-    if let Err(why) = check_target() {
-        eprintln!("{why}");
-        std::process::exit(1);
-    }
     for name in ["SCRYPT_C_LIBRARY", "PKG_CONFIG", "PKG_CONFIG_PATH"] {
         println!("cargo:rerun-if-env-changed={name}");
     }
@@ -114,8 +88,9 @@ fn main() {
     let crate_folder = Path::new(&crate_folder);
     let name = bundled();
     let linked = match std::env::var_os("SCRYPT_C_LIBRARY") {
+        _ if target_has("ENV") == "msvc" => Err("for Windows it is for the GNU tools".to_string()),
         Some(place) => link(Path::new(&place)),
-        None if crate_folder.join(name).exists() => link_named(crate_folder, name),
+        None if crate_folder.join(&name).exists() => link_named(crate_folder, &name),
         None => link_by_pkg_config(),
     };
     if let Err(why) = linked {

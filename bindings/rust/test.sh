@@ -1,10 +1,10 @@
 #!/bin/sh
 # Tests the Rust crate over the library of build/lib, and its package in a folder of its own. With
-# the ARCH of Windows, in Wine, by Debian's compiler, which has Rust's own library for that.
+# PRESET=windows, in Wine, by Debian's compiler, which has Rust's own library for that.
 set -eu
 unset CDPATH
 cd "$(dirname "$0")/../.."
-. bindings/arch.sh
+. bindings/preset.sh
 begin_test
 has cargo cargo || exit 0
 registry=/usr/share/cargo/registry

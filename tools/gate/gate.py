@@ -272,13 +272,13 @@ def answer(tasks, is_built):
 
 def prove_for_arm64(tasks, *names):
     """Proves these crates for arm64."""
-    return tasks.run(sys.executable, "-m", "bindings.cross", "aarch64-linux-gnu", "out/arm64", *names, nice=0)
+    return tasks.run(sys.executable, "-m", "bindings.cross", "arm64", *names, nice=0)
 
 
 def test_arm64(tasks):
     """Links the library and the program for arm64, and calls them."""
     command = "make linked && bindings/callers.sh short"
-    return tasks.run("env", "-u", "CC", "ARCH=aarch64-linux-gnu", "sh", "-c", command)
+    return tasks.run("env", "-u", "CC", "PRESET=arm64", "sh", "-c", command)
 
 
 def add_for_arm64(tasks, kept):
@@ -291,10 +291,9 @@ def add_for_arm64(tasks, kept):
 
 def test_windows(tasks, made):
     """Compiles for Windows what the kit compiled for Linux, links that, and calls it in Wine."""
-    arch = "x86_64-w64-mingw32"
-    compiled = f"{sys.executable} -m bindings.bitcode {arch} out/windows {made}"
+    compiled = f"{sys.executable} -m bindings.bitcode {made}"
     command = f"{compiled} && make linked && bindings/callers.sh short"
-    return tasks.run("env", "-u", "CC", f"ARCH={arch}", "sh", "-c", command)
+    return tasks.run("env", "-u", "CC", "PRESET=windows", "sh", "-c", command)
 
 
 def build_module(tasks, kept):
