@@ -347,24 +347,29 @@ int scrypt_limits_for_new(uint32_t log_n, uint32_t r, uint32_t p, size_t key_len
 
 /* ---- Hashers: password hashes for a service. Not proved: they use the calls above ----
  *
- * A hasher makes and verifies password hashes for any number of threads, within bounds. At most one call for each processor derives
- * at a time; the others wait in line, first come, first served. Of the first 1000 that wait, up to four verifications with the same
- * log_n, r and p are derived at once, on some processors in less time than one after another: one in each table of a processor, and at
- * most its share of all calls. While all processors are taken, a derivation waits for others to join it, at most 1 ms. An error of one
- * affects no other. A hasher keeps its memory for later calls: at most at_once tables of most_bytes, whatever p is. It maps them when
- * they are needed.
+ * A hasher makes and verifies password hashes, within limits. At most one call for each processor
+ * derives at a time, in a slot; the others wait in a queue, first in, first out. Of the first 1000
+ * that wait, up to four verifications with the same log_n, r and p are derived in one batch, on some
+ * processors in less time than one after another: one in each table of the slot, and at most its
+ * share of all calls. While all slots are taken, the leader of a batch lets others join it for a
+ * batching window of at most 1 ms. An error of one affects no other. A hasher keeps its memory for
+ * later calls: at most at_once tables of most_bytes, whatever p is, which it maps when they are
+ * needed. If the system refuses some, a batch is derived in fewer tables.
  *
- * Threads: any number may call a hasher at once, but for scrypt_hasher_free, which comes after all other calls have returned.
- * Signals: no call of a hasher is for a signal handler, as those of malloc and crypt are not; nor may a handler leave a call by longjmp,
- *   or a child that it forks go back to one. A signal that is handled in a thread that waits or derives ends neither.
+ * Threads: thread-safe, but for scrypt_hasher_free, which comes after all other calls have returned.
+ * Signals: not async-signal-safe; nor may a handler leave a call by longjmp, or a child that it forks
+ *   go back to one. A signal that is handled in a thread that waits or derives ends neither.
  * Cancellation of threads: no call that waits or derives is a point of it.
- * fork: the child has the hasher too, whatever other threads were doing with it: there nobody waits or derives, and it has no memory
- *   of its parent. In the few systems that don't fill memory with zeros in a child (Linux before 4.14, some emulators), a child must
- *   not use a hasher that was in use when it was forked.
- * Others' threads: a verification may be derived by the thread of another one, which reads the password and the text; so these must not
- *   be in memory that only one thread may read (protection keys), and a thread of low priority, or with handlers of signals that take
- *   long, may keep others waiting.
- * Memory: tables hold secrets until scrypt_hasher_close or the end of the process; they are wiped when they are given back. */
+ * fork: fork-safe: the child has the hasher too, whatever other threads were doing with it. There
+ *   nobody waits or derives, and it has no memory of its parent. In the few systems that don't fill
+ *   memory with zeros in a child (Linux before 4.14, some emulators), a child must not use a hasher
+ *   that was in use when it was forked.
+ * Others' threads: a verification may be derived by the thread of another one, which reads the
+ *   password and the text; so these must not be in memory that only one thread may read (protection
+ *   keys), and a thread of low priority, or with handlers of signals that take long, may keep others
+ *   waiting.
+ * Memory: tables hold secrets until scrypt_hasher_close or the end of the process; they are wiped
+ *   when they are given back. */
 typedef struct scrypt_hasher scrypt_hasher;
 
 /* Default bounds: on bytes, a little more than a table of 256 MiB; on work, four times that of the recommended parameters; and
@@ -399,13 +404,15 @@ scrypt_hasher *scrypt_hasher_new(const scrypt_options *options, int *status);
 /* The options of a hasher, each default replaced by its value, until the hasher is freed; or NULL for NULL. */
 const scrypt_options *scrypt_hasher_options(const scrypt_hasher *hasher);
 
-/* Verifies a password against the text of a hash, like scrypt_verify, within the bounds of the hasher. This and the next two calls
- * wait for a processor of the hasher for at most most_ms milliseconds, without a bound if that is negative, and then return
- * SCRYPT_TIMEOUT; time that a derivation takes does not count.
- * For a login whose name is unknown pass NULL with text_len 0: the call derives with the parameters of new hashes, and returns
- * SCRYPT_MISMATCH after the time of a wrong password, so that the time doesn't tell which names exist.
- * SCRYPT_NULL_POINTER; the errors of scrypt_hash_needs, without waiting; SCRYPT_CLOSED, SCRYPT_TIMEOUT, SCRYPT_OUT_OF_MEMORY, and last
- * SCRYPT_MISMATCH if the password is wrong. */
+/* Verifies a password against the text of a hash, like scrypt_verify, within the limits of the
+ * hasher. This and the next two calls wait for a slot of the hasher for at most most_ms milliseconds,
+ * without a bound if that is negative, and then return SCRYPT_TIMEOUT; the timeout doesn't end a
+ * derivation.
+ * For a login whose name doesn't exist pass NULL with text_len 0: the call derives with the
+ * parameters of new hashes, and returns SCRYPT_MISMATCH after the time of a wrong password, so that
+ * the time doesn't tell which names exist.
+ * SCRYPT_NULL_POINTER; the errors of scrypt_hash_needs, without waiting; SCRYPT_CLOSED,
+ * SCRYPT_TIMEOUT, SCRYPT_OUT_OF_MEMORY, and last SCRYPT_MISMATCH if the password is wrong. */
 SCRYPT_CHECKED
 int scrypt_hasher_verify(scrypt_hasher *hasher, const void *password, size_t password_len, const char *text,
                          size_t text_len, int64_t most_ms);
@@ -431,8 +438,8 @@ int scrypt_hasher_needs_rehash(const scrypt_hasher *hasher, const char *text, si
 
 /* What a hasher does now, for metrics: in a child, since the fork. */
 typedef struct scrypt_stats {
-  size_t waiting;   /* calls in the line */
-  size_t deriving;  /* calls that derive, each one of a group too */
+  size_t waiting;   /* calls in the wait queue */
+  size_t deriving;  /* calls that derive, each one of a batch too */
   uint64_t refused; /* how many calls returned SCRYPT_OUT_OF_MEMORY or SCRYPT_TIMEOUT until now */
 } scrypt_stats;
 
