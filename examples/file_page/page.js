@@ -34,7 +34,7 @@ async function choose([given]) {
   }
 }
 
-// Without a fraction the bar is indeterminate.
+// Without a fraction, as while the worker starts, the bar is indeterminate.
 function showProgress(fraction) {
   if (fraction === undefined) progress.removeAttribute('value');
   else progress.value = fraction;

@@ -24,10 +24,10 @@ export async function paramsOf(file) {
 
 // An untrusted file chooses its own cost: the limits are the memory, and N * r * p of memory / 32,
 // which is four times what (N, r, p) = (memory / 1024, 8, 1) has.
-// The package reports no progress yet. When it does, give it onProgress(fraction).
 async function deriveKeys(password, salt, params, { memory, signal, onProgress }) {
   const limits = { maxmem: memory + 2 ** 20, maxwork: 4 * 4 * (memory / 1024 + 32) * 8 };
-  const key = await scrypt(password, salt, { ...params, ...limits, dkLen: 64, signal });
+  const options = { ...params, ...limits, dkLen: 64, signal, onProgress };
+  const key = await scrypt(password, salt, options);
   const hmac = { name: 'HMAC', hash: 'SHA-256' };
   const keys = await Promise.all([
     subtle.importKey('raw', key.subarray(0, 32), 'AES-CTR', false, ['encrypt', 'decrypt']),

@@ -121,9 +121,13 @@ class FilePageTest(unittest.TestCase):
         self.assertEqual(opened.read_bytes(), CONTENT)
         self.assertEqual(scrypt("dec", made, opened, password="another"), 1)
 
-    def test_cancel(self):
+    def test_progress_and_cancel(self):
         self.submit(CONTENT, "b", again=PASSWORD, memory="1024 MiB")
-        self.find("progress:not([hidden]):indeterminate")
+        shares = [0]
+        while shares[-1] < 0.25:
+            shares.append(float(self.find("progress[value]:not([hidden])").get_attribute("value")))
+        self.assertEqual(shares, sorted(shares))
+        self.assertGreater(len(set(shares)), 2)
         self.shows("")
         self.find("[name=cancel]").click()
         self.shows("Cancelled.")
