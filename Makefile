@@ -16,8 +16,7 @@
 #   make generate  writes what packages declare of the header of C, as make lib does
 #   make documents checks the documents and the scripts, and reports every fault
 #   make wrong-bodies  tries all wrong code that a proof has to reject, of all crates or of CRATES="NAME .."
-#   make oracle    compares the program with independent implementations, and fails each of its allocations
-#   make callers   calls the library from each installed language of bindings/
+#   make suites    tests what is built: from C and each other language, the examples, and the program
 #   make examples  tests what is in examples/
 #   make bench     measures the library against other implementations on this machine
 #   make clean     removes what was built
@@ -28,7 +27,7 @@
 # A user's CDPATH would make cd go elsewhere.
 unexport CDPATH
 
-.PHONY: help run test lib js install uninstall doc dist check documents wrong-bodies oracle callers bench clean kit
+.PHONY: help run test lib js install uninstall doc dist check documents wrong-bodies bench clean kit
 
 help:
 	@sed -n '/^#/!q; s/^# \{0,1\}//p' Makefile
@@ -42,8 +41,8 @@ run: kit
 	echo "crates/scrypt_tool/out/scrypt_tool prints the first key of RFC 7914, section 12:" && \
 	crates/scrypt_tool/out/scrypt_tool key 4 1 1 64 "" < /dev/null
 
-# Prints the name of a step, what it counted and how long it took, and meanwhile what is in work.
-STEP = python3 -B -m tools.gate.step
+# Prints the name of a step, what it counted and what it took.
+STEP = tools/gate/step.sh
 
 # The program that is installed asks for a password at a terminal, which the proved one reads as any input.
 TERMINAL = bindings/cli/build.sh
@@ -64,70 +63,24 @@ proved-scrypt_commands proved-scrypt_examples: proved-scrypt
 proved-scrypt_tool: proved-scrypt_commands
 	@$(STEP) scrypt_tool env -C crates/scrypt_tool rt run -- key 4 1 1 64 "" < /dev/null
 
-# What is cheap is reported first, and each part runs whatever the others find.
-check: kit
-	@echo "Proves and tests what changed, in about 2 minutes on four idle processors; the first time everything, in about 11."
-	@$(MAKE) -j1 --no-print-directory --keep-going documents what-changed answers
+# What is cheap is reported first. From nothing, the libraries are proved first, with more jobs for each.
+GATE = +@$(MAKE) --no-print-directory --keep-going --output-sync -f tools/gate/gate.mk
+check: kit documents
+	$(if $(wildcard crates/scrypt_commands/out/incremental),,$(MAKE) -j$(SIDE_BY_SIDE) $(LIBRARIES))
+	@$(STEP) what-changed rt all test --jobs $(if $(HAS_ROOM),4,1)
+	$(GATE) -j2 BUILT=1 answers hashes
 
-# From nothing, the libraries are proved first, with more jobs for each. What is kept of them lets a check prove only what
-# changed.
-KEPT = $(wildcard crates/scrypt_commands/out/incremental)
-.PHONY: what-changed
-what-changed:
-	$(if $(KEPT),,$(MAKE) -j$(SIDE_BY_SIDE) $(LIBRARIES))
-	@$(STEP) what-changed python3 -m tools.gate.check $(if $(HAS_ROOM),4,1)
-
-# What the program answers.
-ANSWERS = answers-program answers-hashes
-.PHONY: answers $(ANSWERS)
-answers:
-	@$(MAKE) -j2 --no-print-directory --keep-going $(ANSWERS)
-$(ANSWERS): answers-%:
-	@$(STEP) $@ python3 -m tools.tests.$* crates/scrypt_tool/out/scrypt_tool
-
-# The documents and what must not compile are checked there too, beside the proofs.
+# The gate, the part of it that needs nothing built, and the suites over what is built.
+.PHONY: suites
 test: kit
-	@python3 -m tools.gate.gate
-
-# Each check runs whatever the others find, so that one run reports every fault.
-DOCUMENTS = lint formats names version fit promises tests-of-gate tests-of-generate tests-of-tests tests-of-release pages
-documents:
-	@$(STEP) documents $(MAKE) --no-print-directory --keep-going --output-sync -j$$(nproc) documents-checked
-.PHONY: documents-checked $(DOCUMENTS:%=document-%)
-documents-checked: $(DOCUMENTS:%=document-%)
-	@echo "$(words $^) of $(words $^) checks of the documents and the scripts"
-document-lint: generate
-	@tools/gate/lint.sh
-document-formats:
-	@if command -v rt > /dev/null; then find crates \( -name '*.rt' -o -name '*.antt' \) -not -path '*/out/*' \
-	  -exec "$$(dirname "$$(readlink -f "$$(command -v rt)")")/rattle" fmt --check {} +; \
-	else echo "the Rattle kit is not installed: not run: rattle fmt"; fi
-document-names:
-	@python3 -m tools.gate.docs
-document-version:
-	@python3 -m tools.release.version
-document-fit:
-	@python3 -m tools.gate.wrong_bodies fit
-document-promises:
-	@python3 -m tools.generate.promises check
-document-tests-of-gate document-tests-of-generate document-tests-of-tests: document-tests-of-%:
-	@python3 -B -m unittest -q $(subst /,.,$(basename $(wildcard tools/$*/test_*.py)))
-document-tests-of-release:
-	@python3 -B tools/release/test_proved.py
-document-pages:
-	@if python3 -c "from tools import debian; debian.add_packages(); import jinja2, pygments" 2> /dev/null; \
-	then python3 -m tools.generate.make; else echo "what makes pages is not installed (packages python3-jinja2, python3-pygments): not run: make doc"; fi
+	@tools/gate/run.sh
+documents: generate
+	$(GATE) -j$$(nproc) documents
+suites:
+	$(GATE) -j2 BUILT=1 suites
 
 wrong-bodies: $(LIBRARIES) proved-scrypt_examples
 	python3 -m tools.gate.wrong_bodies all $(CRATES)
-
-oracle: lib
-	cd crates/scrypt_tool && rt run -- key 0 1 1 1 "" > /dev/null < /dev/null
-	python3 -m tools.tests.oracle crates/scrypt_tool/out/scrypt_tool
-	python3 -m tools.tests.allocations crates/scrypt_tool/out/scrypt_tool
-	python3 -m tools.tests.migration crates/scrypt_tool/out/scrypt_tool
-	python3 -m tools.tests.hostile build/lib/libscrypt_c.so
-	python3 -m tools.tests.groups build/lib/libscrypt_c.so
 
 # For another processor of Linux the program is built too.
 PRESET ?= native
@@ -181,9 +134,6 @@ uninstall:
 # Packs what the gate proved and linked in this clone.
 dist:
 	tools/release/dist.sh
-
-callers: lib
-	bindings/callers.sh
 
 MEASURED = build/lib/libscrypt_c.so
 bench: lib

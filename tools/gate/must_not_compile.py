@@ -34,6 +34,7 @@ NEW_COUNTS = {
     "crates/scrypt/src/phc/verifying.rt": 1,
     "crates/scrypt/src/stored_hash.rt": 1,
     "crates/scrypt_c/src/with_buffers.rt": 4,
+    "crates/scrypt_c/src/in_steps.rt": 3,
     "crates/scrypt_c/src/keys.rt": 2,
     "crates/scrypt_commands/src/run.rt": 1,
     "crates/scrypt_examples/src/verdicts.rt": 1,

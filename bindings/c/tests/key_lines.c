@@ -2,7 +2,7 @@
  * are in hexadecimal after a dot. A key if HOW is a number of tables: by scrypt_key with none, by scrypt_key_thin if S
  * is not 0, or else by scrypt_key_with_buffers, whose table and scratch are so many times as long as one chunk needs.
  * The buffers are not zeros before. If HOW is phc or mcf, the text with a key of LEN bytes, and how it is verified with
- * its password and with another one. For random_keys.py. */
+ * its password and with another one. If HOW is need, the bytes that a derivation needs. For random_keys.py. */
 #include "scrypt_c.h"
 
 #include <stdio.h>
@@ -70,6 +70,12 @@ static void print_text(struct line *of, int is_mcf) {
          scrypt_verify(of->password, of->password_len + 1, text, strlen(text)));
 }
 
+static void print_need(const struct line *of) {
+  scrypt_needs needs = {0};
+  int status = scrypt_params_need(of->log_n, of->r, of->p, SIZE_MAX, UINT64_MAX, &needs);
+  printf("%d %llu\n", status, (unsigned long long)needs.bytes);
+}
+
 int main(void) {
   struct line it;
   char how[16], password[2 * MOST], salt[2 * MOST];
@@ -77,6 +83,7 @@ int main(void) {
          scanf("%1023s %1023s", password, salt) == 2) {
     it.password_len = bytes_of(password, it.password), it.salt_len = bytes_of(salt, it.salt);
     if (how[0] >= '0' && how[0] <= '9') print_key(&it, (size_t)atoi(how));
+    else if (strcmp(how, "need") == 0) print_need(&it);
     else print_text(&it, strcmp(how, "mcf") == 0);
   }
   return 0;

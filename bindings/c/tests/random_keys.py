@@ -1,6 +1,7 @@
 #!/usr/bin/env python3
 """Compares random keys and texts with those that Python's hashlib makes: keys in whole tables, one to four at a time,
-and in smaller ones; texts of both formats, which have to be verified with their password alone.
+and in smaller ones; texts of both formats, which have to be verified with their password alone; and
+parameters at the bounds of RFC 7914, with the bytes that they need.
 
 usage: python3 -m bindings.c.tests.random_keys KEYS TEXTS SEED COMMAND..
 
@@ -12,7 +13,10 @@ import random
 import subprocess
 import sys
 
+from tools.generate import header
 from tools.tests.reference import hash_of
+
+STATUSES = header.statuses_of(header.TEXT)
 
 
 def given(rng):
@@ -44,15 +48,30 @@ def texts(rng, count):
         yield line(how, 0, params, length, password, salt), f"0 {hash_of(how, password, salt, *params, length)} 0 1"
 
 
+def needs(rng, count):
+    """Parameters whose product or table is about the greatest."""
+    for _ in range(count):
+        r = rng.choice([1, 2, 3, 8, 1 << 15, (1 << 15) - 1, 1 << 20, (1 << 30) - 1])
+        p = max((1 << 30) + rng.choice([0, 1, -1, -r, r, rng.randrange(-(1 << 24), 1 << 24)]), r) // r
+        log_n = rng.choice([0, 1, rng.randrange(57), 56 - r.bit_length(), 57 - r.bit_length(), 58 - r.bit_length()])
+        log_n = max(log_n, 0)
+        if 128 * r << log_n < 1 << 64 and r * p < 1 << 30:
+            needed, work = 128 * r * p + (128 * r << log_n) + 256 * r, 4 * ((1 << log_n) + 32) * r * p
+            status = "OK" if max(needed, work) < 1 << 64 else "TOO_COSTLY"
+        else:
+            needed, status = 0, "INVALID_PARAMS"
+        yield line("need", 0, (log_n, r, p), 0, b"", b""), f"{STATUSES[status]} {min(needed, (1 << 64) - 1)}"
+
+
 def main(key_count, text_count, seed, *command):
     rng = random.Random(int(seed))
-    made = [*keys(rng, int(key_count)), *texts(rng, int(text_count))]
+    made = [*keys(rng, int(key_count)), *texts(rng, int(text_count)), *needs(rng, 200)]
     lines = "".join(f"{it}\n" for it, _ in made)
     found = subprocess.run(command, input=lines, stdout=subprocess.PIPE, text=True, check=True).stdout.splitlines()
     wrong = [it for (it, answer), printed in zip(made, found) if printed != answer]
     for it in wrong[:10]:
         print(f"another answer: {it}")
-    print(f"{key_count} random keys and {text_count} texts: as hashlib makes them, {len(wrong)} not")
+    print(f"{key_count} random keys, {text_count} texts and 200 needs: as hashlib makes them, {len(wrong)} not")
     sys.exit(1 if wrong or len(found) != len(made) else 0)
 
 

@@ -1,0 +1,30 @@
+#!/bin/sh
+# Builds the library and its tests by a preset of bindings/c/CMakePresets.json, and runs them.
+# usage: c_tests.sh PRESET [ARCHIVES]
+# ARCHIVES is what the gate built: it is put where `make lib` puts it. For by-rattle, the kit's own
+# compiler builds them first, and for arm64 the program is tested too.
+set -eu
+unset CDPATH
+cd "$(dirname "$0")/../.."
+if [ "$1" = by-rattle ]; then
+  cp -R build/gate/kept build/gate/kept-by-rattle
+  python3 -B -m tools.gate.library crates/scrypt_c/out/by-rattle build/gate/kept-by-rattle rattle
+elif [ -n "${2:-}" ]; then
+  mkdir -p crates/scrypt_c/out
+  cp -R "$2/." crates/scrypt_c/out
+fi
+(
+  cd bindings/c
+  cmake --preset "$1"
+  cmake --build "../../build/$1" -- --quiet
+  ctest --preset "$1" -j2
+)
+if [ "$1" = arm64 ]; then
+  PRESET=arm64
+  . bindings/preset.sh
+  begin_test
+  bindings/cli/build.sh
+  cc -O2 -static -DPROGRAM="\"$PWD/$build/bin/scrypt_tool\"" -DEMULATOR="\"${emulator%% *}\"" \
+    -DLIBRARIES="\"${emulator##* }\"" bindings/cli/emulated.c -o "$room/scrypt_tool"
+  CC=$CC python3 -B -m tools.tests.program "$room/scrypt_tool"
+fi

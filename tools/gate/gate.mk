@@ -1,0 +1,125 @@
+# The tasks of the gate. Each prints one line (tools/gate/step.sh) and fails alone; `tools/gate/run.sh`
+# runs all. A task that needs a proved crate waits for build/gate/proved/NAME, which `proofs` makes when
+# `rt ci` has left the library of that crate in crates/NAME/out/rlib.
+# Two groups are useful alone: `make documents` needs nothing built, and `make suites` calls what
+# `make lib`, `make js` and `make run` have built (with BUILT=1).
+TASK = @NICE=$(or $(NICE),10) tools/gate/step.sh $@
+PY = python3 -B -m
+
+# What the gate builds of the crate scrypt_c by clang, and the kept proofs.
+LLVM = build/gate/llvm
+KEPT = build/gate/kept
+PROGRAM = crates/scrypt_tool/out/scrypt_tool
+LIBRARY = build/lib/libscrypt_c.so
+FOR_ARM64 = --needs aarch64-linux-gnu-gcc:gcc-aarch64-linux-gnu qemu-aarch64-static:qemu-user-static \
+  /usr/aarch64-linux-gnu/include/stdio.h:libc6-dev-arm64-cross
+FOR_WINDOWS = --needs x86_64-w64-mingw32-gcc:gcc-mingw-w64-x86-64-posix wine:wine
+FOR_PAGES = --needs /usr/lib/python3/dist-packages/jinja2:python3-jinja2 \
+  /usr/lib/python3/dist-packages/pygments:python3-pygments
+ifdef BUILT
+proved =
+else
+proved = $1
+endif
+
+# What takes longest, or what others wait for, stands first.
+BUILDS = library module program program-arm64 library-arm64 library-windows
+WRONG_BODIES = $(patsubst %,wrong-bodies-%,scrypt scrypt_kernel scrypt_commands password_hash scrypt_c scrypt_examples)
+DOCUMENTS = pages lint links version fit promises formats cores
+EXAMPLES = $(patsubst examples/%/test.sh,example-%,$(wildcard examples/*/test.sh))
+LANGUAGES = python go rust javascript drop-in $(EXAMPLES) examples-of-pages
+SUITES = native asan tsan $(LANGUAGES) answers hashes migration oracle allocations hostile groups completions
+TASKS = proofs $(BUILDS) $(WRONG_BODIES) must-not-compile $(DOCUMENTS) $(SUITES) by-rattle arm64 windows
+.PHONY: gate tasks documents suites $(TASKS)
+gate: $(TASKS)
+documents: $(DOCUMENTS)
+suites: $(SUITES)
+tasks:
+	@echo $(TASKS)
+
+# ---- The proofs ----
+proofs:
+	+@tools/gate/prove.sh
+# One after another, so that one job waits at a time.
+PROVED = build/gate/proved
+CHAIN = password_hash scrypt_kernel scrypt scrypt_commands scrypt_tool
+$(CHAIN:%=$(PROVED)/%):
+	@until [ -e $@ ] || [ -e build/log/proofs.took ]; do sleep 1; done; [ -e $@ ]
+$(PROVED)/scrypt_kernel: $(PROVED)/password_hash
+$(PROVED)/scrypt: $(PROVED)/scrypt_kernel
+$(PROVED)/scrypt_commands: $(PROVED)/scrypt
+$(PROVED)/scrypt_tool: $(PROVED)/scrypt_commands
+
+# ---- What the prover or the compiler has to refuse ----
+$(WRONG_BODIES): wrong-bodies-%:
+	$(TASK) $(PY) tools.gate.wrong_bodies $*
+wrong-bodies-scrypt: $(PROVED)/scrypt_kernel
+wrong-bodies-scrypt_commands wrong-bodies-scrypt_examples wrong-bodies-scrypt_c must-not-compile: $(PROVED)/scrypt
+must-not-compile:
+	$(TASK) $(PY) tools.gate.must_not_compile edits
+cores:
+	$(TASK) $(PY) tools.gate.must_not_compile sources
+
+# ---- The documents and the scripts ----
+lint:
+	$(TASK) tools/gate/lint.sh
+formats:
+	$(TASK) --needs rt:the-Rattle-kit tools/gate/formats.sh
+links:
+	$(TASK) $(PY) tools.gate.docs
+version:
+	$(TASK) $(PY) tools.release.version
+fit:
+	$(TASK) $(PY) tools.gate.wrong_bodies fit
+promises:
+	$(TASK) $(PY) tools.generate.promises check
+pages:
+	$(TASK) $(FOR_PAGES) $(PY) tools.generate.make
+
+# ---- The library from C ----
+library: $(PROVED)/scrypt
+	@tools/gate/step.sh $@ --needs cc:gcc $(PY) tools.gate.library $(LLVM) $(KEPT) llvm
+native: $(call proved,library)
+	$(TASK) tools/gate/c_tests.sh native $(call proved,$(LLVM))
+asan tsan: native
+	$(TASK) tools/gate/c_tests.sh $@
+by-rattle: library native
+	$(TASK) tools/gate/c_tests.sh by-rattle
+library-arm64: library
+	$(TASK) $(FOR_ARM64) $(PY) bindings.cross arm64 scrypt_c=$(KEPT)
+library-windows: library
+	$(TASK) $(FOR_WINDOWS) $(PY) bindings.bitcode $(LLVM)
+arm64: library-arm64 program-arm64 native
+	$(TASK) $(FOR_ARM64) env -u CC tools/gate/c_tests.sh arm64
+windows: library-windows native
+	$(TASK) $(FOR_WINDOWS) env -u CC tools/gate/c_tests.sh windows
+
+# ---- Other languages ----
+python go rust drop-in: native
+	$(TASK) bindings/$(subst -,_,$@)/test.sh
+module: library
+	$(TASK) $(PY) bindings.js.build $(KEPT)
+javascript: $(call proved,module) native
+	$(TASK) $(firstword $(wildcard bindings/js/test.sh bindings/js/test/test.sh))
+$(EXAMPLES): example-%: $(call proved,module) native
+	$(TASK) examples/$*/test.sh
+examples-of-pages: native
+	$(TASK) python3 -B bindings/readme_examples.py
+hostile: native
+	$(TASK) $(PY) tools.tests.hostile $(LIBRARY) 100000
+groups: native
+	$(TASK) $(PY) tools.tests.groups $(LIBRARY)
+
+# ---- The program ----
+program: $(call proved,$(PROVED)/scrypt_tool)
+	$(TASK) --needs cc:gcc tools/gate/program.sh
+program-arm64: $(PROVED)/scrypt_commands
+	$(TASK) $(FOR_ARM64) $(PY) bindings.cross arm64 scrypt_tool
+answers: program
+	$(TASK) $(PY) tools.tests.program $(PROGRAM)
+hashes oracle allocations: program
+	$(TASK) $(PY) tools.tests.$@ $(PROGRAM)
+migration: program native
+	$(TASK) $(PY) tools.tests.migration $(PROGRAM)
+completions:
+	$(TASK) python3 -B bindings/cli/test_completions.py

@@ -1,0 +1,50 @@
+"""Proves and builds the crate scrypt_c for both levels of x86-64.
+
+usage: python3 -m tools.gate.library OUT KEPT BACKEND
+
+OUT gets what crates/scrypt_c/out has after `make lib`: libscrypt_c.a, and x86-64-v3/libscrypt_c.a. Beside
+each is a folder `given` with what clang was given, of which bindings/bitcode.py compiles the library for
+Windows. KEPT has the proofs that are kept, and may be empty. BACKEND is llvm, or rattle, the kit's own
+compiler. The libraries below the crate have to be proved.
+"""
+
+import os
+import re
+import sys
+import tempfile
+from pathlib import Path
+
+from tools import copies, prover_command
+from tools.generate import kit
+
+# The options of each level, and its folder.
+LEVELS = {"x86-64-v3": (["--cpu", "x86-64-v3"], "x86-64-v3"), "x86-64-v2": ([], ".")}
+
+
+def build(level, out, kept, backend):
+    """Builds for a level, and prints the verdict as `rt ci` does."""
+    options = [*LEVELS[level][0], "--backend", backend, "--incremental", kept]
+    out.mkdir(parents=True, exist_ok=True)
+    with tempfile.TemporaryDirectory() as room:
+        toolchain = Path(kit.located(), "toolchain")
+        if backend == "llvm":
+            toolchain = Path(room, "toolchain")
+            copies.copy_toolchain(toolchain, given=out / "given")
+        options += ["--toolchain", toolchain, "-o", out / "libscrypt_c.a"]
+        said = copies.run(*prover_command.of("build", "scrypt_c"), *options, cwd="crates/scrypt_c")
+    verdict = re.search(r"^logic=proved .*", said, re.M)
+    if not verdict:
+        sys.exit(f"{said}scrypt_c: not proved as wanted for {level}")
+    print(f"== scrypt_c-{level}-{backend}\n{verdict[0]}", flush=True)
+
+
+def main(out, kept, backend):
+    kept = Path(kept).resolve()
+    kept.mkdir(parents=True, exist_ok=True)
+    for level, (_, folder) in LEVELS.items():
+        build(level, Path(out, folder).resolve(), kept, backend)
+
+
+if __name__ == "__main__":
+    os.chdir(copies.TOP)
+    main(*sys.argv[1:])

@@ -1,0 +1,13 @@
+#!/bin/sh
+# Links the program with what asks at a terminal. Where `rt ci` gave only the program, since it proved the same
+# files earlier on this machine, the object is made over the proved libraries.
+set -eu
+unset CDPATH
+cd "$(dirname "$0")/../.."
+if [ ! -e crates/scrypt_tool/out/scrypt_tool.o ]; then
+  words=$(python3 -B -c 'from tools import prover_command; print(*prover_command.of("build", "scrypt_tool"))')
+  toolchain=$(dirname "$(rt doc)")/toolchain
+  # shellcheck disable=SC2086 # words without spaces
+  (cd crates/scrypt_tool && $words --toolchain "$toolchain" --backend llvm -o out/scrypt_tool.o)
+fi
+bindings/cli/build.sh

@@ -1,0 +1,43 @@
+#!/usr/bin/env bash
+# The gate: proves every crate by `rt ci`, and beside that runs every other task of gate.mk, whatever
+# fails. The last line is `N passed, M failed`; the status is 0 if none failed and none was left out for
+# a failure. Before it come the packages that parts of it need and aren't here, and the time.
+set -u
+unset CDPATH
+cd "$(dirname "$0")/../.."
+begun=$SECONDS
+export PROVED_LIBRARIES=$PWD/crates # of this run: nothing begins with what an earlier one kept
+jobs=$(($(nproc) + 2)) # with the proofs and what waits for them
+gate() { make --no-print-directory -f tools/gate/gate.mk "$@"; }
+
+echo "Proves and tests everything, in about 14 minutes on four idle processors." \
+  "What each task prints is in build/log."
+rm -rf build/gate build/log crates/*/out/{rlib,arm64,windows,by-rattle}
+rm -rf build/{lib,bin,machine.sh,native,asan,tsan,by-rattle,arm64,windows} crates/scrypt_tool/out/scrypt_tool.o
+mkdir -p build/log build/gate/proved
+python3 -B -m tools.generate.declarations || exit 1
+gate --keep-going --output-sync=target -j"$jobs" gate
+
+failed=0 passed=0
+for task in $(gate tasks); do
+  read -r status _ < "build/log/$task.took" 2> /dev/null || status=unbegun
+  case $status in
+    0) passed=$((passed + 1)) ;;
+    unbegun) failed=$((failed + 1)) && echo "$task: did not begin, since what it needs failed" ;;
+    *) failed=$((failed + 1)) && echo "$task: FAILED (build/log/$task.log)" ;;
+  esac
+done
+if [ $failed = 0 ]; then python3 -B tools/release/proved.py keep build/log/*.log || failed=1; fi
+grep -h ': not run' build/log/*.log | sort -u
+packages=$(grep -h ': not run' build/log/*.log | grep -oE 'packages? [a-z0-9+., -]+' | sed -E 's/packages? //; s/ is$//' | tr ', ' '\n\n' | sort -u)
+if [ -n "$packages" ]; then echo "parts were left out without the packages" $packages; fi
+took=$((SECONDS - begun))
+used=$(times | tail -n 1 | tr 'ms' '  ' | awk '{ printf "%.1f", $1 + $2 / 60 + $3 + $4 / 60 }')
+echo "$((took / 60)):$(printf %02d $((took % 60))) minutes, $used processor minutes"
+# `rt ci` counts the crates and what it ran.
+proofs=$(tail -n 1 build/log/proofs.log)
+if [[ $proofs =~ ^([0-9]+)\ passed,\ ([0-9]+)\ failed ]]; then
+  passed=$((passed + BASH_REMATCH[1])) failed=$((failed + BASH_REMATCH[2]))
+fi
+echo "$passed passed, $failed failed"
+[ "$failed" = 0 ]
