@@ -168,7 +168,10 @@ def answers(words, cases, **env):
 
 
 def passlib(trial):
-    scrypt = oracle.passlib()
+    try:
+        from passlib.hash import scrypt
+    except ImportError:
+        raise Missing("passlib is not installed (package python3-passlib)") from None
 
     def made(password, salt, n, r, p, **more):
         costs = {"rounds": n.bit_length() - 1, "block_size": r, "parallelism": p}
