@@ -134,6 +134,11 @@ export function needsRehash(text: Bytes, options?: PartialParams): Promise<boole
 /** The parameters of the text of a hash, and the length of its key: 0 if it has none. */
 export function params(text: Bytes): Promise<ReadParams>;
 /**
+ * The text that `verify` reads, of a salt and a key of another program: in PHC form if the lengths allow it, with the first 64 bytes of
+ * the key, which are the key of that length; otherwise `$7$`. An N below 64 is refused: it may be its logarithm.
+ */
+export function storedText(salt: Bytes, key: Bytes, options: { N: number; r: number; p: number }): string;
+/**
  * Sets how many workers there may be: as many as the machine has processors, but at most four, and in Node no more than fit into 7/8 of
  * the memory of the machine or the container, if it is left out. And how many calls may wait for a worker: 1000, if it is left out.
  */

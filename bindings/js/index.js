@@ -3,9 +3,10 @@ import { copiesOf, isNone, optionsOf } from './arguments.js';
 import { Scrypt } from './core.js';
 import { RefusedHashError, ScryptError } from './errors.js';
 import { compile, isSupported, load } from './load.js';
+import { storedText } from './stored.js';
 import { call, configure } from './workers.js';
 
-export { RefusedHashError, ScryptError, configure, isSupported, load };
+export { RefusedHashError, ScryptError, configure, isSupported, load, storedText };
 
 /** Derives a key, in a worker. */
 export async function scrypt(password, salt, given) {

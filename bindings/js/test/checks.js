@@ -8,7 +8,7 @@ import { memoryChecks } from './memory.js';
 import { sourceChecks } from './sources.js';
 import { bytes, equal, hex, instead, opened, refused, works } from './support.js';
 
-const { RefusedHashError, hash, isSupported, load, needsRehash, params, scrypt, verify } = workers;
+const { RefusedHashError, hash, isSupported, load, needsRehash, params, scrypt, storedText, verify } = workers;
 
 const shown = (call, it) => `${call} ${typeof it} ${Object.entries(it ?? {}).map(String)}`;
 
@@ -290,6 +290,22 @@ function workerChecks() {
     for (const api of [workers, await load()]) {
       for (const text of [null, undefined]) equal(await api.verify('', text, OF), false, `${text}`);
       await refused('TOO_COSTLY', () => api.verify('', null, { maxmem: 1 }));
+    }
+  };
+  list['keys of other programs'] = async () => {
+    const own = await load();
+    for (const [salt, dkLen, start] of [['salt', 64, '$scrypt$ln=6,r=1,p=2$'], ['x'.repeat(65), 33, '$7$4/....0....xxx'], ['', 16, '$7$4/....0....$'], ['a', 100, '$scrypt$']]) {
+      const of = { N: 64, r: 1, p: 2 };
+      const text = storedText(salt, own.scrypt('password', salt, { ...of, dkLen }), of);
+      equal(text.startsWith(start), true, text);
+      equal(`${own.verify('password', text)} ${own.verify('Password', text)}`, 'true false', text);
+    }
+    for (const [code, salt, key, it] of [
+      ['INVALID_PARAMS', 'a', 'key', { N: 14 }], ['INVALID_PARAMS', 'a', 'key', { N: 16 }], ['INVALID_PARAMS', 'a', 'key', { r: 0 }],
+      ['INVALID_PARAMS', 'a', 'key', { p: 2 ** 30 }], ['INVALID_OUTPUT_LEN', 'a', '', {}], ['SALT_INVALID', '$'.repeat(65), 'key', {}],
+      ['SALT_INVALID', Uint8Array.of(255), 'key', {}],
+    ]) {
+      await refused(code, () => storedText(salt, key, { N: 64, r: 1, p: 1, ...it }), JSON.stringify(it));
     }
   };
   list['hashes that are refused'] = async () => {

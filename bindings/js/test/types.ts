@@ -1,5 +1,5 @@
 // Compiled by tsc with `strict`, and not run: that the types fit what is called, and refuse what they should.
-import { Bytes, ErrorCode, RefusedHashError, Scrypt, ScryptError, configure, hash, isSupported, load, needsRehash, params, scrypt, verify } from 'scrypt-proved';
+import { Bytes, ErrorCode, RefusedHashError, Scrypt, ScryptError, configure, hash, isSupported, load, needsRehash, params, scrypt, storedText, verify } from 'scrypt-proved';
 
 const signal = new AbortController().signal;
 
@@ -14,6 +14,8 @@ export async function calls(password: Bytes): Promise<string | undefined> {
   await hash('', { ...none, salt: undefined, format: undefined });
   await verify('', '', { ...none, maxwork: undefined, minKeyLength: undefined });
   await needsRehash('', { N: 2 ** 18, dkLen: undefined });
+  const stored: string = storedText('salt', key, { N: 64, r: 8, p: 1 });
+  await needsRehash(stored);
   await scrypt('', '', { ...none, N: 2, r: 8, p: 1, maxwork: undefined });
   const own: Scrypt = await load(new URL('./scrypt.wasm', 'https://example.org/'));
   await own.scryptAsync('', '', { N: 2, r: 8, p: 1, signal, onProgress: (fraction) => fraction.toFixed() });

@@ -1,0 +1,40 @@
+// The salts and keys of other programs, as hashes.
+import { bytesOf, optionsOf, parameters } from './arguments.js';
+import { ScryptError } from './errors.js';
+
+const LETTERS = './0123456789ABCDEFGHIJKLMNOPQRSTUVWXYZabcdefghijklmnopqrstuvwxyz';
+
+const base64 = (bytes) => btoa(String.fromCharCode(...bytes)).replaceAll('=', '');
+
+// A number in letters of crypt(3), the least first.
+const digits = (value, count) => Array.from({ length: count }, (_, i) => LETTERS[Math.floor(value / 64 ** i) % 64]).join('');
+
+function phcText(salt, key, [logN, r, p]) {
+  return `$scrypt$ln=${logN},r=${r},p=${p}$${base64(salt)}$${base64(key)}`;
+}
+
+function mcfText(salt, key, [logN, r, p]) {
+  const letters = new TextDecoder().decode(salt);
+  if (letters.includes('$') || letters.includes('\ufffd')) throw new ScryptError('SALT_INVALID', 'neither format can store this salt');
+  let text = `$7$${digits(logN, 1)}${digits(r, 5)}${digits(p, 5)}${letters}$`;
+  for (let at = 0; at < key.length; at += 3) {
+    const part = key.subarray(at, at + 3);
+    text += digits(part.reduce((sum, byte, i) => sum + byte * 256 ** i, 0), part.length + 1);
+  }
+  return text;
+}
+
+/**
+ * The text that `verify` reads, of a salt and a key of another program: in PHC form if the lengths allow it, with the first 64 bytes of the
+ * key, which are the key of that length; otherwise `$7$`. An N below 64 may be its logarithm, and then no password would match.
+ */
+export function storedText(salt, key, given) {
+  const options = optionsOf(given, 'stored');
+  const [params, saltBytes, keyBytes] = [parameters(options), bytesOf(salt, 'salt'), bytesOf(key, 'key')];
+  const { N, r, p } = options;
+  if (N < 64) throw new ScryptError('INVALID_PARAMS', `N of ${N} may be its logarithm: ${2 ** N} is N = 2 ** ${N}`);
+  if (r * p === 0 || r * p >= 2 ** 30 || 128 * r * N >= 2 ** 64) throw new ScryptError('INVALID_PARAMS', 'r or p is not accepted');
+  if (keyBytes.length === 0) throw new ScryptError('INVALID_OUTPUT_LEN', 'there is no key');
+  const isPhc = saltBytes.length >= 1 && saltBytes.length <= 64 && keyBytes.length >= 10;
+  return isPhc ? phcText(saltBytes, keyBytes.subarray(0, 64), params) : mcfText(saltBytes, keyBytes, params);
+}
