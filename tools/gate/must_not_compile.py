@@ -6,7 +6,9 @@ the `prove!` of a constant false: clauses name constants, so they hold for any v
 A count of cores could be wrong in three more ways, which are refused: a handwritten proof other than the one of the
 counter; a new count anywhere but where a derivation begins, or in a test; and an impl for the counter that makes
 another count. Another name for the counter is refused too, since it could hide a new count. What SHA-256 compresses is
-counted in one file, so no other may name the trait `Digest`, by which the crate `sha2` is called.
+counted in one file, so no other may name the trait `Digest`, by which the crate `sha2` is called. And a function of the
+libraries that is passed a count must not call one that makes a count of its own and drops it, as `hmac_sha256` and
+`StoredHash::verify` do: what that hashes or derives would not be counted.
 
 An impl of `PartialEq` chooses its own relation, and the contract of `Clone` does not require a copy to be equal. So
 `Clone` is always derived, and `PartialEq` is derived or its clause compares the whole values.
@@ -28,20 +30,30 @@ HANDWRITTEN = ["crates/scrypt_kernel/proofs/cores/count/CoreCount/of/Proof.antt"
 NEW_COUNTS = {
     "crates/scrypt_kernel/src/hmac.rt": 1,
     "crates/scrypt_kernel/src/pbkdf2.rt": 1,
-    "crates/scrypt/src/derivation.rt": 2,
+    "crates/scrypt/src/derivation.rt": 1,
     "crates/scrypt/src/hashing.rt": 1,
     "crates/scrypt/src/mcf/verifying.rt": 1,
     "crates/scrypt/src/phc/verifying.rt": 1,
     "crates/scrypt/src/stored_hash.rt": 1,
+    "crates/scrypt_c/src/hashes.rt": 2,
     "crates/scrypt_c/src/with_buffers.rt": 4,
     "crates/scrypt_c/src/in_steps.rt": 3,
-    "crates/scrypt_c/src/keys.rt": 2,
+    "crates/scrypt_c/src/keys.rt": 3,
+    "crates/scrypt_commands/src/answer.rt": 1,
     "crates/scrypt_commands/src/run.rt": 1,
     "crates/scrypt_examples/src/verdicts.rt": 1,
 }
 
 # A new count, however the type is written: `CoreCount::new`, `<CoreCount>::new`, `scrypt::CoreCount :: new`.
 NEW = re.compile(r"\bCoreCount\s*>?\s*::\s*new\b")
+
+# The libraries, in which a function that is passed a count, alone or in what a derivation uses, calls none that makes a count of
+# its own, and none that calls such a one, however deep. So nothing is hashed or derived without being counted.
+LIBRARIES = ("crates/scrypt_kernel/", "crates/scrypt/")
+PASSED = re.compile(r"\b(?:CoreCount|InUse)\b")
+
+# A call by its last name, `x::f(..)` or `x.f::<T>(..)`, or a function that is named by a path and passed on, `x::f`.
+CALL = re.compile(r"\b(\w+)\s*(?:::\s*<[^;{}()]*>\s*)?\(|::\s*(\w+)")
 
 # Another name for the counter or for what is in it.
 OTHER_NAMES = re.compile(r"\bCoreCount\s+as\b|\btype\s+\w+[^=;]*=[^;]*\bCoreCount\b|\buse\s[^;]*\bCoreCount\s*::")
@@ -109,6 +121,29 @@ def count_complaints(those):
         yield f"{COUNTER_SOURCE}: the counter derives more than `Drop`"
 
 
+def functions(those):
+    """The functions of the libraries: where each is, its name, whether it is passed a count, and its body."""
+    for source in those:
+        lines = source.text.splitlines()
+        for it in source.items if source.path.startswith(LIBRARIES) else []:
+            head = re.split(r"\n *(?:requires|ensures) ", "\n".join(lines[it.line - 1 : it.opened]))[0]
+            if it.kind == "fn":
+                yield source.path, it.name, PASSED.search(head) is not None, "\n".join(lines[it.opened : it.last])
+
+
+def uncounted_complaints(those):
+    """What is refused of functions that are passed a count: that they reach one that makes its own. Calls are followed by their
+    names alone, so two functions with one name are taken for both."""
+    found = [(*it, {first or second for first, second in CALL.findall(it[-1])}) for it in functions(those)]
+    reached, more = set(), {name for _, name, _, body, _ in found if NEW.search(body)}
+    while more - reached:
+        reached |= more
+        more = {name for _, name, is_passed, _, calls in found if calls & reached and not is_passed}
+    for path, name, is_passed, _, calls in found:
+        if is_passed and calls & reached:
+            yield f"{path}: {name} is passed a count, and calls what makes its own: {', '.join(sorted(calls & reached))}"
+
+
 def impl_complaints(source):
     """What is refused of the implementations of a source: for the counter, and of `Clone` and `PartialEq`."""
     for item in (item for item in source.items if item.kind == "impl"):
@@ -124,7 +159,7 @@ def impl_complaints(source):
 
 def complaints(those):
     """What is refused in these sources."""
-    return [*count_complaints(those), *(found for source in those for found in impl_complaints(source))]
+    return [*count_complaints(those), *uncounted_complaints(those), *(found for source in those for found in impl_complaints(source))]
 
 
 def wrong_in_sources():

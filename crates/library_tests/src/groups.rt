@@ -2,8 +2,8 @@
 
 use crate::holds;
 use scrypt::{
-    CoreCount, LimitedError, Login, Mixer, Pairs, Params, StoredHash, Vectors, Words, scrypt_by,
-    verify_logins,
+    CoreCount, LimitedError, Login, Mixer, Pairs, Params, StoredHash, Vectors, Words,
+    scrypt_in_groups, verify_logins,
 };
 use std::alloc::{AllocError, Global};
 use std::test::Fail;
@@ -36,7 +36,15 @@ fn keys_in_groups(rt: HostRuntime) -> Result<(), Fail> {
 fn keys_by<W: Mixer>(alloc: Global) -> Result<(), Fail> {
     for &(p, wanted, reason) in &KEYS {
         let (params, mut key) = (Params::new(4, 2, p)?, [0u8; 16]);
-        scrypt_by::<W>(alloc, b"pw", b"NaCl", &params, MOST_BYTES, &mut key)?;
+        scrypt_in_groups::<W>(
+            alloc,
+            b"pw",
+            b"NaCl",
+            &params,
+            MOST_BYTES,
+            &mut key,
+            &mut CoreCount::new(),
+        )?;
         holds(u128::from_be_bytes(key) == wanted, reason)?;
     }
     Ok(())

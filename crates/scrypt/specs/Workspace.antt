@@ -1,5 +1,5 @@
 -- The workspace of one derivation, which is the caller's: the verdict in it, and what is left in it.
-use Rattle.std.specs.Prelude.{◌≡◌, ℕ, ◌≤◌, ◌*◌, ◌/◌, min, if◌then◌else◌, List, length, drop, MatchBool, Result, Ok, Err, ⊤}
+use Rattle.std.specs.Prelude.{◌≡◌, ℕ, ◌*◌, ◌/◌, min, if◌then◌else◌, List, length, drop, MatchBool, Result, Ok, Err, ⊤}
 use Rattle.password_hash.specs.Refusal.{Refusal, OutOfMemory}
 use Rattle.scrypt_kernel.specs.Count.{AreCounted}
 use Rattle.scrypt_kernel.specs.declared.cores.count.CoreCount.{CoreCount}
@@ -7,7 +7,6 @@ use Rattle.scrypt.specs.Accepted.{Parameters}
 use Rattle.scrypt.specs.Cost.{chunks_bytes, cost, scratch_words, table_words}
 use Rattle.scrypt.specs.InBuffers.{IsWiped, are_enough}
 use Rattle.scrypt.specs.Reading.{◌and_then◌, Stored, verdict, verify_cost}
-use Rattle.scrypt.specs.declared.buffers.BufferLens.{BufferLens}
 
 -- the caller's buffers, and the count of cores
 pub record Workspace : Type 0 where
@@ -29,17 +28,6 @@ chunks_at_once log_n r n table scratch = min (min (min 4 n) (table / table_words
 -- how many tables and scratches a derivation with these parameters uses of this table and this scratch
 abbrev pub tables_used : Parameters → List ℕ → List ℕ → ℕ
 tables_used c table scratch = chunks_at_once c.log_n c.r c.p (length table) (length scratch)
-
--- `lens` is the part of each buffer that the derivation uses: one table and one scratch at least
-pub record AreUsed (c : Parameters) (lens : BufferLens) (chunks table scratch : List ℕ) : Type 0 where
-  pub chunks_len : lens.chunks ≡ chunks_bytes c.r c.p
-  pub table_len : lens.table ≡ tables_used c table scratch * table_words c.log_n c.r
-  pub scratch_len : lens.scratch ≡ tables_used c table scratch * scratch_words c.r
-  pub chunks_fit : lens.chunks ≤ length chunks
-  pub table_fits : lens.table ≤ length table
-  pub scratch_fits : lens.scratch ≤ length scratch
-  pub room : table_words c.log_n c.r ≤ lens.table
-  pub spare : scratch_words c.r ≤ lens.scratch
 
 -- what is after the part of each buffer that a derivation with these parameters used is unchanged
 pub record IsRestKept (c : Parameters) (before after : Workspace) : Type 0 where

@@ -7,7 +7,7 @@ ghost use Rattle.scrypt.specs.Cost.{chunks_bytes, scratch_words, table_words, th
 ghost use Rattle.scrypt.specs.InBuffers.{are_enough};
 ghost use Rattle.scrypt.specs.Limits.{tables_within};
 ghost use Rattle.scrypt.specs.Mixing.{HasTables, IsAtFront, IsKept, IsReady, IsSpent, IsWidth};
-ghost use Rattle.scrypt.specs.Workspace.{AreUsed, IsDone, chunks_at_once, workspace_of};
+ghost use Rattle.scrypt.specs.Workspace.{IsDone, chunks_at_once, workspace_of};
 
 use crate::{CoreCount, Params};
 use scrypt_kernel::memory::{Allocated, Buffer};
@@ -148,22 +148,6 @@ fn width_in(
         return None;
     }
     Some(width)
-}
-
-/// Returns how much of these buffers a derivation uses: the lengths of [`BufferLens::for_tables`] for as many
-/// tables as it uses, which are at most four and at most `p`. Returns `None` if a buffer is too short. No more has to be wiped
-/// after [`scrypt_at_front`](crate::scrypt_at_front).
-pub fn used_lens(
-    params: &Params,
-    chunks: &[u8],
-    table: &[u32],
-    scratch: &[u32],
-) -> Option<BufferLens>
-    ensures enough { IsSome result ↔ IsTrue (are_enough params.now chunks.now table.now scratch.now) }
-    ensures used { IfSome result (λ lens. AreUsed params.now lens chunks.now table.now scratch.now) }
-{
-    let width = width_in(params, params.p(), chunks, table, scratch)?;
-    Some(BufferLens::for_tables(params, width))
 }
 
 /// What derivations use: the chunks of all, memory for the rows of `width` tables and as many scratches, so that as

@@ -7,7 +7,7 @@ ghost use Rattle.scrypt.specs.Accepted.{is_output_len};
 ghost use Rattle.scrypt.specs.Cost.{chunks_bytes, cost, hash_cost, pbkdf2_cost, scratch_words, table_words, thin_cost, thin_scratch_words};
 ghost use Rattle.scrypt.specs.InBuffers.{are_enough};
 ghost use Rattle.scrypt.specs.Key.{derived_key, mixed_b};
-ghost use Rattle.scrypt.specs.Mixing.{HasTables, IsKept, IsReady, IsSpent};
+ghost use Rattle.scrypt.specs.Mixing.{HasTables, IsKept, IsReady};
 ghost use Rattle.scrypt.specs.Workspace.{IsRestKept, workspace_of};
 ghost use Rattle.scrypt.specs.declared.errors.DeriveError.TheVariants.{InvalidOutputLen as BadLength, OutOfMemory};
 
@@ -79,27 +79,6 @@ pub fn scrypt_counted(
 {
     // In no bytes a derivation takes one table.
     scrypt_in_groups::<Vectors>(alloc, password, salt, params, 0, output, cores)
-}
-
-/// Does what [`scrypt`] does, by the mixer `W`, in buffers that may have `most_bytes` bytes together, as
-/// [`scrypt_in_groups`] does: in 0 bytes it takes one table.
-pub fn scrypt_by<W: Mixer>(
-    alloc: Global,
-    password: &[u8],
-    salt: &[u8],
-    params: &Params,
-    most_bytes: usize,
-    output: &mut [u8],
-) -> Result<(), DeriveError>
-    ensures length { IsErrOf result BadLength ↔ ¬ IsTrue (is_output_len (length output.old)) }
-    ensures value { OnOk result (output.new ≡ derived_key password.now salt.now
-        params.now.log_n params.now.r params.now.p (length output.old)) }
-    ensures refused { OnErr result (output.new ≡ output.old) }
-{
-    let mut cores = CoreCount::new();
-    scrypt_in_groups::<W>(
-        alloc, password, salt, params, most_bytes, output, &mut cores,
-    )
 }
 
 /// Does what [`scrypt_counted`] does, in buffers that may have `most_bytes` bytes together: with as many
@@ -188,7 +167,8 @@ pub fn scrypt_with_buffers(
 }
 
 /// Does what [`scrypt_with_buffers`] does, by the mixer `W`, in buffers of any length. Only the first elements of each are
-/// used, as many as [`used_lens`](crate::used_lens) returns, and those after them are unchanged.
+/// used, as many as [`BufferLens::for_tables`] returns for the tables that have room there, at most four and at most `p`. Those
+/// after them are unchanged.
 ///
 /// Returns `InvalidOutputLen` exactly if the length of `output` is not allowed, and otherwise `OutOfMemory` exactly if a
 /// buffer is too short. On an error nothing has changed.
@@ -318,27 +298,6 @@ pub fn scrypt_thin_by<W: Mixer>(
     let mut used = InUse::new(1, chunks, &mut rows, scratch, cores);
     derive_in::<Buffer<'_>, W>(password, salt, params, s, &mut used, output);
     Ok(())
-}
-
-/// Derives a key in any memory. Afterwards the chunks and the scratch are zeros.
-pub(crate) fn derive_and_wipe<M: TableMemory, W: Mixer>(
-    password: &[u8],
-    salt: &[u8],
-    params: &Params,
-    used: &mut InUse<'_, M>,
-    output: &mut [u8],
-)
-    requires ready { IsReady M.room params.now.log_n 0 params.now.r params.now.p used.old }
-    requires length { length output.old ≤ max_output_len }
-    ensures value { output.new ≡ derived_key password.now salt.now
-        params.now.log_n params.now.r params.now.p (length output.old) }
-    ensures spent { IsSpent M.room params.now used.old used.new }
-    ensures hashed { used.new.cores.now.compressions ≡ used.old.cores.now.compressions
-        + hash_cost (length password.now) (length salt.now) params.now.r params.now.p (length output.old) }
-{
-    derive_in::<M, W>(password, salt, params, 0, used, output);
-    used.chunks.fill(0);
-    used.scratch.fill(0);
 }
 
 /// Steps 1 to 3, in any memory, and a table that keeps one row in `2^s`.

@@ -10,7 +10,7 @@ ghost use Rattle.scrypt.specs.Mixing.{IsReady, IsSpent};
 ghost use Rattle.password_hash.specs.declared.error.Error.TheVariants.{OutOfMemory};
 
 use crate::buffers::{Buffers, InUse};
-use crate::derivation::derive_and_wipe;
+use crate::derivation::derive_in;
 use crate::{CoreCount, Mixer, Params};
 use password_hash::phc::Output;
 use password_hash::{Error, Result, Version};
@@ -87,7 +87,9 @@ pub(crate) fn stored_key<M: TableMemory, W: Mixer>(
 {
     let mut places = [0u8; Output::MAX_LENGTH];
     let key = &mut places[..params.key_len_or_default()];
-    derive_and_wipe::<M, W>(password, salt, params, used, key);
+    derive_in::<M, W>(password, salt, params, 0, used, key);
+    used.chunks.fill(0);
+    used.scratch.fill(0);
     let Ok(key) = Output::new(key) else {
         unreachable!();
     };

@@ -37,10 +37,10 @@ mod verifying;
 mod wiping;
 
 pub use algorithm::Scrypt;
-pub use buffers::{BufferLens, used_lens};
+pub use buffers::BufferLens;
 pub use derivation::{
-    output_len_ok, scrypt, scrypt_at_front, scrypt_by, scrypt_counted, scrypt_in_groups,
-    scrypt_thin, scrypt_thin_by, scrypt_with_buffers,
+    output_len_ok, scrypt, scrypt_at_front, scrypt_counted, scrypt_in_groups, scrypt_thin,
+    scrypt_thin_by, scrypt_with_buffers,
 };
 pub use errors::{DeriveError, InvalidOutputLen, InvalidParams, LimitedError};
 pub use limits::Limits;

@@ -120,7 +120,7 @@ impl<'p, 't> Login<'p, 't> {
     }
 
     // Verifies the password alone.
-    fn verify<W: Mixer>(
+    fn verify_alone<W: Mixer>(
         &self,
         chunks: &mut [u8],
         table: &mut [u32],
@@ -178,7 +178,7 @@ pub fn verify_logins<W: Mixer>(
     let Some((login, others)) = logins.split_first() else {
         return;
     };
-    verdicts[0] = login.verify::<W>(chunks, table, scratch, cores);
+    verdicts[0] = login.verify_alone::<W>(chunks, table, scratch, cores);
     verify_logins::<W>(others, &mut verdicts[1..], chunks, table, scratch, cores);
 }
 

@@ -5,7 +5,8 @@ ghost use Rattle.std.specs.Prelude.{◌≡◌, Bool, ℕ, ◌<◌, ◌≤◌, fa
 /// How chunks are mixed on a processor.
 ///
 /// Keys and counts of cores are the same by every mixer, so no clause of a call depends on it. The calls that take none mix
-/// as [`Vectors`]. On another processor name the one that is fast there: `scrypt_by::<Words>` in place of `scrypt`.
+/// as [`Vectors`]. On another processor name the one that is fast there: `scrypt_in_groups::<Words>` in place of
+/// `scrypt_counted`.
 pub trait Mixer {
     // how many chunks are mixed at a time at most
     ghost most: { ℕ };

@@ -132,18 +132,11 @@ impl<'a> StoredHash<'a> {
     pub fn verify(&self, alloc: Global, password: &[u8]) -> Result<()>
         ensures verdict { IsVerdict password.now (reading self.now) (with_refusal result) }
     {
-        self.verify_by::<Vectors>(alloc, password)
+        self.verify_counted::<Vectors>(alloc, password, &mut CoreCount::new())
     }
 
-    /// Does what [`StoredHash::verify`] does, by the mixer `W`.
-    pub fn verify_by<W: Mixer>(&self, alloc: Global, password: &[u8]) -> Result<()>
-        ensures verdict { IsVerdict password.now (reading self.now) (with_refusal result) }
-    {
-        self.verify_counted::<W>(alloc, password, &mut CoreCount::new())
-    }
-
-    /// Does what [`StoredHash::verify_by`] does, and counts the `4 * N * r * p` cores of the hash's parameters, and the blocks
-    /// that SHA-256 compresses, which are those of deriving a key of the stored one's length.
+    /// Does what [`StoredHash::verify`] does, by the mixer `W`, and counts the `4 * N * r * p` cores of the hash's parameters,
+    /// and the blocks that SHA-256 compresses, which are those of deriving a key of the stored one's length.
     ///
     /// Unless the keys are compared, the count is unchanged.
     pub fn verify_counted<W: Mixer>(
@@ -205,7 +198,7 @@ impl<'a> StoredHash<'a> {
     ///
     /// Each buffer is at least as long as [`StoredHash::buffer_lens`] returns. As many chunks are
     /// mixed at a time as have a table and a scratch there, at most four. Only the first elements of
-    /// each buffer are used, as many as [`used_lens`](crate::used_lens) returns. What they hold before
+    /// each buffer are used, and those after them are unchanged. What they hold before
     /// the call does not matter. Afterwards those of `chunks` and `scratch` are zeros, and those of
     /// `table` are unspecified. `cores` counts the `4 * N * r * p` cores of the hash's parameters, and
     /// the blocks that SHA-256 compresses.

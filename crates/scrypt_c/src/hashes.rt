@@ -19,7 +19,7 @@ use crate::target::Target;
 use crate::texts::{copy_to, stored_hash};
 use password_hash::Result;
 use scrypt::laws::reading_names_no_password;
-use scrypt::{Limits, Params, mcf, phc};
+use scrypt::{CoreCount, Limits, Params, mcf, phc};
 use std::alloc::Global;
 
 /// Writes the PHC text of the hash of `password` and `salt` to the front of `text`, and its length to
@@ -148,7 +148,11 @@ pub extern "C" fn scrypt_verify(alloc: Global, password: &[u8], text: &[u8]) -> 
     ensures status { IsVerifyStatus password.now (bytes_reading text.now) result }
 {
     match stored_hash(text) {
-        Ok(hash) => verify_status(hash.verify_by::<Target>(alloc, password)),
+        Ok(hash) => verify_status(hash.verify_counted::<Target>(
+            alloc,
+            password,
+            &mut CoreCount::new(),
+        )),
         Err(error) => status_of(error),
     }
 }
@@ -181,7 +185,11 @@ pub extern "C" fn scrypt_verify_within(
         least_key_len,
     };
     match hash.within(&limits) {
-        Ok(hash) => verify_status(hash.verify_by::<Target>(alloc, password)),
+        Ok(hash) => verify_status(hash.verify_counted::<Target>(
+            alloc,
+            password,
+            &mut CoreCount::new(),
+        )),
         Err(error) => limited_status_of(error),
     }
 }

@@ -17,8 +17,8 @@ use crate::statuses::{
 };
 use crate::target::Target;
 use scrypt::{
-    BufferLens, CoreCount, DeriveError, Limits, Params, output_len_ok, scrypt_at_front, scrypt_by,
-    scrypt_thin_by,
+    BufferLens, CoreCount, DeriveError, Limits, Params, output_len_ok, scrypt_at_front,
+    scrypt_in_groups, scrypt_thin_by,
 };
 use std::alloc::Global;
 
@@ -55,7 +55,10 @@ pub extern "C" fn scrypt_kdf(
         return INVALID_PARAMS;
     };
     let most_bytes = bytes_that_pay(&params, most_tables, most_bytes);
-    match scrypt_by::<Target>(alloc, password, salt, &params, most_bytes, output) {
+    let mut cores = CoreCount::new();
+    match scrypt_in_groups::<Target>(
+        alloc, password, salt, &params, most_bytes, output, &mut cores,
+    ) {
         Ok(()) => OK,
         Err(DeriveError::InvalidOutputLen) => INVALID_OUTPUT_LEN,
         Err(DeriveError::OutOfMemory) => OUT_OF_MEMORY,

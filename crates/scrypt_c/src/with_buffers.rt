@@ -248,7 +248,8 @@ pub extern "C" fn scrypt_verify_group_with_buffers<'a>(
         login(password_3, text_3),
         login(password_4, text_4),
     ];
-    let mut verdicts = [Ok(()); 4];
+    // No place says that a password is right before its keys are compared.
+    let mut verdicts = [Err(LimitedError::Hash(Error::PasswordInvalid)); 4];
     let mut cores = CoreCount::new();
     verify_logins::<Target>(&logins, &mut verdicts, chunks, table, scratch, &mut cores);
     let [a, b, c, d] = verdicts;

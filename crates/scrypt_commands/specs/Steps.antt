@@ -1,5 +1,5 @@
 -- Private: the steps of a run. Only the clauses of private functions cite these.
-use Rattle.std.specs.Prelude.{◌≡◌, ◌⊎◌, ℕ, Bool, true, List, codes, Option, Result, Ok, Err, String, length, option_map}
+use Rattle.std.specs.Prelude.{◌≡◌, ◌⊎◌, ℕ, ◌+◌, Bool, true, List, codes, Option, Result, Ok, Err, String, length, option_map}
 use Rattle.std.specs.Bool.{then_some}
 use Rattle.std.specs.Borrow.{Bor}
 use Rattle.std.specs.Global.{Global}
@@ -9,7 +9,7 @@ use Rattle.password_hash.specs.Refusal.{Refusal}
 use Rattle.scrypt_kernel.specs.Count.{AreCounted}
 use Rattle.scrypt_kernel.specs.declared.cores.count.CoreCount.{CoreCount}
 use Rattle.scrypt.specs.Cost.{cost}
-use Rattle.scrypt.specs.Reading.{Stored}
+use Rattle.scrypt.specs.Reading.{Stored, verify_cost}
 use Rattle.scrypt.specs.StoredHash.{reading}
 use Rattle.scrypt_commands.specs.Options.{texts_of}
 use Rattle.scrypt_commands.specs.CliError.{ErrorLine, error_line, status_of}
@@ -69,14 +69,15 @@ abbrev pub AppendsReply : (List ℕ → Result Reply ErrorLine) → Option (List
 AppendsReply reply_on known old new status =
     OnInput known (λ input. (line : List ℕ) × (reply_on input ≡ Ok (record { status = status; line = line })) × Appends old new line)
 
--- the cores of verifying with a hash of this reading: none if it is refused, and otherwise those of its parameters, unless an
--- allocation failed
-abbrev pub AreOfHash : Result Stored Refusal → (failed : Type 0) → CoreCount → CoreCount → Type 0
-AreOfHash (Err why) failed before after = after ≡ before
-AreOfHash (Ok s) failed before after = ¬ failed → AreCounted (cost s.params.log_n s.params.r s.params.p) before after
+-- The cores of verifying a password with a hash of this reading, and the blocks that SHA-256 compresses: none if it is refused,
+-- and otherwise those of its parameters, unless an allocation failed.
+abbrev pub AreOfHash : List ℕ → Result Stored Refusal → (failed : Type 0) → CoreCount → CoreCount → Type 0
+AreOfHash password (Err why) failed before after = after ≡ before
+AreOfHash password (Ok s) failed before after = ¬ failed → AreCounted (cost s.params.log_n s.params.r s.params.p) before after
+    × (after.compressions ≡ before.compressions + verify_cost password s)
 
 -- the cores of verifying for a request within limits, if options name any: none if it asks only to make something
-abbrev pub AreOfRequest : Option LimitOptions → Request → (failed : Type 0) → CoreCount → CoreCount → Type 0
-AreOfRequest limit_options (ToMake making) failed before after = after ≡ before
-AreOfRequest limit_options (ToVerify text wanted) failed before after =
-    AreOfHash (bounded (limits_by limit_options wanted) (reading text)) failed before after
+abbrev pub AreOfRequest : Option LimitOptions → Request → List ℕ → (failed : Type 0) → CoreCount → CoreCount → Type 0
+AreOfRequest limit_options (ToMake making) password failed before after = after ≡ before
+AreOfRequest limit_options (ToVerify text wanted) password failed before after =
+    AreOfHash password (bounded (limits_by limit_options wanted) (reading text)) failed before after

@@ -16,7 +16,9 @@ use crate::error::CliError;
 use crate::limit_options::LimitOptions;
 use password_hash::Error;
 use scrypt::laws::mcf_texts_are_read;
-use scrypt::{CoreCount, LimitedError, Limits, Mixer, Params, StoredHash, mcf, phc, scrypt_by};
+use scrypt::{
+    CoreCount, LimitedError, Limits, Mixer, Params, StoredHash, mcf, phc, scrypt_in_groups,
+};
 use std::alloc::Global;
 
 /// The answer to a command.
@@ -48,8 +50,8 @@ impl<'a> Command<'a> {
     /// Carries out the command on this password. A hash is verified only within limits, if options name any.
     ///
     /// Returns the error of hashing or verifying, also `TooCostly` or `KeyTooShort` if a hash exceeds
-    /// the limits, and `OutOfMemory` if an allocation fails. `cores` counts the cores of verifying: none if
-    /// the hash cannot be read or exceeds the limits.
+    /// the limits, and `OutOfMemory` if an allocation fails. `cores` counts the cores of verifying, and the blocks that SHA-256
+    /// compresses: none if the hash cannot be read or exceeds the limits.
     pub fn answer<M: Mixer>(
         &self,
         alloc: Global,
@@ -58,7 +60,7 @@ impl<'a> Command<'a> {
         cores: &mut CoreCount,
     ) -> Result<Answer, CliError>
         ensures reply { Gives reply_view (reply_to options (request_view self.now) password.now) result }
-        ensures cores { AreOfRequest options (request_view self.now) (IsErrOf result OutOfMemory) cores.old cores.new }
+        ensures cores { AreOfRequest options (request_view self.now) password.now (IsErrOf result OutOfMemory) cores.old cores.new }
     {
         match self {
             Command::Make(making) => make::<M>(alloc, password, making),
@@ -108,7 +110,7 @@ fn verify<M: Mixer>(
 ) -> Result<bool, CliError>
     ensures right { Gives (λ right. right)
         (right_of limits (verdict password.now (bounded limits (reading hash.now)))) result }
-    ensures cores { AreOfHash (bounded limits (reading hash.now)) (IsErrOf result OutOfMemory) cores.old cores.new }
+    ensures cores { AreOfHash password.now (bounded limits (reading hash.now)) (IsErrOf result OutOfMemory) cores.old cores.new }
 {
     match verify_within::<M>(alloc, hash, password, limits, cores) {
         Ok(()) => Ok(true),
@@ -126,7 +128,7 @@ fn verify_within<M: Mixer>(
     cores: &mut CoreCount,
 ) -> Result<(), LimitedError>
     ensures verdict { IsVerdict password.now (bounded limits (reading hash.now)) (with_limited_refusal result) }
-    ensures cores { AreOfHash (bounded limits (reading hash.now)) (IsErrOf (with_limited_refusal result) Refused)
+    ensures cores { AreOfHash password.now (bounded limits (reading hash.now)) (IsErrOf (with_limited_refusal result) Refused)
         cores.old cores.new }
 {
     if let Some(limits) = limits {
@@ -212,7 +214,8 @@ fn key<M: Mixer>(
 {
     let mut key = vec![in alloc; 0u8; len]?;
     // The length is allowed, so this fails only if an allocation does.
-    if scrypt_by::<M>(alloc, password, salt, params, 0, &mut key).is_err() {
+    let mut cores = CoreCount::new();
+    if scrypt_in_groups::<M>(alloc, password, salt, params, 0, &mut key, &mut cores).is_err() {
         return Err(CliError::OutOfMemory);
     }
     if is_raw {

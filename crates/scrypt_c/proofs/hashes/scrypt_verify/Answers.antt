@@ -14,5 +14,5 @@ verdict_status password reading (inr failed) = inr (failed.0, ap result_status f
 pub returns-in-Ok : goal.returns-in-Ok
 returns-in-Ok c =
     let status : IsVerifyStatus c.args.password.now (reading c.in-Ok.hash) c.verify_status.result =
-    rw c.verify_status.ensures (verdict_status c.args.password.now (reading c.in-Ok.hash) c.verify_by.ensures.verdict) in
+    rw c.verify_status.ensures (verdict_status c.args.password.now (reading c.in-Ok.hash) c.verify_counted.ensures.verdict) in
     rw c.in-Ok.ensures.reading (record { status = search rules })
