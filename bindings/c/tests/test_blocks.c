@@ -12,9 +12,10 @@
 
 enum { R = 8, BESIDE = 3 << 20 }; /* what a mapping has beside its block, at most */
 
-static size_t least_refused = SIZE_MAX, most_asked;
+static size_t least_refused = SIZE_MAX, most_asked, least_counted = SIZE_MAX, asked;
 static int is_granted(size_t len) {
   if (len > most_asked) most_asked = len;
+  if (len >= least_counted) asked++;
   return len < least_refused;
 }
 
@@ -44,6 +45,9 @@ static size_t table_bytes(uint32_t log_n) { return log_n < 50 ? (size_t)128 * R 
 /* How many tables a call asks for, which gets none. So nothing is derived. */
 #define tables_of(log_n, call) (least_refused = table_bytes(log_n), most_asked = 0, status = (call), least_refused = SIZE_MAX, \
                                 most_asked / table_bytes(log_n))
+
+/* How often a call asks for a table or more: once for each derivation. */
+#define derivations_of(log_n, call) (least_counted = table_bytes(log_n), asked = 0, status = (call), least_counted = SIZE_MAX, asked)
 
 static size_t fewer(size_t one, size_t other) { return one < other ? one : other; }
 
@@ -113,9 +117,26 @@ static void one_table_of_hashes(void) {
   check(status == SCRYPT_OUT_OF_MEMORY && text[0] == '\0', "a refusal");
 }
 
-/* A hash that exceeds a limit is refused before anything is derived. */
-static void no_table_of_costly_hashes(void) {
+static void one_derivation(void) {
   int status;
+  check(derivations_of(14, scrypt_key(SECRETS, 14, R, 1, key, sizeof key)) == 1, "scrypt_key, p of 1");
+  check(derivations_of(14, scrypt_key(SECRETS, 14, R, 3, key, sizeof key)) == 1, "scrypt_key, p of 3");
+  check(derivations_of(14, scrypt_key_within(SECRETS, 14, R, 3, SIZE_MAX, UINT64_MAX, key, sizeof key)) == 1, "scrypt_key_within");
+  check(derivations_of(14, scrypt_hash_phc(SECRETS, 14, R, 3, 32, text, sizeof text)) == 1, "scrypt_hash_phc");
+  check(derivations_of(14, scrypt_hash_mcf(SECRETS, 14, R, 3, 32, text, sizeof text)) == 1, "scrypt_hash_mcf");
+  check(status == SCRYPT_OK, "a hash");
+  check(derivations_of(14, scrypt_verify(OF_PHC)) == 1, "scrypt_verify");
+  check(derivations_of(14, scrypt_verify_within(OF_PHC, SIZE_MAX, UINT64_MAX, 0)) == 1, "scrypt_verify_within");
+  check(status == SCRYPT_MISMATCH, "a verdict");
+}
+
+/* What exceeds a limit is refused before anything is derived. */
+static void no_table_of_what_is_refused(void) {
+  int status;
+  check(tables_of(14, scrypt_key(SECRETS, 14, R, 4, key, 0)) == 0, "a key of no bytes");
+  check(status == SCRYPT_INVALID_OUTPUT_LEN, "a length is named");
+  check(tables_of(14, scrypt_key_within(SECRETS, 14, R, 4, SIZE_MAX, 1, key, sizeof key)) == 0, "too much work for a key");
+  check(status == SCRYPT_TOO_COSTLY, "too much work for a key is named");
   check(tables_of(14, scrypt_verify_within(OF_PHC, 1, UINT64_MAX, 0)) == 0, "too many bytes");
   check(status == SCRYPT_TOO_COSTLY, "too many bytes are named");
   check(tables_of(14, scrypt_verify_within(OF_PHC, SIZE_MAX, 1, 0)) == 0, "too much work");
@@ -141,7 +162,8 @@ int main(void) {
   tables_of_keys(that_pay);
   tables_of_keys_within(that_pay);
   one_table_of_hashes();
-  no_table_of_costly_hashes();
+  one_derivation();
+  no_table_of_what_is_refused();
   not_unmapped();
   return failed;
 }

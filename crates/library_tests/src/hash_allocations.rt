@@ -117,10 +117,8 @@ fn end_of_deriving(
             ended(&made, memory)
         }
         Deriving::VerifyPhc => ended(&hasher.verify_password(alloc, b"", phc_hash), memory),
-        Deriving::VerifyMcf => {
-            let verdict = hasher.verify_password(alloc, b"", &mcf_hash.as_password_hash_ref());
-            ended(&verdict, memory)
-        }
+        // The owned text is verified as the borrowed one, so this tries both.
+        Deriving::VerifyMcf => ended(&hasher.verify_password(alloc, b"", mcf_hash), memory),
     }
 }
 
