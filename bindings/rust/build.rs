@@ -96,9 +96,8 @@ fn main() {
     if let Err(why) = linked {
         eprintln!(
             "scrypt_c needs the library libscrypt_c: {why}. Use the crate of a release, which has \
-             it; or run make lib in the repository; or install it (of a release: the package \
-             libscrypt-c-dev or its archive; of the sources: make lib install); or let \
-             SCRYPT_C_LIBRARY name its folder or its file."
+             it; or run make lib in the repository; or install it (make lib install, or a \
+             release's package); or let SCRYPT_C_LIBRARY name its folder or its file."
         );
         std::process::exit(1);
     }

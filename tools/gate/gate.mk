@@ -30,10 +30,11 @@ EXAMPLES = $(patsubst examples/%/test.sh,example-%,$(wildcard examples/*/test.sh
 LANGUAGES = python go rust javascript drop-in $(EXAMPLES) examples-of-pages
 SUITES = native asan tsan $(LANGUAGES) answers hashes migration oracle allocations hostile groups completions
 TASKS = proofs $(BUILDS) $(WRONG_BODIES) must-not-compile $(DOCUMENTS) $(SUITES) by-rattle arm64 windows
-.PHONY: gate tasks documents suites $(TASKS)
+.PHONY: gate tasks documents suites examples $(TASKS)
 gate: $(TASKS)
 documents: $(DOCUMENTS)
 suites: $(SUITES)
+examples: $(EXAMPLES)
 tasks:
 	@echo $(TASKS)
 

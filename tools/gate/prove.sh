@@ -16,7 +16,7 @@ if [ "$status" != 0 ]; then tail -n 60 build/log/proofs.log | grep -v ': proved$
 known=$(wc -l < tools/generate/axioms.txt)
 found=$(sed -n '/^== scrypt_tool$/,/^rt: /s/^logic=.* axioms=\([0-9]*\) .*/\1/p' build/log/proofs.log)
 if [ -n "$found" ] && [ "$found" != "$known" ]; then
-  echo "tools/generate/axioms.txt has $known functions, and the check of the program assumes $found: make axioms"
+  echo "tools/generate/axioms.txt has $known functions, and the check of the program assumes $found: CONTRIBUTING says how it is written"
   status=1
 fi
 echo "$status $real $(echo "$user $system" | awk '{ print $1 + $2 }')" > build/log/proofs.took

@@ -1,37 +1,21 @@
 #!/bin/sh
-# Makes build/dist twice from the commit, by reprotest, which varies the folder, the umask, the time zone, the language,
-# the home, the environment, the number of processors and more, and compares all files byte by byte. What the kit built
-# is taken from this folder, because to prove everything takes long; with the word proofs the gate proves it both times.
-# usage: reproducible.sh [proofs]
+# Makes build/dist again, in a clone in another folder, with another umask, time zone and language, of what the
+# kit built here, and compares all files byte by byte.
+# usage: reproducible.sh [PRESET..]    as dist.sh was called
 set -eu
 unset CDPATH
 cd "$(dirname "$0")/../.."
-. bindings/arch.sh
 room=$(mktemp -d)
 trap 'rm -rf "$room"' EXIT
-
-git clone --quiet . "$room/source"
-mkdir "$room/source/build"
-if [ -e build/proved.json ]; then cp build/proved.json "$room/source/build/"; fi
-command="make test dist"
-if [ "${1:-}" != proofs ]; then
-  files="crates/scrypt_c/out/$newest/libscrypt_c.a crates/scrypt_tool/out/scrypt_tool build/wasm/scrypt64.wasm bindings/js/scrypt.wasm"
-  command="make linked && bindings/cli/build.sh"
-  for ARCH in $archs $windows; do
-    . bindings/arch.sh
-    files="$files crates/scrypt_c/$proved/libscrypt_c.a"
-    if [ $system = windows ]; then files="$files crates/scrypt_c/$proved/$newest/libscrypt_c.a"; else
-      files="$files crates/scrypt_tool/$proved/scrypt_tool.o"
-    fi
-    if [ -z "$is_kits" ]; then command="$command && make linked ARCH=$ARCH"; fi
-  done
-  for file in $files; do
-    mkdir -p "$room/source/${file%/*}"
-    cp -p $file "$room/source/$file"
-  done
-  command="$command && tools/release/dist.sh"
-fi
-# What is left out needs a file system or a clock of its own, or another user. rustup finds its cargo below the home.
-export RUSTUP_HOME="${RUSTUP_HOME:-$HOME/.rustup}"
-TMPDIR=$room reprotest --variations=+all,-fileordering,-time,-user_group,-domain_host --source-root "$room/source" \
-  --store-dir "$room/made" "$command" 'build/dist/*'
+again=$room/an/other/folder
+git clone --quiet . "$again"
+if [ -e build/proved.json ]; then mkdir "$again/build" && cp build/proved.json "$again/build"; fi
+# shellcheck disable=SC2046 # paths without spaces
+cp --parents $(find crates/scrypt_c/out crates/scrypt_tool/out -name '*.a' -o -name '*.o' ! -path '*/incremental/*') \
+  bindings/js/scrypt.wasm "$again"
+export TZ=Asia/Kathmandu LC_ALL=C.UTF-8 HOME="$room" RUSTUP_HOME="${RUSTUP_HOME:-$HOME/.rustup}"
+export PATH="$PATH:${CARGO_HOME:-$HOME/.cargo}/bin"
+(umask 027 && cd "$again" && tools/release/dist.sh "$@" > "$room/log" 2>&1) ||
+  { cat "$room/log"; exit 1; }
+diff -r build/dist "$again/build/dist"
+echo "the same byte by byte: $(ls build/dist | wc -l) files"

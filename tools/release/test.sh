@@ -1,155 +1,87 @@
 #!/bin/bash
-# Tests build/dist as a user meets it, in a fresh root made from Debian packages, without the kit: installs, uses and
-# removes the packages, does the same with the archive without root, builds programs in C, Go and Rust, and runs one in Node.
-# Needs root, mmdebstrap, lintian and a network for Debian's packages. test_emulated.sh tests what is for other processors.
+# Tries build/dist as a user meets it, in a fresh root of Debian without the kit: its package, its archive in
+# another folder, and the packages of each language, by the lines of README.md. What is for arm64 runs in
+# Debian's emulator, and what is for Windows in Wine. Needs root, mmdebstrap, a network, and for these two
+# machines what `python3 -m tools.presets` prints.
+# usage: test.sh [PRESET..]    as dist.sh was called
 set -euo pipefail
 unset CDPATH
 cd "$(dirname "$0")/../.."
-dist=build/dist oldest=x86-64-v2 newest=x86-64-v3
+dist=$PWD/build/dist presets=${*:-native arm64 windows}
 key=$(cat crates/scrypt_tool/stdout) # the first of RFC 7914, section 12
-command="scrypt_tool key 4 1 1 64" # and an empty salt
-packages="scrypt-tool libscrypt-c0 libscrypt-c-dev libscrypt-drop-in"
-private=/usr/lib/x86_64-linux-gnu/scrypt_c
 room=$(mktemp -d)
 root=$room/root
 trap 'rm -rf "$room"' EXIT
-
-# Runs a command, and prints what it wrote only if it fails.
-quietly() { "$@" > "$room/log" 2>&1 || { cat "$room/log"; return 1; }; }
 expect() {
-  if [ "$1" != "$2" ]; then echo "not as expected: $3 gave $1" >&2; exit 1; fi
-  echo "$3"
+  if [ "${1%% *}" != "$key" ]; then echo "another key: $2: $1" >&2; exit 1; fi
+  echo "the first key of RFC 7914: $2"
 }
 # In a mount namespace of its own, for /proc, without which rustc doesn't run.
 inside() {
   unshare --mount sh -c 'mount -t proc proc "$0/proc" && exec chroot "$0" "$@"' "$root" \
-    env -i PATH=/usr/sbin:/usr/bin:/sbin:/bin HOME=/root LC_ALL=C.UTF-8 DEBIAN_FRONTEND=noninteractive "$@"
+    env -i PATH=/usr/sbin:/usr/bin:/sbin:/bin HOME=/root LC_ALL=C.UTF-8 sh -ec "$1" < /dev/null
 }
-as_user() { inside setpriv --reuid=nobody --regid=nogroup --clear-groups env HOME=/home/user "$@"; }
-install_packages() { quietly inside sh -c 'cd /tmp && apt-get install -qq -y ./*.deb'; }
-unpack_archive() {
-  quietly as_user sh -c 'cd ~ && tar xzf /tmp/*-linux-*.tar.gz && mkdir prefix && cp -R scrypt-proved-*/files/. prefix'
-}
-# All files but those that apt, dpkg, ld.so and man keep about every package.
-listed() {
-  local kept='^\./(var/(cache|log|lib/(apt|dpkg|systemd))|tmp|run|etc/ld.so.cache)'
-  (cd "$root" && find . -path ./proc -prune -o -print | grep -vE "$kept" | sort)
-}
+# The lines of README.md for a language.
+lines() { sed -n "/^$1/,/^[A-Z]/s/^    //p" tools/release/README.md; }
+listed() { (cd "$root" && find . -path ./proc -prune -o -path ./var -prune -o -path ./tmp -prune -o -print | sort); }
+tool='scrypt_tool key 4 1 1 64 ""'
+# Programs in C, by pkg-config and by CMake, which print the key.
+by_pkg_config='cc /tmp/check.c -o /tmp/a $(pkg-config --cflags --libs scrypt_c) && /tmp/a'
+by_cmake='rm -rf /tmp/b && cmake -S /tmp/client -B /tmp/b > /dev/null && cmake --build /tmp/b > /dev/null'
 
-(cd $dist && sha256sum --quiet -c SHA256SUMS)
-lintian --fail-on error $dist/*.deb
-echo "each file has its hash in SHA256SUMS, and lintian finds no error"
-# Debian's emulator has older processors than x86-64-v2.
-if command -v qemu-x86_64-static > /dev/null; then
-  tar xzf $dist/*-linux-x86_64.tar.gz -C "$room"
-  old_processor="qemu-x86_64-static -cpu qemu64"
-  if $old_processor "$room"/scrypt-*/files/bin/$command "" > "$room/log" 2>&1 < /dev/null; then exit 1; fi
-  grep -o "lacks a feature of x86-64-v2" "$room/log"
-else
-  echo "qemu-x86_64-static is not here (package qemu-user-static): no older processor was tried"
-fi
-
-mmdebstrap --quiet --arch=amd64 --variant=apt --include=man-db,bash-completion,zsh,python3-venv,passwd,pamtester bookworm "$root"
-cp /etc/resolv.conf "$root/etc/resolv.conf"
-cp tools/release/check.c tools/release/check.go tools/release/check.rs $dist/*_amd64.deb $dist/*_x86_64.whl $dist/*-linux-x86_64.tar.gz \
-  $dist/scrypt-go-* $dist/*.crate "$root/tmp/"
-install -d -o nobody -g nogroup "$root/home/user"
+(cd "$dist" && sha256sum --quiet -c SHA256SUMS)
+packages=python3-venv,gcc,libc6-dev,pkg-config,cmake,make,golang-go,cargo,librust-password-hash-dev
+mmdebstrap --quiet --variant=apt --include=$packages bookworm "$root"
+cp tools/release/check.* tools/release/cargo.toml "$dist"/* "$root/tmp"
+mkdir "$root/tmp/client"
+sed 's|\.\./test_calls.c|/tmp/check.c|' bindings/c/tests/cmake_client/CMakeLists.txt > "$root/tmp/client/CMakeLists.txt"
 listed > "$room/before"
 
-install_packages
-echo "apt-get install ./*.deb"
-# Each packed binary is in a file of the packages, and the other way round.
-sed -n '/^SHA-256 of the binaries/,/^SHA-256 of what/s/^\([0-9a-f]\{64\}\) .* x86_64-linux-gnu\/.*/\1/p' \
-  "$root/usr/share/doc/libscrypt-c0/PROVED.txt" | sort > "$room/packed"
-inside sh -c "dpkg -L $packages"' | grep -E "\.so|\.a$|/bin/." | sort -u |
-  while read -r it; do [ -h "$it" ] || sha256sum "$it"; done' | cut -c -64 | sort | diff - "$room/packed"
-echo "each installed binary has its hash in PROVED.txt: $(wc -l < "$room/packed")"
-expect "$(inside $command "" < /dev/null)" $key "the program prints the first key of RFC 7914, section 12"
-for program in scrypt_tool scrypt_calibrate; do
-  inside sh -c "man $program 2> /dev/null | grep -q 'derive scrypt keys'"
-  echo "man $program"
-done
-made=$(inside sh -c 'echo pw | scrypt_tool --draw-salt hash phc $(scrypt_calibrate 0.1 16)')
-case $made in '$scrypt$ln=1'[0-4],r=8,p=*) echo "the program takes the parameters of scrypt_calibrate" ;; *) exit 1 ;; esac
-completed='. /usr/share/bash-completion/bash_completion; _completion_loader scrypt_tool
-  COMP_WORDS=(scrypt_tool ha) COMP_CWORD=1; _scrypt_tool; echo "${COMPREPLY[*]}"'
-expect "$(inside bash -c "$completed")" hash "bash completes scrypt_tool ha"
-completed='autoload -U compinit; compinit -u -D; print ${_comps[scrypt_tool]}'
-expect "$(inside zsh -c "$completed")" _scrypt_tool "zsh finds the completions of scrypt_tool"
-inside env LD_PRELOAD=$private/libscrypt_drop_in.so python3 -c 'import ctypes; ctypes.CDLL(None).crypto_scrypt'
-echo "the drop-in library gives crypto_scrypt by LD_PRELOAD"
-
-if ! "$root"/lib64/ld-linux-x86-64.so.2 --help | grep "$newest (supported" > /dev/null; then newest=$oldest; fi
-python='from scrypt_c import PasswordHasher, library; h = PasswordHasher(log_n=10); h.verify(h.hash("a"), "a")
-version = library._lib.scrypt_version; version.restype = library.ctypes.c_char_p; print(version().split()[-1].decode())'
-as_user sh -c 'python3 -m venv ~/venv && ~/venv/bin/pip install -q --no-index /tmp/*.whl'
-expect "$(as_user /home/user/venv/bin/python -c "$python")" $newest "the wheel hashes in a virtual environment"
-rm -r "$root/home/user/venv"
-
-# The archive, by a user who has no more rights than any.
-unpack_archive
-expect "$(as_user /home/user/prefix/bin/$command "" < /dev/null)" $key "the archive's program prints it, without root"
-as_user sh -c 'rm -r $HOME/prefix'
-echo "the archive removes all that it installed"
-
-echo "LD_PRELOAD=$private/libscrypt_drop_in.so" > "$root/etc/default/client"
-quietly inside sh -c "apt-get purge -qq -y $packages"
-grep "/etc/default/client still names libscrypt_drop_in.so" "$room/log"
-rm -rf "$root/etc/default/client" "$root"/home/user/*
+inside 'dpkg -i /tmp/*_amd64.deb' > "$room/log"
+expect "$(inside "$tool")" "the program of the Debian package"
+expect "$(inside "$by_pkg_config")" "C by pkg-config, with the package"
+expect "$(inside "$by_cmake && /tmp/b/shared")" "C by CMake, with the package"
+expect "$(inside "/tmp/b/static")" "the same with the static library"
+inside 'python3 -c "import scrypt_c; h = scrypt_c.PasswordHasher(log_n=10); h.verify(h.hash(str()), str())"'
+inside 'dpkg -P scrypt-proved' > "$room/log"
 listed | diff "$room/before" -
-known=$(inside dpkg-query -W -f '${db:Status-Status}\n' $packages 2> /dev/null | grep -v not-installed || true)
-expect "$known" "" "apt-get purge leaves no file, and dpkg knows none of them"
+echo "the package hashes in Python, and leaves nothing when it is purged"
 
-install_packages
-# Debian's crypt(3) and pam_unix verify a hash of the program, which the lines of MIGRATION.md store.
-store=$(sed -n '/^## The passwords of a Linux system/,/^## /s/^    //p' docs/MIGRATION.md)
-quietly inside useradd somebody
-quietly inside env user=somebody password="first 1 password" sh -ec "$store"
-grep -q '^somebody:\$7\$' "$root/etc/shadow"
-by_crypt='import crypt, spwd, sys; h = spwd.getspnam("somebody").sp_pwdp; print(crypt.crypt(sys.argv[1], h) == h)'
-crypt() { inside python3 -W ignore -c "$by_crypt" "$1"; }
-expect "$(crypt "first 1 password") $(crypt "second 2 password")" "True False" "crypt(3) verifies a hash of the program"
-echo "auth required pam_unix.so nodelay" > "$root/etc/pam.d/pamtester"
-login() { echo "$1" | inside pamtester pamtester somebody authenticate > "$room/log" 2>&1; }
-login "first 1 password"
-if login "second 2 password" || login ""; then exit 1; fi
-echo "pam_unix verifies it, and refuses another password"
+inside 'mkdir /opt/it && tar xzf /tmp/*-linux_x86_64.tar.gz --strip-components=1 -C /opt/it && mv /opt/it /opt/moved'
+moved='export PKG_CONFIG_PATH=/opt/moved/lib/pkgconfig CMAKE_PREFIX_PATH=/opt/moved LD_LIBRARY_PATH=/opt/moved/lib;'
+expect "$(inside "/opt/moved/bin/$tool")" "the program of the archive, moved"
+expect "$(inside "$moved $by_pkg_config")" "C by pkg-config, with the archive"
+expect "$(inside "$moved $by_cmake && /tmp/b/shared")" "C by CMake, with the archive"
 
-# Programs in C, Go and Rust need compilers, which the root has from here on.
-quietly inside sh -c 'apt-get update -qq && apt-get install -qq -y --no-install-recommends gcc libc6-dev pkg-config \
-  golang-go cargo librust-password-hash-dev'
-compile='cc /tmp/check.c -o ~/check $(pkg-config --cflags --libs scrypt_c)'
-inside sh -c "$compile"
-expect "$(inside /root/check)" "$key $newest" "a C program by pkg-config prints it, with the package"
-if command -v qemu-x86_64-static > /dev/null; then
-  expect "$(qemu-x86_64-static -cpu Nehalem -L "$root" "$root/root/check")" "$key $oldest" "and by the code for $oldest on one of these"
+inside "cd /tmp && $(lines Python) > /dev/null && venv/bin/python -m scrypt_c -n 1"
+expect "$(inside "mkdir -p /tmp/go/client && cd /tmp/go/client && cp /tmp/scrypt-go-* /tmp/check.go . &&
+  go mod init example.com/client 2> /dev/null; $(lines Go); go run check.go")" "Go, with the module"
+expect "$(inside "mkdir -p ~/.cargo /tmp/rust/client && cp /tmp/cargo.toml ~/.cargo/config.toml && cd /tmp/rust/client &&
+  cp /tmp/*.crate . && cargo init --quiet --vcs none; $(lines Rust); cp /tmp/check.rs src/main.rs &&
+  cargo run --quiet")" "Rust, with the crate"
+if command -v node > /dev/null; then
+  mkdir -p "$room/node/node_modules"
+  tar xzf "$dist"/*.tgz -C "$room/node/node_modules"
+  mv "$room/node/node_modules/package" "$room/node/node_modules/scrypt-proved"
+  echo 'import { scrypt } from "scrypt-proved"; const of = { N: 16, r: 1, p: 1, dkLen: 64 };
+    console.log(Buffer.from(await scrypt("", "", of)).toString("hex"));' > "$room/node/a.mjs"
+  expect "$(node "$room/node/a.mjs")" "Node $(node --version), with the package of npm"
 fi
-inside sh -c 'cc -static /tmp/check.c -o ~/check $(pkg-config --static --cflags --libs scrypt_c)'
-expect "$(inside /root/check)" "$key $newest" "and by the static library"
-unpack_archive
-libraries=/home/user/prefix/lib
-compile="$compile && ldd ~/check | grep -q $libraries && ~/check"
-found=$(as_user env PKG_CONFIG_PATH=$libraries/pkgconfig LD_LIBRARY_PATH=$libraries sh -c "$compile")
-expect "$found" "$key $newest" "and with the archive, without root"
 
-# By the lines of README.md. Cargo looks up optional dependencies too: here in Debian's packages.
-lines() { sed -n "/^$1,/,/^\(Rust,\|## \)/s/^    //p" tools/release/README.md; }
-in_a_folder() {
-  as_user env GOPROXY=off CARGO_NET_OFFLINE=true sh -ec "mkdir -p ~/$1/client && cd ~/$1/client && cp /tmp/$2 . && $3"
-}
-build="go mod init example.com/client 2> /dev/null; $(lines Go); cp /tmp/check.go . && go run check.go"
-expect "$(in_a_folder go 'scrypt-go-*' "$build")" "$key" "a Go program prints it, with the module of the release"
-install -D -o nobody tools/release/cargo.toml "$root/home/user/.cargo/config.toml"
-chown nobody "$root/home/user/.cargo"
-build="cargo init --quiet --vcs none; $(lines Rust); cp /tmp/check.rs src/main.rs && cargo run --quiet"
-expect "$(in_a_folder rust '*.crate' "$build")" "$key" "a Rust program prints it, with the crate of the release"
-
-# The lines of bindings/js/README.md, with the package unpacked by hand, in the first Debian whose Node is new enough.
-root=$room/node
-mmdebstrap --quiet --arch=amd64 --variant=apt --include=nodejs trixie "$root"
-install -d -o nobody -g nogroup "$root/home/user" "$root/home/user/node_modules"
-cp $dist/*.tgz "$root/tmp"
-as_user sh -c 'cd ~/node_modules && tar xzf /tmp/*.tgz && mv package scrypt-proved'
-sed -n '/^```js$/,/^```$/{/^```$/q; /^```/!p}' bindings/js/README.md > "$root/home/user/login.mjs"
-expect "$(as_user node /home/user/login.mjs | xargs)" 'true false false 32' "Node $(as_user node --version) runs its page's lines"
-echo "build/dist: tested in a fresh Debian root"
+for preset in $presets; do
+  mkdir "$room/$preset"
+  cd "$room/$preset"
+  case $preset in
+    arm64)
+      tar xzf "$dist"/*-linux_aarch64.tar.gz --strip-components=1
+      expect "$(qemu-aarch64-static -L /usr/aarch64-linux-gnu bin/scrypt_tool key 4 1 1 64 "" < /dev/null)" "arm64"
+      ;;
+    windows)
+      python3 -m zipfile -e "$dist"/*-windows_x86_64.zip . && mv scrypt-*/* .
+      x86_64-w64-mingw32-gcc "$OLDPWD/tools/release/check.c" -Iinclude lib/libscrypt_c.dll.a -o bin/check.exe
+      expect "$(WINEDEBUG=-all WINEPREFIX=$room/wine wine bin/check.exe | tr -d '\r')" "Windows, by the DLL"
+      ;;
+  esac
+  cd "$OLDPWD"
+done
+echo "build/dist: tried in a fresh root"
