@@ -21,6 +21,7 @@ GO = """package main
 
 import (
 	"context"
+	"errors"
 	"log"
 
 	"nilomafy.example/scrypt"

@@ -10,25 +10,38 @@ import (
 
 var statuses = map[string]error{
 	"OK": nil, "MISMATCH": ErrMismatch, "ALGORITHM": ErrAlgorithm, "ENCODING_INVALID": ErrEncodingInvalid,
-	"OUTPUT_SIZE": ErrOutputSize, "HASH_PARAM_INVALID": ErrHashParamInvalid, "HASH_PARAMS_INVALID": ErrHashParamsInvalid,
-	"VERSION": ErrVersion, "TOO_COSTLY": ErrTooCostly, "KEY_TOO_SHORT": ErrKeyTooShort,
+	"OUTPUT_SIZE": ErrOutputSize, "HASH_PARAM_INVALID": ErrHashParamInvalid,
+	"HASH_PARAMS_INVALID": ErrHashParamsInvalid, "VERSION": ErrVersion, "TOO_COSTLY": ErrTooCostly,
+	"KEY_TOO_SHORT": ErrKeyTooShort,
 }
 
-// TestCases makes the verifications of bindings/cases.tsv.
+// TestCases makes the verifications of bindings/cases.tsv. The errors of a text alone come without
+// waiting, which takes forever here.
 func TestCases(t *testing.T) {
 	file, err := os.ReadFile("../cases.tsv")
 	if err != nil {
 		t.Skip(err) // the module of a release is without it
 	}
-	hasher, err := NewHasher(Options{})
-	if err != nil {
-		t.Fatal(err)
-	}
+	ctx, hasher, full := context.Background(), newHasher(t, Options{}), newHasher(t, Options{})
+	full.of.inside = nil
 	for _, line := range strings.Split(strings.TrimSpace(string(file)), "\n")[1:] {
 		words := strings.Split(line, "\t")
-		text := strings.ReplaceAll(words[2], "\\0", "\x00")
-		if err := hasher.Verify(context.Background(), text, []byte(words[1])); !errors.Is(err, statuses[words[0]]) {
+		text, want, of := strings.ReplaceAll(words[2], "\\0", "\x00"), statuses[words[0]], full
+		if text == "" {
+			want = ErrMismatch // as for a name that doesn't exist
+		}
+		isRefused := want != nil && want != ErrMismatch
+		if !isRefused {
+			of = hasher
+		}
+		err := of.Verify(ctx, text, []byte(words[1]))
+		if !errors.Is(err, want) || errors.Is(err, ErrRefused) != isRefused {
 			t.Errorf("%.60s: %v, and not %s", text, err, words[0])
+		}
+		_, unread := ParamsOf(text)
+		_, unreadToo := hasher.NeedsRehash(text)
+		if errors.Is(err, ErrInvalidHash) && (unread != want || unreadToo != want) {
+			t.Errorf("%.60s: %v, %v", text, unread, unreadToo)
 		}
 	}
 }

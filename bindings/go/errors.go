@@ -3,33 +3,58 @@ package scrypt
 // #include "library.h"
 import "C"
 
-// Error is the reason why a call failed: a status of scrypt_c.h, or a negative number that C does not have.
+// Error is the reason why a call failed: a status of scrypt_c.h, or a negative number that C does
+// not have.
 type Error int
 
-// The errors. Those from ErrAlgorithm to ErrVersion, except ErrSaltInvalid, also match ErrInvalidHash (errors.Is).
 const (
-	ErrInvalidOption     Error = -2                           // an option of a Hasher is out of range
-	ErrInvalidHash       Error = -1                           // the text is not a hash that this package reads
-	ErrMismatch          Error = C.SCRYPT_MISMATCH            // the password is not that of the hash
-	ErrInvalidParams     Error = C.SCRYPT_INVALID_PARAMS      // N, r and p, or the length of a hash's key, are not accepted
-	ErrInvalidOutputLen  Error = C.SCRYPT_INVALID_OUTPUT_LEN  // the key is empty, or longer than scrypt allows
-	ErrOutOfMemory       Error = C.SCRYPT_OUT_OF_MEMORY       // the memory is not available
-	ErrAlgorithm         Error = C.SCRYPT_ALGORITHM           // the hash names another algorithm
-	ErrEncodingInvalid   Error = C.SCRYPT_ENCODING_INVALID    // the text does not have the grammar of its format
-	ErrOutputSize        Error = C.SCRYPT_OUTPUT_SIZE         // the key in the hash has a length that is not allowed
-	ErrHashParamInvalid  Error = C.SCRYPT_HASH_PARAM_INVALID  // a parameter in the hash is not a decimal in its range
-	ErrHashParamsInvalid Error = C.SCRYPT_HASH_PARAMS_INVALID // the parameters in the hash are not accepted, or are not scrypt's
-	ErrSaltInvalid       Error = C.SCRYPT_SALT_INVALID        // the salt of a PHC hash does not have 1 to 64 bytes
-	ErrVersion           Error = C.SCRYPT_VERSION             // the hash names a version, and scrypt has none
-	ErrTooCostly         Error = C.SCRYPT_TOO_COSTLY          // the parameters need more memory or more work than is allowed
-	ErrNoRandomBytes     Error = C.SCRYPT_NO_RANDOM_BYTES     // the system has no random bytes for a salt
-	ErrKeyTooShort       Error = C.SCRYPT_KEY_TOO_SHORT       // the key in the hash is shorter than is allowed
-	ErrClosed            Error = C.SCRYPT_CLOSED              // the Hasher is closed, or was not made by NewHasher
+	// ErrRefused matches (errors.Is) each error of a stored hash that is refused, whatever the
+	// password is: ErrTooCostly, ErrKeyTooShort, and those that ErrInvalidHash matches. A login logs
+	// it, and answers as for a wrong password.
+	ErrRefused Error = -3
+	// ErrInvalidOption is for an option of a Hasher that is out of range.
+	ErrInvalidOption Error = -2
+	// ErrInvalidHash matches (errors.Is) ErrAlgorithm to ErrVersion, those of a text that is not a
+	// hash that this package reads.
+	ErrInvalidHash Error = -1
+
+	// ErrMismatch: the password is not that of the hash.
+	ErrMismatch Error = C.SCRYPT_MISMATCH
+	// ErrInvalidParams: N, r and p, or the length of a hash's key, are not accepted.
+	ErrInvalidParams Error = C.SCRYPT_INVALID_PARAMS
+	// ErrInvalidOutputLen: the key is empty, or longer than scrypt allows.
+	ErrInvalidOutputLen Error = C.SCRYPT_INVALID_OUTPUT_LEN
+	// ErrOutOfMemory: the memory is not available.
+	ErrOutOfMemory Error = C.SCRYPT_OUT_OF_MEMORY
+	// ErrSaltInvalid: the salt of a PHC hash does not have 1 to 64 bytes.
+	ErrSaltInvalid Error = C.SCRYPT_SALT_INVALID
+	// ErrAlgorithm: the hash names another algorithm.
+	ErrAlgorithm Error = C.SCRYPT_ALGORITHM
+	// ErrEncodingInvalid: the text does not have the grammar of its format.
+	ErrEncodingInvalid Error = C.SCRYPT_ENCODING_INVALID
+	// ErrOutputSize: the key in the hash has a length that is not allowed.
+	ErrOutputSize Error = C.SCRYPT_OUTPUT_SIZE
+	// ErrHashParamInvalid: a parameter in the hash is not a decimal in its range.
+	ErrHashParamInvalid Error = C.SCRYPT_HASH_PARAM_INVALID
+	// ErrHashParamsInvalid: the parameters in the hash are not accepted, or are not scrypt's.
+	ErrHashParamsInvalid Error = C.SCRYPT_HASH_PARAMS_INVALID
+	// ErrVersion: the hash names a version, and scrypt has none.
+	ErrVersion Error = C.SCRYPT_VERSION
+	// ErrTooCostly: the parameters need more memory or more work than is allowed.
+	ErrTooCostly Error = C.SCRYPT_TOO_COSTLY
+	// ErrNoRandomBytes: the system has no random bytes for a salt.
+	ErrNoRandomBytes Error = C.SCRYPT_NO_RANDOM_BYTES
+	// ErrKeyTooShort: the key in the hash is shorter than is allowed.
+	ErrKeyTooShort Error = C.SCRYPT_KEY_TOO_SHORT
+	// ErrClosed: the Hasher is closed, or was not made by NewHasher.
+	ErrClosed Error = C.SCRYPT_CLOSED
 )
 
 // Error returns the error in words.
 func (e Error) Error() string {
 	switch e {
+	case ErrRefused:
+		return "scrypt: the stored hash is refused"
 	case ErrInvalidOption:
 		return "scrypt: an option of a Hasher is not in its range"
 	case ErrInvalidHash:
@@ -43,10 +68,14 @@ func (e Error) Error() string {
 	}
 }
 
-// Is reports whether target is this error, or is ErrInvalidHash and this error is one of a text that is not a hash.
+// Is reports whether target is this error, or ErrInvalidHash or ErrRefused if that matches it.
 func (e Error) Is(target error) bool {
-	if target == ErrInvalidHash {
-		return C.scrypt_status_is_invalid_hash(C.int(e)) != 0
+	isInvalid := C.scrypt_status_is_invalid_hash(C.int(e)) != 0
+	switch target {
+	case ErrInvalidHash:
+		return isInvalid || e == ErrInvalidHash
+	case ErrRefused:
+		return isInvalid || e == ErrTooCostly || e == ErrKeyTooShort || e == ErrRefused
 	}
 	return target == e
 }

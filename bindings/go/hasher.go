@@ -12,52 +12,64 @@ import (
 	"unsafe"
 )
 
-// mostInside is how many goroutines may wait in C, whatever the options are: Go ends a program that has 10,000 threads.
+// mostInside is how many goroutines may be in C, whatever the options are: Go ends a program that
+// has 10,000 threads.
 const mostInside = 4096
 
-type milliseconds = C.int64_t // which tests can't name by C
+// Which tests can't name by C.
+type (
+	milliseconds = C.int64_t
+	status       = C.int
+)
 
-// Options are the options of a Hasher. For an option that is zero, and for each zero field of Params, the default is used
-// that its comment names.
+// Options are the options of a Hasher. For an option that is zero, and for each zero field of
+// Params, the default is used that its comment names.
 type Options struct {
 	Params       // the parameters of new hashes: by default those of Recommended()
 	MCF     bool // whether new hashes are $7$ texts of crypt(3), by default PHC texts
 	SaltLen int  // the length of a new hash's salt, 1 to 64 bytes: by default 16
 
-	// How many tables may exist at the same time: by default two for each processor, or as many of MostBytes as the machine
-	// and its control group have room for.
+	// How many tables may exist at the same time: by default two for each processor, or as many of
+	// MostBytes as the machine and its control group have room for.
 	AtOnce int
 
-	// How many derivations may run at the same time: by default one for each processor that the process may use, by its
-	// affinity and its CPU quota, or runtime.GOMAXPROCS(0) if that was set to less than runtime.NumCPU().
+	// How many derivations may run at the same time: by default one for each processor that the
+	// process may use, by its affinity and its CPU quota, or runtime.GOMAXPROCS(0) if that was set
+	// to less than runtime.NumCPU().
 	Processors int
 
-	// The greatest Params.Memory and Params.Work of a hash that is not refused with ErrTooCostly: by default the
-	// constants of the same names, or what new hashes need if that is more.
+	// The greatest Params.Memory and Params.Work of a hash that is not refused with ErrTooCostly: by
+	// default the constants of the same names, or what new hashes need if that is more.
 	MostBytes, MostWork uint64
 }
 
-// A Hasher makes password hashes, and verifies passwords against hashes of either format. Any number of goroutines may
-// use it; at most one for each processor derives at a time, and the others wait, first come, first served. Of those that
-// wait, verifications with the same LogN, R and P are derived together if there are tables for them, which on some
-// processors takes less time than one after another. No error or context of one affects another.
+// A Hasher makes password hashes, and verifies passwords against hashes of either format. Any
+// number of goroutines may use it; at most one for each processor derives at a time, and the others
+// wait, first come, first served. Waiting verifications with the same LogN, R and P are derived in
+// one batch if there are tables for them, which takes less time on some processors. No error or
+// context of one affects another.
 //
-// A Hasher holds at most AtOnce tables, whatever P is, and keeps their memory for later calls until Close. Create one
-// with NewHasher: on the zero value every method but Close returns ErrClosed.
+// A call whose context ends returns the context's error immediately. If it has begun to derive, or
+// is among the next eight of a processor, its derivation goes on over a copy of the password, which
+// is wiped; after the deadline of the context none begins.
+//
+// A Hasher holds at most AtOnce tables, whatever P is, and keeps their memory for later calls until
+// Close. Create one with NewHasher: on the zero value every method but Close returns ErrClosed.
 type Hasher struct {
 	of *hasher
 }
 
-// A hasher is freed when no Hasher refers to it.
+// A hasher is freed when no Hasher and no call refers to it.
 type hasher struct {
-	c      *C.scrypt_hasher
-	inside chan struct{} // one for each goroutine that waits in C, where it takes a thread of the system
-	calls  atomic.Int64  // how many wait or derive
-	ended  atomic.Uint64 // how many waits ended with their context
+	c       *C.scrypt_hasher
+	inside  chan struct{} // one for each goroutine that is in C, where it takes a thread of the system
+	calls   atomic.Int64  // how many wait or derive
+	refused atomic.Uint64 // how many found no memory, or waited until their context ended
 }
 
-// NewHasher returns a Hasher. Its errors name the options, and match (errors.Is) ErrInvalidParams, ErrSaltInvalid,
-// ErrInvalidOption, ErrTooCostly if new hashes need more than the bounds, or ErrOutOfMemory.
+// NewHasher returns a Hasher. Its errors name the options, and match (errors.Is) ErrInvalidParams,
+// ErrSaltInvalid, ErrInvalidOption, ErrTooCostly if new hashes need more than the bounds, or
+// ErrOutOfMemory.
 func NewHasher(options Options) (*Hasher, error) {
 	usual := Recommended()
 	options.LogN = orUsual(options.LogN, usual.LogN)
@@ -84,7 +96,8 @@ func NewHasher(options Options) (*Hasher, error) {
 	if of.c == nil {
 		return nil, fmt.Errorf("%w: %v: %+v", Error(status), options.Params.needs(), options)
 	}
-	// For each that derives up to four are derived together, and as many wait in C, where the next group forms.
+	// For each that derives up to four are derived together, and as many wait in C, where the next
+	// group forms.
 	derive := C.scrypt_hasher_options(of.c).processors
 	if atOnce := C.scrypt_hasher_options(of.c).at_once; atOnce < derive {
 		derive = atOnce
@@ -97,7 +110,8 @@ func NewHasher(options Options) (*Hasher, error) {
 	return &Hasher{of}, nil
 }
 
-// Options returns the options of the Hasher, each default replaced by its value; those of the zero value are zero.
+// Options returns the options of the Hasher, each default replaced by its value; those of the zero
+// value are zero.
 func (h *Hasher) Options() Options {
 	if h.of == nil {
 		return Options{}
@@ -112,10 +126,10 @@ func (h *Hasher) Options() Options {
 	}
 }
 
-// Stats are what a Hasher does; in a child process, since the fork.
+// Stats are what a Hasher does.
 type Stats struct {
 	Waiting, Deriving int    // how many calls wait for a processor, and derive, now
-	Refused           uint64 // how many found no memory until now, or waited until their context ended
+	Refused           uint64 // how many found no memory until now, or returned when their context ended
 }
 
 // Stats returns what the Hasher does now, for metrics; that of the zero value is zero.
@@ -128,11 +142,11 @@ func (h *Hasher) Stats() Stats {
 	if waiting < 0 {
 		waiting = 0
 	}
-	return Stats{int(waiting), int(now.deriving), uint64(now.refused) + h.of.ended.Load()}
+	return Stats{int(waiting), int(now.deriving), h.of.refused.Load()}
 }
 
-// Close frees the memory that the Hasher keeps; the memory of a running derivation is freed when it ends. Calls that wait,
-// and later ones, return ErrClosed. Close returns nil.
+// Close frees the memory that the Hasher keeps; the memory of a running derivation is freed when it
+// ends. Calls that wait, and later ones, return ErrClosed. Close returns nil.
 func (h *Hasher) Close() error {
 	if h.of != nil {
 		C.scrypt_hasher_close(h.of.c)
@@ -141,23 +155,28 @@ func (h *Hasher) Close() error {
 	return nil
 }
 
-// Hash returns the text of a new hash, with a random salt from the system. The errors are the context's, if it ends
-// before the derivation begins, ErrOutOfMemory, ErrNoRandomBytes and ErrClosed.
+// Hash returns the text of a new hash, with a random salt from the system. The errors are the
+// context's, ErrOutOfMemory, ErrNoRandomBytes and ErrClosed.
 func (h *Hasher) Hash(ctx context.Context, password []byte) (string, error) {
-	return h.hash(ctx, password, nil, 0)
+	return h.hash(ctx, password, nil)
 }
 
-// HashWithSalt does what Hash does, with the caller's salt. It returns ErrSaltInvalid if the salt of a PHC hash does not
-// have 1 to 64 bytes.
+// HashWithSalt does what Hash does, with the caller's salt. It returns ErrSaltInvalid if the salt
+// of a PHC hash does not have 1 to 64 bytes.
 func (h *Hasher) HashWithSalt(ctx context.Context, password, salt []byte) (string, error) {
-	return h.hash(ctx, password, pointer(salt), size(salt))
+	return h.hash(ctx, password, append([]byte{}, salt...))
 }
 
-// hash draws a salt if the pointer is NULL.
-func (h *Hasher) hash(ctx context.Context, password []byte, salt unsafe.Pointer, saltLen C.size_t) (string, error) {
-	text := make([]byte, C.text_capacity(saltLen))
-	err := h.run(ctx, func(ms milliseconds) Error {
-		return Error(C.scrypt_hasher_hash(h.of.c, pointer(password), size(password), salt, saltLen, chars(text), size(text), ms))
+// hash draws a salt if it is nil.
+func (h *Hasher) hash(ctx context.Context, password, salt []byte) (string, error) {
+	var at unsafe.Pointer
+	if salt != nil {
+		at = pointer(salt)
+	}
+	text := make([]byte, C.text_capacity(size(salt)))
+	err := h.run(ctx, password, func(password []byte, ms milliseconds) status {
+		return C.scrypt_hasher_hash(h.of.c, pointer(password), size(password), at, size(salt),
+			chars(text), size(text), ms)
 	})
 	if err != nil {
 		return "", err
@@ -165,48 +184,70 @@ func (h *Hasher) hash(ctx context.Context, password []byte, salt unsafe.Pointer,
 	return C.GoString(chars(text)), nil
 }
 
-// Key returns the key of keyLen bytes of a password and a salt, with the parameters of new hashes. The errors are those of
-// Hash, and ErrInvalidOutputLen.
+// Key returns the key of keyLen bytes of a password and a salt, with the parameters of new hashes.
+// The errors are those of Hash, and ErrInvalidOutputLen.
 func (h *Hasher) Key(ctx context.Context, password, salt []byte, keyLen int) ([]byte, error) {
 	key, err := newKey(keyLen)
-	if err == nil {
-		err = h.run(ctx, func(ms milliseconds) Error {
-			return Error(C.scrypt_hasher_key(h.of.c, pointer(password), size(password), pointer(salt), size(salt), bytes(key),
-				size(key), ms))
-		})
+	if err != nil {
+		return nil, err
 	}
+	salt = append([]byte{}, salt...)
+	err = h.run(ctx, password, func(password []byte, ms milliseconds) status {
+		return C.scrypt_hasher_key(h.of.c, pointer(password), size(password), pointer(salt),
+			size(salt), bytes(key), size(key), ms)
+	})
 	if err != nil {
 		return nil, err
 	}
 	return key, nil
 }
 
-// Verify returns nil if the password is that of the hash, and ErrMismatch if it is not, or if the hash has no salt or
-// no key. Other errors match (errors.Is) the context's, if it ends before the derivation begins, ErrInvalidHash,
-// ErrTooCostly if the hash needs more than the bounds, ErrKeyTooShort if its key has fewer than LeastKeyLen bytes, or than new keys
-// if that is less, ErrClosed or ErrOutOfMemory. An error of the text alone is returned without waiting.
+// Verify returns nil if the password is that of the hash, and ErrMismatch if it is not, or if the
+// hash has no salt or no key. With "" in place of a hash, for a name that doesn't exist, it derives
+// as for a new hash and returns ErrMismatch, so that the time doesn't tell whether there is such a
+// name.
+//
+// Other errors match (errors.Is) the context's, ErrClosed or ErrOutOfMemory; or, without waiting,
+// ErrRefused: ErrInvalidHash, ErrTooCostly if the hash needs more than the bounds, or
+// ErrKeyTooShort if its key has fewer than LeastKeyLen bytes, or than new keys if that is less.
 func (h *Hasher) Verify(ctx context.Context, text string, password []byte) error {
 	if h.of == nil {
 		return ErrClosed
 	}
-	raw, with := []byte(text), C.scrypt_hasher_options(h.of.c)
-	defer runtime.KeepAlive(h.of)
-	var needs C.scrypt_needs
-	status := C.scrypt_hash_needs(chars(raw), size(raw), with.most_bytes, with.most_work, with.least_key_len, &needs)
-	if status == C.SCRYPT_TOO_COSTLY || status == C.SCRYPT_KEY_TOO_SHORT {
-		return fmt.Errorf("%w: %v, and a key of %d bytes; MostBytes is %d, MostWork is %d, and the least key has %d bytes",
-			Error(status), inWords(needs), needs.key_len, with.most_bytes, with.most_work, with.least_key_len)
+	raw := []byte(text)
+	if err := h.refusal(raw); err != nil {
+		return err
 	}
-	if status != C.SCRYPT_OK {
-		return failed(status)
-	}
-	return h.run(ctx, func(ms milliseconds) Error {
-		return Error(C.scrypt_hasher_verify(h.of.c, pointer(password), size(password), chars(raw), size(raw), ms))
+	return h.run(ctx, password, func(password []byte, ms milliseconds) status {
+		at := chars(raw)
+		if len(raw) == 0 {
+			at = nil
+		}
+		return C.scrypt_hasher_verify(h.of.c, pointer(password), size(password), at, size(raw), ms)
 	})
 }
 
-// NeedsRehash reports whether one of the parameters of the hash, or its key's length, is below that of new hashes. Its
-// errors match ErrInvalidHash (errors.Is). It needs no memory, so it also works on a closed Hasher.
+// refusal returns the error of a text alone, with what it needs; there is none of no text.
+func (h *Hasher) refusal(text []byte) error {
+	if len(text) == 0 {
+		return nil
+	}
+	defer runtime.KeepAlive(h.of)
+	var needs C.scrypt_needs
+	with := C.scrypt_hasher_options(h.of.c)
+	status := C.scrypt_hash_needs(chars(text), size(text), with.most_bytes, with.most_work,
+		with.least_key_len, &needs)
+	if status == C.SCRYPT_TOO_COSTLY || status == C.SCRYPT_KEY_TOO_SHORT {
+		const bounds = "MostBytes is %d, MostWork is %d, and the least key has %d bytes"
+		return fmt.Errorf("%w: %v, and a key of %d bytes; "+bounds, Error(status), inWords(needs),
+			needs.key_len, with.most_bytes, with.most_work, with.least_key_len)
+	}
+	return failed(status)
+}
+
+// NeedsRehash reports whether one of the parameters of the hash, or its key's length, is below that
+// of new hashes. Its errors match ErrInvalidHash (errors.Is). It needs no memory, so it also works
+// on a closed Hasher.
 func (h *Hasher) NeedsRehash(text string) (bool, error) {
 	if h.of == nil {
 		return false, ErrClosed
@@ -220,37 +261,73 @@ func (h *Hasher) NeedsRehash(text string) (bool, error) {
 	return false, failed(status)
 }
 
-// run makes a call when there is room for it in C, where it waits until the deadline of its context. There a context that is
-// cancelled doesn't end it: it is among the next to derive.
-func (h *Hasher) run(ctx context.Context, call func(ms milliseconds) Error) error {
+// run makes a call when there is room for it in C, where it waits until the deadline of the
+// context. When the context ends, it returns, and the call goes on over its own copy of the
+// password.
+func (h *Hasher) run(ctx context.Context, password []byte,
+	call func(password []byte, ms milliseconds) status) error {
 	if h.of == nil {
 		return ErrClosed
 	}
-	defer h.of.calls.Add(-1) // which also keeps it alive
-	h.of.calls.Add(1)
 	if err := ctx.Err(); err != nil {
 		return err
+	}
+	of := h.of
+	of.calls.Add(1)
+	isInside := false
+	leave := func() {
+		if isInside {
+			<-of.inside
+		}
+		of.calls.Add(-1) // which also keeps it alive
 	}
 	select {
-	case h.of.inside <- struct{}{}:
-		defer func(of *hasher) { <-of.inside }(h.of)
+	case of.inside <- struct{}{}:
+		isInside = true
 	case <-ctx.Done():
+		leave()
+		of.refused.Add(1)
+		return ctx.Err()
 	}
-	if err := ctx.Err(); err != nil {
-		h.of.ended.Add(1)
-		return err
-	}
-	ms := milliseconds(-1)
-	if end, is := ctx.Deadline(); is {
-		if ms = milliseconds(time.Until(end)/time.Millisecond + 1); ms < 0 {
-			ms = 0
+	ended := make(chan status, 1)
+	go func(password []byte, ms milliseconds) {
+		defer leave()
+		defer wipe(password)
+		ended <- call(password, ms)
+	}(append([]byte{}, password...), left(ctx))
+	select {
+	case got := <-ended:
+		if got == C.SCRYPT_TIMEOUT || got == C.SCRYPT_OUT_OF_MEMORY {
+			of.refused.Add(1)
 		}
+		if got == C.SCRYPT_TIMEOUT {
+			return context.DeadlineExceeded
+		}
+		return failed(got)
+	case <-ctx.Done():
+		of.refused.Add(1)
+		return ctx.Err()
 	}
-	status := call(ms)
-	if status == C.SCRYPT_TIMEOUT {
-		return context.DeadlineExceeded
+}
+
+// left returns for how many milliseconds a call may wait in C: without a bound if it is negative.
+func left(ctx context.Context) milliseconds {
+	end, is := ctx.Deadline()
+	if !is {
+		return -1
 	}
-	return failed(C.int(status))
+	if ms := milliseconds(time.Until(end)/time.Millisecond + 1); ms > 0 {
+		return ms
+	}
+	return 0
+}
+
+// wipe writes zeros.
+func wipe(secret []byte) {
+	for i := range secret {
+		secret[i] = 0
+	}
+	runtime.KeepAlive(secret)
 }
 
 func orUsual(n, usual int) int {
@@ -274,5 +351,6 @@ func (params Params) needs() string {
 }
 
 func inWords(needs C.scrypt_needs) string {
-	return fmt.Sprintf("LogN %d, R %d and P %d need %d bytes and a work of %d", needs.log_n, needs.r, needs.p, needs.bytes, needs.work)
+	return fmt.Sprintf("LogN %d, R %d and P %d need %d bytes and a work of %d",
+		needs.log_n, needs.r, needs.p, needs.bytes, needs.work)
 }

@@ -5,9 +5,9 @@ import (
 	"errors"
 	"math"
 	"runtime"
-	"strconv"
 	"strings"
 	"testing"
+	"time"
 )
 
 const (
@@ -57,13 +57,15 @@ func TestHashes(t *testing.T) {
 		}
 		params, _ := ParamsOf(text)
 		key, err := hasher.Key(ctx, password, []byte("salt"), 1000)
-		if want, _ := Key(password, []byte("salt"), 1<<params.LogN, params.R, params.P, 1000); string(key) != string(want) {
+		want, _ := Key(password, []byte("salt"), 1<<params.LogN, params.R, params.P, 1000)
+		if string(key) != string(want) {
 			t.Errorf("%x, %v", key, err)
 		}
 	}
 }
 
-// What is refused, with words of the error. Some are numbers that C's types would cut off to accepted ones.
+// What is refused, with words of the error. Some are numbers that C's types would cut off to
+// accepted ones.
 func TestRefusedOptions(t *testing.T) {
 	for _, it := range []struct {
 		words   string
@@ -76,10 +78,10 @@ func TestRefusedOptions(t *testing.T) {
 		{"KeyLen:-1", Options{Params: Params{KeyLen: -1}}, ErrInvalidParams},
 		{"KeyLen:4294967328", Options{Params: Params{KeyLen: 32 + 1<<32}}, ErrInvalidParams},
 		{"LogN:4294967313", Options{Params: Params{LogN: 17 + 1<<32}}, ErrInvalidParams},
-		{"LogN 131072, R 8 and P 1 are not accepted: LogN is the logarithm of N, from 0 to 63", Options{Params: Params{LogN: 1 << 17}},
-			ErrInvalidParams},
-		{"LogN 64, R 8 and P 1 are not accepted: LogN is", Options{Params: Params{LogN: 64}}, ErrInvalidParams},
-		{"LogN -1, R 8 and P 1 are not accepted: LogN is", Options{Params: Params{LogN: -1}}, ErrInvalidParams},
+		{"LogN 131072, R 8 and P 1 are not accepted: LogN is the logarithm of N, from 0 to 63",
+			Options{Params: Params{LogN: 1 << 17}}, ErrInvalidParams},
+		{"are not accepted: LogN is", Options{Params: Params{LogN: 64}}, ErrInvalidParams},
+		{"are not accepted: LogN is", Options{Params: Params{LogN: -1}}, ErrInvalidParams},
 		{"LogN 57, R 8 and P 1 are not accepted: {", Options{Params: Params{LogN: 57}}, ErrInvalidParams},
 		{"R:4294967304", Options{Params: Params{R: 8 + 1<<32}}, ErrInvalidParams},
 		{"P:-4294967295", Options{Params: Params{P: 1 - 1<<32}}, ErrInvalidParams},
@@ -90,7 +92,8 @@ func TestRefusedOptions(t *testing.T) {
 		{"", Options{Params: Params{LogN: 19}}, nil},
 	} {
 		hasher, err := NewHasher(it.options)
-		if (hasher != nil) != (err == nil) || !errors.Is(err, it.want) || err != nil && !strings.Contains(err.Error(), it.words) {
+		isRight := (hasher != nil) == (err == nil) && errors.Is(err, it.want)
+		if !isRight || err != nil && !strings.Contains(err.Error(), it.words) {
 			t.Errorf("%s: %v", it.words, err)
 		}
 	}
@@ -99,12 +102,14 @@ func TestRefusedOptions(t *testing.T) {
 // Each default is replaced by its value.
 func TestOptions(t *testing.T) {
 	usual := newHasher(t, Options{}).Options()
-	want := Options{Params: Recommended(), SaltLen: 16, AtOnce: usual.AtOnce, Processors: usual.Processors, MostBytes: MostBytes,
-		MostWork: MostWork}
-	if usual != want || usual.AtOnce < 1 || usual.AtOnce > 2*usual.Processors || usual.Processors > runtime.NumCPU() {
+	want := Options{Params: Recommended(), SaltLen: 16, AtOnce: usual.AtOnce, Processors: usual.Processors,
+		MostBytes: MostBytes, MostWork: MostWork}
+	if usual != want || usual.AtOnce < 1 || usual.AtOnce > 2*usual.Processors ||
+		usual.Processors > runtime.NumCPU() {
 		t.Errorf("%+v", usual)
 	}
-	given := Options{Params: Params{5, 3, 2, 20}, MCF: true, SaltLen: 64, AtOnce: 3, Processors: 2, MostBytes: 1 << 20, MostWork: 1 << 16}
+	given := Options{Params: Params{5, 3, 2, 20}, MCF: true, SaltLen: 64, AtOnce: 3, Processors: 2,
+		MostBytes: 1 << 20, MostWork: 1 << 16}
 	if got := newHasher(t, given).Options(); got != given {
 		t.Errorf("%+v", got)
 	}
@@ -113,44 +118,63 @@ func TestOptions(t *testing.T) {
 	}
 }
 
-// The errors of a text alone come without waiting, which takes for ever here.
+// What a text needs is in its error.
 func TestRefusedTexts(t *testing.T) {
+	ctx, most := context.Background(), uint64(math.MaxUint64)
 	for _, it := range []struct {
-		why, text string
-		options   Options
-		want      error
-		words     string
+		text    string
+		options Options
+		want    error
+		words   string
 	}{
-		{"too costly", "$scrypt$ln=6,r=3,p=5" + shortKey + "AA", Options{MostWork: 5759}, ErrTooCostly,
-			"need 27264 bytes and a work of 5760, and a key of 16 bytes; MostBytes is " + strconv.FormatUint(MostBytes, 10) + ", MostWork is 5759"},
-		{"a key of 15 bytes", noHash[:len(noHash)-2], Options{}, ErrKeyTooShort, "a key of 15 bytes"},
-		{"as long as new keys", noHash[:len(noHash)-2], Options{Params: Params{KeyLen: 15}}, ErrMismatch, ""},
-		{"no text", "", Options{}, ErrEncodingInvalid, ""},
-		{"an empty key", "$7$26..../....salt$", Options{}, ErrOutputSize, ""},
-		{"a table of 2^63 bytes", "$scrypt$ln=56,r=1,p=1" + shortKey + "AA", Options{MostBytes: math.MaxUint64,
-			MostWork: math.MaxUint64}, ErrOutOfMemory, ""},
+		{"$scrypt$ln=6,r=3,p=5" + shortKey + "AA", Options{MostWork: 5759}, ErrTooCostly,
+			"need 27264 bytes and a work of 5760, and a key of 16 bytes; MostBytes is 269484032, MostWork is 5759"},
+		{noHash[:len(noHash)-2], Options{}, ErrKeyTooShort, "a key of 15 bytes"},
+		{noHash[:len(noHash)-2], Options{Params: Params{KeyLen: 15}}, ErrMismatch, ""},
+		{"$scrypt$ln=56,r=1,p=1" + shortKey + "AA", Options{MostBytes: most, MostWork: most}, ErrOutOfMemory, ""},
 	} {
 		it.options.LogN = 4
 		hasher := newHasher(t, it.options)
-		if it.want != ErrMismatch && it.want != ErrOutOfMemory {
-			hasher.of.inside = nil
-		}
-		err := hasher.Verify(context.Background(), it.text, []byte("pw"))
+		err := hasher.Verify(ctx, it.text, []byte("pw"))
 		if !errors.Is(err, it.want) || !strings.Contains(err.Error(), it.words) {
-			t.Errorf("%s: %v", it.why, err)
+			t.Errorf("%s: %v", it.text, err)
 		}
-		if _, unread := ParamsOf(it.text); errors.Is(err, ErrInvalidHash) && unread != err {
-			t.Errorf("%s: ParamsOf: %v", it.why, unread)
+		if refused := hasher.Stats().Refused; (refused == 1) != (it.want == ErrOutOfMemory) {
+			t.Errorf("%s: %d are counted", it.text, refused)
 		}
 	}
 	hasher := newHasher(t, Options{Params: small()})
 	for _, salt := range [][]byte{nil, make([]byte, 65)} {
-		if text, err := hasher.HashWithSalt(context.Background(), nil, salt); text != "" || err != ErrSaltInvalid {
+		if text, err := hasher.HashWithSalt(ctx, nil, salt); text != "" || err != ErrSaltInvalid {
 			t.Errorf("a salt of %d bytes: %s, %v", len(salt), text, err)
 		}
 	}
-	if key, err := hasher.Key(context.Background(), nil, nil, 0); key != nil || err != ErrInvalidOutputLen {
+	if key, err := hasher.Key(ctx, nil, nil, 0); key != nil || err != ErrInvalidOutputLen {
 		t.Errorf("no key: %x, %v", key, err)
+	}
+}
+
+// A name that doesn't exist takes the time of a wrong password, and has its error.
+func TestNoHash(t *testing.T) {
+	hasher := newHasher(t, Options{Params: Params{LogN: 16}})
+	stored, err := hasher.Hash(context.Background(), nil)
+	if err != nil {
+		t.Fatal(err)
+	}
+	fastest := map[string]time.Duration{stored: time.Hour, "": time.Hour}
+	for i := 0; i < 5; i++ {
+		for text := range fastest {
+			begun := time.Now()
+			if err := hasher.Verify(context.Background(), text, []byte("pw")); err != ErrMismatch {
+				t.Error(err)
+			}
+			if took := time.Since(begun); took < fastest[text] {
+				fastest[text] = took
+			}
+		}
+	}
+	if fastest[""] > 3*fastest[stored] || fastest[stored] > 3*fastest[""] {
+		t.Error(fastest)
 	}
 }
 

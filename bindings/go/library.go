@@ -16,7 +16,8 @@ func failed(status C.int) error {
 	return Error(status)
 }
 
-// number returns n, or the greatest number of 32 bits if n is not one of them. The library accepts that for no parameter.
+// number returns n, or the greatest number of 32 bits if n is not one of them. The library accepts
+// that for no parameter.
 func number(n int) C.uint32_t {
 	if n < 0 || n > math.MaxUint32 {
 		return math.MaxUint32

@@ -12,14 +12,15 @@ import (
 	"unicode/utf8"
 )
 
-// StoredText returns a text that Verify reads, of the salt and the key of another program: a PHC text if the lengths allow
-// it, otherwise a $7$ text. Of a PHC text's key only the first 64 bytes are kept, which are the key of that length. N is a
-// power of two, at least 64: a smaller one may be its logarithm, and then no password would match. To errors.Is the errors
-// are ErrInvalidParams, ErrInvalidOutputLen without a key, and ErrSaltInvalid if neither format can store the salt.
+// StoredText returns a text that Verify reads, of the salt and the key of another program: a PHC
+// text if the lengths allow it, otherwise a $7$ text. Of a PHC text's key only the first 64 bytes
+// are kept, which are the key of that length. N is a power of two, at least 64: a smaller one may
+// be its logarithm, and then no password would match. To errors.Is the errors are ErrInvalidParams,
+// ErrInvalidOutputLen without a key, and ErrSaltInvalid if neither format can store the salt.
 func StoredText(salt, key []byte, N, r, p int) (string, error) {
 	if N >= 1 && N < 64 {
-		return "", fmt.Errorf("%w: N is at least 64, and %d may be its logarithm, LogN: %d is N = 2^%d", ErrInvalidParams, N,
-			uint64(1)<<N, N)
+		const words = "%w: N is at least 64, and %d may be its logarithm, LogN: %d is N = 2^%d"
+		return "", fmt.Errorf(words, ErrInvalidParams, N, uint64(1)<<N, N)
 	}
 	return storedText(salt, key, N, r, p)
 }
@@ -41,10 +42,12 @@ func storedText(salt, key []byte, N, r, p int) (string, error) {
 			key = key[:64]
 		}
 		letters := base64.RawStdEncoding.EncodeToString
-		return fmt.Sprintf("$scrypt$ln=%d,r=%d,p=%d$%s$%s", params.LogN, r, p, letters(salt), letters(key)), nil
+		costs := fmt.Sprintf("ln=%d,r=%d,p=%d", params.LogN, r, p)
+		return strings.Join([]string{"$scrypt", costs, letters(salt), letters(key)}, "$"), nil
 	}
 	if !utf8.Valid(salt) || strings.Contains(string(salt), "$") {
-		return "", fmt.Errorf("%w: neither format can store this one of %d bytes", ErrSaltInvalid, len(salt))
+		const words = "%w: neither format can store this one of %d bytes"
+		return "", fmt.Errorf(words, ErrSaltInvalid, len(salt))
 	}
 	text := "$7$" + mcfDigits(params.LogN, 1) + mcfDigits(r, 5) + mcfDigits(p, 5) + string(salt) + "$"
 	for ; len(key) >= 3; key = key[3:] {
@@ -68,9 +71,9 @@ func mcfDigits(number, count int) string {
 	return string(text)
 }
 
-// FromSimpleScrypt converts a hash of github.com/elithrar/simple-scrypt, N$r$p$salt$key with the last two in hexadecimal,
-// to one that Verify reads, also if N is below 64. Its errors are those of StoredText, and ErrEncodingInvalid for another
-// text.
+// FromSimpleScrypt converts a hash of github.com/elithrar/simple-scrypt, N$r$p$salt$key with the
+// last two in hexadecimal, to one that Verify reads, also if N is below 64. Its errors are those of
+// StoredText, and ErrEncodingInvalid for another text.
 func FromSimpleScrypt(stored string) (string, error) {
 	fault := fmt.Errorf("%w: this is not a hash of simple-scrypt", ErrEncodingInvalid)
 	parts := strings.Split(stored, "$")

@@ -1,5 +1,6 @@
-// Package scrypt derives keys with scrypt (RFC 7914), and makes and verifies scrypt password hashes, on top of the library
-// libscrypt_c over proved code. The package calls it through cgo, and is tested, not proved.
+// Package scrypt derives keys with scrypt (RFC 7914), and makes and verifies scrypt password
+// hashes, on top of the library libscrypt_c over proved code. The package calls it through cgo, and
+// is tested, not proved.
 //
 //	hasher, err := scrypt.NewHasher(scrypt.Options{})
 //	..
@@ -9,8 +10,8 @@
 //
 // Key has the arguments of golang.org/x/crypto/scrypt.
 //
-// The static library and its header are in the folder of the package, where make lib puts them. With the build tag
-// scrypt_system, the installed library that pkg-config finds is linked instead.
+// The static library and its header are in the folder of the package, where make lib puts them.
+// With the build tag scrypt_system, the installed library that pkg-config finds is linked instead.
 package scrypt
 
 // #include "library.h"
@@ -23,17 +24,17 @@ import (
 	"time"
 )
 
-// The default bounds on a hash: on its memory, on its work, which is four times that of the recommended parameters, and on
-// the length of its key, or that of new keys if that is less.
+// The default bounds on a hash: on its memory, on its work, which is four times that of the
+// recommended parameters, and on the length of its key, or that of new keys if that is less.
 const (
 	MostBytes   uint64 = C.SCRYPT_MOST_BYTES
 	MostWork    uint64 = C.SCRYPT_MOST_WORK
 	LeastKeyLen        = C.SCRYPT_LEAST_KEY_LEN
 )
 
-// Params are the parameters of a hash: N = 2^LogN, the block size R, the parallelization P, and the length of the
-// hash's key, 10 to 64 bytes. They are of type int so that no conversion truncates a number from elsewhere: one that is
-// out of range gives ErrInvalidParams.
+// Params are the parameters of a hash: N = 2^LogN, the block size R, the parallelization P, and the
+// length of the hash's key, 10 to 64 bytes. They are of type int so that no conversion truncates a
+// number from elsewhere: one that is out of range gives ErrInvalidParams.
 type Params struct {
 	LogN, R, P, KeyLen int
 }
@@ -48,9 +49,10 @@ func Recommended() Params {
 	}
 }
 
-// Calibrate finds parameters by measuring this machine, now: the greatest LogN whose table has at most mostBytes bytes, and
-// then the greatest P, with which one derivation takes at most the target; R is 8, and KeyLen 32. It takes some four times
-// the target. ErrTooCostly if even a LogN of 10 takes longer, or needs more.
+// Calibrate finds parameters by measuring this machine, now: the greatest LogN whose table has at
+// most mostBytes bytes, and then the greatest P, with which one derivation takes at most the
+// target; R is 8, and KeyLen 32. It takes some four times the target. ErrTooCostly if even a LogN
+// of 10 takes longer, or needs more.
 func Calibrate(target time.Duration, mostBytes uint64) (Params, error) {
 	var logN, r, p C.uint32_t
 	err := failed(C.scrypt_calibrate(C.double(target.Seconds()), C.size_t(mostBytes), &logN, &r, &p))
@@ -60,8 +62,8 @@ func Calibrate(target time.Duration, mostBytes uint64) (Params, error) {
 	return Params{LogN: int(logN), R: int(r), P: int(p), KeyLen: C.SCRYPT_KEY_LEN}, nil
 }
 
-// ParamsOf returns the parameters of a hash, with a KeyLen of 0 if it has no key. Its errors match ErrInvalidHash
-// (errors.Is).
+// ParamsOf returns the parameters of a hash, with a KeyLen of 0 if it has no key. Its errors match
+// ErrInvalidHash (errors.Is).
 func ParamsOf(text string) (Params, error) {
 	raw := []byte(text)
 	var logN, r, p C.uint32_t
@@ -72,8 +74,8 @@ func ParamsOf(text string) (Params, error) {
 	return Params{LogN: int(logN), R: int(r), P: int(p), KeyLen: int(keyLen)}, nil
 }
 
-// Memory returns the number of bytes of a derivation's buffers, at most math.MaxUint64, or ErrInvalidParams if LogN, R
-// and P are not accepted.
+// Memory returns the number of bytes of a derivation's buffers, at most math.MaxUint64, or
+// ErrInvalidParams if LogN, R and P are not accepted.
 func (params Params) Memory() (uint64, error) {
 	needs, err := params.need()
 	return uint64(needs.bytes), err
@@ -81,15 +83,17 @@ func (params Params) Memory() (uint64, error) {
 
 // need returns what a derivation needs without bounds, or ErrInvalidParams.
 func (params Params) need() (needs C.scrypt_needs, err error) {
-	status := C.scrypt_params_need(number(params.LogN), number(params.R), number(params.P), math.MaxUint64, math.MaxUint64, &needs)
+	status := C.scrypt_params_need(number(params.LogN), number(params.R), number(params.P),
+		math.MaxUint64, math.MaxUint64, &needs)
 	if status == C.SCRYPT_INVALID_PARAMS {
 		err = ErrInvalidParams
 	}
 	return needs, err
 }
 
-// Work returns the work of a derivation, which Options.MostWork bounds: 4 * (N + 32) * R * P Salsa20/8 cores, where 32
-// stands for PBKDF2. It is math.MaxUint64 if it would be more, or if the parameters are not accepted.
+// Work returns the work of a derivation, which Options.MostWork bounds: 4 * (N + 32) * R * P
+// Salsa20/8 cores, where 32 stands for PBKDF2. It is math.MaxUint64 if it would be more, or if the
+// parameters are not accepted.
 func (params Params) Work() uint64 {
 	needs, err := params.need()
 	if err != nil {
@@ -98,8 +102,9 @@ func (params Params) Work() uint64 {
 	return uint64(needs.work)
 }
 
-// Key returns the key of keyLen bytes of a password and a salt. N is a power of two. If keyLen comes from a file, bound it. To errors.Is the errors are
-// ErrInvalidParams, ErrInvalidOutputLen, and ErrOutOfMemory if the memory for the table or for the key is not available.
+// Key returns the key of keyLen bytes of a password and a salt. N is a power of two. If keyLen
+// comes from a file, bound it. To errors.Is the errors are ErrInvalidParams, ErrInvalidOutputLen,
+// and ErrOutOfMemory if the memory for the table or for the key is not available.
 func Key(password, salt []byte, N, r, p, keyLen int) ([]byte, error) {
 	params := Params{LogN: bits.TrailingZeros(uint(N)), R: r, P: p}
 	memory, err := params.Memory()
@@ -111,16 +116,18 @@ func Key(password, salt []byte, N, r, p, keyLen int) ([]byte, error) {
 	}
 	key, err := newKey(keyLen)
 	if err == nil {
-		err = failed(C.scrypt_key(pointer(password), size(password), pointer(salt), size(salt), number(params.LogN), number(r),
-			number(p), bytes(key), size(key)))
+		err = failed(C.scrypt_key(pointer(password), size(password), pointer(salt), size(salt),
+			number(params.LogN), number(r), number(p), bytes(key), size(key)))
 	}
 	if err != nil {
-		return nil, fmt.Errorf("%w: N %d, r %d and p %d need %d bytes, and keyLen is %d", err, N, r, p, memory, keyLen)
+		const words = "%w: N %d, r %d and p %d need %d bytes, and keyLen is %d"
+		return nil, fmt.Errorf(words, err, N, r, p, memory, keyLen)
 	}
 	return key, nil
 }
 
-// newKey returns n bytes, or ErrInvalidOutputLen. As elsewhere in Go, the process ends if memory runs out.
+// newKey returns n bytes, or ErrInvalidOutputLen. As elsewhere in Go, the process ends if memory
+// runs out.
 func newKey(n int) ([]byte, error) {
 	if n < 1 || n > C.SCRYPT_MAX_OUTPUT_LEN {
 		return nil, ErrInvalidOutputLen

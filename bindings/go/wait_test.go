@@ -2,10 +2,13 @@ package scrypt
 
 import (
 	"context"
+	"fmt"
 	"io"
 	"math"
 	"math/rand"
+	"os"
 	"runtime"
+	"strings"
 	"sync"
 	"testing"
 	"time"
@@ -13,101 +16,107 @@ import (
 
 var _ io.Closer = (*Hasher)(nil)
 
-const onPurpose = "on purpose"
-
-// A context that panics when it is asked for the nth time.
-type panicking struct {
-	context.Context
-	left int
-}
-
-func (p *panicking) count() {
-	if p.left--; p.left == 0 {
-		panic(onPurpose)
-	}
-}
-
-func (p *panicking) Err() error {
-	p.count()
-	return p.Context.Err()
-}
-
-func (p *panicking) Done() <-chan struct{} {
-	p.count()
-	return p.Context.Done()
-}
-
-// outcome returns the error of a call, or with what it panics.
-func outcome(call func() error) (result any) {
-	defer func() {
-		if panicked := recover(); panicked != nil {
-			result = panicked
+// busy makes the hasher derive for some hundred milliseconds, on its only processor, and returns a
+// channel that is closed at the end.
+func busy(t *testing.T, hasher *Hasher) chan struct{} {
+	t.Helper()
+	ended := make(chan struct{})
+	go func() {
+		defer close(ended)
+		text := "$scrypt$ln=17,r=8,p=4" + shortKey + "AA"
+		if err := hasher.Verify(context.Background(), text, nil); err != ErrMismatch {
+			t.Error(err)
 		}
 	}()
-	return call()
+	for hasher.Stats().Deriving == 0 {
+		time.Sleep(time.Millisecond)
+	}
+	return ended
 }
 
-// What happens before a goroutine waits in C ends its wait, and takes nothing with it.
-func TestEndsOfWaits(t *testing.T) {
+// A call returns when its context ends: outside of C, waiting there, and deriving. Its password may be
+// overwritten then, and its own copy is wiped.
+func TestEndsOfContexts(t *testing.T) {
 	for _, it := range []struct {
-		isFull, isCancelled bool
-		panics, calls       int // when the context is asked for the nth time
-		want                any
+		why      string
+		isFull   bool          // no goroutine may be in C
+		isBusy   bool          // another call derives
+		after    time.Duration // when the context is cancelled
+		isWithin bool          // it ends by a deadline
+		want     error
 	}{
-		{false, false, 0, 1, nil},
-		{false, true, 0, 0, context.Canceled},
-		{true, true, 0, 0, context.Canceled},
-		{false, false, 1, 0, onPurpose}, // Err
-		{false, false, 2, 0, onPurpose}, // Done
-		{false, false, 3, 0, onPurpose}, // Err
-		{true, false, 2, 0, onPurpose},
+		{"not at all", false, false, 0, false, ErrMismatch},
+		{"before the call", false, false, -1, false, context.Canceled},
+		{"outside of C", true, false, 10 * time.Millisecond, false, context.Canceled},
+		{"waiting in C", false, true, 10 * time.Millisecond, false, context.Canceled},
+		{"waiting in C until a deadline", false, true, 10 * time.Millisecond, true, context.DeadlineExceeded},
+		{"deriving", false, false, 10 * time.Millisecond, false, context.Canceled},
+		{"deriving at a deadline", false, false, 10 * time.Millisecond, true, context.DeadlineExceeded},
 	} {
-		hasher, calls := newHasher(t, Options{Params: small()}), 0
+		hasher := newHasher(t, Options{Params: small(), AtOnce: 1, MostWork: 4 * MostWork})
 		if it.isFull {
 			hasher.of.inside = nil
 		}
-		parent, cancel := context.WithCancel(context.Background())
-		if it.isCancelled {
-			time.AfterFunc(map[bool]time.Duration{true: 10 * time.Millisecond, false: 0}[it.isFull], cancel)
-			for !it.isFull && parent.Err() == nil {
-				time.Sleep(time.Millisecond)
-			}
+		before := make(chan struct{})
+		close(before)
+		if it.isBusy {
+			before = busy(t, hasher)
 		}
-		got := outcome(func() error {
-			return hasher.run(&panicking{parent, it.panics}, func(ms milliseconds) Error {
-				calls++
-				if ms != -1 {
-					t.Errorf("a call may wait for %d ms", ms)
-				}
-				return 0
-			})
-		})
+		ctx, cancel := context.WithCancel(context.Background())
+		if it.isWithin {
+			ctx, cancel = context.WithTimeout(context.Background(), it.after)
+		} else if it.after < 0 {
+			cancel()
+		} else if it.after > 0 {
+			time.AfterFunc(it.after, cancel)
+		}
+		text, password, begun := noHash, []byte("pw"), time.Now()
+		if it.after > 0 && !it.isBusy {
+			text = "$scrypt$ln=17,r=8,p=4" + shortKey + "AA"
+		}
+		err := hasher.Verify(ctx, text, password)
+		took := time.Since(begun)
 		cancel()
-		if left := len(hasher.of.inside); got != it.want || calls != it.calls || left != 0 {
-			t.Errorf("%+v: %v after %d calls, and %d are inside", it, got, calls, left)
+		if err != it.want || it.after != 0 && took > it.after+100*time.Millisecond {
+			t.Errorf("%s: %v after %v", it.why, err, took)
 		}
+		<-before
+		for hasher.Stats().Waiting+hasher.Stats().Deriving+len(hasher.of.inside) > 0 {
+			time.Sleep(time.Millisecond)
+		}
+	}
+	hasher, password := newHasher(t, Options{Params: small()}), []byte("pw")
+	var own []byte
+	err := hasher.run(context.Background(), password, func(password []byte, ms milliseconds) status {
+		own = password
+		return 0
+	})
+	for hasher.of.calls.Load() > 0 {
+		time.Sleep(time.Millisecond)
+	}
+	if err != nil || string(password) != "pw" || string(own) != "\x00\x00" {
+		t.Errorf("%v, %q and %q", err, password, own)
 	}
 }
 
 // In C a call waits until the deadline of its context.
 func TestDeadlines(t *testing.T) {
-	hasher := newHasher(t, Options{Params: small()})
-	for within, most := range map[time.Duration]int{time.Hour: 3600001, 1500 * time.Microsecond: 2} {
+	for within, most := range map[time.Duration]milliseconds{
+		time.Hour: 3600001, 1500 * time.Microsecond: 2, -time.Second: 0,
+	} {
 		ctx, cancel := context.WithTimeout(context.Background(), within)
-		err := hasher.run(ctx, func(ms milliseconds) Error {
-			if int(ms) > most || int(ms) < most-1000 {
-				t.Errorf("%d ms within %v", ms, within)
-			}
-			return 18 // SCRYPT_TIMEOUT
-		})
-		cancel()
-		if err != context.DeadlineExceeded {
-			t.Error(err)
+		if ms := left(ctx); ms > most || ms < most-1000 {
+			t.Errorf("%d ms within %v", ms, within)
 		}
+		cancel()
+	}
+	if ms := left(context.Background()); ms != -1 {
+		t.Errorf("%d ms without a deadline", ms)
 	}
 }
 
-// Contexts end at any time, until the hasher is closed: each call has its verdict, or says why it has none.
+// Contexts end at any time, until the hasher is closed: each call has its verdict, or says why it
+// has none.
 func TestAtAnyTime(t *testing.T) {
 	hasher := newHasher(t, Options{Params: small(), AtOnce: 3, Processors: 2})
 	var all sync.WaitGroup
@@ -129,19 +138,18 @@ func TestAtAnyTime(t *testing.T) {
 	time.Sleep(300 * time.Millisecond)
 	_ = hasher.Close()
 	all.Wait()
-	if left, most := len(hasher.of.inside), cap(hasher.of.inside); left != 0 || most != 16 {
-		t.Errorf("%d are still inside, of at most %d", left, most)
+	for len(hasher.of.inside) > 0 { // those whose contexts ended
+		time.Sleep(time.Millisecond)
+	}
+	if most := cap(hasher.of.inside); most != 16 {
+		t.Errorf("at most %d may be inside", most)
 	}
 }
 
 // Calls that wait and derive, and contexts that end meanwhile.
 func TestStats(t *testing.T) {
 	hasher := newHasher(t, Options{Params: small(), AtOnce: 1, MostWork: 4 * MostWork})
-	ended := make(chan error)
-	go func() { ended <- hasher.Verify(context.Background(), "$scrypt$ln=17,r=8,p=4"+shortKey+"AA", nil) }()
-	for hasher.Stats() != (Stats{Deriving: 1}) {
-		time.Sleep(time.Millisecond)
-	}
+	before, ended := busy(t, hasher), make(chan error)
 	ctx, cancel := context.WithCancel(context.Background())
 	for i := 0; i < 20; i++ {
 		go func() { ended <- hasher.Verify(ctx, noHash, nil) }()
@@ -150,13 +158,13 @@ func TestStats(t *testing.T) {
 		time.Sleep(time.Millisecond)
 	}
 	cancel()
-	for i := 0; i < 21; i++ { // seven wait in C behind the one that derives, and go on
-		want := map[bool]error{true: context.Canceled, false: ErrMismatch}[i < 13]
-		if err := <-ended; err != want {
+	for i := 0; i < 20; i++ {
+		if err := <-ended; err != context.Canceled {
 			t.Error(i, err)
 		}
 	}
-	for now := (Stats{}); now != (Stats{Refused: 13}); now = hasher.Stats() {
+	<-before // seven waited in C behind it, and derive now
+	for now := (Stats{}); now != (Stats{Refused: 20}); now = hasher.Stats() {
 		time.Sleep(time.Millisecond)
 	}
 	if now := new(Hasher).Stats(); now != (Stats{}) {
@@ -164,7 +172,8 @@ func TestStats(t *testing.T) {
 	}
 }
 
-// Options that mean no bound: neither do they overflow, nor may a goroutine never wait in C, nor too many.
+// Options that mean no bound: neither do they overflow, nor may a goroutine never wait in C, nor
+// too many.
 func TestManyProcessors(t *testing.T) {
 	for _, n := range []int{511, 512, 513, 1 << 60, 1 << 61, math.MaxInt64} {
 		want := map[bool]int{true: 4088, false: 4096}[n == 511]
@@ -185,7 +194,8 @@ func TestClosedHashers(t *testing.T) {
 	}
 }
 
-// A finalizer of a value that holds a Hasher may use it, and keep it: it is freed only when nothing refers to it.
+// A finalizer of a value that holds a Hasher may use it, and keep it: it is freed only when nothing
+// refers to it.
 func TestFinalizers(t *testing.T) {
 	type login struct{ hasher *Hasher }
 	kept := make(chan *Hasher, 1)
@@ -207,20 +217,31 @@ func TestFinalizers(t *testing.T) {
 	runtime.GC()
 }
 
-// A Hasher has as many tables as AtOnce, whatever P and Processors are, and they are given back when nothing refers to it.
+// A Hasher has as many tables as AtOnce, whatever P and Processors are, and they are given back when
+// nothing refers to it.
 func TestMemory(t *testing.T) {
+	resident := func() (kib int) {
+		data, err := os.ReadFile("/proc/self/status")
+		if err != nil {
+			t.Skip(err) // Windows has none
+		}
+		_, after, _ := strings.Cut(string(data), "VmRSS:")
+		_, _ = fmt.Sscan(after, &kib)
+		return kib
+	}
 	hashers := make([]*Hasher, 4)
 	for i := range hashers {
 		hashers[i] = newHasher(t, Options{Params: Params{LogN: 16, P: 4}, AtOnce: 1, Processors: 4})
 		_, _ = hashers[i].Hash(context.Background(), nil)
 	}
-	held := statusKiB(t, "VmRSS")
+	held := resident()
 	runtime.KeepAlive(hashers)
 	hashers = nil
-	runtime.GC()
-	left := statusKiB(t, "VmRSS")
-	for until := time.Now().Add(time.Minute); left > held-192<<10 && time.Now().Before(until); left = statusKiB(t, "VmRSS") {
+	left, until := held, time.Now().Add(time.Minute)
+	for left > held-192<<10 && time.Now().Before(until) {
 		time.Sleep(10 * time.Millisecond) // finalizers have a goroutine of their own
+		runtime.GC()
+		left = resident()
 	}
 	if held > 640<<10 || left > held-192<<10 {
 		t.Errorf("4 Hashers with a table of 64 MiB: %d KiB, and %d KiB without them", held, left)
