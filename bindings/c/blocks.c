@@ -1,19 +1,22 @@
-/* The memory that proved calls ask for, by kit_heap.c: not proved. It is overwritten before it is freed, or given back to the system,
- * which wipes it. Compiled with -fno-plt: otherwise malloc may be bound at its first call, and the dynamic linker then saves registers
- * to the stack, deeper than the proved calls use it. */
+/* The memory that proved calls ask for, by kit_heap.c: not proved. It is overwritten before it is
+ * freed, or given back to the system, which wipes it (SECURITY.md, row "freed memory"). Compiled
+ * with -fno-plt: a linker that binds malloc at its first call saves registers in the stack. */
 #define _GNU_SOURCE
-#include "clearing.h"
 #include "system.h"
 
 #include <stdint.h>
 #include <stdlib.h>
 #include <string.h>
 
-#define MOST_POPULATED ((size_t)129 << 20) /* the tables of scrypt_key, if there are several */
+#define MAX_PREFAULTED ((size_t)129 << 20) /* the tables of scrypt_key, if there are several */
 #define CACHE_LINE ((size_t)64)
 
-/* Before a block, in malloc's or in the mapping: where that begins, and how long the block is. malloc_usable_size isn't asked:
- * a program may have a malloc of its own, of whose blocks it knows nothing. */
+/* From this size on a block is a mapping of its own, as the usual malloc makes one too: to give it
+ * back is faster than to overwrite it. */
+#define LARGE ((size_t)32 << 20)
+
+/* Before a block, in malloc's or in the mapping: where that begins, and how long the block is.
+ * malloc_usable_size isn't asked: it knows nothing of the blocks of a program's own malloc. */
 struct head {
   void *start;
   size_t len;
@@ -23,8 +26,9 @@ static struct head *head_of(void *block) { return (struct head *)block - 1; }
 /* What is mapped beside the block: the head, and what is left out before a huge page. */
 #define BESIDE (LARGEST_PAGE + HUGE_PAGE)
 
-/* Writes zeros, in a way that the compiler may not optimize away. Whole cache lines are written through the cache, where the
- * next call finds them: memset takes a third longer for the table of (14, 8, 1). */
+/* Writes zeros, in a way that the compiler may not optimize away. Whole cache lines are written
+ * through the cache, where the next call finds them: memset takes a third longer for the table of
+ * (14, 8, 1). */
 static void overwrite(uint8_t *block, size_t len) {
   typedef uint64_t vector __attribute__((vector_size(16), may_alias));
   const vector zeros = {0, 0};
@@ -49,13 +53,11 @@ void clearing_free(void *block) {
   struct head is;
   if (block == NULL) return;
   is = *head_of(block);
-  clear_registers(); /* those that the dynamic linker would save, if it binds what is called here */
   if (is.len >= LARGE) {
     if (!unmap(is.start, is.len + BESIDE)) overwrite((uint8_t *)block, is.len);
     return;
   }
   overwrite((uint8_t *)block, is.len);
-  clear_registers();
   free(is.start);
 }
 
@@ -80,17 +82,18 @@ static void *map_block(size_t len) {
   block = start + LARGEST_PAGE;
   block += (HUGE_PAGE - (uintptr_t)block % HUGE_PAGE) % HUGE_PAGE;
   with_head(block, start, len);
-  if (len <= MOST_POPULATED && !is_huge(block)) prefault(block, len); /* which takes longer if they are huge */
+  /* Huge pages take longer at once. */
+  if (len <= MAX_PREFAULTED && !is_huge(block)) prefault(block, len);
   return block;
 }
 
-/* A block begins at a cache line, and a large one at a huge page, for which it asks: rows are read in random order. The
- * memory of one below 32 MiB is malloc's, which reuses it; to map it for each call takes longer if the system has no huge
- * pages. Nothing of a block above 129 MiB is touched before it is used: the next one may be refused. */
+/* A block begins at a cache line, and a large one at a huge page, for which it asks: rows are read
+ * in random order. The memory of one below 32 MiB is malloc's, which reuses it; to map it for each
+ * call takes longer if the system has no huge pages. Nothing of a block above 129 MiB is touched
+ * before it is used: the next one may be refused. */
 void *clearing_malloc(size_t len) {
   size_t unit = len < 2 * HUGE_PAGE ? CACHE_LINE : HUGE_PAGE, more = sizeof(struct head) + unit - 1;
   uint8_t *start;
-  clear_registers();
   if (len >= LARGE) return map_block(len);
   start = (uint8_t *)malloc(len + more);
   if (start == NULL) return NULL;

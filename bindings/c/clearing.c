@@ -1,6 +1,6 @@
-/* Which proved code is called, and what calls leave in the stack, overwritten: not proved. The objects of what the kit built have
- * each proved call as base_.., and where there is one for a newer processor as newer_... */
-#include "clearing.h"
+/* Which proved code is called, and the stack that it used, which is overwritten (SECURITY.md, row
+ * "freed memory"): not proved. The objects of what the kit built have each proved call as base_..,
+ * and where there is one for a newer processor as newer_... */
 #include "scrypt_c.h"
 
 #include <string.h>
@@ -15,11 +15,14 @@ __attribute__((constructor)) static void choose(void) {
   is_newer = __builtin_cpu_supports(NEWER) != 0;
 #endif
   if (__builtin_cpu_supports(BASE)) return;
-  fputs("libscrypt_c: this processor lacks a feature of " BASE ", which the library was built for\n", stderr);
+  fputs("libscrypt_c: this processor lacks a feature of " BASE
+        ", which the library was built for\n", stderr);
   abort();
 }
 #define CHOSEN(name) (is_newer ? newer_##name : base_##name)
-const char *scrypt_version(void) { return is_newer ? LIBRARY_VERSION " " NEWER : LIBRARY_VERSION " " BASE; }
+const char *scrypt_version(void) {
+  return is_newer ? LIBRARY_VERSION " " NEWER : LIBRARY_VERSION " " BASE;
+}
 size_t tables_that_pay(void) { return is_newer ? NEWER_PAYS : BASE_PAYS; }
 #else
 #define CHOSEN(name) base_##name
@@ -27,9 +30,9 @@ const char *scrypt_version(void) { return LIBRARY_VERSION " " BASE; }
 size_t tables_that_pay(void) { return BASE_PAYS; }
 #endif
 
-/* BELOW is more than any proved call uses of the stack (test_stack.c). Its frames begin APART below those of clear_stack, so that
- * they are overwritten whatever the compiler puts into the frames here. Registers are cleared too, by a compiler that can (gcc 11,
- * clang 15): nothing is promised of them. */
+/* BELOW is more than any proved call uses of the stack (tests/test_clearing.c). Its frames begin
+ * APART below those of clear_stack, so that they are overwritten whatever the compiler puts into
+ * the frames here. */
 enum { BELOW = 12800, APART = 256 };
 #define KEEP(array) __asm__ volatile("" ::"r"(array) : "memory")
 #if __has_attribute(zero_call_used_regs)
@@ -38,20 +41,25 @@ enum { BELOW = 12800, APART = 256 };
 #define CLEARS __attribute__((noinline, no_stack_protector))
 #endif
 
-/* Those that it leaves out: the halves that a call has to keep are in one register with halves that it may change. */
+/* Nothing is promised of registers, but a dynamic linker that binds the next call of a program
+ * saves them in the stack. The attribute leaves out those of which a call has to keep a part. */
 #ifdef __x86_64__
 CLEARS __attribute__((target("avx"))) static void clear_ymm(void) { __asm__ volatile(""); }
-CLEARS void clear_registers(void) {
+CLEARS static void clear_registers(void) {
   if (__builtin_cpu_supports("avx512vl"))
-    __asm__ volatile(".irp n, 16,17,18,19,20,21,22,23,24,25,26,27,28,29,30,31\n vpxord %xmm\\n, %xmm\\n, %xmm\\n\n .endr");
+    __asm__ volatile(".irp n, 16,17,18,19,20,21,22,23,24,25,26,27,28,29,30,31\n"
+                     "vpxord %xmm\\n, %xmm\\n, %xmm\\n\n .endr");
   if (__builtin_cpu_supports("avx")) clear_ymm();
 }
 #else
-CLEARS void clear_registers(void) { __asm__ volatile(".irp n, 8,9,10,11,12,13,14,15\n mov v\\n\\().d[1], xzr\n .endr"); }
+CLEARS static void clear_registers(void) {
+  __asm__ volatile(".irp n, 8,9,10,11,12,13,14,15\n mov v\\n\\().d[1], xzr\n .endr");
+}
 #endif
 
+/* Not by memset, whose return address would be below. */
 CLEARS static void clear_stack(void) {
-  volatile uint64_t below[(BELOW + APART) / sizeof(uint64_t)]; /* no memset, whose return address would be below it */
+  volatile uint64_t below[(BELOW + APART) / sizeof(uint64_t)];
   size_t i;
   for (i = sizeof below / sizeof *below; i-- > 0;) below[i] = 0;
 }
@@ -91,7 +99,9 @@ CLEARS static void clear_stack(void) {
   }
 #include "proved_calls.h"
 
-void base_scrypt_wipe(uint8_t *, size_t, uint32_t *, size_t, uint32_t *, size_t); /* which sees no password or key */
-void scrypt_wipe(uint8_t *chunks, size_t chunks_len, uint32_t *table, size_t table_len, uint32_t *scratch, size_t scratch_len) {
+/* Which sees no password or key. */
+void base_scrypt_wipe(uint8_t *, size_t, uint32_t *, size_t, uint32_t *, size_t);
+void scrypt_wipe(uint8_t *chunks, size_t chunks_len, uint32_t *table, size_t table_len,
+                 uint32_t *scratch, size_t scratch_len) {
   base_scrypt_wipe(chunks, chunks_len, table, table_len, scratch, scratch_len);
 }
