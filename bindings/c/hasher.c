@@ -47,7 +47,7 @@ struct slot {
   struct arena arena;
 };
 
-/* In the stack of its thread. The part from `kind` on says what is derived. */
+/* In the stack of its thread, at first zeros but for what is derived: from `kind` on. */
 struct call {
   enum { WAITING, FOLLOWING, LEADING, DONE } state;
   int status;
@@ -120,7 +120,6 @@ static void assign_slot(struct queue *queue, struct slot *slot, struct call *cal
 
 static void enter(scrypt_hasher *hasher, struct call *call) {
   struct slot *slot = find_free_slot(hasher);
-  call->state = WAITING;
   call->status = SCRYPT_OUT_OF_MEMORY;
   if (hasher->is_closed) end_call(call, SCRYPT_CLOSED);
   else if (slot != NULL) assign_slot(hasher->queue, slot, call);
@@ -299,8 +298,8 @@ int scrypt_hasher_verify(scrypt_hasher *hasher, const void *password, size_t pas
 int scrypt_hasher_hash(scrypt_hasher *hasher, const void *password, size_t password_len,
                        const void *salt, size_t salt_len, char *text, size_t capacity,
                        int64_t timeout_ms) {
-  struct call call = {.kind = HASH, .login = {password, password_len, NULL, 0}, .salt = salt,
-                      .salt_len = salt_len, .output = text, .output_len = capacity};
+  struct call call = {.kind = HASH, .login = {.password = password, .password_len = password_len},
+                      .salt = salt, .salt_len = salt_len, .output = text, .output_len = capacity};
   const scrypt_options *with = scrypt_hasher_options(hasher);
   uint8_t random_salt[MAX_SALT_LEN];
   if (hasher == NULL || is_null(password, password_len) || is_null(salt, salt_len) ||
@@ -324,8 +323,8 @@ int scrypt_hasher_hash(scrypt_hasher *hasher, const void *password, size_t passw
 int scrypt_hasher_key(scrypt_hasher *hasher, const void *password, size_t password_len,
                       const void *salt, size_t salt_len, uint8_t *key, size_t key_len,
                       int64_t timeout_ms) {
-  struct call call = {.kind = KEY, .login = {password, password_len, NULL, 0}, .salt = salt,
-                      .salt_len = salt_len, .output = key, .output_len = key_len};
+  struct call call = {.kind = KEY, .login = {.password = password, .password_len = password_len},
+                      .salt = salt, .salt_len = salt_len, .output = key, .output_len = key_len};
   if (hasher == NULL || is_null(password, password_len) || is_null(salt, salt_len) ||
       is_null(key, key_len))
     return SCRYPT_NULL_POINTER;

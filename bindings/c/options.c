@@ -16,7 +16,7 @@
 static size_t default_at_once(const scrypt_options *with, const scrypt_needs *new) {
   size_t memory = memory_of_process(), usable = memory - memory / 8;
   size_t fit = usable / with->most_bytes;
-  size_t two = with->processors > SIZE_MAX / 2 ? SIZE_MAX : 2 * with->processors;
+  size_t two = 2 * (with->processors < MAX_SLOTS ? with->processors : MAX_SLOTS);
   if (fit == 0) fit = usable / new->bytes;
   return fit == 0 ? 1 : fit < two ? fit : two;
 }
@@ -62,11 +62,10 @@ size_t width_of_slot(const scrypt_options *with, size_t slots, size_t place) {
   return width < tables_that_pay() ? width : tables_that_pay();
 }
 
-/* A $7$ hash, whose salt is dots and whose key is zeros. */
+/* A $7$ hash, whose salt is dots and whose key is zeros, written into zeros. */
 void write_decoy(char text[SCRYPT_PHC_CAPACITY], const scrypt_options *with) {
   static const char LETTERS[] = "./0123456789ABCDEFGHIJKLMNOPQRSTUVWXYZabcdefghijklmnopqrstuvwxyz";
   size_t key_letters = (8 * with->key_len + 5) / 6, i;
-  memset(text, 0, SCRYPT_PHC_CAPACITY);
   memcpy(text, "$7$", 3);
   text[3] = LETTERS[with->log_n];
   for (i = 0; i < 5; i++) {

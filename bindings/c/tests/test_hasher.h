@@ -41,10 +41,12 @@ static int failed;
 /* ---- Memory ---- */
 
 static size_t max_mapped = SIZE_MAX, mapped; /* by one mapping, and by all that are there */
+static int maps;                             /* how often */
 static void *test_map(size_t size) {
-  if (size > READ(max_mapped)) return NULL;
-  (void)ADD(mapped, size);
-  return map_zeros(size);
+  void *at = size <= READ(max_mapped) ? map_zeros(size) : NULL;
+  (void)ADD(maps, at != NULL);
+  (void)ADD(mapped, at != NULL ? size : 0);
+  return at;
 }
 
 /* What is given back is zeros, except for a queue, which is smaller than a huge page. */
@@ -58,18 +60,31 @@ static int test_unmap(void *at, size_t size) {
 
 static size_t memory_there = SIZE_MAX; /* of this process */
 
-static int is_malloc_refused;
-static void *test_malloc(size_t size) { return is_malloc_refused ? NULL : malloc(size); }
+static int is_malloc_refused, is_random_refused, allocated;
+static void *test_malloc(size_t size) {
+  if (is_malloc_refused) return NULL;
+  (void)ADD(allocated, 1);
+  return malloc(size);
+}
+static void test_free(void *block) {
+  (void)ADD(allocated, -(block != NULL));
+  free(block);
+}
+static int test_random(uint8_t *bytes, size_t len) {
+  return !is_random_refused && random_bytes(bytes, len);
+}
 
 /* ---- Sleeps ---- */
 
-static int windows_last, in_windows; /* whether batching windows last, and how many leaders wait */
+/* Whether batching windows last, how many leaders are in one, and how many ended in the future. */
+static int windows_last, in_windows, windows_ahead;
 static __thread int had_window, late_waits;
 static void test_wait(condition *it, mutex *with, int64_t deadline_ns) {
   late_waits += deadline_ns <= now_ns();
   expect(late_waits < 100, "a thread spins in place of sleeping");
   if (deadline_ns - now_ns() <= 1000000) {
     had_window = 1;
+    (void)ADD(windows_ahead, deadline_ns > now_ns());
     (void)ADD(in_windows, 1);
     mutex_unlock(with);
     while (READ(windows_last)) usleep(100);
@@ -140,6 +155,8 @@ static int watched_key(const void *password, size_t password_len, const void *sa
 }
 
 #define malloc test_malloc
+#define free test_free
+#define random_bytes test_random
 #define map_zeros test_map
 #define unmap test_unmap
 #define condition_wait test_wait
@@ -157,6 +174,8 @@ static int watched_key(const void *password, size_t password_len, const void *sa
 #include "calibrate.c"
 #undef now
 #undef malloc
+#undef free
+#undef random_bytes
 #undef map_zeros
 #undef unmap
 #undef condition_wait
@@ -248,6 +267,7 @@ static void fork_here(scrypt_hasher *hasher, const char *what) {
 static void run_test(void (*test)(void), const char *name) {
   int64_t begun_at = now_ns();
   test();
+  expect(READ(mapped) == 0 && READ(allocated) == 0, "memory is left");
   printf("%s: %s, %d ms\n", name, failed ? "FAILED" : "ok",
          (int)((now_ns() - begun_at) / NS_OF_MS));
 }

@@ -35,6 +35,7 @@ static void *verify_until_closed(void *hasher) {
 static void at_any_time(void) {
   static const size_t PROCESSORS[] = {1, 2, 64};
   pthread_t all[16];
+  scrypt_stats stats;
   for (size_t round = 0; round < 24; round++) {
     size_t processors = PROCESSORS[round % 3];
     scrypt_hasher *hasher = new_hasher(processors, round % 4 * processors + 1, 4);
@@ -42,6 +43,7 @@ static void at_any_time(void) {
     until(READ(running) == 16);
     expect(READ(running) == 16, "cancelled in a call, or not begun");
     if (READ(running) != 16) _exit(1); /* its threads would go on in the next test */
+    for (int i = 0; i < 1000; i++) IS(scrypt_hasher_stats(hasher, &stats), SCRYPT_OK);
     for (int i = 0; i < FORKS; i++) {
       usleep((useconds_t)(rand() % 500));
       fork_here(hasher, "forked at any time");

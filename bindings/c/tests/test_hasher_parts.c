@@ -8,7 +8,7 @@ static const struct {
   int status;
 } OPTIONS[] = {
     {"N = 1", OF(0, 1, 1, 0, 0, 0, 0, 0, 0), SCRYPT_OK},
-    {"log_n alone", OF(4, 0, 0, 0, 0, 0, 0, 0, 0), SCRYPT_INVALID_PARAMS},
+    {"log_n alone, before the salt", OF(4, 0, 0, 0, 0, 65, 0, 0, 0), SCRYPT_INVALID_PARAMS},
     {"N in place of log_n", OF(16384, 8, 1, 0, 0, 0, 0, 0, 0), SCRYPT_INVALID_PARAMS},
     {"a key of 9 bytes", OF(4, 8, 1, 0, 9, 65, 0, 0, 0), SCRYPT_INVALID_PARAMS},
     {"a key of 65", OF(4, 8, 1, 0, 65, 0, 0, 0, 0), SCRYPT_INVALID_PARAMS},
@@ -60,11 +60,14 @@ static void defaults(void) {
 
 #define TEXT_OF(params, more) "$scrypt$ln=" params "$c2FsdHNhbHQ$AAAAAAAAAAAAAAAAAAAA" more
 static void refused(void) {
+  static const size_t LONGEST = SCRYPT_MAX_OUTPUT_LEN;
   char text[SCRYPT_PHC_CAPACITY], mcf[SCRYPT_MCF_CAPACITY(3)], good[SCRYPT_PHC_CAPACITY];
   scrypt_options with = {sizeof with, 4, 8, 2, 1, 0, 0, 0, 0, 0, 1, 1};
   scrypt_hasher *phc = new_hasher(1, 1, 4), *of_mcf = scrypt_hasher_new(&with, NULL);
+  scrypt_stats stats;
   uint8_t key[32];
   make_text(good, "right", 4, 8, 1);
+  phc->queue->slots[0].is_taken = of_mcf->queue->slots[0].is_taken = 1; /* nothing waits */
   IS(verify(phc, "", "", -1), SCRYPT_ENCODING_INVALID);
   IS(verify(phc, TEXT_OF("19,r=8,p=1", "AA"), "", -1), SCRYPT_TOO_COSTLY);
   IS(verify(phc, TEXT_OF("4,r=8,p=32768", "AA"), "", -1), SCRYPT_TOO_COSTLY);
@@ -80,12 +83,26 @@ static void refused(void) {
   IS(scrypt_hasher_hash(phc, "a", 1, NULL, 0, NULL, 1, -1), SCRYPT_NULL_POINTER);
   IS(scrypt_hasher_hash(of_mcf, "a", 1, "abc", 3, mcf, sizeof mcf - 1, -1), SCRYPT_BUFFER_SIZE);
   IS(scrypt_hasher_hash(of_mcf, "a", 1, "a", SIZE_MAX, mcf, sizeof mcf, -1), SCRYPT_BUFFER_SIZE);
+  IS(scrypt_hasher_hash(NULL, "a", 1, NULL, 0, text, sizeof text, -1), SCRYPT_NULL_POINTER);
+  IS(scrypt_hasher_hash(phc, NULL, 1, NULL, 0, text, sizeof text, -1), SCRYPT_NULL_POINTER);
+  is_random_refused = 1;
+  IS(scrypt_hasher_hash(phc, "a", 1, NULL, 0, text, sizeof text, -1), SCRYPT_NO_RANDOM_BYTES);
+  is_random_refused = 0;
+  IS(scrypt_hasher_key(NULL, "pw", 2, "salt", 4, key, 32, -1), SCRYPT_NULL_POINTER);
+  IS(scrypt_hasher_key(phc, NULL, 2, "salt", 4, key, 32, -1), SCRYPT_NULL_POINTER);
+  IS(scrypt_hasher_key(phc, "pw", 2, NULL, 4, key, 32, -1), SCRYPT_NULL_POINTER);
+  IS(scrypt_hasher_key(phc, "pw", 2, "salt", 4, NULL, 32, -1), SCRYPT_NULL_POINTER);
   IS(scrypt_hasher_key(phc, "pw", 2, "salt", 4, key, 0, -1), SCRYPT_INVALID_OUTPUT_LEN);
+  IS(scrypt_hasher_key(phc, "pw", 2, "", 0, key, LONGEST + 1, -1), SCRYPT_INVALID_OUTPUT_LEN);
   IS(scrypt_hasher_needs_rehash(NULL, good, 1), SCRYPT_NULL_POINTER);
-  phc->queue->slots[0].is_taken = 1;
+  IS(scrypt_hasher_stats(NULL, &stats), SCRYPT_NULL_POINTER);
+  IS(scrypt_hasher_stats(phc, NULL), SCRYPT_NULL_POINTER);
+  scrypt_hasher_close(NULL);
+  scrypt_hasher_free(NULL);
+  IS(scrypt_hasher_key(phc, "pw", 2, "", 0, key, LONGEST, 0), SCRYPT_TIMEOUT);
   IS(verify(phc, good, "right", 0), SCRYPT_TIMEOUT);
   IS(verify(phc, good, "right", 2), SCRYPT_TIMEOUT);
-  phc->queue->slots[0].is_taken = 0;
+  phc->queue->slots[0].is_taken = of_mcf->queue->slots[0].is_taken = 0;
   scrypt_hasher_close(phc);
   expect(look_at(phc).is_idle, "closed");
   IS(verify(phc, "", "", -1), SCRYPT_ENCODING_INVALID); /* the errors of the text come first */
@@ -103,6 +120,8 @@ static void calls(void) {
   uint8_t key[32];
   make_text(good, "right", 4, 8, 1);
   IS(scrypt_hasher_hash(phc, "right", 5, NULL, 0, text, sizeof text, -1), SCRYPT_OK);
+  IS(scrypt_hasher_hash(phc, "right", 5, good, 64, text, sizeof text, -1), SCRYPT_OK);
+  IS(scrypt_hasher_hash(phc, "right", 5, good, 1, text, sizeof text, -1), SCRYPT_OK);
   IS(scrypt_hasher_hash(of_mcf, NULL, 0, "abc", 3, mcf, sizeof mcf, 0), SCRYPT_OK);
   IS(strncmp(text, "$scrypt$ln=4,r=8,p=1$", 21), 0);
   IS(strncmp(mcf, "$7$2", 4), 0);
@@ -112,6 +131,7 @@ static void calls(void) {
   IS(scrypt_hasher_needs_rehash(phc, text, strlen(text)), SCRYPT_OK);
   IS(scrypt_hasher_needs_rehash(of_mcf, text, strlen(text)), SCRYPT_NEEDS_REHASH);
   IS(scrypt_hasher_key(of_mcf, "pw", 2, NULL, 0, key, 32, -1), SCRYPT_OK);
+  IS(scrypt_hasher_key(of_mcf, "pw", 2, NULL, 0, key, 1, -1), SCRYPT_OK);
   for (size_t i = 4 * of_mcf->needs.table_len; i < kept->room; i++) IS(front_of(kept)[i], 0);
   IS(verify(phc, good, "right", -1), SCRYPT_OK);
   scrypt_hasher_free(phc);
@@ -121,8 +141,9 @@ static void calls(void) {
 /* A login without a hash costs what a new hash costs, and is never accepted. */
 static void decoy(void) {
   static const scrypt_options PARAMS[] = {
-      OF(4, 8, 1, 0, 0, 0, 0, 0, 0), OF(0, 1, 1, 0, 10, 1, 0, 0, 0),
-      OF(1, 2, 3, 0, 64, 64, 0, 0, 0), OF(5, 1, 1 << 12, 1, 11, 2, 0, 0, 0)};
+      OF(4, 8, 1, 0, 0, 0, 0, 0, 0),   OF(0, 1, 1, 0, 10, 1, 0, 0, 0),
+      OF(1, 2, 3, 0, 64, 64, 0, 0, 0), OF(5, 1, 1 << 12, 1, 11, 2, 0, 0, 0),
+      OF(1, 100, 1, 0, 12, 3, 0, 0, 0)};
   for (size_t i = 0; i < sizeof PARAMS / sizeof PARAMS[0]; i++) {
     scrypt_hasher *hasher = scrypt_hasher_new(&PARAMS[i], NULL);
     const char *text = hasher->decoy;
@@ -144,14 +165,22 @@ static void decoy(void) {
   }
 }
 
-/* Who derives alone takes no room for others. */
+/* Who derives alone takes no room for others, which is kept. */
 static void room_for_one(void) {
-  size_t before = READ(mapped);
   scrypt_hasher *hasher = new_hasher(1, 4, 4);
+  struct arena *arena = &hasher->queue->slots[0].arena;
+  scrypt_needs needs = hasher->needs;
   char text[SCRYPT_PHC_CAPACITY];
+  int before;
   make_text(text, "right", 4, 8, 1);
   IS(verify(hasher, text, "right", -1), SCRYPT_OK);
-  IS(READ(mapped) - before, size_of_queue(hasher) + hasher->needs.bytes + HUGE_PAGE);
+  IS(READ(mapped), size_of_queue(hasher) + needs.bytes + HUGE_PAGE);
+  expect((uintptr_t)front_of(arena) % HUGE_PAGE == 0, "not at a huge page");
+  before = READ(maps);
+  IS(verify(hasher, text, "right", -1), SCRYPT_OK);
+  IS(READ(maps), before);
+  needs.bytes = SIZE_MAX / 2 + 1; /* twice that is 0 */
+  IS(arena_reserve(arena, &needs, 4), 0);
   scrypt_hasher_free(hasher);
 }
 
@@ -221,8 +250,10 @@ static void many_waits(void) {
   it = queue->first;
   for (int i = 0; i < MAX_SCANNED; i++, it = it->next) it->needs.r = 1;
   IS(extend_batch(hasher, batch, 1, 4), 1); /* it looks no further */
+  it->previous->needs.r = 0;
+  IS(extend_batch(hasher, batch, 1, 2), 2);
   all[0].needs.r = 1;
-  IS(extend_batch(hasher, batch, 1, 4), 4);
+  IS(extend_batch(hasher, batch, 2, 4), 4);
   IS(queue->stats.waiting, N / 2 - 3);
   mutex_unlock(&queue->lock);
   scrypt_hasher_close(hasher);
@@ -236,20 +267,21 @@ static void many_waits(void) {
   free(all);
 }
 
-/* How many tables a hasher with 64 processors may have, which its options show. */
+/* How many tables a hasher may have, which its options show. */
 static void memory(void) {
   static const size_t GIB = (size_t)1 << 30;
   const struct {
     const char *why;
-    size_t memory, most_bytes, at_once;
-  } MEMORY[] = {{"two for each processor", SIZE_MAX, 1 << 14, 128},
-                {"three of the default, and the rest of the process", GIB, 0, 3},
-                {"or six", GIB, 129 << 20, 6},
-                {"not one of the default, but one of a new hash", GIB / 4, 0, 1},
-                {"six of new hashes, as nobody has room for the largest", GIB, SIZE_MAX, 6},
-                {"one at least", 1000, 0, 1}};
+    size_t memory, most_bytes, processors, at_once;
+  } MEMORY[] = {{"two for each processor", SIZE_MAX, 1 << 14, 64, 128},
+                {"or for each of 8192", SIZE_MAX, 1 << 14, SIZE_MAX / 2 + 1, 1 << 14},
+                {"three of the default, and the rest of the process", GIB, 0, 64, 3},
+                {"or six", GIB, 129 << 20, 64, 6},
+                {"not one of the default, but one of a new hash", GIB / 4, 0, 64, 1},
+                {"six of new hashes, as nobody has room for the largest", GIB, SIZE_MAX, 64, 6},
+                {"one at least", 1000, 0, 64, 1}};
   for (size_t i = 0; i < sizeof MEMORY / sizeof MEMORY[0]; i++) {
-    scrypt_options with = {.size = sizeof with, .processors = 64};
+    scrypt_options with = {.size = sizeof with, .processors = MEMORY[i].processors};
     scrypt_hasher *hasher;
     with.most_bytes = MEMORY[i].most_bytes;
     if (with.most_bytes == 1 << 14) with.log_n = 4, with.r = 1, with.p = 1;
