@@ -54,7 +54,8 @@ class InvalidOutputLenError(ScryptError, ValueError):
 # Where C has one text for two statuses.
 WORDS = {declared.MISMATCH: "the password does not match the hash"}
 
-# The exceptions of the statuses that a call of this package can return, but for those by which a text is no hash.
+# The exceptions of the statuses that a call of this package can return, but for those by which a
+# text is no hash.
 KINDS: dict[int, type[Exception]] = {
     declared.MISMATCH: VerifyMismatchError,
     declared.INVALID_PARAMS: InvalidParamsError,

@@ -3,13 +3,20 @@
 from __future__ import annotations
 
 import ctypes
-from typing import Optional
+from typing import Callable, Optional
 
 from . import library
 from .arguments import Bytes, in_64_bits, number, raw_bytes
 from .declared import INVALID_OUTPUT_LEN, MAX_OUTPUT_LEN, TOO_COSTLY
 from .errors import InvalidParamsError, TooCostlyError, check
 from .params import MOST, Params, accepted, check_costs, needs_of
+from .steps import derived
+
+# The Salsa20/8 cores from which on a key is made in steps: some 10 ms.
+LONG = 1 << 17
+
+# How many bytes several tables may have without a bound, as in the library's own call.
+SEVERAL = 129 << 20
 
 
 def scrypt(
@@ -22,6 +29,7 @@ def scrypt(
     maxmem: int = 0,
     dklen: int = 64,
     max_work: Optional[int] = None,
+    progress: Optional[Callable[[float], object]] = None,
 ) -> bytes:
     """The key of `dklen` bytes, like hashlib.scrypt; `n` is a power of two.
 
@@ -30,6 +38,10 @@ def scrypt(
     `maxmem` of 0 there is no bound on memory, where hashlib has one of 32 MiB. If p is 2 or more,
     several tables make a derivation faster, as long as there is room for them in `maxmem`, or in
     129 MiB without a bound.
+
+    With `progress` or a p of 1 a long derivation is made in steps of about 10 ms. Between two of
+    them Python runs handlers of signals, so that Ctrl-C ends it, and calls `progress` with the part
+    that is done, from 0 to 1. What these raise leaves the derivation.
     """
     password, salt = raw_bytes(password, "a password"), raw_bytes(salt, "a salt")
     n, maxmem, dklen = number(n, "n"), number(maxmem, "maxmem"), number(dklen, "dklen")
@@ -45,7 +57,7 @@ def scrypt(
         raise TooCostlyError("SCRYPT_TOO_COSTLY", words)
     if not 1 <= dklen <= MAX_OUTPUT_LEN:
         check(INVALID_OUTPUT_LEN, f"dklen={dklen}")
-    return _made(password, salt, params, most_bytes if maxmem else None, MOST, dklen)
+    return _made(password, salt, params, most_bytes if maxmem else None, dklen, progress)
 
 
 def log_of(n: int) -> int:
@@ -61,7 +73,8 @@ def derive_within(
     """The key, if the bounds allow a derivation with these parameters. Raises TooCostlyError, and
     InvalidParamsError."""
     bounds = in_64_bits(most_bytes, "most_bytes"), in_64_bits(most_work, "most_work")
-    return _made(password, salt, params, *bounds, dklen)
+    check_costs(*needs_of(params, *bounds), most_bytes, most_work)
+    return _made(password, salt, params, bounds[0], dklen)
 
 
 def _made(
@@ -69,22 +82,19 @@ def _made(
     salt: bytes,
     params: Params,
     most_bytes: Optional[int],
-    most_work: int,
     dklen: int,
+    progress: Optional[Callable[[float], object]] = None,
 ) -> bytes:
-    """The key, within these bounds; None is the library's own bound on several tables."""
+    """The key, with one table, or as many as `most_bytes` allows, or the library without that."""
+    if progress is not None or params.p == 1 and params.cores >= LONG:
+        return derived(password, salt, params, dklen, most_bytes or SEVERAL, progress)
     key = ctypes.create_string_buffer(dklen)
-    given = password, len(password), salt, len(salt), *accepted(*params[:3])
+    given = password, len(password), salt, len(salt), *params[:3]
     if most_bytes is None:
         status = library.key(*given, key, dklen)
     else:
-        status = library.key_within(*given, most_bytes, most_work, key, dklen)
-    if status:
-        needs = needs_of(params)[1]  # refuses parameters that are not accepted
-        if status == TOO_COSTLY:
-            check_costs(status, needs, most_bytes, most_work)
-        costs = f"n={1 << needs.log_n}, r={needs.r}, p={needs.p}"
-        check(status, f"{costs} need {needs.bytes} bytes, and the key {dklen}")
+        status = library.key_within(*given, most_bytes, MOST, key, dklen)
+    check(status, f"{needs_of(params)[1]}, and the key {dklen}" if status else "")
     made = key.raw
     ctypes.memset(key, 0, dklen)
     return made

@@ -26,9 +26,9 @@ def _loaded() -> ctypes.CDLL:
         return ctypes.CDLL(place)
     except OSError as error:
         raise ImportError(
-            f"scrypt_c needs the library {FILE}, and {place} cannot be loaded ({error}). `make lib` "
-            "in its repository builds it, and `make install` installs it; or let SCRYPT_C_LIBRARY "
-            "name the file, or its folder."
+            f"scrypt_c needs the library {FILE}, and {place} cannot be loaded ({error}). `make "
+            "lib` in its repository builds it, and `make install` installs it; or let "
+            "SCRYPT_C_LIBRARY name the file, or its folder."
         ) from error
 
 
@@ -65,6 +65,9 @@ hash_needs = _declared("scrypt_hash_needs")
 limits_for_new = _declared("scrypt_limits_for_new")
 key = _declared("scrypt_key")
 key_within = _declared("scrypt_key_within")
+key_begin = _declared("scrypt_key_begin")
+key_step = _declared("scrypt_key_step")
+key_finish = _declared("scrypt_key_finish")
 hash_params = _declared("scrypt_hash_params")
 calibrate = _declared("scrypt_calibrate")
 _declared("scrypt_hasher_free")

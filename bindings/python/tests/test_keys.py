@@ -1,24 +1,69 @@
-"""scrypt: RFC 7914's keys, hashlib's, and memory. test_refused.py has what is refused."""
+"""scrypt: hashlib's keys, in steps too, its memory, interrupts, and what is refused.
+
+With a number of keys as an argument, it compares only so many, of random sizes, with hashlib's."""
 
 import hashlib
+import math
 import os
+import random
 import resource
+import signal
+import sys
+import threading
+import time
 import unittest
 
 import scrypt_c
-from scrypt_c import key
+from scrypt_c import InvalidParamsError, Params, TooCostlyError, calibrate, library
+from scrypt_c.declared import MAX_OUTPUT_LEN
 
-SMALL = {"n": 16, "r": 1, "p": 1}
+RANGES = "r and p at least 1, 128 * r * 2^log_n below 2^64, r * p below 2^30"
+B32, B64 = 1 << 32, 1 << 64
 
 
-def limited(call):
-    """Calls while the process may have 16 GiB of addresses."""
-    before = resource.getrlimit(resource.RLIMIT_AS)
-    resource.setrlimit(resource.RLIMIT_AS, (16 << 30, before[1]))
-    try:
-        return call()
-    finally:
-        resource.setrlimit(resource.RLIMIT_AS, before)
+def key(password=b"pw", **named):
+    return scrypt_c.scrypt(password, **{"salt": b"salt", "n": 16, "r": 8, "p": 1, **named})
+
+
+# An error and some of its words, and calls: a function and its arguments.
+REFUSED = [
+    (InvalidParamsError, "n is a power of two, not", key, [
+        {"n": it} for it in (3, 0, -2, 15, 16 - B64)]),
+    (InvalidParamsError, RANGES, key, [
+        {"n": 1 << 57}, {"n": 1 << 260}, {"r": 0}, {"r": -1}, {"r": 8 + B32}, {"p": B32}]),
+    (scrypt_c.InvalidOutputLenError, f"1 to {MAX_OUTPUT_LEN} bytes", key, [
+        {"dklen": it} for it in (0, -1, MAX_OUTPUT_LEN + 1, 32 + B64, 32 - B64)]),
+    (ValueError, "maxmem is not negative", key, [{"maxmem": -1}, {"maxmem": 1 - B64}]),
+    (TooCostlyError, "n=16, r=8, p=1 need 19456 bytes and a work of 1536", key, [
+        {"maxmem": 19455}, {"max_work": 1535}, {"max_work": 0}]),
+    (TypeError, "is an int, not", key, [
+        {name: it} for name in ("n", "dklen", "max_work") for it in (16.0, "16")]),
+    (TypeError, "is bytes-like, not", key, [
+        {name: it} for name in ("password", "salt") for it in (5, "text", None)]),
+    (MemoryError, "need 9223372036854776192 bytes", key, [
+        {"n": 1 << 56, "r": 1}, {"n": 1 << 56, "r": 1, "progress": print}]),
+    (TooCostlyError, "even log_n=10, r=8, p=1 take more than 1e-06 seconds", calibrate, [
+        {"seconds": 1e-6}]),
+    (TooCostlyError, "or 524288 bytes", calibrate, [{"seconds": 1, "most_bytes": 1 << 19}]),
+    (TypeError, "seconds is a number of seconds, not str", calibrate, [{"seconds": "x"}]),
+    (ValueError, "seconds is", calibrate, [
+        {"seconds": it} for it in (math.inf, 0, -1, math.nan, 10**400)]),
+]
+
+
+def random_keys(count):
+    """Keys by steps of random lengths, each as hashlib's."""
+    step = library.key_step
+    library.key_step = lambda it, mixes: step(it, random.choice((mixes, random.randint(1, 99))))
+    for _ in range(count):
+        costs = {"n": 2 << random.randrange(8), "salt": os.urandom(random.randrange(40))}
+        costs |= {name: random.randint(1, most) for name, most in (("r", 9), ("p", 4), ("dklen", 99))}
+        password, seen = os.urandom(random.randrange(80)), []
+        ours = key(password, **costs, progress=seen.append)
+        assert ours == hashlib.scrypt(password, **costs), costs
+        assert seen == sorted(seen) and 0 < seen[0] and seen[-1] == 1, seen
+        assert key(password, **costs) == ours, costs
+    library.key_step = step
 
 
 def peak(of_now=True):
@@ -31,54 +76,69 @@ def peak(of_now=True):
 
 
 class Keys(unittest.TestCase):
-    def test_a_key_of_rfc_7914(self):
-        key = scrypt_c.scrypt(b"password", salt=b"NaCl", n=1024, r=8, p=16).hex()
-        self.assertTrue(key.startswith("fdbabe1c9d3472007856e7190d01e9fe7c6ad7cbc8237830e77376634b373162"), key)
-
     def test_as_hashlib(self):
-        for dklen in (1, 31, 32, 100):
-            password, salt = os.urandom(dklen), os.urandom(8)
-            ours = scrypt_c.scrypt(password, salt=salt, n=256, r=3, p=2, dklen=dklen)
-            self.assertEqual(ours, hashlib.scrypt(password, salt=salt, n=256, r=3, p=2, dklen=dklen))
+        random_keys(100)
+        kinds = key(bytearray(b"pw"), salt=memoryview(b"salt"), max_work=B64 + 1, maxmem=B64 + 1)
+        self.assertEqual(kinds, key())
 
-    def test_maxmem_as_hashlib(self):
-        """The least maxmem with which hashlib derives a key is ours too."""
+    def test_refused(self):
+        for error, words, call, arguments in REFUSED:
+            for named in arguments:
+                with self.assertRaises(error, msg=named) as caught:
+                    call(**named)
+                self.assertIn(words, str(caught.exception), named)
+
+    def test_bounds_as_hashlib(self):
+        """The least maxmem with which hashlib derives a key is ours too; max_work is exact."""
         for n, r, p in [(16, 1, 1), (1024, 8, 1), (256, 3, 5)]:
-            bound = scrypt_c.Params(n.bit_length() - 1, r, p).memory
-            costs = {"salt": b"salt", "n": n, "r": r, "p": p}
-            ours = scrypt_c.scrypt(b"pw", maxmem=bound, **costs)
-            self.assertEqual(ours, hashlib.scrypt(b"pw", maxmem=bound, **costs))
+            params = Params(n.bit_length() - 1, r, p)
+            costs = {"salt": b"salt", "n": n, "r": r, "p": p, "maxmem": params.memory}
+            ours = scrypt_c.scrypt(b"pw", **costs, max_work=params.work)
+            self.assertEqual(ours, hashlib.scrypt(b"pw", **costs))
             for derive in (scrypt_c.scrypt, hashlib.scrypt):
                 with self.assertRaises(ValueError):
-                    derive(b"pw", maxmem=bound - 1, **costs)
+                    derive(b"pw", **{**costs, "maxmem": params.memory - 1})
+            self.assertRaises(TooCostlyError, key, **{**costs, "max_work": params.work - 1})
 
     def test_maxmem_is_kept(self):
-        """Of several tables as many are used as it has room for."""
-        costs, one = {"salt": b"salt", "n": 1 << 15, "r": 8, "p": 4}, scrypt_c.Params(15, 8, 4).memory
+        """Of several tables as many are used as it has room for, and none is left."""
+        costs, one = {"n": 1 << 15, "r": 8, "p": 4}, Params(15, 8, 4).memory
         two = 2 * one - 128 * 8 * 4  # the chunks are there once
-        keys = {scrypt_c.scrypt(b"pw", maxmem=bound, **costs) for bound in (0, one, two - 1, two, 1 << 70)}
-        self.assertEqual(keys, {hashlib.scrypt(b"pw", maxmem=4 * one, **costs)})
-        for bound, tables in [(one, 1), (two - 1, 1), (two, 2)]:
-            before = peak()
-            scrypt_c.scrypt(b"pw", maxmem=bound, **costs)
-            self.assertLess(abs(peak(of_now=False) - before - tables * one), one // 4)
-
-    def test_bounds(self):
-        """Both have 64 bits: the lower half of 2^32 is 0."""
-        given = b"pw", b"salt", scrypt_c.Params(4, 1, 1)
-        for bounds in (2432, 192), (1 << 32, 1 << 32):
-            self.assertEqual(key.derive_within(*given, *bounds, 32), hashlib.scrypt(b"pw", salt=b"salt", dklen=32, **SMALL))
-        for bounds in (2431, 192), (2432, 191):
-            with self.assertRaises(scrypt_c.TooCostlyError):
-                key.derive_within(*given, *bounds, 32)
+        for progress in (None, lambda _: None):
+            for bound, tables in [(one, 1), (two - 1, 1), (two, 2)]:
+                before = peak()
+                key(**costs, maxmem=bound, progress=progress)
+                used = peak(of_now=False) - before
+                self.assertLess(used, (tables + 0.25) * one, (bound, progress))
+        self.assertLess(peak() - before, one // 4)
 
     def test_a_long_key(self):
-        with self.assertRaises(MemoryError):
-            limited(lambda: scrypt_c.scrypt(b"", salt=b"", dklen=1 << 36, **SMALL))
+        before = resource.getrlimit(resource.RLIMIT_AS)
+        resource.setrlimit(resource.RLIMIT_AS, (16 << 30, before[1]))
+        try:
+            self.assertRaises(MemoryError, key, dklen=1 << 36)
+        finally:
+            resource.setrlimit(resource.RLIMIT_AS, before)
 
-    def test_types(self):
-        key = scrypt_c.scrypt(b"a", salt=b"b", **SMALL)
-        self.assertEqual(scrypt_c.scrypt(bytearray(b"a"), salt=memoryview(b"b"), **SMALL), key)
+    def test_interrupts(self):
+        """Ctrl-C ends a derivation of seconds at the end of a step, and what `progress` raises ends it
+        too."""
+        for wait in (0.05, 0.1, 0.15):
+            sent = []
+
+            def interrupt():
+                time.sleep(wait)
+                sent.append(time.monotonic())
+                signal.raise_signal(signal.SIGINT)
+
+            thread = threading.Thread(target=interrupt)
+            thread.start()
+            with self.assertRaises(KeyboardInterrupt):
+                key(n=1 << 20)
+            self.assertLess(time.monotonic() - sent[0], 0.5, "0.05 on an idle machine")
+            thread.join()
+        with self.assertRaises(ZeroDivisionError):
+            key(n=1 << 20, progress=lambda done: 1 // (done < 0.1))
 
     def test_calibrate(self):
         for seconds, most_bytes, log_n, why in [
@@ -86,15 +146,19 @@ class Keys(unittest.TestCase):
             (60, (16 << 20) - 1, 13, "a byte less"),
             (1e9, 1 << 20, 10, "more than the greatest p"),
         ]:
-            params = scrypt_c.calibrate(seconds, most_bytes)
+            params = calibrate(seconds, most_bytes)
             self.assertEqual((params.log_n, params.r), (log_n, 8), why)
-            self.assertEqual(scrypt_c.PasswordHasher(*params, most_work=1 << 64).params, params, why)
-        self.assertLess(scrypt_c.calibrate(0.02, 1 << 30).log_n, 17, "the time is less than the memory would take")
+            made = scrypt_c.PasswordHasher(*params, most_work=B64).params
+            self.assertEqual(made, params, why)
+        self.assertLess(calibrate(0.02, 1 << 30).log_n, 17, "the time is less than memory takes")
 
     def test_params(self):
-        self.assertEqual(scrypt_c.Params(17, 8, 1).memory, 134_220_800)
-        self.assertEqual(scrypt_c.Params(17, 8, 1).cores, 4_194_304)
+        self.assertEqual(Params(17, 8, 1).memory, 134_220_800)
+        self.assertEqual(Params(17, 8, 1).cores, 4_194_304)
 
 
 if __name__ == "__main__":
-    unittest.main()
+    if sys.argv[1:]:
+        random_keys(int(sys.argv[1]))
+    else:
+        unittest.main()

@@ -1,0 +1,67 @@
+"""A derivation in steps, between which Python runs handlers of signals and its progress is told."""
+
+from __future__ import annotations
+
+import contextlib
+import ctypes
+import mmap
+import sys
+import time
+from typing import Callable, Optional
+
+from . import declared, library
+from .declared import OUT_OF_MEMORY
+from .errors import check
+from .params import Params, needs_of
+
+STEP = 0.01  # seconds
+
+
+def derived(
+    password: bytes,
+    salt: bytes,
+    params: Params,
+    dklen: int,
+    most_bytes: int,
+    progress: Optional[Callable[[float], object]],
+) -> bytes:
+    """The key, with as many tables as `most_bytes` allows, but one at least. An exception of a
+    handler or of `progress` leaves the derivation, and its memory goes back to the system."""
+    needs = needs_of(params, most_bytes)[1]
+    it = declared.Steps(log_n=needs.log_n, r=needs.r, p=needs.p, chunks_len=needs.chunks_len)
+    it.table_len, it.scratch_len = needs.tables * needs.table_len, needs.tables * needs.scratch_len
+    scratch_at = 4 * it.table_len
+    chunks_at = scratch_at + 4 * it.scratch_len
+    with contextlib.closing(_mapped(chunks_at + it.chunks_len, needs)) as memory:
+        start = ctypes.addressof(ctypes.c_char.from_buffer(memory))
+        it.table = ctypes.cast(start, type(it.table))
+        it.scratch = ctypes.cast(start + scratch_at, type(it.scratch))
+        it.chunks = start + chunks_at
+        check(library.key_begin(it, password, len(password), salt, len(salt)))
+        mixes = 1
+        while it.chunks_done < it.p:
+            begun = time.perf_counter()
+            check(library.key_step(it, mixes))
+            took = time.perf_counter() - begun
+            mixes = min(2 * mixes, max(1, int(mixes * STEP / max(took, 1e-9))))
+            if progress is not None:
+                progress((it.chunks_done + it.mixes_done / (2 << it.log_n)) / it.p)
+        key = ctypes.create_string_buffer(dklen)
+        check(library.key_finish(it, password, len(password), key, dklen))
+    made = key.raw
+    ctypes.memset(key, 0, dklen)
+    return made
+
+
+def _mapped(size: int, needs: library.Needs) -> mmap.mmap:
+    """Private memory of so many zeros, in huge pages where the system has them."""
+    try:
+        if sys.platform == "win32":
+            return mmap.mmap(-1, size)
+        memory = mmap.mmap(-1, size, mmap.MAP_PRIVATE | mmap.MAP_ANONYMOUS)
+    except (OSError, OverflowError):
+        check(OUT_OF_MEMORY, str(needs))
+    if hasattr(mmap, "MADV_HUGEPAGE"):
+        with contextlib.suppress(OSError):
+            memory.madvise(mmap.MADV_HUGEPAGE)
+    return memory
