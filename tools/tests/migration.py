@@ -4,7 +4,7 @@
 usage: python3 -m tools.tests.migration PROGRAM [--seed N]
 
 Each part draws passwords, lets another program hash them, converts the hashes by the functions of
-Python's scrypt_c.migration (Go's by the Go package), and lets PROGRAM verify each with its password
+Python's scrypt_c.migration (those of Go and Node by their packages), and lets PROGRAM verify each with its password
 and with another one. What one of both refuses is tried too. The library is that of build/lib. What
 is not installed is named; the status is 1 if something differs.
 """
@@ -58,12 +58,14 @@ CRYPT_REFUSES = [
 ]
 
 NODE = """
-const { scryptSync } = require("crypto");
-for (const line of require("fs").readFileSync(0, "utf8").trim().split("\\n")) {
-  const [password, salt, N, r, p, length] = JSON.parse(line);
+import { scryptSync } from "node:crypto";
+import { readFileSync } from "node:fs";
+import { storedText } from "./bindings/js/stored.js";
+for (const line of readFileSync(0, "utf8").trim().split("\\n")) {
+  const [password, hex, N, r, p, length] = JSON.parse(line), salt = Buffer.from(hex, "hex");
   try {
-    const key = scryptSync(password, Buffer.from(salt, "hex"), length, { N, r, p });
-    console.log(key.toString("hex"));
+    const key = scryptSync(password, salt, length, { N, r, p });
+    console.log(storedText(salt, key, { N, r, p }));
   } catch (error) { console.log(error.code); }
 }
 """
@@ -301,13 +303,13 @@ def of_hashlib(trial):
 
 def node(trial):
     installed("node", "nodejs")
+    refused = [("pass", "00", n, r, 1, 32) for n, r in ((1, 8), (1 << 16, 1), (1 << 17, 8))]
     cases = trial.key_cases()
-    for (password, salt, *params, _), key in zip(cases, answers(["node", "-e", NODE], cases)):
-        text = migration.stored_text(bytes.fromhex(salt), bytes.fromhex(key), *params)
-        trial.verifies(text, password)
-    for n, r in ((1, 8), (1 << 16, 1), (1 << 17, 8)):
-        got = answers(["node", "-e", NODE], [("password", "00", n, r, 1, 32)])
-        trial.check(got == ["ERR_CRYPTO_INVALID_SCRYPT_PARAMS"], n, r, got)
+    made = answers(["node", "--input-type=module", "-e", NODE], cases + refused)
+    for case, text in zip(cases, made):
+        trial.verifies(text, case[0])
+    for case, error in zip(refused, made[CASES:]):
+        trial.check(error == "ERR_CRYPTO_INVALID_SCRYPT_PARAMS", case, error)
 
 
 def go(trial):
