@@ -79,20 +79,20 @@ int scrypt_key_begin(scrypt_steps *steps, const void *password, size_t password_
   TAKE(password);
   TAKE(salt);
   return cleared_scrypt_key_begin(password, password_len, salt, salt_len, PARAMS_OF(steps), BUFFERS_OF(steps),
-                                  &steps->chunks_done, &steps->mixes_done);
+                                  &steps->at);
 }
 
 int scrypt_key_step(scrypt_steps *steps, size_t mixes) {
   TAKE_STEPS;
-  return cleared_scrypt_key_step(PARAMS_OF(steps), mixes, BUFFERS_OF(steps), &steps->chunks_done, &steps->mixes_done);
+  return cleared_scrypt_key_step(PARAMS_OF(steps), mixes, BUFFERS_OF(steps), &steps->at);
 }
 
 int scrypt_key_finish(const scrypt_steps *steps, const void *password, size_t password_len, OUTPUT) {
   TAKE_OUTPUT;
   TAKE_STEPS;
   TAKE(password);
-  return cleared_scrypt_key_finish(password, password_len, PARAMS_OF(steps), steps->chunks, steps->chunks_len,
-                                   steps->chunks_done, THE_OUTPUT);
+  return cleared_scrypt_key_finish(password, password_len, PARAMS_OF(steps), steps->chunks, steps->chunks_len, &steps->at,
+                                   THE_OUTPUT);
 }
 
 /* ---- Hashes ---- */

@@ -160,24 +160,32 @@ void scrypt_wipe(uint8_t *chunks, size_t chunks_len, uint32_t *table, size_t tab
 
 /* ---- Keys in steps: to show how far a derivation has come, or to leave it ---- */
 
-/* A derivation in steps. The caller sets the parameters and the buffers, each at least as long as scrypt_buffer_lens returns
- * for s = 0, the chunks exactly so; scrypt_key_begin sets the rest. Between two calls the caller may read and move the
- * structure, and copies no pointer into it. To leave a derivation is to wipe its buffers. Nothing is allocated.
+/* How far a derivation in steps has come. Each of its p chunks takes 2^(log_n + 1) block mixes, of 2 * r Salsa20/8 cores
+ * each, so at_once * mixes and chunks * 2^(log_n + 1) of p * 2^(log_n + 1) are done. */
+typedef struct scrypt_progress {
+  size_t chunks;  /* how many of the p chunks are mixed */
+  size_t at_once; /* how many of the next ones are mixed now, at a time */
+  size_t mixes;   /* how many block mixes of each of these are done */
+} scrypt_progress;
+
+/* A derivation in steps. The caller sets the parameters and the buffers, each at least as long as scrypt_buffer_lens
+ * returns for s = 0, the chunks exactly so; a begin writes the progress. If the table and the scratch are w times as
+ * long, up to w chunks are mixed at a time, and at most four. Between two calls the caller may read the structure, move
+ * it and move the buffers. To leave a derivation is to wipe its buffers. Nothing is allocated.
  *
  *   scrypt_steps it = {20, 8, 1};
  *   int status = scrypt_buffer_lens(it.log_n, it.r, it.p, 0, &it.chunks_len, &it.table_len, &it.scratch_len);
  *   it.chunks = malloc(it.chunks_len), it.table = malloc(4 * it.table_len), it.scratch = malloc(4 * it.scratch_len);
  *   if (status == SCRYPT_OK) status = scrypt_key_begin(&it, password, password_len, salt, salt_len);
- *   while (status == SCRYPT_OK && it.chunks_done < it.p) {
+ *   while (status == SCRYPT_OK && it.at.chunks < it.p) {
  *     status = scrypt_key_step(&it, 4096);                                      some 7 ms with r of 8
- *     show((it.chunks_done + ldexp(it.mixes_done, -1 - (int)it.log_n)) / it.p);
+ *     show((it.at.chunks + it.at.at_once * ldexp(it.at.mixes, -1 - (int)it.log_n)) / it.p);
  *   }
  *   if (status == SCRYPT_OK) status = scrypt_key_finish(&it, password, password_len, key, 32);
  *   scrypt_wipe(it.chunks, it.chunks_len, it.table, it.table_len, it.scratch, it.scratch_len); */
 typedef struct scrypt_steps {
   uint32_t log_n, r, p;
-  size_t chunks_done; /* how many of the p chunks are mixed */
-  size_t mixes_done;  /* of the next chunk: how many of its 2^(log_n + 1) block mixes, of 2 * r Salsa20/8 cores each */
+  scrypt_progress at;
   uint8_t *chunks;
   uint32_t *table;
   uint32_t *scratch;
@@ -189,8 +197,9 @@ typedef struct scrypt_steps {
 SCRYPT_CHECKED
 int scrypt_key_begin(scrypt_steps *steps, const void *password, size_t password_len, const void *salt, size_t salt_len);
 
-/* Does so many block mixes more, or those that the next chunk lacks. With all p chunks mixed it does nothing. On an error
- * nothing has changed. If the buffers do not hold what the last call left in them, the key will be another one.
+/* Does so many block mixes more of each chunk that is mixed now, or those that they lack. With all p chunks mixed it does
+ * nothing. On an error nothing has changed. If the buffers do not hold what the last call left in them, the key will be
+ * another one. SCRYPT_INVALID_PROGRESS is returned for a progress that no call wrote with these parameters.
  * SCRYPT_NULL_POINTER, SCRYPT_INVALID_PARAMS, SCRYPT_BUFFER_SIZE, SCRYPT_INVALID_PROGRESS. */
 SCRYPT_CHECKED
 int scrypt_key_step(scrypt_steps *steps, size_t mixes);

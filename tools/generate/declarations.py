@@ -120,7 +120,8 @@ def javascript():
 
 # ---- C ----
 
-C = {"u8": "uint8_t", "u32": "uint32_t", "u64": "uint64_t", "usize": "size_t", "i32": "int", "Needs": "scrypt_needs"}
+C = {"u8": "uint8_t", "u32": "uint32_t", "u64": "uint64_t", "usize": "size_t", "i32": "int", "Needs": "scrypt_needs",
+     "Progress": "scrypt_progress"}
 
 
 def in_c(name, kind):
@@ -130,8 +131,9 @@ def in_c(name, kind):
         return []
     slice_of = re.fullmatch(r"&(mut )?\[(\w+)\]", kind)
     if slice_of is None:
-        number = re.fullmatch(r"(&mut )?\[?(\w+)(; \d+\])?", kind)
-        return [f"{C[number[2]]} {'*' if number[1] else ''}{name}"]
+        value = re.fullmatch(r"(&(mut )?)?\[?(\w+)(; \d+\])?", kind)
+        const = "const " if value[1] == "&" else ""
+        return [f"{const}{C[value[3]]} {'*' if value[1] else ''}{name}"]
     word = "char" if name.startswith("text") else C[slice_of[2]]
     length = "capacity" if name == "text" and slice_of[1] else f"{name}_len"
     return [f"{'' if slice_of[1] else 'const '}{word} *{name}", f"size_t {length}"]
@@ -148,6 +150,7 @@ def check_layout(path, text):
 def proved():
     """The kind, the name and the arguments of each proved call."""
     call = re.compile(r'^pub extern "C" fn (\w+)(?:<.*?>)?\((.*?)\)( -> i32)?$', re.M | re.S)
+    check_layout("crates/scrypt/src/stepping.rt", read("crates/scrypt/src/stepping.rt"))
     for path in sorted(Path("crates/scrypt_c/src").glob("*.rt")):
         check_layout(path, read(path))
         for name, given, status in call.findall(read(path)):

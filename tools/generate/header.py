@@ -72,9 +72,10 @@ def word_of(declared):
 def kind(declared, address=ctypes.c_void_p):
     """The type of an argument, a field or a result, or None for void. Of numbers and bytes C takes the address."""
     word = word_of(declared)
+    its = structure(word) if word in structures_of(TEXT) else None
     if "*" not in declared:
-        return TYPES.get(word)
-    return ctypes.POINTER(structure(word)) if word in structures_of(TEXT) else address
+        return its or TYPES.get(word)
+    return ctypes.POINTER(its) if its else address
 
 
 @functools.lru_cache(maxsize=None)

@@ -196,7 +196,7 @@ def items_of(lines, at=0, block=None):
 def use_paths(text):
     """The words that `use` brings, each with its path; those of `pub use` are marked."""
     found = {}
-    for public, tree in re.findall(r"^(pub )?use ([^;]*);", text, re.M):
+    for public, tree in re.findall(r"^(pub )?(?:pub\(crate\) )?use ([^;]*);", text, re.M):
         before, _, group = tree.rstrip("}").partition("{")
         for path in re.split(r",\s*", group.strip().rstrip(",")) if group else [""]:
             path, _, other = f"{before}{path}".partition(" as ")

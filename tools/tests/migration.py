@@ -170,10 +170,7 @@ def answers(words, cases, **env):
 
 
 def passlib(trial):
-    try:
-        from passlib.hash import scrypt
-    except ImportError:
-        raise Missing("passlib is not installed (package python3-passlib)") from None
+    scrypt = oracle.passlib()
 
     def made(password, salt, n, r, p, **more):
         costs = {"rounds": n.bit_length() - 1, "block_size": r, "parallelism": p}

@@ -66,8 +66,9 @@ static void take_arguments(const void *password, size_t password_len, const void
   made.table = calloc(given.table_len, 4);
   made.scratch = calloc(given.scratch_len, 4);
   if (made.chunks == NULL || made.table == NULL || made.scratch == NULL) exit(3);
-  *made.steps = (scrypt_steps){log_n, r, p, 0, 0, BUFFERS_OF_STEPS};
-  ended = *made.steps, ended.chunks_done = p;
+  *made.steps = (scrypt_steps){log_n, r, p, {0, 0, 0}, BUFFERS_OF_STEPS};
+  made.steps->at.at_once = 1; /* so that a step is possible in any turn */
+  ended = *made.steps, ended.at.chunks = p;
   ended.chunks = calloc(ended.chunks_len, 1);
   if (ended.chunks == NULL) exit(3);
   given.steps = &ended, given.mixes = 3;

@@ -18,8 +18,8 @@ static const char MCF[] = "$7$20....1....n34PoBLMgF5$Z8J2bfek1wDXI7xhu6YDEbhVlE3
 /* What a call has to make of the case. */
 static int nothing(void) { return 1; }
 static int a_key(void) { return memcmp(made.output, KEY, sizeof KEY) == 0; }
-static int is_begun(void) { return made.steps->chunks_done == 0 && made.steps->mixes_done == 0; }
-static int is_at_3(void) { return made.steps->chunks_done == 0 && made.steps->mixes_done == 3; }
+static int is_begun(void) { return made.steps->at.chunks == 0 && made.steps->at.mixes == 0; }
+static int is_at_3(void) { return made.steps->at.chunks == 0 && made.steps->at.at_once == 1 && made.steps->at.mixes == 3; }
 static int a_hashers_key(void) { return memcmp(made.key, KEY, sizeof KEY) == 0; }
 static int a_phc(void) { return memcmp(made.text, PHC, sizeof PHC) == 0; }
 static int an_mcf(void) { return memcmp(made.text, MCF, sizeof MCF) == 0; }

@@ -15,7 +15,7 @@ static size_t draw(size_t below) {
 
 /* A derivation in buffers with room for so many tables, which hold anything. */
 static scrypt_steps new_steps(uint32_t log_n, uint32_t r, uint32_t p, size_t tables) {
-  scrypt_steps it = {log_n, r, p, 0, 0, NULL, NULL, NULL, 0, 0, 0};
+  scrypt_steps it = {log_n, r, p, {0, 0, 0}, NULL, NULL, NULL, 0, 0, 0};
   check(scrypt_buffer_lens(log_n, r, p, 0, &it.chunks_len, &it.table_len, &it.scratch_len) == SCRYPT_OK, "lens");
   it.table_len *= tables, it.scratch_len *= tables;
   it.chunks = (uint8_t *)malloc(it.chunks_len);
@@ -35,7 +35,7 @@ static void free_steps(scrypt_steps *it) {
 /* The key by steps of so many mixes, or of drawn sizes for 0. */
 static void in_steps(scrypt_steps *it, const char *password, const char *salt, size_t mixes, uint8_t *key, size_t len) {
   int status = scrypt_key_begin(it, password, strlen(password), salt, strlen(salt));
-  while (status == SCRYPT_OK && it->chunks_done < it->p)
+  while (status == SCRYPT_OK && it->at.chunks < it->p)
     status = scrypt_key_step(it, mixes != 0 ? mixes : draw((size_t)3 << it->log_n));
   check(status == SCRYPT_OK, "steps");
   check(scrypt_key_finish(it, password, strlen(password), key, len) == SCRYPT_OK, "finish");
@@ -57,7 +57,7 @@ static void vectors(size_t count) {
   }
 }
 
-/* N of 1, odd r, and each number of chunks beside each number of tables: the key of scrypt_key. */
+/* N of 1, odd r, and several numbers of chunks beside each number of tables: the key of scrypt_key. */
 static void others(void) {
   static const uint32_t CASES[][3] = {{0, 3, 2}, {1, 1, 1}, {4, 2, 3}, {5, 3, 5}, {3, 1, 16}, {6, 2, 7}, {2, 5, 9}};
   size_t i, tables;
@@ -82,17 +82,17 @@ static void left_and_moved(void) {
   scrypt_steps it = new_steps(6, 2, 2, 1), other = new_steps(6, 2, 2, 1);
   check(scrypt_key("pw", 2, "salt", 4, 6, 2, 2, wanted, 32) == SCRYPT_OK, "a key");
   check(scrypt_key_begin(&it, "PW", 2, "salt", 4) == SCRYPT_OK && scrypt_key_step(&it, 100) == SCRYPT_OK, "one that is left");
-  check(it.chunks_done == 0 && it.mixes_done == 100, "100 mixes");
+  check(it.at.chunks == 0 && it.at.at_once == 1 && it.at.mixes == 100, "100 mixes");
   check(scrypt_key_begin(&it, "pw", 2, "salt", 4) == SCRYPT_OK && scrypt_key_step(&it, 200) == SCRYPT_OK, "the next one");
-  check(it.chunks_done == 1 && it.mixes_done == 0, "no more than the chunk lacks");
-  check(scrypt_key_step(&it, 0) == SCRYPT_OK && it.mixes_done == 0, "no mixes");
+  check(it.at.chunks == 1 && it.at.mixes == 0, "no more than the chunk lacks");
+  check(scrypt_key_step(&it, 0) == SCRYPT_OK && it.at.mixes == 0, "no mixes");
   check(scrypt_key_step(&it, 64) == SCRYPT_OK, "half of the second chunk");
   memcpy(other.chunks, it.chunks, it.chunks_len);
   memcpy(other.table, it.table, 4 * it.table_len);
   memcpy(other.scratch, it.scratch, 4 * it.scratch_len);
-  other.chunks_done = it.chunks_done, other.mixes_done = it.mixes_done;
-  check(scrypt_key_step(&other, SIZE_MAX) == SCRYPT_OK && other.chunks_done == 2, "moved");
-  check(scrypt_key_step(&other, 1) == SCRYPT_OK && other.chunks_done == 2 && other.mixes_done == 0, "a step at the end");
+  other.at = it.at;
+  check(scrypt_key_step(&other, SIZE_MAX) == SCRYPT_OK && other.at.chunks == 2, "moved");
+  check(scrypt_key_step(&other, 1) == SCRYPT_OK && other.at.chunks == 2 && other.at.at_once == 0, "a step at the end");
   check(scrypt_key_finish(&other, "pw", 2, key, 32) == SCRYPT_OK && memcmp(key, wanted, 32) == 0, "its key");
   free_steps(&it), free_steps(&other);
 }
@@ -100,25 +100,30 @@ static void left_and_moved(void) {
 /* What a structure is changed by before a call, and what each call returns then, with -1 for SCRYPT_OK. The key is finished
  * with no output, which is refused last. */
 enum { OK = -1, PARAMS = SCRYPT_INVALID_PARAMS, SIZE = SCRYPT_BUFFER_SIZE, NO_OUTPUT = SCRYPT_INVALID_OUTPUT_LEN };
+enum { PROGRESS = SCRYPT_INVALID_PROGRESS };
 static const struct {
   const char *why;
   int begin, step, finish;
   uint32_t log_n, r, p;
-  size_t chunks_done, mixes_done;
+  scrypt_progress at;
   int chunks, table, scratch; /* how much shorter a buffer is */
 } REFUSED[] = {
-    {"r of 0", PARAMS, PARAMS, PARAMS, 4, 0, 1, 0, 0, 9, 9, 9},
-    {"p of 0", PARAMS, PARAMS, PARAMS, 4, 2, 0, 0, 0, 0, 0, 0},
-    {"log_n of 57", PARAMS, PARAMS, PARAMS, 57, 2, 2, 0, 0, 0, 0, 0},
-    {"N in place of log_n", PARAMS, PARAMS, PARAMS, 260, 2, 2, 0, 0, 0, 0, 0},
-    {"short chunks, not at the end", SIZE, SIZE, SIZE, 4, 2, 2, 0, 99, 1, 0, 0},
-    {"long chunks", SIZE, SIZE, SIZE, 4, 2, 2, 0, 0, -1, 0, 0},
-    {"a short table", SIZE, SIZE, SCRYPT_UNFINISHED, 4, 2, 2, 0, 99, 0, 1, 0},
-    {"a short scratch", SIZE, SIZE, SCRYPT_UNFINISHED, 4, 2, 2, 1, 0, 0, 0, 1},
-    {"as many mixes as a chunk has", OK, SCRYPT_INVALID_PROGRESS, SCRYPT_UNFINISHED, 4, 2, 2, 0, 32, 0, 0, 0},
-    {"three chunks of two", OK, SCRYPT_INVALID_PROGRESS, SCRYPT_UNFINISHED, 4, 2, 2, 3, 0, 0, 0, 0},
-    {"mixes after the last chunk", OK, SCRYPT_INVALID_PROGRESS, NO_OUTPUT, 4, 2, 2, 2, 1, 0, 0, 0},
-    {"at the end", OK, OK, NO_OUTPUT, 4, 2, 2, 2, 0, 0, 0, 0},
+    {"r of 0", PARAMS, PARAMS, PARAMS, 4, 0, 1, {0, 1, 0}, 9, 9, 9},
+    {"p of 0", PARAMS, PARAMS, PARAMS, 4, 2, 0, {0, 1, 0}, 0, 0, 0},
+    {"log_n of 57", PARAMS, PARAMS, PARAMS, 57, 2, 2, {0, 1, 0}, 0, 0, 0},
+    {"N in place of log_n", PARAMS, PARAMS, PARAMS, 260, 2, 2, {0, 1, 0}, 0, 0, 0},
+    {"short chunks, too many mixes", SIZE, SIZE, SIZE, 4, 2, 2, {0, 1, 99}, 1, 0, 0},
+    {"long chunks", SIZE, SIZE, SIZE, 4, 2, 2, {0, 1, 0}, -1, 0, 0},
+    {"a short table", SIZE, SIZE, SCRYPT_UNFINISHED, 4, 2, 2, {0, 1, 99}, 0, 1, 0},
+    {"a short scratch", SIZE, SIZE, SCRYPT_UNFINISHED, 4, 2, 2, {1, 1, 0}, 0, 0, 1},
+    {"two at a time in one table", OK, SIZE, SCRYPT_UNFINISHED, 4, 2, 2, {0, 2, 0}, 0, 0, 0},
+    {"as many at a time as there are bytes", OK, SIZE, SCRYPT_UNFINISHED, 4, 2, 2, {0, SIZE_MAX, 0}, 0, 0, 0},
+    {"as many mixes as a chunk has", OK, PROGRESS, SCRYPT_UNFINISHED, 4, 2, 2, {0, 1, 32}, 0, 0, 0},
+    {"none at a time, before the end", OK, PROGRESS, SCRYPT_UNFINISHED, 4, 2, 2, {1, 0, 0}, 0, 0, 0},
+    {"three chunks of two", OK, PROGRESS, SCRYPT_UNFINISHED, 4, 2, 2, {3, 0, 0}, 0, 0, 0},
+    {"a third chunk of two", OK, PROGRESS, NO_OUTPUT, 4, 2, 2, {2, 1, 0}, 0, 0, 0},
+    {"mixes after the last chunk", OK, PROGRESS, NO_OUTPUT, 4, 2, 2, {2, 0, 1}, 0, 0, 0},
+    {"at the end", OK, OK, NO_OUTPUT, 4, 2, 2, {2, 0, 0}, 0, 0, 0},
 };
 
 /* The call's status; if it isn't SCRYPT_OK, nothing has changed. */
@@ -143,7 +148,7 @@ static void refusals(void) {
     scrypt_steps room = new_steps(4, 2, 2, 1), it = room;
     memset(room.table, 0xa5, 4 * room.table_len);
     it.log_n = REFUSED[i].log_n, it.r = REFUSED[i].r, it.p = REFUSED[i].p;
-    it.chunks_done = REFUSED[i].chunks_done, it.mixes_done = REFUSED[i].mixes_done;
+    it.at = REFUSED[i].at;
     it.chunks_len -= (size_t)REFUSED[i].chunks;
     it.table_len -= (size_t)REFUSED[i].table;
     it.scratch_len -= (size_t)REFUSED[i].scratch;

@@ -23,9 +23,9 @@ static int of_key_within(void) { return scrypt_key_within(INPUTS, SIZE_MAX, UINT
 static int of_key_with_buffers(void) { return scrypt_key_with_buffers(INPUTS, key, 32, BUFFERS); }
 static int of_key_thin(void) { return scrypt_key_thin(INPUTS, 0, key, 32, BUFFERS); }
 static int of_key_in_steps(void) {
-  scrypt_steps it = {PARAMS, 0, 0, chunks, table, scratch, sizeof chunks, TABLE, SCRATCH};
+  scrypt_steps it = {PARAMS, {0, 0, 0}, chunks, table, scratch, sizeof chunks, TABLE, SCRATCH};
   int status = scrypt_key_begin(&it, "pw", 2, "salt", 4);
-  while (status == SCRYPT_OK && it.chunks_done < it.p) status = scrypt_key_step(&it, 100);
+  while (status == SCRYPT_OK && it.at.chunks < it.p) status = scrypt_key_step(&it, 100);
   return status == SCRYPT_OK ? scrypt_key_finish(&it, "pw", 2, key, 32) : status;
 }
 static int of_phc(void) { return scrypt_hash_phc(MADE); }

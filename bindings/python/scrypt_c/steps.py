@@ -39,13 +39,14 @@ def derived(
         it.chunks = start + chunks_at
         check(library.key_begin(it, password, len(password), salt, len(salt)))
         mixes = 1
-        while it.chunks_done < it.p:
+        while it.at.chunks < it.p:
             begun = time.perf_counter()
             check(library.key_step(it, mixes))
             took = time.perf_counter() - begun
             mixes = min(2 * mixes, max(1, int(mixes * STEP / max(took, 1e-9))))
             if progress is not None:
-                progress((it.chunks_done + it.mixes_done / (2 << it.log_n)) / it.p)
+                mixed = it.at.chunks + it.at.at_once * it.at.mixes / (2 << it.log_n)
+                progress(mixed / it.p)
         key = ctypes.create_string_buffer(dklen)
         check(library.key_finish(it, password, len(password), key, dklen))
     made = key.raw

@@ -1,43 +1,66 @@
 -- Facts on a derivation in steps.
 use Rattle.std.proofs.Common.{◌≡◌, ℕ, ◌<◌, ◌≤◌, ◌+◌, ◌-◌, ◌*◌, ◌%◌, ◌^◌, min, List, length, take, drop, sym, ap, ◌∙◌, take_all, arith, suc, zero}
-use Rattle.std.proofs.lemmas.Nat.{one_shl, pow-add}
-use Rattle.std.proofs.Math.Nat.{mul-le-mul_right, pow-le-pow_right}
+use Rattle.std.proofs.lemmas.List.{drop-drop}
+use Rattle.std.proofs.lemmas.Nat.{mul-le, one_shl, pow_pos, pow-add}
+use Rattle.std.proofs.Math.Nat.{mul-le-mul_left, mul-le-mul_right, pow-le-pow_right}
 use Rattle.std.specs.List.{flat_map, range_with_len}
 use Rattle.scrypt_kernel.specs.Words.{bytes_of, part, words_of}
 use Rattle.scrypt_kernel.specs.RoMix.{ro_mix}
 use Rattle.scrypt_kernel.specs.Steps.{all_mixes}
-use Rattle.scrypt_kernel.proofs.PartFacts.{part-take, parts_from}
+use Rattle.scrypt_kernel.proofs.PartFacts.{part-take, parts_apart, parts_from}
 use Rattle.scrypt.specs.Key.{mixed_chunk, mixed_chunks}
-use Rattle.scrypt.specs.Cost.{cost}
+use Rattle.scrypt.specs.Cost.{cost, table_words}
 use Rattle.scrypt.specs.Stepping.{AreMixed}
-use Rattle.scrypt.proofs.KeyFacts.{part_at}
 
--- the chunk in a slice that has it alone
-pub chunk_of_slice : {b : List ℕ} {log_n r i : ℕ} (a m k : ℕ) (x : List ℕ) → a ≡ i * (128 * r) → m ≡ 128 * r → k < 1 → AreMixed b log_n r i x
-    → part (128 * r) (take m (drop a x)) k ≡ part (128 * r) b i
-chunk_of_slice {b} {log_n} {r} {i} a m k x at size below before =
+-- a chunk in a slice that has n of them
+pub chunk_of_slice : {b : List ℕ} {log_n r i : ℕ} (a m n k : ℕ) (x : List ℕ) → a ≡ i * (128 * r) → m ≡ n * (128 * r) → k < n
+    → AreMixed b log_n r i x → part (128 * r) (take m (drop a x)) k ≡ part (128 * r) b (i + k)
+chunk_of_slice {b} {log_n} {r} {i} a m n k x at size below before =
     let s : ℕ = 128 * r in
-    let first : k ≡ 0 = omega arith in
-    rw (at, size, first) (part-take s 0 s (drop (i * s) x) (omega arith) ∙ part_at s i x ∙ ap (take s) before.rest)
+    let place : i * s + k * s ≡ (i + k) * s = omega arith in
+    rw (at, size) (part-take s k (n * s) (drop (i * s) x) (parts_apart s k n below) ∙ ap (λ z. part s z k) before.rest
+    ∙ ap (take s) (drop-drop (k * s) (i * s) b ∙ ap (λ a. drop a b) place))
 
--- one chunk, mixed
-pub one_mixed : (b ys : List ℕ) (log_n r i : ℕ) → length ys ≡ 128 * r
-    → part (128 * r) ys 0 ≡ bytes_of (ro_mix (words_of (part (128 * r) b i)) log_n)
-    → ys ≡ flat_map (mixed_chunk b log_n r) (range_with_len i 1)
-one_mixed b ys log_n r i long mixed = parts_from (mixed_chunk b log_n r) (128 * r) i 1 ys (omega arith) (λ k below.
-    let first : k ≡ 0 = omega arith in
-    let place : i + 0 ≡ i = omega arith in
-    rw (first, place) mixed)
+-- n chunks, mixed
+pub chunks_mixed : (b ys : List ℕ) (log_n r i n : ℕ) → length ys ≡ n * (128 * r)
+    → ((k : ℕ) → k < n → part (128 * r) ys k ≡ bytes_of (ro_mix (words_of (part (128 * r) b (i + k))) log_n))
+    → ys ≡ flat_map (mixed_chunk b log_n r) (range_with_len i n)
+chunks_mixed b ys log_n r i n long mixed = parts_from (mixed_chunk b log_n r) (128 * r) i n ys long mixed
 
 -- all chunks, mixed
 pub all_chunks_mixed : (b x : List ℕ) (log_n r i p : ℕ) → i ≡ p → length x ≡ p * (128 * r) → AreMixed b log_n r i x → x ≡ mixed_chunks b log_n r p
 all_chunks_mixed b x log_n r i p all long mixed = sym (take_all (p * (128 * r)) x (omega arith)) ∙ (rw all at mixed.done)
 
+-- chunks i to i + n are among the p
+pub chunks_inside : (i n p s l : ℕ) → i + n ≤ p → l ≡ p * s → i * s + n * s ≤ l
+chunks_inside i n p s l inside is = omega (arith, is, mul-le-mul_right s inside)
+
+-- the first rows of n tables fit
+pub first_rows_fit : (n log_n r l : ℕ) → n * table_words log_n r ≤ l → n * (32 * r) ≤ l
+first_rows_fit n log_n r l room =
+    let one : 1 * (32 * r) ≤ 2 ^ log_n * (32 * r) = mul-le-mul_right (32 * r) (omega (arith, pow_pos log_n)) in
+    let each : 32 * r ≤ 2 ^ log_n * (32 * r) = omega (arith, one) in
+    omega (arith, mul-le-mul_left n each, room)
+
 -- while chunks are left, mixes are left
-pub mixes_left : (i p m n : ℕ) → i < p → m < n → i * n + m < p * n
-mixes_left i p m n more inside =
-    let next : suc i ≤ p = omega arith in
-    omega (arith, mul-le-mul_right n next)
+pub mixes_left : (i n m a p : ℕ) → i + n ≤ p → 0 < n → m < a → i * a + n * m < p * a
+mixes_left i zero m a p inside some less = absurd (omega arith)
+mixes_left i (suc n) m a p inside some less =
+    let fewer : n * m ≤ n * a = mul-le-mul_left n (omega arith) in
+    omega (arith, fewer, mul-le-mul_right a inside)
+
+-- a step does some
+pub mixes_more : (n x : ℕ) → 0 < n → 0 < x → 0 < n * x
+mixes_more zero x some more = absurd (omega arith)
+mixes_more (suc n) x some more = omega arith
+
+-- the mixes of n chunks, each d and then c more, of a in all
+pub more_mixes : (n d c a m : ℕ) → d < a → m ≡ min (d + c) a → n * m ≡ n * d + n * min c (a - d)
+more_mixes n d c a m less is = let sum : m ≡ d + min c (a - d) = omega (arith, is) in rw sum (omega arith)
+
+-- the cores of a step
+pub cores_of_step : (i j n x y c : ℕ) → j ≡ i + n * x → y ≡ x → y * (n * c) ≡ (j - i) * c
+cores_of_step i j n x y c is same = let between : j - i ≡ n * x = omega (arith, is) in rw (between, same) (omega arith)
 
 -- all mixes of a chunk are done, as the code finds it
 pub all_done : (log_n m d n : ℕ) → log_n ≤ 56 → 2 * 2 ^ log_n % 2 ^ 64 ≤ m → m ≡ min (d + n) (all_mixes log_n) → m ≡ all_mixes log_n
@@ -58,21 +81,40 @@ times_so_far i j c order =
     ap (λ n. n * c) sum ∙ sum_times i (j - i) c
 
 -- the cores of all mixes
-pub all_mixes_cost : (log_n r p i m : ℕ) → i ≡ p → m ≡ 0 → (i * all_mixes log_n + m) * (2 * r) ≡ cost log_n r p
-all_mixes_cost log_n r p i m all none = rw (all, none) (omega arith)
+pub all_mixes_cost : (log_n r p i n m : ℕ) → i ≡ p → m ≡ 0 → (i * all_mixes log_n + n * m) * (2 * r) ≡ cost log_n r p
+all_mixes_cost log_n r p i n m all none = rw (all, none) (omega arith)
 
 few_chunks : (r p : ℕ) → 0 < r → r * p < 2 ^ 30 → p < 2 ^ 30
 few_chunks zero p some product = absurd (omega (arith, some))
 few_chunks (suc r) p some product = omega (arith, product)
 
--- and they fit 128 bits
-pub cores_fit : (i k m r p x : ℕ) → i ≤ p → 0 < r → r * p < 2 ^ 30 → k ≤ 56 → m < 2 * 2 ^ k → x < 2 ^ 32 → (i * 2 ^ (k + 1) % 2 ^ 128 + m) * (2 * x) < 2 ^ 128
-cores_fit i k m r p x few some product small inside width =
+-- the chunks that are mixed, as the code counts their mixes
+pub mixes_of_chunks : (i n k r p : ℕ) → i + n ≤ p → 0 < r → r * p < 2 ^ 30 → k ≤ 56
+    → (i * 2 ^ (k + 1) ≤ 2 ^ 87) × (i * 2 ^ (k + 1) % 2 ^ 128 ≡ i * all_mixes k)
+mixes_of_chunks i n k r p inside some product small =
     let below : k + 1 ≤ 57 = omega (arith, small) in
     let rows : 2 ^ (k + 1) ≤ 2 ^ 57 = pow-le-pow_right (omega arith) below in
     let double = pow-add 2 k 1 in
-    let chunks : i * 2 ^ (k + 1) ≤ 2 ^ 30 * 2 ^ (k + 1) = mul-le-mul_right (2 ^ (k + 1)) (omega (arith, few, few_chunks r p some product)) in
-    let part : i * 2 ^ (k + 1) % 2 ^ 128 ≤ 2 ^ 87 = omega (arith, chunks, rows) in
-    let mixes : i * 2 ^ (k + 1) % 2 ^ 128 + m ≤ 2 ^ 88 = omega (arith, part, inside, double, rows) in
-    let cores : (i * 2 ^ (k + 1) % 2 ^ 128 + m) * (2 * x) ≤ 2 ^ 88 * (2 * x) = mul-le-mul_right (2 * x) mixes in
+    let few : i ≤ 2 ^ 30 = omega (arith, inside, few_chunks r p some product) in
+    let chunks : i * 2 ^ (k + 1) ≤ 2 ^ 30 * 2 ^ 57 = mul-le i (2 ^ (k + 1)) (2 ^ 30) (2 ^ 57) few rows in
+    let bounded : i * 2 ^ (k + 1) ≤ 2 ^ 87 = omega (arith, chunks) in
+    let same : 2 ^ (k + 1) ≡ all_mixes k = omega (arith, double) in
+    (bounded, omega (arith, bounded) ∙ ap (λ n. i * n) same)
+
+-- the cores, as the code counts them
+pub cores_are : (i n k m r p : ℕ) → i + n ≤ p → 0 < r → r * p < 2 ^ 30 → k ≤ 56
+    → (i * 2 ^ (k + 1) % 2 ^ 128 + n * m) * (2 * r) ≡ (i * all_mixes k + n * m) * (2 * r)
+cores_are i n k m r p inside some product small =
+    ap (λ x. (x + n * m) * (2 * r)) (mixes_of_chunks i n k r p inside some product small).1
+
+-- and they fit 128 bits
+pub cores_fit : (i n k m r p x : ℕ) → i + n ≤ p → n ≤ 4 → 0 < r → r * p < 2 ^ 30 → k ≤ 56 → m < 2 * 2 ^ k → x < 2 ^ 32
+    → (i * 2 ^ (k + 1) % 2 ^ 128 + n * m) * (2 * x) < 2 ^ 128
+cores_fit i n k m r p x inside few some product small less width =
+    let rows : 2 ^ k ≤ 2 ^ 56 = pow-le-pow_right (omega arith) small in
+    let chunks = mixes_of_chunks i n k r p inside some product small in
+    let part : i * 2 ^ (k + 1) % 2 ^ 128 ≤ 2 ^ 87 = omega (arith, chunks.0) in
+    let now : n * m ≤ 4 * 2 ^ 57 = mul-le n m 4 (2 ^ 57) few (omega (arith, less, rows)) in
+    let mixes : i * 2 ^ (k + 1) % 2 ^ 128 + n * m ≤ 2 ^ 88 = omega (arith, part, now) in
+    let cores : (i * 2 ^ (k + 1) % 2 ^ 128 + n * m) * (2 * x) ≤ 2 ^ 88 * (2 * x) = mul-le-mul_right (2 * x) mixes in
     omega (arith, cores, width)

@@ -1,5 +1,5 @@
 -- A derivation in steps: how far it has come, and what the caller's buffers hold between two steps.
-use Rattle.std.specs.Prelude.{◌≡◌, ℕ, ◌+◌, ◌-◌, ◌*◌, ◌<◌, ◌≤◌, List, take, drop}
+use Rattle.std.specs.Prelude.{◌≡◌, ◌≢◌, Bool, true, ℕ, ◌+◌, ◌-◌, ◌*◌, ◌<◌, ◌≤◌, List, take, drop}
 use Rattle.scrypt_kernel.specs.Words.{part, words_of}
 use Rattle.scrypt_kernel.specs.Diagonal.{pivot}
 use Rattle.scrypt_kernel.specs.Pbkdf2.{pbkdf2}
@@ -16,24 +16,35 @@ pub record AreMixed (b : List ℕ) (log_n r i : ℕ) (x : List ℕ) : Type 0 whe
 
 -- the block mixes that are done, of 2 * r cores each
 abbrev pub mixes_done : Parameters → Progress → ℕ
-mixes_done c at = at.chunks * all_mixes c.log_n + at.mixes
+mixes_done c at = at.chunks * all_mixes c.log_n + at.at_once * at.mixes
 
--- the block mixes that the next chunk lacks
+-- the block mixes that each of the chunks that are mixed now lacks
 abbrev pub lacking : Parameters → Progress → ℕ
 lacking c at = all_mixes c.log_n - at.mixes
 
--- at most the p chunks are mixed, and of the next one not all mixes are done, and none if there is no next one
+-- At most the p chunks are mixed, or mixed now, of the latter at most four, and one unless all are mixed. Of these not all
+-- mixes are done.
 pub record IsWithin (c : Parameters) (at : Progress) : Type 0 where
-  pub chunks : at.chunks ≤ c.p
+  pub chunks : at.chunks + at.at_once ≤ c.p
+  pub few : at.at_once ≤ 4
   pub mixes : at.mixes < all_mixes c.log_n
+  pub some : at.chunks < c.p → 0 < at.at_once
   pub ended : at.chunks ≡ c.p → at.mixes ≡ 0
+
+-- a mixer that mixes `most` chunks at a time at most, and two one after the other if one is mixed in words, mixes so many
+pub record AreMixable (most : ℕ) (in_words : Bool) (n : ℕ) : Type 0 where
+  pub few : n ≤ most
+  pub alone : in_words ≡ true → n ≢ 2
 
 -- B before step 2
 abbrev pub first_b : List ℕ → List ℕ → Parameters → List ℕ
 first_b password salt c = pbkdf2 password salt (chunks_bytes c.r c.p)
 
+-- the words of chunk k of b, counted from chunk i on
+abbrev pub words_from : List ℕ → ℕ → ℕ → ℕ → List ℕ
+words_from b r i k = words_of (part (128 * r) b (i + k))
+
 -- the derivation for this password and this salt has come so far in these buffers
 pub record IsUnderWay (password salt : List ℕ) (c : Parameters) (at : Progress) (chunks table scratch : List ℕ) : Type 0 where
   pub mixed : AreMixed (first_b password salt c) c.log_n c.r at.chunks chunks
-  pub next : at.chunks < c.p
-      → IsMixing pivot 1 (λ _. words_of (part (128 * c.r) (first_b password salt c) at.chunks)) (32 * c.r) c.log_n at.mixes table scratch
+  pub next : IsMixing pivot at.at_once (words_from (first_b password salt c) c.r at.chunks) (32 * c.r) c.log_n at.mixes table scratch

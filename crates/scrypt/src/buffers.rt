@@ -110,10 +110,10 @@ impl BufferLens {
     }
 }
 
-// Returns how many of `count` chunks are mixed at a time in a table and a scratch of so many words: at
-// most four, and as many as have a table and a scratch there.
+/// Returns how many of `count` chunks are mixed at a time in a table and a scratch of so many words: at
+/// most four, and as many as have a table and a scratch there.
 #[tactic(auto, using(crate::proofs::CostFacts::rooms), unfolding(crate::specs::Workspace::chunks_at_once))]
-fn chunks_at_once(params: &Params, count: usize, table: usize, scratch: usize) -> usize
+pub(crate) fn chunks_at_once(params: &Params, count: usize, table: usize, scratch: usize) -> usize
     ensures exact { result ≡ chunks_at_once params.now.log_n params.now.r count table scratch }
     ensures some { (0 < result) ↔ ((0 < count)
         × (table_words params.now.log_n params.now.r ≤ table) × (scratch_words params.now.r ≤ scratch)) }

@@ -1,6 +1,8 @@
-//! A derivation in steps, in the caller's buffers: between two of them the caller can show how far it has come, or leave it.
+//! A derivation in steps, in the caller's buffers: between two of them the caller can show how far
+//! it has come, or leave it.
 
-ghost use Rattle.std.specs.Prelude.{◌≡◌, ◌↔◌, ℕ, ◌+◌, ◌-◌, ◌*◌, ◌^◌, ◌<◌, ◌≤◌, List, length, min, false, true, IsErrOf, IsTrue, OnErr, OnOk};
+ghost use Rattle.std.specs.Prelude.{◌≡◌, ◌≢◌, ◌↔◌, ℕ, ◌+◌, ◌-◌, ◌*◌, ◌^◌, ◌<◌, ◌≤◌, List, length, min, false, true};
+ghost use Rattle.std.specs.Prelude.{IsErrOf, IsTrue, OnErr, OnOk};
 ghost use Rattle.scrypt_kernel.specs.Count.{AreCounted, AreCountedAs, AreHashed};
 ghost use Rattle.scrypt_kernel.specs.Diagonal.{pivot};
 ghost use Rattle.scrypt_kernel.specs.Pbkdf2.{pbkdf2};
@@ -9,23 +11,28 @@ ghost use Rattle.scrypt_kernel.specs.Words.{part, words_of};
 ghost use Rattle.scrypt.specs.Accepted.{is_output_len};
 ghost use Rattle.scrypt.specs.Cost.{chunks_bytes, cost, hash_cost, pbkdf2_cost, scratch_words, table_words};
 ghost use Rattle.scrypt.specs.Key.{derived_key};
-ghost use Rattle.scrypt.specs.Stepping.{AreMixed, IsUnderWay, IsWithin, lacking, mixes_done};
+ghost use Rattle.scrypt.specs.Stepping.{AreMixable, AreMixed, IsUnderWay, IsWithin, first_b, lacking, mixes_done, words_from};
 ghost use Rattle.scrypt.specs.declared.stepping.FinishError.TheVariants.{InvalidOutputLen as BadLength, Unfinished};
 
+use crate::buffers::chunks_at_once;
+use crate::derivation::mixing::group_by;
 use crate::derivation::{derive_chunks, output_len_ok};
 use crate::{CoreCount, Mixer, Params};
-use scrypt_kernel::order::diagonal::{Diagonal, Scalars};
+use scrypt_kernel::order::diagonal::{Both, Diagonal, Scalars};
 use scrypt_kernel::pbkdf2::pbkdf2_counted;
 use scrypt_kernel::steps::{begin_chunks, end_chunks, step_chunks};
-use std::simd::u32x4;
+use std::simd::{u32x4, u32x8};
 
-/// How far a derivation in steps has come: so many of its `p` chunks are mixed, and so many of the `2 * N` block mixes of the
-/// next one are done. A block mix takes `2 * r` cores.
+/// How far a derivation in steps has come. Each of its `p` chunks takes `2 * N` block mixes, of
+/// `2 * r` cores each, and up to four are mixed at a time.
+#[repr(C)]
 #[derive(Clone, Copy, Debug, PartialEq, Eq)]
 pub struct Progress {
     /// How many chunks are mixed.
     pub chunks: usize,
-    /// How many block mixes of the next chunk are done.
+    /// How many of the next chunks are mixed now, at a time. It is 0 once all are mixed.
+    pub at_once: usize,
+    /// How many block mixes of each of these are done.
     pub mixes: usize,
 }
 
@@ -44,10 +51,13 @@ pub struct Cancelled;
 
 /// Begins a derivation in steps: step 1 (RFC 7914, section 6). No core is run yet.
 ///
-/// `chunks` has exactly the length of [`BufferLens::of`](crate::BufferLens::of) in bytes, and `table` and `scratch` at least its
-/// lengths in words. It does not matter what they hold. From here on they are for [`step`] and [`finish`] alone; a derivation that
-/// is not to be finished needs nothing but to be wiped.
-pub fn begin(
+/// `chunks` has exactly the length of [`BufferLens::of`](crate::BufferLens::of) in bytes, and
+/// `table` and `scratch` have at least its lengths in words. As many chunks are mixed at a time as
+/// have a table and a scratch there, at most four
+/// ([`BufferLens::for_tables`](crate::BufferLens::for_tables)). It does not matter what the buffers
+/// hold. From here on they are for [`step`] and [`finish`] alone; a derivation that is not to be
+/// finished needs nothing but to be wiped.
+pub fn begin<W: Mixer>(
     password: &[u8],
     salt: &[u8],
     params: &Params,
@@ -59,26 +69,26 @@ pub fn begin(
     requires chunks { length chunks.old ≡ chunks_bytes params.now.r params.now.p }
     requires table { table_words params.now.log_n params.now.r ≤ length table.old }
     requires scratch { scratch_words params.now.r ≤ length scratch.old }
-    ensures start { result ≡ record { chunks = 0; mixes = 0 } }
+    ensures start { (result.chunks ≡ 0) × (result.mixes ≡ 0) }
     ensures within { IsWithin params.now result }
+    ensures mixable { AreMixable W.most W.in_words result.at_once }
+    ensures table { result.at_once * table_words params.now.log_n params.now.r ≤ length table.old }
+    ensures scratch { result.at_once * scratch_words params.now.r ≤ length scratch.old }
     ensures under_way { IsUnderWay password.now salt.now params.now result chunks.new table.new scratch.new }
     ensures counted { AreHashed (pbkdf2_cost (length password.now) (length salt.now) (chunks_bytes params.now.r params.now.p))
         cores.old cores.new }
 {
     params.expose_invariant();
     derive_chunks(password, salt, params, chunks, cores);
-    begin_chunk(params, 0, chunks, table, scratch);
-    Progress {
-        chunks: 0,
-        mixes: 0,
-    }
+    begin_group::<W>(params, 0, chunks, table, scratch)
 }
 
-/// Goes on with a derivation: does `count` more block mixes of the next chunk, or all that it lacks, and counts their cores,
-/// `2 * r` each. Returns how far it has come then.
+/// Goes on with a derivation: does `count` more block mixes of each chunk that is mixed now, or all
+/// that they lack, and counts their cores, `2 * r` each. Returns how far it has come then.
 ///
-/// The buffers are those of [`begin`], as it or the last step left them, and `at` is what that returned. With other buffers of
-/// these lengths this is safe too, and takes as long.
+/// The buffers are those of [`begin`], as it or the last step left them, `at` is what that returned,
+/// and the mixer is the same. With other buffers of these lengths this is safe too, and takes as
+/// long.
 pub fn step<W: Mixer>(
     params: &Params,
     at: Progress,
@@ -89,49 +99,59 @@ pub fn step<W: Mixer>(
     cores: &mut CoreCount,
 ) -> Progress
     requires within { IsWithin params.now at }
+    requires mixable { AreMixable W.most W.in_words at.at_once }
     requires chunks { length chunks.old ≡ chunks_bytes params.now.r params.now.p }
-    requires table { table_words params.now.log_n params.now.r ≤ length table.old }
-    requires scratch { scratch_words params.now.r ≤ length scratch.old }
+    requires table { at.at_once * table_words params.now.log_n params.now.r ≤ length table.old }
+    requires scratch { at.at_once * scratch_words params.now.r ≤ length scratch.old }
     ensures within { IsWithin params.now result }
+    ensures mixable { AreMixable W.most W.in_words result.at_once }
+    ensures table { result.at_once * table_words params.now.log_n params.now.r ≤ length table.old }
+    ensures scratch { result.at_once * scratch_words params.now.r ≤ length scratch.old }
     ensures under_way { (password : List ℕ) → (salt : List ℕ)
         → IsUnderWay password salt params.now at chunks.old table.old scratch.old
         → IsUnderWay password salt params.now result chunks.new table.new scratch.new }
     ensures ended { at.chunks ≡ params.now.p → result ≡ at }
-    ensures exact { at.chunks < params.now.p → mixes_done params.now result
-        ≡ mixes_done params.now at + min count (lacking params.now at) }
-    ensures counted { AreCountedAs true ((mixes_done params.now result - mixes_done params.now at) * (2 * params.now.r)) cores.old cores.new }
+    ensures exact { mixes_done params.now result
+        ≡ mixes_done params.now at + at.at_once * min count (lacking params.now at) }
+    ensures counted { AreCountedAs true ((mixes_done params.now result - mixes_done params.now at) * (2 * params.now.r))
+        cores.old cores.new }
 {
     params.expose_invariant();
     if at.chunks == params.p() as usize {
         return at;
     }
-    let mixes = mix_more::<W>(params, at.mixes, count, table, scratch, cores);
+    let n = at.at_once;
+    let mixes = mix_more::<W>(params, n, at.mixes, count, table, scratch, cores);
     if mixes < 2usize << params.log_n() {
         return Progress {
             chunks: at.chunks,
+            at_once: n,
             mixes,
         };
     }
-    end_chunk(params, at.chunks, chunks, scratch);
-    let next = at.chunks + 1;
-    if next < params.p() as usize {
-        begin_chunk(params, next, chunks, table, scratch);
-    }
-    Progress {
-        chunks: next,
-        mixes: 0,
-    }
+    end_group(params, at.chunks, n, chunks, scratch);
+    begin_group::<W>(params, at.chunks + n, chunks, table, scratch)
 }
 
-/// Returns whether a derivation with these parameters can have come so far: at most `p` chunks are mixed, and of the next one
-/// fewer than `2 * N` block mixes are done, and none if there is no next one.
-pub fn is_within(params: &Params, at: Progress) -> bool
-    ensures exact { IsTrue result ↔ IsWithin params.now at }
+/// Returns whether a derivation with these parameters and this mixer can have come so far, in
+/// buffers that have room: at most `p` chunks are mixed or mixed now, and of the latter fewer than
+/// `2 * N` block mixes are done.
+pub fn is_within<W: Mixer>(params: &Params, at: Progress) -> bool
+    ensures exact { IsTrue result ↔ (IsWithin params.now at × AreMixable W.most W.in_words at.at_once) }
 {
     params.expose_invariant();
     let count = params.p() as usize;
-    at.mixes < 2usize << params.log_n()
-        && (at.chunks < count || at.chunks == count && at.mixes == 0)
+    if at.chunks > count || at.at_once > count - at.chunks || at.mixes >= 2usize << params.log_n() {
+        return false;
+    }
+    if at.at_once > W::most_at_once() || W::is_in_words() && at.at_once == 2 {
+        return false;
+    }
+    if at.chunks == count {
+        at.mixes == 0
+    } else {
+        at.at_once > 0
+    }
 }
 
 /// Returns how many cores are done, of `4 * N * r * p` in all.
@@ -140,14 +160,16 @@ pub fn cores_done(params: &Params, at: Progress) -> u128
     ensures exact { result ≡ mixes_done params.now at * (2 * params.now.r) }
 {
     params.expose_invariant();
-    let mixes = ((at.chunks as u128) << (params.log_n() + 1)) + at.mixes as u128;
+    let mixed = (at.chunks as u128) << (params.log_n() + 1);
+    let mixes = mixed + at.at_once as u128 * at.mixes as u128;
     mixes * (2 * u128::from(params.r()))
 }
 
 /// Finishes a derivation in steps: step 3, which writes the key to `output`.
 ///
-/// Returns `Unfinished` exactly if not all chunks are mixed, and otherwise `InvalidOutputLen` exactly if the length of `output` is
-/// not allowed. On an error nothing has changed. The buffers are the caller's to wipe.
+/// Returns `Unfinished` exactly if not all chunks are mixed, and otherwise `InvalidOutputLen` exactly
+/// if the length of `output` is not allowed. On an error nothing has changed. The buffers are the
+/// caller's to wipe.
 #[tactic(auto, using(crate::proofs::AcceptedFacts::most_output_len))]
 pub fn finish(
     password: &[u8],
@@ -159,12 +181,13 @@ pub fn finish(
 ) -> Result<(), FinishError>
     requires chunks { length chunks.old ≡ chunks_bytes params.now.r params.now.p }
     ensures unfinished { IsErrOf result Unfinished ↔ ¬ (at.chunks ≡ params.now.p) }
-    ensures length { IsErrOf result BadLength ↔ ((at.chunks ≡ params.now.p) × ¬ IsTrue (is_output_len (length output.old))) }
+    ensures length { IsErrOf result BadLength
+        ↔ ((at.chunks ≡ params.now.p) × ¬ IsTrue (is_output_len (length output.old))) }
     ensures value { OnOk result ((salt : List ℕ) → (table : List ℕ) → (scratch : List ℕ)
         → IsUnderWay password.now salt params.now at chunks.old table scratch
         → output.new ≡ derived_key password.now salt params.now.log_n params.now.r params.now.p (length output.old)) }
-    ensures counted { OnOk result (AreHashed (pbkdf2_cost (length password.now) (chunks_bytes params.now.r params.now.p) (length output.old))
-        cores.old cores.new) }
+    ensures counted { OnOk result (AreHashed
+        (pbkdf2_cost (length password.now) (chunks_bytes params.now.r params.now.p) (length output.old)) cores.old cores.new) }
     ensures kept { chunks.new ≡ chunks.old }
     ensures refused { OnErr result (output.new ≡ output.old) }
     ensures uncounted { OnErr result (cores.new ≡ cores.old) }
@@ -181,10 +204,12 @@ pub fn finish(
     Ok(())
 }
 
-/// Does what [`scrypt_with_buffers`](crate::scrypt_with_buffers) does in steps of `count` block mixes, and mixes one chunk at a time.
-/// After each step `go_on` is passed how many cores are done, of `4 * N * r * p` in all.
+/// Does what [`scrypt_with_buffers`](crate::scrypt_with_buffers) does, by the mixer `W`, in steps of
+/// `count` block mixes of each chunk that is mixed at a time. After each step `go_on` is passed how
+/// many cores are done, of `4 * N * r * p` in all.
 ///
-/// Returns `Cancelled` as soon as `go_on` returns `false`, and then `output` is unchanged. The buffers are the caller's to wipe.
+/// Returns `Cancelled` as soon as `go_on` returns `false`, and then `output` is unchanged. The
+/// buffers are the caller's to wipe.
 pub fn scrypt_in_steps<W: Mixer, F: FnMut(u128) -> bool>(
     password: &[u8],
     salt: &[u8],
@@ -212,7 +237,7 @@ pub fn scrypt_in_steps<W: Mixer, F: FnMut(u128) -> bool>(
     ensures refused { OnErr result (output.new ≡ output.old) }
 {
     params.expose_invariant();
-    let mut at = begin(password, salt, params, chunks, table, scratch, cores);
+    let mut at = begin::<W>(password, salt, params, chunks, table, scratch, cores);
     'steps: while at.chunks < params.p() as usize {
         at = step::<W>(params, at, count, chunks, table, scratch, cores);
         if !go_on(cores_done(params, at)) {
@@ -225,58 +250,130 @@ pub fn scrypt_in_steps<W: Mixer, F: FnMut(u128) -> bool>(
     Ok(())
 }
 
-// Does `count` more mixes of a chunk, of which `done` are done, or all that are left. Returns how many are done then.
+// Does `count` more mixes of each of `n` chunks, of which `done` are done, or all that are left.
+// Returns how many are done then.
 fn mix_more<W: Mixer>(
     params: &Params,
+    n: usize,
     done: usize,
     count: usize,
     table: &mut [u32],
     scratch: &mut [u32],
     cores: &mut CoreCount,
 ) -> usize
+    requires some { 0 < n }
+    requires few { n ≤ 4 }
+    requires mixable { AreMixable W.most W.in_words n }
     requires done { done ≤ all_mixes params.now.log_n }
-    requires table { table_words params.now.log_n params.now.r ≤ length table.old }
-    requires scratch { scratch_words params.now.r ≤ length scratch.old }
+    requires table { n * table_words params.now.log_n params.now.r ≤ length table.old }
+    requires scratch { n * scratch_words params.now.r ≤ length scratch.old }
     ensures done { result ≡ min (done + count) (all_mixes params.now.log_n) }
-    ensures mixed { (b : ℕ → List ℕ) → IsMixing pivot 1 b (32 * params.now.r) params.now.log_n done table.old scratch.old
-        → IsMixing pivot 1 b (32 * params.now.r) params.now.log_n result table.new scratch.new }
-    ensures counted { AreCountedAs true ((result - done) * (1 * (2 * params.now.r))) cores.old cores.new }
+    ensures mixed { (b : ℕ → List ℕ)
+        → IsMixing pivot n b (32 * params.now.r) params.now.log_n done table.old scratch.old
+        → IsMixing pivot n b (32 * params.now.r) params.now.log_n result table.new scratch.new }
+    ensures counted { AreCountedAs true ((result - done) * (n * (2 * params.now.r))) cores.old cores.new }
 {
     params.expose_invariant();
     let r = params.r() as usize;
-    if W::is_in_words() {
-        step_chunks::<Diagonal<Scalars>>(r, table, scratch, params.log_n(), done, count, cores)
-    } else {
-        step_chunks::<Diagonal<u32x4>>(r, table, scratch, params.log_n(), done, count, cores)
+    let log_n = params.log_n();
+    // A mixer's answers are constants, so that the compiler leaves out the groups that it never mixes.
+    match n {
+        1 if W::is_in_words() => {
+            step_chunks::<Diagonal<Scalars>>(r, table, scratch, log_n, done, count, cores)
+        }
+        1 => step_chunks::<Diagonal<u32x4>>(r, table, scratch, log_n, done, count, cores),
+        2 if !W::is_in_words() => {
+            step_chunks::<Diagonal<u32x8>>(r, table, scratch, log_n, done, count, cores)
+        }
+        3 if W::most_at_once() > 2 => {
+            step_chunks::<Diagonal<Both<u32x8, u32x4>>>(
+                r, table, scratch, log_n, done, count, cores,
+            )
+        }
+        4 if W::most_at_once() > 3 => {
+            step_chunks::<Diagonal<Both<u32x8, u32x8>>>(
+                r, table, scratch, log_n, done, count, cores,
+            )
+        }
+        _ => unreachable!(),
     }
 }
 
-// Begins chunk `i`.
-fn begin_chunk(params: &Params, i: usize, chunks: &[u8], table: &mut [u32], scratch: &mut [u32])
-    requires inside { i < params.now.p }
+// Begins the next group after the first `i` chunks: as many as one call mixes at a time, if any is
+// left.
+fn begin_group<W: Mixer>(
+    params: &Params,
+    i: usize,
+    chunks: &[u8],
+    table: &mut [u32],
+    scratch: &mut [u32],
+) -> Progress
+    requires inside { i ≤ params.now.p }
     requires chunks { length chunks.now ≡ chunks_bytes params.now.r params.now.p }
     requires table { table_words params.now.log_n params.now.r ≤ length table.old }
     requires scratch { scratch_words params.now.r ≤ length scratch.old }
-    ensures begun { (b : List ℕ) → AreMixed b params.now.log_n params.now.r i chunks.now
-        → IsMixing pivot 1 (λ _. words_of (part (128 * params.now.r) b i)) (32 * params.now.r) params.now.log_n 0 table.new scratch.new }
+    ensures start { (result.chunks ≡ i) × (result.mixes ≡ 0) }
+    ensures within { IsWithin params.now result }
+    ensures mixable { AreMixable W.most W.in_words result.at_once }
+    ensures table { result.at_once * table_words params.now.log_n params.now.r ≤ length table.old }
+    ensures scratch { result.at_once * scratch_words params.now.r ≤ length scratch.old }
+    ensures under_way { (password : List ℕ) → (salt : List ℕ)
+        → AreMixed (first_b password salt params.now) params.now.log_n params.now.r i chunks.now
+        → IsUnderWay password salt params.now result chunks.now table.new scratch.new }
 {
     params.expose_invariant();
-    let r = params.r() as usize;
-    let at = i * (128 * r);
-    begin_chunks::<Diagonal<u32x4>>(&chunks[at..at + 128 * r], r, table, scratch);
+    let count = params.p() as usize;
+    if i == count {
+        return Progress {
+            chunks: i,
+            at_once: 0,
+            mixes: 0,
+        };
+    }
+    let tables = chunks_at_once(params, count, table.len(), scratch.len());
+    let n = group_by::<W>(tables, count - i);
+    write_first_rows(params, i, n, chunks, table, scratch);
+    Progress {
+        chunks: i,
+        at_once: n,
+        mixes: 0,
+    }
 }
 
-// Ends chunk `i`.
-fn end_chunk(params: &Params, i: usize, chunks: &mut [u8], scratch: &mut [u32])
-    requires inside { i < params.now.p }
-    requires chunks { length chunks.old ≡ chunks_bytes params.now.r params.now.p }
-    requires scratch { scratch_words params.now.r ≤ length scratch.old }
-    ensures mixed { (b : List ℕ) → (table : List ℕ) → AreMixed b params.now.log_n params.now.r i chunks.old
-        → IsMixing pivot 1 (λ _. words_of (part (128 * params.now.r) b i)) (32 * params.now.r) params.now.log_n (all_mixes params.now.log_n) table scratch.old
-        → AreMixed b params.now.log_n params.now.r (i + 1) chunks.new }
+// Begins the `n` chunks after the first `i`.
+fn write_first_rows(
+    params: &Params,
+    i: usize,
+    n: usize,
+    chunks: &[u8],
+    table: &mut [u32],
+    scratch: &mut [u32],
+)
+    requires some { 0 < n }
+    requires inside { i * (128 * params.now.r) + n * (128 * params.now.r) ≤ length chunks.now }
+    requires table { n * table_words params.now.log_n params.now.r ≤ length table.old }
+    requires scratch { n * scratch_words params.now.r ≤ length scratch.old }
+    ensures begun { (b : List ℕ) → AreMixed b params.now.log_n params.now.r i chunks.now
+        → IsMixing pivot n (words_from b params.now.r i) (32 * params.now.r) params.now.log_n 0 table.new scratch.new }
 {
     params.expose_invariant();
     let r = params.r() as usize;
     let at = i * (128 * r);
-    end_chunks::<Diagonal<u32x4>>(&mut chunks[at..at + 128 * r], r, scratch);
+    begin_chunks::<Diagonal<u32x4>>(n, &chunks[at..at + n * (128 * r)], r, table, scratch);
+}
+
+// Ends the `n` chunks after the first `i`.
+fn end_group(params: &Params, i: usize, n: usize, chunks: &mut [u8], scratch: &mut [u32])
+    requires some { 0 < n }
+    requires inside { i * (128 * params.now.r) + n * (128 * params.now.r) ≤ length chunks.old }
+    requires scratch { n * scratch_words params.now.r ≤ length scratch.old }
+    ensures mixed { (b : List ℕ) → (table : List ℕ) → AreMixed b params.now.log_n params.now.r i chunks.old
+        → IsMixing pivot n (words_from b params.now.r i) (32 * params.now.r) params.now.log_n
+        (all_mixes params.now.log_n) table scratch.old
+        → AreMixed b params.now.log_n params.now.r (i + n) chunks.new }
+{
+    params.expose_invariant();
+    let r = params.r() as usize;
+    let at = i * (128 * r);
+    end_chunks::<Diagonal<u32x4>>(n, &mut chunks[at..at + n * (128 * r)], r, scratch);
 }

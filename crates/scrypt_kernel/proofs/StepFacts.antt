@@ -1,5 +1,5 @@
 -- Facts on scryptROMix in steps.
-use Rattle.std.proofs.Common.{◌≡◌, ℕ, suc, ◌<◌, ◌≤◌, ◌+◌, ◌-◌, ◌*◌, ◌%◌, ◌^◌, List, ◌++◌, length, take, sym, ap, ◌∙◌, inl, inr, arith}
+use Rattle.std.proofs.Common.{◌≡◌, ℕ, zero, suc, ◌<◌, ◌≤◌, ◌+◌, ◌-◌, ◌*◌, ◌%◌, ◌^◌, List, ◌++◌, length, take, sym, ap, ◌∙◌, inl, inr, arith}
 use Rattle.std.proofs.lemmas.Bool.{cases_lt}
 use Rattle.std.proofs.lemmas.List.{length-take-le}
 use Rattle.std.proofs.lemmas.Nat.{pow_pos}
@@ -11,6 +11,11 @@ use Rattle.scrypt_kernel.specs.KeptRows.{AddsRow, IsInWalk, mixed_in, place}
 use Rattle.scrypt_kernel.specs.Steps.{IsMixing, all_mixes}
 use Rattle.scrypt_kernel.proofs.PartFacts.{length-part, part-take, part_append_front, part_inside, parts_apart}
 use Rattle.scrypt_kernel.proofs.RoMixFacts.{part_of_row, place_inside, row_after_in}
+
+-- there is room for one of several
+pub one_of_several : (n t l : ℕ) → 0 < n → n * t ≤ l → t ≤ l
+one_of_several zero t l some room = absurd (omega arith)
+one_of_several (suc n) t l some room = omega arith
 
 -- there is room for one more row
 pub one_more_row_fits : (m rows row total : ℕ) → m + 1 < rows → total ≡ rows * row → (m + 1) * row + row ≤ total

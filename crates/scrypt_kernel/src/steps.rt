@@ -1,7 +1,8 @@
-//! scryptROMix (RFC 7914, section 5) in steps, in the caller's buffers: it can stop after any number of mixes, and go on later.
+//! scryptROMix (RFC 7914, section 5) in steps, in the caller's buffers: it can stop after any number
+//! of mixes, and go on later.
 //!
-//! Each block mix of each chunk is one *mix*: the `N` of step 2, and then the `N` of step 3. What is between two steps is all
-//! in the table and in the scratch, and in how many mixes are done.
+//! Each block mix of each chunk is one *mix*: the `N` of step 2, and then the `N` of step 3. What is
+//! between two steps is all in the table and in the scratch, and in how many mixes are done.
 
 ghost use Rattle.std.specs.Prelude.{◌≡◌, ℕ, ◌+◌, ◌-◌, ◌*◌, ◌/◌, ◌%◌, ◌^◌, ◌<◌, ◌≤◌, List, length, max, min};
 ghost use Rattle.scrypt_kernel.specs.Words.{bytes_of, part, words_of};
@@ -18,17 +19,25 @@ use crate::table::recompute;
 use crate::walk::take_steps;
 use crate::words::{part, read_words, write_words};
 
-/// Begins the scryptROMix of the chunks of `b`, with words in the order `O`, which has a block for each: no mix is done yet.
+/// Begins the scryptROMix of the `n` chunks of `b`, with words in the order `O`: no mix is done yet.
 ///
-/// `b` has `128 * r` bytes for each chunk, `table` at least `32 * r` words, and `scratch` at least `32 * r` words.
-pub fn begin_chunks<O: OrderedBlocks>(b: &[u8], r: usize, table: &mut [u32], scratch: &mut [u32])
+/// For each chunk `b` has `128 * r` bytes, and `table` and `scratch` have room for `32 * r` words.
+pub fn begin_chunks<O: OrderedBlocks>(
+    n: usize,
+    b: &[u8],
+    r: usize,
+    table: &mut [u32],
+    scratch: &mut [u32],
+)
+    requires several { 0 < n }
     requires some { 0 < r }
-    requires chunks { length b.now ≡ O.count * (128 * r) }
-    requires room { O.count * (32 * r) ≤ length table.old }
-    requires scratch { O.count * (32 * r) ≤ length scratch.old }
-    ensures begun { (log_n : ℕ) → IsMixing O.pivot O.count (chunk_words r b.now) (32 * r) log_n 0 table.new scratch.new }
+    requires chunks { length b.now ≡ n * (128 * r) }
+    requires room { n * (32 * r) ≤ length table.old }
+    requires scratch { n * (32 * r) ≤ length scratch.old }
+    ensures begun { (log_n : ℕ)
+        → IsMixing O.pivot n (chunk_words r b.now) (32 * r) log_n 0 table.new scratch.new }
 {
-    let row_len = O::count() * (32 * r);
+    let row_len = n * (32 * r);
     let x = &mut scratch[..row_len];
     // Step 1: X = B.
     read_words(b, x);
@@ -36,8 +45,8 @@ pub fn begin_chunks<O: OrderedBlocks>(b: &[u8], r: usize, table: &mut [u32], scr
     table[..row_len].copy_from_slice(x);
 }
 
-/// Does `count` more mixes of each chunk after the first `done`, or all that are left, and counts their cores, `2 * r` each.
-/// Returns how many are done then.
+/// Does `count` more mixes of each chunk after the first `done`, or all that are left, and counts
+/// their cores, `2 * r` each. `O` has a block for each chunk. Returns how many mixes are done then.
 ///
 /// For each chunk `table` has room for `32 * r * N` words, and `scratch` for `64 * r`. `log_n` is at most 56.
 pub fn step_chunks<O: OrderedBlocks>(
@@ -165,15 +174,18 @@ fn walk_on<O: OrderedBlocks>(
     take_steps::<O>(x, table, next, &mut [], len, log_n, 0, end - done, cores);
 }
 
-/// Ends the scryptROMix of the chunks: writes them to `b`, in the place of those that it began with.
-pub fn end_chunks<O: OrderedBlocks>(b: &mut [u8], r: usize, scratch: &mut [u32])
+/// Ends the scryptROMix of the `n` chunks: writes them to `b`, in the place of those that it began
+/// with.
+pub fn end_chunks<O: OrderedBlocks>(n: usize, b: &mut [u8], r: usize, scratch: &mut [u32])
+    requires several { 0 < n }
     requires some { 0 < r }
-    requires chunks { length b.old ≡ O.count * (128 * r) }
-    requires scratch { O.count * (32 * r) ≤ length scratch.old }
-    ensures value { (b' : ℕ → List ℕ) → (log_n : ℕ) → (table : List ℕ) → IsMixing O.pivot O.count b' (32 * r) log_n (all_mixes log_n) table scratch.old
-        → (k : ℕ) → k < O.count → part (128 * r) b.new k ≡ bytes_of (ro_mix (b' k) log_n) }
+    requires chunks { length b.old ≡ n * (128 * r) }
+    requires scratch { n * (32 * r) ≤ length scratch.old }
+    ensures value { (b' : ℕ → List ℕ) → (log_n : ℕ) → (table : List ℕ)
+        → IsMixing O.pivot n b' (32 * r) log_n (all_mixes log_n) table scratch.old
+        → (k : ℕ) → k < n → part (128 * r) b.new k ≡ bytes_of (ro_mix (b' k) log_n) }
 {
-    let x = &mut scratch[..O::count() * (32 * r)];
+    let x = &mut scratch[..n * (32 * r)];
     // Step 4: B' = X.
     O::shuffle_out(x);
     write_words(x, b);

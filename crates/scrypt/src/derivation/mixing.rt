@@ -40,9 +40,9 @@ pub(crate) fn mix_all<M: TableMemory, W: Mixer>(
     }
 }
 
-// Returns how many of the chunks that are left are mixed next by `W`, where there are so many tables.
+/// Returns how many of the chunks that are left are mixed next by `W`, where there are so many tables.
 #[tactic(auto, unfolding(crate::specs::Mixing::group_by))]
-fn group_by<W: Mixer>(tables: usize, left: usize) -> usize
+pub(crate) fn group_by<W: Mixer>(tables: usize, left: usize) -> usize
     requires some { 0 < tables }
     requires left { 0 < left }
     ensures some { 0 < result }

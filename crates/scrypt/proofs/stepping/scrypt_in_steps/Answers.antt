@@ -1,18 +1,31 @@
-use Rattle.std.proofs.Common.{◌≡◌, ◌≤◌, ◌<◌, ◌*◌, arith, refl}
+use Rattle.std.proofs.Common.{◌≡◌, ◌≤◌, ◌<◌, ◌*◌, min, arith, refl}
 use denote.Param.Always.{mut_next}
 use Rattle.scrypt_kernel.proofs.CountFacts.{counted_between, counted_both}
-use Rattle.scrypt.specs.Stepping.{mixes_done}
-use Rattle.scrypt.proofs.SteppingFacts.{all_mixes_cost, times_so_far}
+use Rattle.scrypt_kernel.specs.Steps.{all_mixes}
+use Rattle.scrypt.specs.Stepping.{lacking, mixes_done}
+use Rattle.scrypt.proofs.SteppingFacts.{all_mixes_cost, mixes_left, mixes_more, times_so_far}
 use Rattle.scrypt.proofs.stepping.scrypt_in_steps.Goals as goal
+
+pub steps-smaller : goal.steps-smaller
+steps-smaller g c =
+    let params = c.args.params.now in
+    let at = c.steps.at in
+    let within = c.steps.invariant.within in
+    let more : at.chunks < params.p = omega (arith, c.steps-test.true, c.p.ensures.value) in
+    let left = mixes_left at.chunks at.at_once at.mixes (all_mixes params.log_n) params.p within.chunks (within.some more) within.mixes in
+    let onward = mixes_more at.at_once (min c.args.count (lacking params at)) (within.some more) (omega (arith, c.requires.some, within.mixes)) in
+    omega (arith, left, onward, c.step-at.ensures.exact)
 
 pub steps-preserved : goal.steps-preserved
 steps-preserved g c =
     let params = c.args.params.now in
-    let more : c.steps.at.chunks < params.p = omega (arith, c.steps-test.true, c.p.ensures.value) in
-    let onward : mixes_done params c.steps.at ≤ mixes_done params c.step-at.result = omega (arith, c.step-at.ensures.exact more) in
+    let onward : mixes_done params c.steps.at ≤ mixes_done params c.step-at.result = omega (arith, c.step-at.ensures.exact) in
     record {
       callable = mut_next g.F.FnMut _ _ _ _ _ c.go_on.ensures refl c.steps.invariant.callable;
       within = c.step-at.ensures.within;
+      mixable = c.step-at.ensures.mixable;
+      table = omega (arith, c.step-at.ensures.table);
+      scratch = omega (arith, c.step-at.ensures.scratch);
       under_way = c.step-at.ensures.under_way _ _ c.steps.invariant.under_way;
       counted = counted_both _ c.steps.invariant.counted c.step-at.ensures.counted
           (times_so_far (mixes_done params c.steps.at) (mixes_done params c.step-at.result) (2 * params.r) onward);
@@ -25,5 +38,5 @@ pub returns-clause-counted : goal.returns-clause-counted
 returns-clause-counted g c =
     let params = c.args.params.now in
     let all : c.steps.at.chunks ≡ params.p = omega (arith, c.steps-test.false, c.p.ensures.value, c.steps.invariant.within.chunks) in
-    rw (all_mixes_cost params.log_n params.r params.p c.steps.at.chunks c.steps.at.mixes all (c.steps.invariant.within.ended all))
+    rw (all_mixes_cost params.log_n params.r params.p c.steps.at.chunks c.steps.at.at_once c.steps.at.mixes all (c.steps.invariant.within.ended all))
     at (counted_between c.begin-at.ensures.counted c.steps.invariant.counted c.in-Ok.ensures.counted)

@@ -1,13 +1,17 @@
-use Rattle.std.proofs.Common.{◌*◌, ◌-◌, true}
+use Rattle.std.proofs.Common.{◌*◌, ◌-◌, ◌≤◌, length, true}
 use Rattle.scrypt_kernel.specs.Count.{AreCountedAs}
 use Rattle.scrypt_kernel.specs.Steps.{all_mixes}
-use Rattle.scrypt.specs.Stepping.{IsUnderWay, IsWithin, mixes_done}
+use Rattle.scrypt.specs.Cost.{scratch_words, table_words}
+use Rattle.scrypt.specs.Stepping.{AreMixable, IsUnderWay, IsWithin, mixes_done}
 use Rattle.scrypt.proofs.stepping.scrypt_in_steps.Given as goal
 
 abbrev pub invariant-steps : goal.invariant-steps
 invariant-steps g l = record {
   callable : goal.F-IsAlwaysCallable g l.go_on;
   within : IsWithin l.params l.at;
+  mixable : AreMixable g.W.Mixer.most g.W.Mixer.in_words l.at.at_once;
+  table : l.at.at_once * table_words l.params.log_n l.params.r ≤ length l.table;
+  scratch : l.at.at_once * scratch_words l.params.r ≤ length l.scratch;
   under_way : IsUnderWay l.password l.salt l.params l.at l.chunks l.table l.scratch;
   counted : AreCountedAs true (mixes_done l.params l.at * (2 * l.params.r)) l.initial.cores l.cores;
 }

@@ -1,27 +1,55 @@
-use Rattle.std.proofs.Common.{◌≡◌, ◌<◌, ◌*◌, ℕ, List, arith}
-use Rattle.scrypt_kernel.specs.Words.{part, words_of}
+use Rattle.std.proofs.Common.{◌≡◌, ◌<◌, ◌+◌, ◌-◌, ◌*◌, ℕ, List, min, arith}
 use Rattle.scrypt_kernel.specs.Steps.{all_mixes}
-use Rattle.scrypt.specs.Stepping.{first_b}
-use Rattle.scrypt.proofs.SteppingFacts.{all_done}
+use Rattle.scrypt.specs.Stepping.{first_b, lacking, mixes_done, words_from}
+use Rattle.scrypt.proofs.SteppingFacts.{all_done, chunks_inside, cores_of_step, more_mixes}
 use Rattle.scrypt.proofs.stepping.step.Goals as goal
 
-pub returns-then-next-p-clause-under_way : goal.returns-then-next-p-clause-under_way
-returns-then-next-p-clause-under_way g c password salt at =
+pub end_group-requires-clause-inside : goal.end_group-requires-clause-inside
+end_group-requires-clause-inside g c =
     let params = c.args.params.now in
-    let b : List ℕ = first_b password salt params in
-    let more : c.args.at.chunks < params.p = omega arith in
-    let all : c.mix_more-mixes.result ≡ all_mixes params.log_n =
-    all_done params.log_n c.mix_more-mixes.result _ _ (omega (arith, c.log_n.ensures)) (rw c.log_n.ensures.value at c.if-mixes-log_n.false) c.mix_more-mixes.ensures.done in
-    let mixed = rw all at (c.mix_more-mixes.ensures.mixed (λ _. words_of (part (128 * params.r) b c.args.at.chunks)) (at.next more)) in
-    let ended = c.end_chunk.ensures.mixed b _ at.mixed mixed in
-    record { mixed = ended; next = λ _. c.begin_chunk.ensures.begun b ended }
+    chunks_inside c.args.at.chunks c.args.at.at_once params.p (128 * params.r) _ c.requires.within.chunks c.requires.chunks
 
-pub returns-else-next-p-clause-under_way : goal.returns-else-next-p-clause-under_way
-returns-else-next-p-clause-under_way g c password salt at =
+pub returns-clause-under_way : goal.returns-clause-under_way
+returns-clause-under_way g c password salt at =
     let params = c.args.params.now in
     let b : List ℕ = first_b password salt params in
-    let more : c.args.at.chunks < params.p = omega arith in
     let all : c.mix_more-mixes.result ≡ all_mixes params.log_n =
     all_done params.log_n c.mix_more-mixes.result _ _ (omega (arith, c.log_n.ensures)) (rw c.log_n.ensures.value at c.if-mixes-log_n.false) c.mix_more-mixes.ensures.done in
-    let mixed = rw all at (c.mix_more-mixes.ensures.mixed (λ _. words_of (part (128 * params.r) b c.args.at.chunks)) (at.next more)) in
-    record { mixed = c.end_chunk.ensures.mixed b _ at.mixed mixed; next = λ left. absurd (omega (arith, left)) }
+    let mixed = rw all at (c.mix_more-mixes.ensures.mixed (words_from b params.r c.args.at.chunks) at.next) in
+    c.begin_group.ensures.under_way password salt (c.end_group.ensures.mixed b _ at.mixed mixed)
+
+-- what a step within a chunk adds
+pub returns-then-mixes-log_n-clause-exact : goal.returns-then-mixes-log_n-clause-exact
+returns-then-mixes-log_n-clause-exact g c =
+    let params = c.args.params.now in
+    omega (
+      arith,
+      more_mixes c.args.at.at_once c.args.at.mixes c.args.count (all_mixes params.log_n) c.mix_more-mixes.result
+          c.requires.within.mixes c.mix_more-mixes.ensures.done,
+    )
+
+pub returns-then-mixes-log_n-clause-counted : goal.returns-then-mixes-log_n-clause-counted
+returns-then-mixes-log_n-clause-counted g c =
+    let params = c.args.params.now in
+    let some : c.mix_more-mixes.result - c.args.at.mixes ≡ min c.args.count (lacking params c.args.at) = omega (arith, c.mix_more-mixes.ensures.done, c.requires.within.mixes) in
+    rw (cores_of_step (mixes_done params c.args.at) (mixes_done params (record c.args.at { mixes = c.mix_more-mixes.result })) c.args.at.at_once _ _ (2 * params.r)
+    (returns-then-mixes-log_n-clause-exact g c) some) at c.mix_more-mixes.ensures.counted
+
+pub returns-clause-exact : goal.returns-clause-exact
+returns-clause-exact g c =
+    let params = c.args.params.now in
+    let all : c.mix_more-mixes.result ≡ all_mixes params.log_n =
+    all_done params.log_n c.mix_more-mixes.result _ _ (omega (arith, c.log_n.ensures)) (rw c.log_n.ensures.value at c.if-mixes-log_n.false) c.mix_more-mixes.ensures.done in
+    rw (c.begin_group.ensures.start.0, c.begin_group.ensures.start.1)
+    (omega (
+      arith,
+      rw all at (more_mixes c.args.at.at_once c.args.at.mixes c.args.count (all_mixes params.log_n) c.mix_more-mixes.result
+          c.requires.within.mixes c.mix_more-mixes.ensures.done),
+    ))
+
+pub returns-clause-counted : goal.returns-clause-counted
+returns-clause-counted g c =
+    let params = c.args.params.now in
+    let some : c.mix_more-mixes.result - c.args.at.mixes ≡ min c.args.count (lacking params c.args.at) = omega (arith, c.mix_more-mixes.ensures.done, c.requires.within.mixes) in
+    rw (cores_of_step (mixes_done params c.args.at) (mixes_done params c.begin_group.result) c.args.at.at_once _ _ (2 * params.r)
+    (returns-clause-exact g c) some) at c.mix_more-mixes.ensures.counted

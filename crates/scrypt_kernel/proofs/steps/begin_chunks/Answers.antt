@@ -3,17 +3,20 @@ use Rattle.std.proofs.lemmas.List.{length-take-le}
 use Rattle.scrypt_kernel.specs.Words.{part}
 use Rattle.scrypt_kernel.proofs.PartFacts.{part_append_front, part_inside}
 use Rattle.scrypt_kernel.proofs.ChunkFacts.{chunk_in}
-use Rattle.scrypt_kernel.proofs.StepFacts.{no_mix_yet}
+use Rattle.scrypt_kernel.proofs.StepFacts.{no_mix_yet, one_of_several}
 use Rattle.scrypt_kernel.proofs.steps.begin_chunks.Goals as goal
+
+pub overflow_mul-row_len : goal.overflow_mul-row_len
+overflow_mul-row_len g c =
+    omega (arith, one_of_several c.args.n (32 * c.args.r) _ c.requires.several c.requires.scratch, c.type_inv.scratch)
 
 pub returns : goal.returns
 returns g c = record {
   begun = λ log_n. no_mix_yet log_n (λ k below.
-      let n = g.O.OrderedBlocks.count in
+      let n = c.args.n in
       let r = c.args.r in
-      let used : c.count.result * (32 * r) ≡ n * (32 * r) = ap (λ n. n * (32 * r)) c.count.ensures.value in
       let long : length c.copy_from_slice.new.self ≡ n * (32 * r) =
-      c.copy_from_slice.ensures.len ∙ length-take-le _ c.args.table.now (omega (arith, used, c.requires.room)) ∙ used in
+      c.copy_from_slice.ensures.len ∙ length-take-le _ c.args.table.now c.requires.room in
       part_append_front (32 * r) k c.copy_from_slice.new.self _ (part_inside (32 * r) k n _ below (omega (arith, long)))
       ∙ ap (λ z. part (32 * r) z k) c.copy_from_slice.ensures.after
       ∙ chunk_in g.O.OrderedBlocks.pivot g.O.OrderedBlocks.inverse_pivot g.met.O.OrderedBlocks.inverse n r k log_n c.args.b.now c.shuffle_in.new.x below

@@ -3,18 +3,21 @@ use Rattle.std.proofs.lemmas.List.{length-take-le}
 use Rattle.scrypt_kernel.specs.Words.{bytes_of}
 use Rattle.scrypt_kernel.proofs.PartFacts.{part-take, part_inside}
 use Rattle.scrypt_kernel.proofs.ChunkFacts.{chunk_out}
-use Rattle.scrypt_kernel.proofs.StepFacts.{all_mixed}
+use Rattle.scrypt_kernel.proofs.StepFacts.{all_mixed, one_of_several}
 use Rattle.scrypt_kernel.proofs.steps.end_chunks.Goals as goal
+
+pub overflow_mul-x : goal.overflow_mul-x
+overflow_mul-x g c =
+    omega (arith, one_of_several c.args.n (32 * c.args.r) _ c.requires.several c.requires.scratch, c.type_inv.scratch)
 
 pub returns : goal.returns
 returns g c = record {
   value = λ b log_n table at k below.
-      let n = g.O.OrderedBlocks.count in
+      let n = c.args.n in
       let r = c.args.r in
-      let used : c.count.result * (32 * r) ≡ n * (32 * r) = ap (λ n. n * (32 * r)) c.count.ensures.value in
-      let front = take (c.count.result * (32 * r)) c.args.scratch.now in
+      let front = take (n * (32 * r)) c.args.scratch.now in
       chunk_out g.O.OrderedBlocks.pivot g.O.OrderedBlocks.inverse_pivot g.met.O.OrderedBlocks.inverse n r k front _ _ below
-      (length-take-le _ c.args.scratch.now (omega (arith, used, c.requires.scratch)) ∙ used)
+      (length-take-le _ c.args.scratch.now c.requires.scratch)
       (c.write_words.ensures ∙ ap (λ x. bytes_of x) c.shuffle_out.ensures.value)
-      (part-take (32 * r) k _ c.args.scratch.now (part_inside (32 * r) k n _ below (omega (arith, used))) ∙ all_mixed at k below);
+      (part-take (32 * r) k _ c.args.scratch.now (part_inside (32 * r) k n _ below (omega arith)) ∙ all_mixed at k below);
 }
