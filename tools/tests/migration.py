@@ -4,9 +4,9 @@
 usage: python3 -m tools.tests.migration PROGRAM [--seed N]
 
 Each part draws passwords, lets another program hash them, converts the hashes by the functions of
-Python's scrypt_c.migration (those of Go and Node by their packages), and lets PROGRAM verify each with its password
-and with another one. What one of both refuses is tried too. The library is that of build/lib. What
-is not installed is named; the status is 1 if something differs.
+Python's scrypt_c.migration (those of Go and Node by their packages), and lets PROGRAM verify each
+with its password and with another one. What one of both refuses is tried too. The library is that
+of build/lib. What is not installed is named; the status is 1 if something differs.
 """
 
 import argparse
