@@ -5,8 +5,8 @@ MAX_LOG_INS = 40  # at a time, in fewer threads than the server has; others are 
 
 
 class Scrypt(FalseIfRefused, PHCPasswordHasher):
-    """scrypt with the recommended parameters. A stored hash that is damaged or too costly is a wrong
-    password; the logger scrypt_c.django has the reason."""
+    """scrypt with the recommended parameters. No password matches a stored hash that is damaged or
+    too costly, after the usual time; the logger scrypt_c.django has the reason."""
 
     hasher = PasswordHasher(timeout=10)
 
