@@ -7,21 +7,28 @@ const LETTERS = './0123456789ABCDEFGHIJKLMNOPQRSTUVWXYZabcdefghijklmnopqrstuvwxy
 const base64 = (bytes) => btoa(String.fromCharCode(...bytes)).replaceAll('=', '');
 
 // A number in letters of crypt(3), the least first.
-const digits = (value, count) => Array.from({ length: count }, (_, i) => LETTERS[Math.floor(value / 64 ** i) % 64]).join('');
+const digits = (value, count) =>
+  Array.from({ length: count }, (_, i) => LETTERS[Math.floor(value / 64 ** i) % 64]).join('');
 
-function phcText(salt, key, [logN, r, p]) {
-  return `$scrypt$ln=${logN},r=${r},p=${p}$${base64(salt)}$${base64(key)}`;
-}
-
-function mcfText(salt, key, [logN, r, p]) {
-  const letters = new TextDecoder().decode(salt);
-  if (letters.includes('$') || letters.includes('\ufffd')) throw new ScryptError('SALT_INVALID', 'neither format can store this salt');
-  let text = `$7$${digits(logN, 1)}${digits(r, 5)}${digits(p, 5)}${letters}$`;
-  for (let at = 0; at < key.length; at += 3) {
-    const part = key.subarray(at, at + 3);
+/** Bytes in letters of crypt(3). */
+export function letters(bytes) {
+  let text = '';
+  for (let at = 0; at < bytes.length; at += 3) {
+    const part = bytes.subarray(at, at + 3);
     text += digits(part.reduce((sum, byte, i) => sum + byte * 256 ** i, 0), part.length + 1);
   }
   return text;
+}
+
+export const phcText = (salt, key, [logN, r, p]) =>
+  `$scrypt$ln=${logN},r=${r},p=${p}$${base64(salt)}$${base64(key)}`;
+
+export function mcfText(salt, key, [logN, r, p]) {
+  const text = new TextDecoder().decode(salt);
+  if (text.includes('$') || text.includes('\ufffd')) {
+    throw new ScryptError('SALT_INVALID', 'neither format can store this salt');
+  }
+  return `$7$${digits(logN, 1)}${digits(r, 5)}${digits(p, 5)}${text}$${letters(key)}`;
 }
 
 /**

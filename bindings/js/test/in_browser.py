@@ -1,8 +1,8 @@
 #!/usr/bin/env python3
-"""Runs checks.js in a headless Chromium, by its driver, or in another browser, which a command opens.
+"""Runs checks.js in a browser, with random keys and hashes of node:crypto.
 
-usage: in_browser.py CASES
-       in_browser.py CASES -- COMMAND..     followed by the address, as firefox-esr --headless --profile FOLDER
+usage: in_browser.py                a headless Chromium, by its driver
+       in_browser.py COMMAND..      followed by the address, as firefox-esr --headless --profile FOLDER
 
 ONE_SCRIPT is a page with all in one script, which Chromium opens from the disk if it is there.
 """
@@ -25,7 +25,7 @@ SECONDS = 240
 PAGE = "/bindings/js/test/page.html"
 
 # As strict as it can be for a page that uses the package.
-POLICY = "default-src 'none'; script-src 'self' 'wasm-unsafe-eval'; worker-src 'self'; connect-src 'self'; style-src 'self'"
+POLICY = "default-src 'none'; script-src 'self' 'wasm-unsafe-eval'; worker-src 'self'; connect-src 'self'"
 
 
 class Handler(http.server.SimpleHTTPRequestHandler):
@@ -105,13 +105,11 @@ def in_chromium(at):
         chromium.close()
 
 
-def main(cases, *options):
-    Handler.cases = Path(cases).read_bytes()
+def main(*command):
+    keys = Path(__file__).with_name("keys.js")
+    Handler.cases = subprocess.run(["node", keys], check=True, stdout=subprocess.PIPE).stdout
     at = serve()
-    if options[:1] == ("--",):
-        is_well = all_passed(in_another(options[1:], f"{at}{PAGE}"))
-    else:
-        is_well = in_chromium(at)
+    is_well = all_passed(in_another(command, f"{at}{PAGE}")) if command else in_chromium(at)
     sys.exit(not is_well)
 
 

@@ -1,11 +1,18 @@
 // Runs the checks in a page, and sends what they say to the server.
 import { checks } from './checks.js';
 
-const cases = await (await fetch('/cases.json')).json();
-const wide = await (await fetch('/build/wasm/scrypt64.wasm')).arrayBuffer();
+const got = async (path) => {
+  const response = await fetch(path);
+  if (!response.ok) throw new Error(path);
+  return response;
+};
+const [cases, lines, wide] = await Promise.all([
+  got('/cases.json').then((it) => it.json()), got('/bindings/cases.tsv').then((it) => it.text()),
+  got('/build/wasm/scrypt64.wasm').then((it) => it.arrayBuffer()),
+]);
 const said = [navigator.userAgent];
 let failed = 0;
-for (const [name, check] of Object.entries(checks(cases, wide))) {
+for (const [name, check] of Object.entries(checks(cases, lines, wide))) {
   const begun = performance.now();
   try {
     await check();

@@ -20,43 +20,61 @@ export async function refused(code, work, what = `${work}`, reason = '') {
   equal(found, code, what);
 }
 
-export const works = async (api) => equal(hex(await api.scrypt('', '', { N: 16, r: 1, p: 1, dkLen: 4 })), '77d65762', 'the next call');
+export const works = async (api) =>
+  equal(hex(await api.scrypt('', '', { N: 16, r: 1, p: 1, dkLen: 4 })), '77d65762', 'the next call');
+
+/** What bindings/cases.tsv says of verifications. */
+export async function verifies(api, lines, after = () => {}) {
+  for (const line of lines.trimEnd().split('\n').slice(1)) {
+    const [status, password, text] = line.split('\t');
+    const answer = Promise.resolve().then(() => api.verify(password, text.replace('\\0', '\0')));
+    equal(await answer.then((is) => (is ? 'OK' : 'MISMATCH'), ({ code }) => code), status, text.slice(0, 60));
+    after();
+  }
+}
 
 // In the caller's stead, since a page or Node has its own.
 export async function instead(object, name, value, work) {
   const own = Object.getOwnPropertyDescriptor(object, name);
   Object.defineProperty(object, name, { value, configurable: true, writable: true });
   try {
-    await work();
+    return await work();
   } finally {
     if (own) Object.defineProperty(object, name, own);
     else delete object[name];
   }
 }
 
+/** With a clock by which each step takes another time, so that the next one has another size. */
+export function inRandomSteps(work) {
+  let now = 0;
+  return instead(performance, 'now', () => { now += 2 ** (10 * Math.random() - 3); return now; }, work);
+}
+
 // The calls on a module, whose memory can be read, and can be kept from growing above `most` bytes.
 export async function opened(module) {
-  const it = { most: Infinity, made: 0 };
+  const it = { most: Infinity };
   const exported = ({ exports }) => {
     const { memory } = exports;
-    [it.memory, it.base, it.made] = [memory, Number(exports.__heap_base.value), it.made + 1];
+    [it.memory, it.base] = [memory, Number(exports.__heap_base.value)];
     const grow = (pages) => {
       if (memory.buffer.byteLength + pages * 65536 > it.most) throw new RangeError('no memory');
-      return it.wide ? memory.grow(BigInt(pages)) : memory.grow(pages);
+      return it.isWide ? memory.grow(BigInt(pages)) : memory.grow(pages);
     };
     return { ...exports, memory: { get buffer() { return memory.buffer; }, grow } };
   };
-  it.own = new Scrypt(exported(await WebAssembly.instantiate(module)), () => exported(new WebAssembly.Instance(module)));
-  const data = new Uint8Array(it.memory.buffer).slice(2 ** 20, it.base);
+  const another = () => exported(new WebAssembly.Instance(module));
+  it.own = new Scrypt(exported(await WebAssembly.instantiate(module)), another);
+  const data = hex(new Uint8Array(it.memory.buffer).slice(2 ** 20, it.base));
   try {
     it.memory.grow(0);
   } catch {
-    it.wide = true; // engines in which the size of a 64-bit memory is a BigInt
+    it.isWide = true; // engines in which the size of a 64-bit memory is a BigInt
   }
   // Whether all but the module's own data, which are above its stack, is zeros.
   it.isWiped = () => {
     const { memory: { buffer }, base } = it;
-    equal(hex(new Uint8Array(buffer).subarray(2 ** 20, base)), hex(data), 'data');
+    equal(hex(new Uint8Array(buffer).subarray(2 ** 20, base)), data, 'data');
     const words = new Uint32Array(buffer);
     for (let at = 0; at < words.length; at++) {
       if (words[at] !== 0 && (at < 2 ** 18 || at > base / 4)) throw new Error(`${words[at]} is at ${4 * at}`);

@@ -1,5 +1,6 @@
 #!/bin/sh
-# Tests the package in Node and in Chromium, against hashlib, and its types. Prints which package is not installed.
+# Tests the package in Node and in Chromium, beside node:crypto; its types; and the bundles of README. Prints which package is not
+# installed.
 set -eu
 unset CDPATH
 cd "$(dirname "$0")"
@@ -22,34 +23,36 @@ in_node() {
   export MEMORY64
   module bindings.js.test.test_lower
   # shellcheck disable=SC2086 # one word or none
-  CASES=$room/cases.json MODULE64=../../../build/wasm/scrypt64.wasm node $MEMORY64 --test node.test.js > "$room/log" ||
-    { cat "$room/log"; exit 1; }
+  node $MEMORY64 --test node.test.js > "$room/log" || { cat "$room/log"; exit 1; }
   grep -E '^# (pass|fail) ' "$room/log"
+  node keys.js 300 steps
 }
 
-# The lines of README, in a folder that has the package as npm installs it, and what they make without that. in_browser.py opens the
-# page with all in one script.
+# The lines of README, in a folder that has what is packed, and what they make without that. in_browser.py opens the page with all
+# in one script.
 by_esbuild() {
   app=$room/app
   mkdir -p "$app/node_modules/scrypt-proved"
-  cp ../package.json ../*.js ../scrypt.wasm "$app/node_modules/scrypt-proved"
+  files=$(node -p 'JSON.parse(fs.readFileSync("../package.json")).files.join(" ")')
+  for file in package.json $files; do
+    case $file in NOTICES | PROVED.txt) ;; *) cp "../$file" "$app/node_modules/scrypt-proved" ;; esac
+  done
   sed -n '/^```sh$/,/^```$/{/^```/d; p}' ../README.md > "$app/lines"
   sed -n '/^```javascript$/,/^```$/{/^```/d; p}' ../README.md > "$app/page.js"
   echo '<!doctype html><script src="dist/page.js"></script>' > "$app/page.html"
   echo '{ "type": "module" }' > "$app/package.json"
   echo "import { hash, verify } from 'scrypt-proved'; console.log(await verify('a', await hash('a', { N: 2 })))" > "$app/login.js"
   (cd "$app" && sh -eu lines 2> log) || { cat "$app/log"; exit 1; }
+  [ "$(node "$app/login.js")" = true ]
   rm -r "$app/node_modules"
   [ "$(node "$app/dist/login.js")" = true ]
   echo "bundled by esbuild"
 }
 
-python3 -B cases.py > "$room/cases.json"
-if has "nodejs, from 20.16 on" node -e 'process.getBuiltinModule("node:fs")'; then
-  in_node
-  if has esbuild esbuild --version; then by_esbuild; fi
-fi
+has "nodejs, from 20.16 on" node -e 'process.getBuiltinModule("node:fs")' || exit 0
+in_node
+if has esbuild esbuild --version; then by_esbuild; fi
 if has node-typescript tsc --version; then tsc --project tsconfig.json; fi
-if has chromium-driver chromedriver --version && has chromium chromium --version &&
-  has python3-selenium sh -c 'cd ../../.. && python3 -B -c "from tools import browser; assert browser.webdriver"'
-then ONE_SCRIPT=$room/app/page.html module bindings.js.test.in_browser "$room/cases.json"; fi
+if has "chromium-driver, chromium or python3-selenium" \
+  sh -c 'chromedriver --version && chromium --version && cd ../../.. && python3 -B -c "from tools import browser; assert browser.webdriver"'
+then ONE_SCRIPT=$room/app/page.html module bindings.js.test.in_browser; fi
