@@ -7,7 +7,7 @@ unset CDPATH
 cd "$(dirname "$0")/../.."
 begun=$SECONDS
 export PROVED_LIBRARIES=$PWD/crates # of this run: nothing begins with what an earlier one kept
-jobs=$(($(nproc) + 2)) # with the proofs and what waits for them
+jobs=${JOBS:-$(($(nproc) + 2))} # with the proofs and what waits for them
 gate() { make --no-print-directory -f tools/gate/gate.mk "$@"; }
 
 echo "Proves and tests everything, in about 14 minutes on four idle processors." \
