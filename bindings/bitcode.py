@@ -21,8 +21,7 @@ import sys
 import tempfile
 from pathlib import Path
 
-from tools import copies
-from tools.generate import kit
+from tools import copies, kit
 
 TARGET = "x86_64-w64-mingw32"
 OUT = Path("crates/scrypt_c/out/windows")

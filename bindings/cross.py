@@ -17,8 +17,7 @@ import sys
 import tempfile
 from pathlib import Path
 
-from tools import copies, presets
-from tools.generate import kit
+from tools import copies, kit, presets
 
 MADE = {"scrypt_c": "libscrypt_c.a", "scrypt_tool": "scrypt_tool.o"}
 

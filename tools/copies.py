@@ -10,8 +10,7 @@ import subprocess
 import sys
 from pathlib import Path
 
-from tools import prover_command
-from tools.generate import kit
+from tools import kit, prover_command
 
 TOP = Path(__file__).resolve().parents[1]
 

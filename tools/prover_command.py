@@ -2,7 +2,7 @@
 the folder that PROVED_LIBRARIES names in the environment, which has them in the same places."""
 
 import os
-from tools.generate.kit import located as kit
+from tools.kit import located as kit
 from tools.generate.sources import crates
 
 

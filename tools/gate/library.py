@@ -14,8 +14,7 @@ import sys
 import tempfile
 from pathlib import Path
 
-from tools import copies, prover_command
-from tools.generate import kit
+from tools import copies, kit, prover_command
 
 # The options of each level, and its folder.
 LEVELS = {"x86-64-v3": (["--cpu", "x86-64-v3"], "x86-64-v3"), "x86-64-v2": ([], ".")}

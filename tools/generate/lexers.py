@@ -40,16 +40,6 @@ def rust(text):
     return [(STANDARD_TYPES.get(kind) or STANDARD_TYPES.get(kind.parent, ""), value) for kind, value in tokens]
 
 
-def by_lines(tokens):
-    """The tokens of each line. A token of several lines is cut."""
-    lines = [[]]
-    for style, value in tokens:
-        first, *more = value.split("\n")
-        lines[-1].append((style, first))
-        lines += [[(style, piece)] for piece in more]
-    return lines if any(value for _, value in lines[-1]) else lines[:-1]
-
-
 def marked_up(tokens, link=lambda at: None):
     """HTML of tokens. `link` returns the address for the token at a place, or None."""
     out = []

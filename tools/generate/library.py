@@ -13,21 +13,19 @@ TESTS = "_tests"
 
 @dataclass(frozen=True)
 class Target:
-    """What a name means: its page and place, and one word for what it is."""
+    """What a name means: its page and place. A name of the kit has none."""
 
     href: str
-    kind: str
     key: tuple
 
 
 class Library:
-    def __init__(self, folder, the_kit):
-        self.folder, self.kit = folder, the_kit
+    def __init__(self, folder):
+        self.folder = folder
         self.uses = {name: used for name, (_, used) in sources.crates(folder).items()}
         self.sources, self.modules = {}, {}
         for crate in self.uses:
             self.read(crate, f"{folder}/crates/{crate}")
-        self.names_of_kit = {}
 
     def read(self, crate, folder):
         self.sources[crate] = sources.read_crate(crate, folder)
@@ -53,9 +51,7 @@ class Library:
             return self.find_declared(module, name)
         if re.match(r"Rattle\.(\w+)\.", module + ".") and module.split(".")[1] in self.uses:
             return self.find_own(module, name)
-        it = self.kit.find(module, name)
-        self.names_of_kit[it.module, it.name] = it
-        return Target(it.href, "kit", ("kit", it.module, it.name))
+        return Target("", ("kit", module, name))
 
     def find_own(self, module, name):
         it = self.modules.get(module)
@@ -78,14 +74,15 @@ class Library:
         source = self.sources[crate].get("::".join(words[:at]))
         for it in source.items if source else ():
             if (it.kind, it.name, it.owner) == ("const", name, "".join(words[at + 1 :])):
-                return Target(f"{text_page(source.path)}#L{it.line}", "const", ("rust", crate, source.module, it.anchor))
+                href = f"{page_of(source)}#{it.anchor}" if self.is_public(source, it) else ""
+                return Target(href, ("rust", crate, source.module, it.anchor))
         return None
 
     def rust_item(self, crate, module, name):
         source = self.sources.get(crate, {}).get(module)
         for it in source.items if source else ():
             if it.name == name and it.kind in ("struct", "enum", "const", "type", "trait") and not it.owner:
-                return Target(f"{page_of(source)}#{it.anchor}", it.kind, ("rust", crate, module, it.anchor))
+                return Target(f"{page_of(source)}#{it.anchor}", ("rust", crate, module, it.anchor))
         return None
 
     def rust_path(self, source, path):
@@ -114,12 +111,10 @@ class Library:
         """The target of a relation of a trait that bounds a type parameter."""
         found = self.rust_name(source, trait)
         if found is None:
-            it = self.kit.relation(trait, name)
-            self.names_of_kit[it.module, it.name] = it
-            return Target(it.href, "kit", ("kit", it.module, it.name))
+            return Target("", ("kit", trait, name))
         item = self.item(found.key)
         has = any(it.name == name for it in item.clauses)
-        return Target(f"{found.href}.relation-{name}", "relation", (*found.key, name)) if has else None
+        return Target(f"{found.href}.relation-{name}", (*found.key, name)) if has else None
 
     def item(self, key):
         _, crate, module, anchor = key[:4]
@@ -160,11 +155,6 @@ class Library:
         return not source.module or bool(parent and parent.modules.get(name)) and self.module_is_public(parent)
 
 
-def text_page(path):
-    """The page of a file as it is."""
-    return f"text.{path.removeprefix('crates/').replace('/', '.')}.html"
-
-
 def page_of(source):
     return f"{source.name.replace('::', '.')}.html"
 
@@ -174,4 +164,4 @@ def module_page(module):
 
 
 def definition_target(module, name):
-    return Target(f"{module_page(module)}#{name}", "definition", ("definition", module, name))
+    return Target(f"{module_page(module)}#{name}", ("definition", module, name))

@@ -67,7 +67,7 @@ class Links:
         """What a word means at a place, or None."""
         if place.trait is not None and any(it.name == name for it in place.trait.clauses):
             href = f"{page_of(place.source)}#{place.trait.anchor}.relation-{name}"
-            return Target(href, "relation", ("relation", href))
+            return Target(href, ("relation", href))
         if name in place.imports:
             return self.library.find(*place.imports[name])
         if place.own is not None:
@@ -146,22 +146,5 @@ class Links:
             declared = at > 1 and tokens[at - 2][1] in ("fn", "struct", "enum", "trait", "const", "type")
             found = None if declared or not style.startswith("n") else self.library.rust_name(source, value)
             return found and found.href
-
-        return lexers.marked_up(tokens, link)
-
-    def kit_text(self, it):
-        """HTML of a text of the kit; its names lead to the kit's pages where they are printed there, and a name
-        that isn't found is not linked."""
-        module = self.library.kit.module(it.module) if "::" not in it.module else None
-        if module is None:
-            return lexers.marked_up(lexers.rust(it.text))
-        tokens = lexers.antt(it.text)
-
-        def link(at):
-            style, value = tokens[at]
-            if style != "n" or value == it.name or (at and tokens[at - 1][1] == "."):
-                return None
-            found = self.library.kit.meant(module, value)
-            return found.href if found and (found.module, found.name) in self.library.names_of_kit else None
 
         return lexers.marked_up(tokens, link)

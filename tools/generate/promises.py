@@ -19,7 +19,6 @@ import textwrap
 from tools.generate import comments
 from tools.generate.library import Library
 from tools.generate.views import Views
-from tools.generate import kit
 from tools.generate.sources import read
 
 PAGE, TEMPLATE = "docs/PROMISES.md", "tools/generate/promises.md"
@@ -189,7 +188,7 @@ def wrong(views):
 
 
 def main():
-    views = Views(Library(".", kit.Kit(None)))
+    views = Views(Library("."))
     if sys.argv[1:] == ["check"]:
         sys.exit("\n".join(wrong(views)) or 0)
     if sys.argv[1:] == ["clauses"]:

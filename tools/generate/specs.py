@@ -44,7 +44,6 @@ class Module:
     definitions: dict
     imports: dict
     passed_on: dict
-    whole: list
     order: list
 
     @property
@@ -53,20 +52,17 @@ class Module:
 
 
 def imports_of(text):
-    """What a text imports: words, words that it passes on, and modules that it passes on whole. A word for a whole
-    module has no name in it."""
-    words, passed_on, whole = {}, {}, []
+    """What a text imports: words, and words that it passes on. A word for a whole module has no name in it."""
+    words, passed_on = {}, {}
     for found in IMPORT.finditer(text):
         if found["other"]:
             words[found["other"]] = (found["module"], None)
-        elif found["names"] is None:
-            whole.append(found["module"])
         for item in filter(None, (it.strip() for it in (found["names"] or "").split(","))):
             name, _, other = item.partition(" as ")
             words[other.strip() or name.strip()] = (found["module"], name.strip())
             if found["pub"]:
                 passed_on[other.strip() or name.strip()] = (found["module"], name.strip())
-    return words, passed_on, whole
+    return words, passed_on
 
 
 def comment_text(lines):
@@ -117,10 +113,10 @@ def definitions_in(module, lines):
 
 def read_module(name, path, text):
     lines = text.splitlines()
-    words, passed_on, whole = imports_of(text)
+    words, passed_on = imports_of(text)
     # a whole module that a file passes on or declares is one of its table of contents
     order = re.findall(r"^pub (?:mod|use) ([\w.]+)$", text, re.M)
-    return Module(name, path, header_comment(lines), definitions_in(name, lines), words, passed_on, whole, order)
+    return Module(name, path, header_comment(lines), definitions_in(name, lines), words, passed_on, order)
 
 
 def standards(*comments):

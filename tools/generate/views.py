@@ -5,7 +5,7 @@ import re
 from dataclasses import dataclass, field
 
 from tools.generate import comments, links
-from tools.generate.library import STANDARD_FACTS, definition_target, page_of, text_page
+from tools.generate.library import STANDARD_FACTS, definition_target, page_of
 from tools.generate import specs
 
 # types are shown also if they are private, since clauses and definitions may cite them
@@ -35,11 +35,6 @@ class Shown:
     def where(self):
         return f"{self.path}:{self.line}"
 
-    @property
-    def text_href(self):
-        """The line of the file as it is."""
-        return f"{text_page(self.path)}#L{self.line}"
-
 
 def statement(definition):
     """A theorem without its proof."""
@@ -64,12 +59,6 @@ class Views:
         for target, citers in self.links.cited.items():
             for citer in citers:
                 self.cites.setdefault(citer, []).append(target)
-
-    def paths(self):
-        """The files of all that has a place on a page, and of what definitions cite of the sources."""
-        every = (*self.definitions.values(), *self.sources.values(), filter(None, self.vectors.values()))
-        cited = {self.library.sources[key[1]][key[2]].path for key in self.links.cited if key[0] == "rust"}
-        return sorted({it.path for those in every for _, shown in those for it in shown} | cited)
 
     def of_module(self, module):
         return [self.of_definition(module, it) for it in module.definitions.values()]
@@ -104,21 +93,6 @@ class Views:
                 found.append((source, shown))
         return found
 
-    def doc_link(self, source):
-        """The addresses of names in the doc comments of a source."""
-        def link(name):
-            head, _, member = name.rstrip("()").partition("::")
-            found = self.library.rust_name(source, head)
-            if found is None:
-                own = [it for it in source.items if it.name == head and it.kind == "fn" and not it.owner]
-                return f"{page_of(source)}#{own[0].anchor}" if own else None
-            for other in self.library.sources[found.key[1]].values():
-                for it in other.items if member else ():
-                    if (it.owner, it.name) == (found.key[3], member):
-                        return f"{page_of(other)}#{it.anchor}"
-            return found.href
-        return link
-
     def of_item(self, source, it):
         traits = (other for other in source.items if other.kind == "trait" and other.name == it.owner)
         trait = it if it.kind == "trait" else next(traits, None)
@@ -131,7 +105,7 @@ class Views:
         self.by_key.update((part["key"], part) for part in parts)
         href = f"{page_of(source)}#{it.anchor}"
         return Shown(("rust", source.crate, source.module, it.anchor), kind, name, it.anchor, href,
-                     comments.html(it.doc, self.doc_link(source)), self.links.rust(it.text, source),
+                     comments.html(it.doc), self.links.rust(it.text, source),
                      source.path.removeprefix("./"), it.line, specs.standards(it.doc), parts=parts)
 
     def of_clause(self, source, it, clause, trait, name):
@@ -175,17 +149,6 @@ class Views:
                         if not all(has.name for has in of_users):
                             yield f"{where} a clause without a name"
 
-    # Who cites what.
-
-    def citers(self, key):
-        """Those that cite a definition: clauses, definitions and vectors, each with a label and an address."""
-        citers = self.links.cited.get(key, ())
-        clauses = [self.by_key[it] for it in citers if it[0] == "rust"]
-        definitions = [it[1:] for it in citers if it[0] == "definition" and STANDARD_FACTS not in it[1]]
-        return {"clauses": [(it["of"], it["name"], it["href"]) for it in clauses],
-                "definitions": [(name, module.rsplit(".", 1)[-1], definition_target(module, name).href)
-                                for module, name in definitions]}
-
     def closure(self, roots):
         """The definitions that these rest on, with themselves, in reading order."""
         found, todo = set(), list(roots)
@@ -195,10 +158,6 @@ class Views:
                 found.add(key)
                 todo += self.cites.get(key, ())
         return sorted(found & self.order.keys(), key=self.order.get)
-
-    def rests_on(self, key):
-        """The definitions that one rests on, in reading order."""
-        return [(it[2], definition_target(*it[1:]).href) for it in self.closure([key]) if it != key]
 
     def reading(self, clauses):
         """The definitions that clauses rest on, module by module, in reading order."""
