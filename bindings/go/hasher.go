@@ -6,6 +6,7 @@ import "C"
 import (
 	"context"
 	"fmt"
+	"math"
 	"runtime"
 	"sync/atomic"
 	"time"
@@ -339,7 +340,7 @@ func orUsual(n, usual int) int {
 
 // needs returns in words what a derivation needs, or that there is none.
 func (params Params) needs() string {
-	needs, err := params.need()
+	needs, err := params.within(math.MaxUint64)
 	if err == nil {
 		return inWords(needs)
 	}

@@ -1,12 +1,62 @@
 package scrypt
 
 import (
+	"context"
 	"errors"
 	"fmt"
+	"math/rand"
+	"os"
+	"strconv"
 	"strings"
 	"testing"
 	"time"
 )
+
+// Keys in steps of random lengths are those of one call. As many as STEPS says are printed, to be
+// compared by ../compare_keys.py.
+func TestKeysInSteps(t *testing.T) {
+	count, err := strconv.Atoi(os.Getenv("STEPS"))
+	if err != nil {
+		count = 100
+	}
+	rand.Seed(time.Now().UnixNano())
+	for i := 0; i < count; i++ {
+		password, salt := make([]byte, rand.Intn(80)), make([]byte, rand.Intn(40))
+		rand.Read(password)
+		rand.Read(salt)
+		n, r, p, keyLen := 2<<rand.Intn(8), 1+rand.Intn(9), 1+rand.Intn(4), 1+rand.Intn(99)
+		last := 0.0
+		progress := func(done float64) {
+			if done <= last || done > 1 {
+				t.Errorf("%g after %g", done, last)
+			}
+			last = done
+		}
+		next := func(mixes, time.Duration) mixes { return mixes(1 + rand.Intn(99)) }
+		key, err := keyInSteps(context.Background(), password, salt, n, r, p, keyLen, progress, next)
+		want, _ := Key(password, salt, n, r, p, keyLen)
+		if err != nil || string(key) != string(want) || last != 1 {
+			t.Fatalf("%x, %x, %d, %d, %d, %d: %x, %v", password, salt, n, r, p, keyLen, key, err)
+		}
+		fmt.Printf("KEY .%x .%x .%x %d %d %d\n", password, salt, key, n, r, p)
+	}
+}
+
+// A derivation of seconds ends with its context.
+func TestKeyContext(t *testing.T) {
+	for i := 0; i < 3; i++ {
+		ctx, cancel := context.WithCancel(context.Background())
+		ended := make(chan time.Time, 1)
+		time.AfterFunc(100*time.Millisecond, func() { ended <- time.Now(); cancel() })
+		key, err := KeyContext(ctx, nil, nil, 1<<20, 8, 1, 32, nil)
+		if took := time.Since(<-ended); err != context.Canceled || key != nil || took > time.Second/2 {
+			t.Errorf("%v, %v after the end of the context", err, took) // 50 ms on an idle machine
+		}
+	}
+	if _, err := KeyContext(context.Background(), nil, nil, 1<<56, 1, 1, 32, nil); !errors.Is(err, ErrOutOfMemory) {
+		t.Error(err)
+	}
+}
 
 // RFC 7914, section 12: the vector whose N, r and p all differ.
 func TestAKeyOfRFC7914(t *testing.T) {

@@ -18,9 +18,7 @@ package scrypt
 import "C"
 
 import (
-	"fmt"
 	"math"
-	"math/bits"
 	"time"
 )
 
@@ -77,14 +75,15 @@ func ParamsOf(text string) (Params, error) {
 // Memory returns the number of bytes of a derivation's buffers, at most math.MaxUint64, or
 // ErrInvalidParams if LogN, R and P are not accepted.
 func (params Params) Memory() (uint64, error) {
-	needs, err := params.need()
+	needs, err := params.within(math.MaxUint64)
 	return uint64(needs.bytes), err
 }
 
-// need returns what a derivation needs without bounds, or ErrInvalidParams.
-func (params Params) need() (needs C.scrypt_needs, err error) {
+// within returns what a derivation needs, with the tables that it may have within so many bytes, or
+// ErrInvalidParams.
+func (params Params) within(bytes uint64) (needs C.scrypt_needs, err error) {
 	status := C.scrypt_params_need(number(params.LogN), number(params.R), number(params.P),
-		math.MaxUint64, math.MaxUint64, &needs)
+		C.size_t(bytes), math.MaxUint64, &needs)
 	if status == C.SCRYPT_INVALID_PARAMS {
 		err = ErrInvalidParams
 	}
@@ -95,42 +94,9 @@ func (params Params) need() (needs C.scrypt_needs, err error) {
 // Salsa20/8 cores, where 32 stands for PBKDF2. It is math.MaxUint64 if it would be more, or if the
 // parameters are not accepted.
 func (params Params) Work() uint64 {
-	needs, err := params.need()
+	needs, err := params.within(math.MaxUint64)
 	if err != nil {
 		return math.MaxUint64
 	}
 	return uint64(needs.work)
-}
-
-// Key returns the key of keyLen bytes of a password and a salt. N is a power of two. If keyLen
-// comes from a file, bound it. To errors.Is the errors are ErrInvalidParams, ErrInvalidOutputLen,
-// and ErrOutOfMemory if the memory for the table or for the key is not available.
-func Key(password, salt []byte, N, r, p, keyLen int) ([]byte, error) {
-	params := Params{LogN: bits.TrailingZeros(uint(N)), R: r, P: p}
-	memory, err := params.Memory()
-	switch {
-	case N < 1 || N&(N-1) != 0:
-		return nil, fmt.Errorf("%w: N is %d, and has to be a power of two", ErrInvalidParams, N)
-	case err != nil:
-		return nil, fmt.Errorf("%w: N is %d, r is %d and p is %d", err, N, r, p)
-	}
-	key, err := newKey(keyLen)
-	if err == nil {
-		err = failed(C.scrypt_key(pointer(password), size(password), pointer(salt), size(salt),
-			number(params.LogN), number(r), number(p), bytes(key), size(key)))
-	}
-	if err != nil {
-		const words = "%w: N %d, r %d and p %d need %d bytes, and keyLen is %d"
-		return nil, fmt.Errorf(words, err, N, r, p, memory, keyLen)
-	}
-	return key, nil
-}
-
-// newKey returns n bytes, or ErrInvalidOutputLen. As elsewhere in Go, the process ends if memory
-// runs out.
-func newKey(n int) ([]byte, error) {
-	if n < 1 || n > C.SCRYPT_MAX_OUTPUT_LEN {
-		return nil, ErrInvalidOutputLen
-	}
-	return make([]byte, n), nil
 }

@@ -20,7 +20,8 @@ fi
 in_module go vet .
 in_module gofmt -l .
 test ! -s "$room/log" || { cat "$room/log"; exit 1; }
-in_module go test -count=1 -timeout 5m -race .
+in_module go test -count=1 -timeout 5m -race -v .
+python3 bindings/compare_keys.py < "$room/log"
 echo "called from Go, with no report by go vet, gofmt and the race detector"
 
 # A program in a module of its own, linked statically, as it runs in an empty image.

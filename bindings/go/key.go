@@ -1,0 +1,107 @@
+package scrypt
+
+// #include "library.h"
+import "C"
+
+import (
+	"context"
+	"fmt"
+	"math"
+	"math/bits"
+	"time"
+)
+
+type mixes = C.size_t // which tests can't name by C
+
+// stepTime is how long a step of KeyContext takes, if one block mix doesn't take longer.
+const stepTime = 10 * time.Millisecond
+
+// several is how many bytes the buffers may have together if there are several tables, as in Key.
+const several = 129 << 20
+
+// Key returns the key of keyLen bytes of a password and a salt. N is a power of two. If keyLen comes
+// from a file, bound it; what N, r and p cost is Params.Memory and Params.Work. To errors.Is the errors
+// are ErrInvalidParams, ErrInvalidOutputLen, and ErrOutOfMemory if the memory for the table or for the
+// key is not available.
+func Key(password, salt []byte, N, r, p, keyLen int) ([]byte, error) {
+	return made(N, r, p, keyLen, func(needs C.scrypt_needs, key []byte) error {
+		return failed(C.scrypt_key(pointer(password), size(password), pointer(salt), size(salt),
+			needs.log_n, needs.r, needs.p, bytes(key), size(key)))
+	})
+}
+
+// KeyContext does what Key does, in steps of about 10 ms. Between two of them it looks at the context,
+// whose error it returns if that has ended, and calls progress, if that is not nil, with the part that
+// is done, from 0 to 1.
+func KeyContext(ctx context.Context, password, salt []byte, N, r, p, keyLen int,
+	progress func(done float64)) ([]byte, error) {
+	return keyInSteps(ctx, password, salt, N, r, p, keyLen, progress, nextMixes)
+}
+
+// keyInSteps has the number of block mixes of each step but the first from next.
+func keyInSteps(ctx context.Context, password, salt []byte, N, r, p, keyLen int,
+	progress func(done float64), next func(mixes, time.Duration) mixes) ([]byte, error) {
+	return made(N, r, p, keyLen, func(needs C.scrypt_needs, key []byte) error {
+		var it C.scrypt_steps
+		if C.steps_map(&it, &needs) == 0 {
+			return ErrOutOfMemory
+		}
+		defer C.steps_unmap(&it)
+		status := C.scrypt_key_begin(&it, pointer(password), size(password), pointer(salt), size(salt))
+		for count := mixes(1); status == C.SCRYPT_OK && it.chunks_done < C.size_t(p); {
+			if err := ctx.Err(); err != nil {
+				return err
+			}
+			begun := time.Now()
+			status = C.scrypt_key_step(&it, count)
+			count = next(count, time.Since(begun))
+			if progress != nil && status == C.SCRYPT_OK {
+				progress(float64(C.steps_done(&it)))
+			}
+		}
+		if status != C.SCRYPT_OK {
+			return failed(status)
+		}
+		return failed(C.scrypt_key_finish(&it, pointer(password), size(password), bytes(key), size(key)))
+	})
+}
+
+// nextMixes returns how many block mixes the next step does, after one that took so long.
+func nextMixes(last mixes, took time.Duration) mixes {
+	if took < stepTime/2 {
+		return 2 * last
+	}
+	return mixes(math.Max(1, float64(last)*float64(stepTime)/float64(took)))
+}
+
+// made returns the key that derive writes, if N, r, p and keyLen are accepted.
+func made(N, r, p, keyLen int, derive func(C.scrypt_needs, []byte) error) ([]byte, error) {
+	params := Params{LogN: bits.TrailingZeros(uint(N)), R: r, P: p}
+	needs, err := params.within(several)
+	switch {
+	case N < 1 || N&(N-1) != 0:
+		return nil, fmt.Errorf("%w: N is %d, and has to be a power of two", ErrInvalidParams, N)
+	case err != nil:
+		return nil, fmt.Errorf("%w: N is %d, r is %d and p is %d", err, N, r, p)
+	}
+	key, err := newKey(keyLen)
+	if err == nil {
+		err = derive(needs, key)
+	}
+	if _, is := err.(Error); is {
+		const words = "%w: N %d, r %d and p %d need %d bytes, and keyLen is %d"
+		return nil, fmt.Errorf(words, err, N, r, p, needs.bytes, keyLen)
+	} else if err != nil {
+		return nil, err
+	}
+	return key, nil
+}
+
+// newKey returns n bytes, or ErrInvalidOutputLen. As elsewhere in Go, the process ends if memory runs
+// out.
+func newKey(n int) ([]byte, error) {
+	if n < 1 || n > C.SCRYPT_MAX_OUTPUT_LEN {
+		return nil, ErrInvalidOutputLen
+	}
+	return make([]byte, n), nil
+}
