@@ -49,7 +49,7 @@ proved-scrypt_tool: proved-scrypt_commands
 run: kit
 	@echo "Proves and builds the program, in about 8 minutes on four idle processors. The steps' logs are in build/log."
 	@$(PROVE) proved-scrypt_tool
-	@$(STEP) program --needs cc:gcc bindings/cli/build.sh
+	@$(STEP) program --needs cc:gcc /usr/include/bsd/readpassphrase.h:libbsd-dev bindings/cli/build.sh
 	@echo "crates/scrypt_tool/out/scrypt_tool prints the first key of RFC 7914, section 12:"
 	@crates/scrypt_tool/out/scrypt_tool key 4 1 1 64 "" < /dev/null
 

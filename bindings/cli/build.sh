@@ -17,10 +17,12 @@ else # the kit has its C for x86-64 alone
   kit_c="$kit_c -Dclearing_free=free"
 fi
 program=${1:-crates/scrypt_tool/$proved/scrypt_tool} output=${2:-$build/bin/scrypt_tool}
-object=$(mktemp --suffix=.o)
-trap 'rm -f "$object"' EXIT
-"$objcopy" --redefine-sym read=read_or_ask "$program.o" "$object"
+room=$(mktemp -d)
+trap 'rm -r "$room"' EXIT
+"$objcopy" --redefine-sym read=read_or_ask "$program.o" "$room/program.o"
+# Of libbsd this one object: others would take the place of glibc's functions, such as getentropy.
+(cd "$room" && ar x "$($CC -print-file-name=libbsd.a)" readpassphrase.o)
 mkdir -p "$(dirname "$output")"
 # shellcheck disable=SC2086 # words without spaces
 $CC -std=gnu99 -O2 -Wall -Wextra -fstack-protector-strong -U_FORTIFY_SOURCE -D_FORTIFY_SOURCE=2 \
-  -Wl,-z,relro -Wl,-z,now -o "$output" "$object" bindings/cli/terminal.c $kit_c
+  -Wl,-z,relro -Wl,-z,now -o "$output" "$room"/*.o bindings/cli/terminal.c $kit_c

@@ -12,7 +12,8 @@ KEPT = build/gate/kept
 PROGRAM = crates/scrypt_tool/out/scrypt_tool
 LIBRARY = build/lib/libscrypt_c.so
 FOR_ARM64 = --needs aarch64-linux-gnu-gcc:gcc-aarch64-linux-gnu qemu-aarch64-static:qemu-user-static \
-  /usr/aarch64-linux-gnu/include/stdio.h:libc6-dev-arm64-cross
+  /usr/aarch64-linux-gnu/include/stdio.h:libc6-dev-arm64-cross \
+  /usr/lib/aarch64-linux-gnu/libbsd.a:libbsd-dev:arm64
 FOR_WINDOWS = --needs x86_64-w64-mingw32-gcc:gcc-mingw-w64-x86-64-posix wine:wine
 FOR_PAGES = --needs /usr/lib/python3/dist-packages/jinja2:python3-jinja2 \
   /usr/lib/python3/dist-packages/pygments:python3-pygments
@@ -113,7 +114,7 @@ groups: native
 
 # ---- The program ----
 program: $(call proved,$(PROVED)/scrypt_tool)
-	$(TASK) --needs cc:gcc tools/gate/program.sh
+	$(TASK) --needs cc:gcc /usr/include/bsd/readpassphrase.h:libbsd-dev tools/gate/program.sh
 program-arm64: $(PROVED)/scrypt_commands
 	$(TASK) $(FOR_ARM64) $(PY) bindings.cross arm64 scrypt_tool
 answers: program

@@ -2,6 +2,7 @@
 
 import os
 import pty
+import select
 import signal
 import termios
 
@@ -9,6 +10,19 @@ import termios
 def has_echo(terminal):
     """Whether the echo is on."""
     return bool(termios.tcgetattr(terminal)[3] & termios.ECHO)
+
+
+def send(pid, terminal, answer):
+    """Types an answer or sends a signal. A signal that comes before readpassphrase waits for its input is not seen
+    until another one comes: so it is sent again where the program says nothing for a second."""
+    while True:
+        if isinstance(answer, int):
+            os.kill(pid, answer)
+        else:
+            os.write(terminal, answer)
+        is_signal = isinstance(answer, int) or answer[-1:] in (b"\x03", b"\x1a")
+        if not is_signal or select.select([terminal], [], [], 1)[0]:
+            return
 
 
 def session(words, answers):
@@ -33,11 +47,7 @@ def session(words, answers):
         shown, line = shown + part, line + part
         if line.rstrip().endswith(b":") and answers:
             echo.append(has_echo(terminal))
-            answer = answers.pop(0)
-            if isinstance(answer, int):
-                os.kill(pid, answer)
-            else:
-                os.write(terminal, answer)
+            send(pid, terminal, answers.pop(0))
             line = b""
     status = os.waitstatus_to_exitcode(os.waitpid(pid, 0)[1])
     echo.append(has_echo(terminal))
