@@ -18,6 +18,8 @@ pub enum DeriveError {
     InvalidOutputLen,
     /// The memory is not available.
     OutOfMemory,
+    /// The caller left the derivation.
+    Cancelled,
     /// A status of a newer library.
     Status(i32),
 }
@@ -66,6 +68,8 @@ pub enum Error {
     Closed,
     /// The hasher did not begin with the call in its time.
     Timeout,
+    /// The caller left the derivation.
+    Cancelled,
     /// A status of a newer library.
     Status(i32),
 }
@@ -159,6 +163,7 @@ impl From<DeriveError> for Error {
         match error {
             DeriveError::InvalidOutputLen => Error::InvalidOutputLen,
             DeriveError::OutOfMemory => Error::OutOfMemory,
+            DeriveError::Cancelled => Error::Cancelled,
             DeriveError::Status(status) => Error::Status(status),
         }
     }
@@ -181,6 +186,7 @@ impl fmt::Display for Error {
         let words = words_of(self.status());
         match self {
             Error::NoParams => f.write_str("even log_n=10, r=8, p=1 take more time, or memory"),
+            Error::Cancelled => f.write_str("the caller left the derivation"),
             Error::Status(status) => write!(f, "status {status} of a newer library"),
             Error::TooCostly(cost) => write!(f, "{words}: {cost}"),
             Error::KeyTooShort { len, min } => {

@@ -30,6 +30,7 @@ pub mod errors;
 mod hasher;
 pub mod migration;
 mod params;
+mod steps;
 #[cfg(feature = "password-hash")]
 mod traits_0_4;
 
@@ -39,6 +40,7 @@ pub use hasher::{Format, Hasher, Options, Stats};
 pub use params::{calibrate, params_of, Params};
 #[cfg(feature = "password-hash")]
 pub use password_hash_0_4;
+pub use steps::scrypt_in_steps;
 #[cfg(feature = "password-hash")]
 pub use traits_0_4::{Scrypt, ALG_ID};
 

@@ -1,7 +1,9 @@
 //! Derives a key, and tries each refusal.
 
-use scrypt_c::{calibrate, draw_salt, scrypt, DeriveError, Error, InvalidParams, Params};
-use std::time::Duration;
+use scrypt_c::{calibrate, draw_salt, scrypt, scrypt_in_steps};
+use scrypt_c::{DeriveError, Error, InvalidParams, Params};
+use std::ops::ControlFlow;
+use std::time::{Duration, Instant};
 
 /// RFC 7914, section 12: the vector whose N, r and p all differ.
 #[test]
@@ -22,7 +24,33 @@ fn refused_keys() {
     let large = Params::new(56, 1, 1).unwrap();
     let refused = scrypt(b"", b"", &large, &mut key);
     assert_eq!(refused, Err(DeriveError::OutOfMemory), "a table of 2^63 bytes");
+    let in_steps =
+        |params, key: &mut _| scrypt_in_steps(b"", b"", params, key, |_| ControlFlow::Break(()));
+    assert_eq!(in_steps(&large, &mut key), Err(DeriveError::OutOfMemory));
+    assert_eq!(in_steps(&params, &mut key), Err(DeriveError::Cancelled));
     assert_eq!(key, [7; 4], "an error leaves the output");
+}
+
+/// A derivation of seconds is left between two steps, also by a panic.
+#[test]
+fn left_between_steps() {
+    let (mut key, begun) = ([0; 32], Instant::now());
+    let (params, mut last) = (Params::new(20, 8, 1).unwrap(), begun);
+    let left = scrypt_in_steps(b"", b"", &params, &mut key, |_| {
+        let took = last.elapsed();
+        last = Instant::now();
+        assert!(took < Duration::from_millis(500), "{took:?}: 50 ms on an idle machine");
+        match begun.elapsed() < Duration::from_millis(100) {
+            true => ControlFlow::Continue(()),
+            false => ControlFlow::Break(()),
+        }
+    });
+    assert_eq!((left, key), (Err(DeriveError::Cancelled), [0; 32]));
+    assert!(last.elapsed() < Duration::from_millis(500));
+    let panicked = std::panic::catch_unwind(|| {
+        scrypt_in_steps(b"", b"", &params, &mut [0; 32], |_| panic!("on purpose"))
+    });
+    assert!(panicked.is_err());
 }
 
 /// Some numbers are such that a narrower type, or a product without a check, would cut them off to
