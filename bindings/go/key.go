@@ -48,7 +48,7 @@ func keyInSteps(ctx context.Context, password, salt []byte, N, r, p, keyLen int,
 		}
 		defer C.steps_unmap(&it)
 		status := C.scrypt_key_begin(&it, pointer(password), size(password), pointer(salt), size(salt))
-		for count := mixes(1); status == C.SCRYPT_OK && it.chunks_done < C.size_t(p); {
+		for count := mixes(1); status == C.SCRYPT_OK && it.at.chunks < C.size_t(p); {
 			if err := ctx.Err(); err != nil {
 				return err
 			}

@@ -54,7 +54,7 @@ static inline void steps_unmap(scrypt_steps *it) {
 
 /* The part of a derivation that is done, from 0 to 1. */
 static inline double steps_done(const scrypt_steps *it) {
-  double mixes = (double)((uint64_t)2 << it->log_n);
-  return ((double)it->chunks_done + (double)it->mixes_done / mixes) / it->p;
+  double of_each = (double)it->at.mixes / (double)((uint64_t)2 << it->log_n);
+  return ((double)it->at.chunks + (double)it->at.at_once * of_each) / it->p;
 }
 #endif

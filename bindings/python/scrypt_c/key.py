@@ -39,9 +39,9 @@ def scrypt(
     several tables make a derivation faster, as long as there is room for them in `maxmem`, or in
     129 MiB without a bound.
 
-    With `progress` or a p of 1 a long derivation is made in steps of about 10 ms. Between two of
-    them Python runs handlers of signals, so that Ctrl-C ends it, and calls `progress` with the part
-    that is done, from 0 to 1. What these raise leaves the derivation.
+    A long derivation is made in steps of about 10 ms. Between two of them Python runs handlers of
+    signals, so that Ctrl-C ends it, and calls `progress` with the part that is done, from 0 to 1.
+    What these raise leaves the derivation.
     """
     password, salt = raw_bytes(password, "a password"), raw_bytes(salt, "a salt")
     n, maxmem, dklen = number(n, "n"), number(maxmem, "maxmem"), number(dklen, "dklen")
@@ -86,7 +86,7 @@ def _made(
     progress: Optional[Callable[[float], object]] = None,
 ) -> bytes:
     """The key, with one table, or as many as `most_bytes` allows, or the library without that."""
-    if progress is not None or params.p == 1 and params.cores >= LONG:
+    if progress is not None or params.cores >= LONG:
         return derived(password, salt, params, dklen, most_bytes or SEVERAL, progress)
     key = ctypes.create_string_buffer(dklen)
     given = password, len(password), salt, len(salt), *params[:3]

@@ -64,13 +64,14 @@ fn by_steps(
         scrypt_key_begin(it, password_at, password.len(), salt.as_ptr().cast(), salt.len())
     })?;
     let mut mixes = 1;
-    while it.chunks_done < it.p as usize {
+    while it.at.chunks < it.p as usize {
         let begun = Instant::now();
         // SAFETY: as above.
         check(unsafe { scrypt_key_step(it, mixes) })?;
         mixes = next(mixes, begun.elapsed());
-        let of_chunk = it.mixes_done as f64 / (2u64 << it.log_n) as f64;
-        if progress((it.chunks_done as f64 + of_chunk) / f64::from(it.p)).is_break() {
+        let of_each = it.at.mixes as f64 / (2u64 << it.log_n) as f64;
+        let mixed = it.at.chunks as f64 + it.at.at_once as f64 * of_each;
+        if progress(mixed / f64::from(it.p)).is_break() {
             return Err(DeriveError::Cancelled);
         }
     }
