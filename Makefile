@@ -56,13 +56,12 @@ run: kit
 # Both levels of x86-64 are built in any case. rt lib gives both one name, so the newer one is moved.
 BUILD_native = cd crates/scrypt_c && rt lib --cpu x86-64-v3 && mkdir -p out/x86-64-v3 && \
   mv out/libscrypt_c.a out/x86-64-v3/ && rt lib
-BUILD_arm64 = python3 -m bindings.cross arm64 scrypt_c scrypt_tool
 BUILD_windows = python3 -m bindings.bitcode
 lib: kit
-	$(PROVE) proved-scrypt$(if $(filter arm64,$(PRESET)),_commands)
-	$(BUILD_$(PRESET))
+	$(PROVE) proved-scrypt$(if $(BUILD_$(PRESET)),,_commands)
+	$(or $(BUILD_$(PRESET)),python3 -m bindings.cross $(PRESET) scrypt_c scrypt_tool)
 	@$(MAKE) --no-print-directory linked
-	@$(if $(filter arm64,$(PRESET)),bindings/cli/build.sh)
+	@$(if $(BUILD_$(PRESET)),,bindings/cli/build.sh)
 linked: # compiles and links what was proved
 	@cd bindings/c && cmake --preset $(PRESET) > /dev/null
 	@cmake --build build/$(PRESET) -- --quiet

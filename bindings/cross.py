@@ -33,7 +33,7 @@ def begin(name, preset, given):
 
 def build(room, preset, name, given):
     """Proves and builds a copy of a crate."""
-    out, of_kit = Path(f"crates/{name}/out/{preset}").resolve(), presets.vendor(preset)["kit"]
+    out, of_kit = Path(f"crates/{name}/out/{preset}").resolve(), presets.MACHINES[preset]["kit"]
     out.mkdir(parents=True, exist_ok=True)
     copies.copy_crate(name, room / name, of_kit["mixer"])
     options = ["--toolchain", f"{kit.located()}/toolchain", "--backend", "llvm", "--target", of_kit["target"]]

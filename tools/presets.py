@@ -1,23 +1,27 @@
-"""What CMakePresets.json says of the machines beyond CMake: the target of the kit and its mixer, and the
-Debian packages that build and run what is made for it.
+"""What CMakePresets.json says of other machines beyond CMake: the target of the kit and its mixer, and the commands
+and files that are needed to build and run what is made for them, each with its Debian package.
 
-usage: python3 -m tools.presets    prints the Debian packages of all
+usage: python3 -m tools.presets packages      the Debian packages of all
+       python3 -m tools.presets needs NAME    what is needed for one, as COMMAND:PACKAGE
+       python3 -m tools.presets names         the other machines
+       python3 -m tools.presets proved        those of them for which the kit proves and compiles
 """
 
 import json
+import sys
 from pathlib import Path
 
 FILE = Path(__file__).resolve().parents[1] / "bindings/c/CMakePresets.json"
+MACHINES = {it["name"]: it["vendor"] for it in json.loads(FILE.read_text("utf-8"))["configurePresets"] if "vendor" in it}
 
 
-def vendors():
-    """The entry `vendor` of each preset that has one."""
-    return {it["name"]: it["vendor"] for it in json.loads(FILE.read_text("utf-8"))["configurePresets"] if "vendor" in it}
-
-
-def vendor(name):
-    return vendors()[name]
+def main(which, name=None):
+    if which == "needs":
+        return [f"{it}:{package}" for it, package in MACHINES[name]["needs"].items()]
+    if which == "packages":
+        return [package for it in MACHINES.values() for package in it["needs"].values()]
+    return [it for it, of in MACHINES.items() if which == "names" or "kit" in of]
 
 
 if __name__ == "__main__":
-    print(*(it["debian"] for it in vendors().values()))
+    print(*main(*sys.argv[1:]))

@@ -1,6 +1,6 @@
 /* What the package includes of the library. */
 #if !__has_include(<scrypt_c.h>)
-#error "scrypt_c.h is not in the package's folder: make lib puts it there, with the library; or make install and -tags scrypt_system. The library is for Linux on amd64 and arm64, and for Windows on amd64."
+#error "scrypt_c.h is not in the package's folder: make lib puts it there, with the library; or make install and -tags scrypt_system. README.md names the systems."
 #else
 #include <scrypt_c.h>
 

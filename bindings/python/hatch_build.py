@@ -4,19 +4,17 @@ It is the file that SCRYPT_C_LIBRARY names, or that of a known name in the folde
 else the one that `make lib` put into build/lib of the repository; a source archive has it in the
 package already, and takes no file from outside of itself, where another user may have put anything.
 What SCRYPT_C_PROVED names, if it is said, is a text about its proof, and goes beside the licences.
+SCRYPT_C_MACHINE is the processor of a library for another machine.
 """
 
 import os
 import pathlib
+import platform
 
 from hatchling.builders.hooks.plugin.interface import BuildHookInterface
 
 # The names of the library, on Linux and on Windows.
 NAMES = ["libscrypt_c.so.0", "scrypt_c.dll"]
-
-# What a library for Linux says of its processor, in the header of the file, and what Python calls
-# that.
-MACHINES = {62: "x86_64", 183: "aarch64"}
 
 
 def found(folder):
@@ -29,7 +27,7 @@ def tag_of(library):
     of 2.17 for arm64, and the tags for Linux ask for 2.17."""
     if library[:2] == b"MZ":
         return "py3-none-win_amd64"
-    machine = MACHINES[int.from_bytes(library[18:20], "little")]
+    machine = os.environ.get("SCRYPT_C_MACHINE") or platform.machine()
     return f"py3-none-manylinux_2_17_{machine}.manylinux2014_{machine}"
 
 

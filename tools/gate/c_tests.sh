@@ -2,7 +2,7 @@
 # Builds the library and its tests by a preset of bindings/c/CMakePresets.json, and runs them.
 # usage: c_tests.sh PRESET [ARCHIVES]
 # ARCHIVES is what the gate built: it is put where `make lib` puts it. For by-rattle, the kit's own
-# compiler builds them first, and for arm64 the program is tested too.
+# compiler builds them first, and for another processor of Linux the program is tested too.
 set -eu
 unset CDPATH
 cd "$(dirname "$0")/../.."
@@ -19,8 +19,8 @@ fi
   cmake --build "../../build/$1" -- --quiet
   ctest --preset "$1" -j2
 )
-if [ "$1" = arm64 ]; then
-  PRESET=arm64
+if [ -e "crates/scrypt_tool/out/$1/scrypt_tool.o" ]; then
+  export PRESET="$1"
   . bindings/preset.sh
   begin_test
   bindings/cli/build.sh

@@ -11,10 +11,10 @@ LLVM = build/gate/llvm
 KEPT = build/gate/kept
 PROGRAM = crates/scrypt_tool/out/scrypt_tool
 LIBRARY = build/lib/libscrypt_c.so
-FOR_ARM64 = --needs aarch64-linux-gnu-gcc:gcc-aarch64-linux-gnu qemu-aarch64-static:qemu-user-static \
-  /usr/aarch64-linux-gnu/include/stdio.h:libc6-dev-arm64-cross \
-  /usr/lib/aarch64-linux-gnu/libbsd.a:libbsd-dev:arm64
-FOR_WINDOWS = --needs x86_64-w64-mingw32-gcc:gcc-mingw-w64-x86-64-posix wine:wine
+# Other machines: those that the kit proves for, and Windows.
+CROSS := $(shell $(PY) tools.presets proved)
+MACHINES := $(shell $(PY) tools.presets names)
+FOR = --needs $(shell $(PY) tools.presets needs $1) env -u CC
 FOR_PAGES = --needs /usr/lib/python3/dist-packages/jinja2:python3-jinja2 \
   /usr/lib/python3/dist-packages/pygments:python3-pygments
 ifdef BUILT
@@ -24,13 +24,13 @@ proved = $1
 endif
 
 # What takes longest, or what others wait for, stands first.
-BUILDS = library module program program-arm64 library-arm64 library-windows
+BUILDS = library module program $(CROSS:%=program-%) $(MACHINES:%=library-%)
 WRONG_BODIES = $(patsubst %,wrong-bodies-%,scrypt scrypt_kernel scrypt_commands password_hash scrypt_c scrypt_examples)
 DOCUMENTS = pages lint links version fit promises formats cores
 EXAMPLES = $(patsubst examples/%/test.sh,example-%,$(wildcard examples/*/test.sh))
 LANGUAGES = python go rust javascript drop-in $(EXAMPLES) examples-of-pages
 SUITES = native asan tsan $(LANGUAGES) answers hashes migration oracle allocations hostile groups completions
-TASKS = proofs $(BUILDS) $(WRONG_BODIES) must-not-compile $(DOCUMENTS) $(SUITES) by-rattle arm64 windows
+TASKS = proofs $(BUILDS) $(WRONG_BODIES) must-not-compile $(DOCUMENTS) $(SUITES) by-rattle $(MACHINES)
 .PHONY: gate tasks documents suites examples $(TASKS)
 gate: $(TASKS)
 documents: $(DOCUMENTS)
@@ -87,14 +87,13 @@ asan tsan: native
 	$(TASK) tools/gate/c_tests.sh $@
 by-rattle: library native
 	$(TASK) tools/gate/c_tests.sh by-rattle
-library-arm64: library
-	$(TASK) $(FOR_ARM64) $(PY) bindings.cross arm64 scrypt_c=$(KEPT)
+$(CROSS:%=library-%): library-%: library
+	$(TASK) $(call FOR,$*) $(PY) bindings.cross $* scrypt_c=$(KEPT)
 library-windows: library
-	$(TASK) $(FOR_WINDOWS) $(PY) bindings.bitcode $(LLVM)
-arm64: library-arm64 program-arm64 native
-	$(TASK) $(FOR_ARM64) env -u CC tools/gate/c_tests.sh arm64
-windows: library-windows native
-	$(TASK) $(FOR_WINDOWS) env -u CC tools/gate/c_tests.sh windows
+	$(TASK) $(call FOR,windows) $(PY) bindings.bitcode $(LLVM)
+$(CROSS): %: program-%
+$(MACHINES): %: library-% native
+	$(TASK) $(call FOR,$*) tools/gate/c_tests.sh $*
 
 # ---- Other languages ----
 python go rust drop-in: native
@@ -115,8 +114,8 @@ groups: native
 # ---- The program ----
 program: $(call proved,$(PROVED)/scrypt_tool)
 	$(TASK) --needs cc:gcc /usr/include/bsd/readpassphrase.h:libbsd-dev tools/gate/program.sh
-program-arm64: $(PROVED)/scrypt_commands
-	$(TASK) $(FOR_ARM64) $(PY) bindings.cross arm64 scrypt_tool
+$(CROSS:%=program-%): program-%: $(PROVED)/scrypt_commands
+	$(TASK) $(call FOR,$*) $(PY) bindings.cross $* scrypt_tool
 answers: program
 	$(TASK) $(PY) tools.tests.program $(PROGRAM)
 hashes oracle allocations: program

@@ -12,8 +12,10 @@ gate() { make --no-print-directory -f tools/gate/gate.mk "$@"; }
 
 echo "Proves and tests everything, in about 14 minutes on four idle processors." \
   "What each task prints is in build/log."
-rm -rf build/gate build/log crates/*/out/{rlib,arm64,windows,by-rattle}
-rm -rf build/{lib,bin,machine.sh,native,asan,tsan,by-rattle,arm64,windows} crates/scrypt_tool/out/scrypt_tool.o
+rm -rf build/{gate,log,lib,bin,machine.sh} crates/*/out/rlib crates/scrypt_tool/out/scrypt_tool.o
+for preset in native asan tsan by-rattle $(python3 -m tools.presets names); do
+  rm -rf "build/$preset" crates/*/out/"$preset"
+done
 mkdir -p build/log build/gate/proved
 python3 -B -m tools.generate.declarations || exit 1
 gate --keep-going --output-sync=target -j"$jobs" gate

@@ -11,7 +11,7 @@ SOURCE_DATE_EPOCH=$(git log -1 --format=%ct)
 export SOURCE_DATE_EPOCH LC_ALL=C TZ=UTC
 dist=$PWD/build/dist parts=$PWD/build/dist-parts version=$(cat VERSION)
 name=scrypt-proved-$version
-presets=${*:-native arm64 windows}
+presets=${*:-native $(python3 -m tools.presets names)}
 python3 -m tools.release.version
 rm -rf "$dist" "$parts"
 mkdir -p "$dist" "$parts"
@@ -30,7 +30,7 @@ for PRESET in $presets; do
   cp build/$PRESET/packages/scrypt-* "$dist"
   cmake --install build/$PRESET --strip --prefix "$parts/$PRESET" > "$parts/log"
   library=$(find "$parts/$PRESET" -name libscrypt_c.so.0 -o -name scrypt_c.dll)
-  (cd bindings/python && SCRYPT_C_LIBRARY=$library /usr/bin/python3 -B -m hatchling build -t wheel -d "$dist")
+  (cd bindings/python && SCRYPT_C_LIBRARY=$library SCRYPT_C_MACHINE=$machine /usr/bin/python3 -B -m hatchling build -t wheel -d "$dist")
 done > /dev/null
 
 # packed NAME OUTPUT packs a folder of parts.

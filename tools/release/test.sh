@@ -1,13 +1,13 @@
 #!/bin/bash
 # Tries build/dist as a user meets it, in a fresh root of Debian without the kit: its package, its archive in
 # another folder, and the packages of each language, by the lines of README.md. What is for arm64 runs in
-# Debian's emulator, and what is for Windows in Wine. Needs root, mmdebstrap, a network, and for these two
-# machines what `python3 -m tools.presets` prints.
+# Debian's emulator, and what is for Windows in Wine. Needs root, mmdebstrap, a network, and for these
+# machines what `python3 -m tools.presets packages` prints.
 # usage: test.sh [PRESET..]    as dist.sh was called
 set -euo pipefail
 unset CDPATH
 cd "$(dirname "$0")/../.."
-dist=$PWD/build/dist presets=${*:-native arm64 windows}
+dist=$PWD/build/dist presets=${*:-native $(python3 -m tools.presets names)}
 key=$(cat crates/scrypt_tool/stdout) # the first of RFC 7914, section 12
 room=$(mktemp -d)
 root=$room/root
@@ -68,18 +68,19 @@ if command -v node > /dev/null; then
   expect "$(node "$room/node/a.mjs")" "Node $(node --version), with the package of npm"
 fi
 
-for preset in $presets; do
-  mkdir "$room/$preset"
-  cd "$room/$preset"
-  case $preset in
-    arm64)
-      tar xzf "$dist"/*-linux_aarch64.tar.gz --strip-components=1
-      expect "$(qemu-aarch64-static -L /usr/aarch64-linux-gnu bin/scrypt_tool key 4 1 1 64 "" < /dev/null)" "arm64"
+for PRESET in ${presets#native}; do
+  . bindings/preset.sh
+  mkdir "$room/$PRESET"
+  cd "$room/$PRESET"
+  case $system in
+    linux)
+      tar xzf "$dist"/*-linux_"$machine".tar.gz --strip-components=1
+      expect "$($emulator bin/scrypt_tool key 4 1 1 64 "" < /dev/null)" "the archive for $PRESET, in an emulator"
       ;;
     windows)
       python3 -m zipfile -e "$dist"/*-windows_x86_64.zip . && mv scrypt-*/* .
       x86_64-w64-mingw32-gcc "$OLDPWD/tools/release/check.c" -Iinclude lib/libscrypt_c.dll.a -o bin/check.exe
-      expect "$(WINEDEBUG=-all WINEPREFIX=$room/wine wine bin/check.exe | tr -d '\r')" "Windows, by the DLL"
+      expect "$(WINEDEBUG=-all WINEPREFIX=$room/wine wine bin/check.exe | tr -d '\r')" "the archive for Windows, by the DLL in Wine"
       ;;
   esac
   cd "$OLDPWD"
