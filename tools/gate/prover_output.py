@@ -35,13 +35,11 @@ def reasons(printed):
 
 
 def own_reasons(printed, path):
-    """The reasons that a check gives for one function: of its proof files, whose folder has a `+` before its name if the
-    function calls itself, and right before its own line."""
-    above, _, name = f"proofs/{path.partition('::')[2].replace('::', '/')}".rpartition("/")
-    folders = (f"{above}/{name}/", f"{above}/+{name}/")
+    """The reasons that a check gives for one function: of its proof files, and right before its own line."""
+    folder = "proofs/" + path.partition("::")[2].replace("::", "/") + "/"
     before, own = [], []
     for reason in reasons(printed):
-        if reason.removeprefix("./").startswith(folders):
+        if reason.removeprefix("./").startswith(folder):
             own.append(reason)
         elif re.match(r"(fn|impl|enum|struct|trait) ", reason):
             own += before if reason.startswith(f"fn {path}: ") else []

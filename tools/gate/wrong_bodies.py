@@ -76,15 +76,8 @@ def rounds(name, *parts):
     return made + alone
 
 
-def proofs_of(path, folder):
-    """The folder of a function's proof in a copy of a crate: a function that calls itself has a `+` before its name there."""
-    *above, name = path.split("::")
-    proofs = Path(folder, "proofs", *above, f"+{name}")
-    return proofs if proofs.is_dir() else proofs.with_name(name)
-
-
 def leave_out(name, changed, folder):
-    """Gives the functions of a copy of a crate a hole for their proof, except those that are changed or call themselves."""
+    """Gives the functions of a copy of a crate, except those that are changed, a hole for their proof."""
     crate = sources.read_crate(name, f"crates/{name}")
     for source in crate.values():
         lines = source.text.splitlines()
@@ -93,9 +86,7 @@ def leave_out(name, changed, folder):
             # A trait's function without a body ends in a semicolon.
             if path is None or path in changed or lines[it.last - 1].endswith(";"):
                 continue
-            proofs = proofs_of(path, folder)
-            if proofs.name.startswith("+"):
-                continue
+            proofs = Path(folder, "proofs", *path.split("::"))
             proofs.mkdir(parents=True, exist_ok=True)
             for file in ("Invariants.antt", "Answers.antt"):
                 (proofs / file).unlink(missing_ok=True)
@@ -108,8 +99,8 @@ def add_answers(name, tried, folder):
     for edit, changed in tried.items():
         given, uses = edit.answers()
         for path in changed if given else ():
-            file = proofs_of(path, folder) / "Answers.antt"
-            goals = ".".join(["Rattle", name, *file.parent.relative_to(folder).parts, "Goals"])
+            file = Path(folder, "proofs", *path.split("::"), "Answers.antt")
+            goals = ".".join(["Rattle", name, "proofs", *path.split("::"), "Goals"])
             text = file.read_text("utf-8") if file.is_file() else f"use {goals} as goal\n"
             given = {goal: answer for goal, answer in given.items() if f"pub {goal} :" not in text}
             uses = [use for use in uses if f"use {use}\n" not in text]

@@ -1,9 +1,12 @@
-use Rattle.std.proofs.Common.{◌≡◌, ◌∙◌, ◌<◌, ◌≤◌, ◌+◌, ◌*◌, ◌^◌, ◌++◌, ℕ, List, length, take, drop, zero, suc, refl, sym, ap, ap₂, arith, length-append}
-use Rattle.std.specs.Prelude.{Option, None, Some, Ok, Err, [], ◌∷◌, map, option_and_then, slice_set, IsTrue}
+use Rattle.std.proofs.Common.{◌≡◌, ◌∙◌, ◌<◌, ◌≤◌, ◌+◌, ◌*◌, ◌^◌, ◌++◌, ℕ, List, length, take, drop, get_or, zero, suc, false, refl, sym, ap, ap₂, add-one, arith, append-nil, length-append}
+use Rattle.std.specs.Prelude.{Option, None, Some, Ok, Err, [], ◌∷◌, map, MatchBool, MatchOption, option_and_then, slice_set, IsTrue}
 use Rattle.std.specs.List.{sum_by}
 use Rattle.std.proofs.Math.Nat.{mul-le-mul_right}
-use Rattle.std.proofs.lemmas.List.{length-map, take_all}
-use Rattle.std.proofs.lemmas.List.Sums.{sum_by-cons}
+use Rattle.std.proofs.Math.ListN.{get_or-map}
+use Rattle.std.proofs.Math.Seq.{drop-append_seam, take-append_seam, take-suc-set}
+use Rattle.std.proofs.lemmas.Grind.{flat_map-append}
+use Rattle.std.proofs.lemmas.List.{drop_more, length-map, map-append, take-append-drop, take_all, take_more}
+use Rattle.std.proofs.lemmas.List.Sums.{sum_by-cons, sum_by_push}
 use Rattle.std.proofs.lemmas.Slice.{take-put_mid}
 use borrow.Rule.Slice.PartMut.{mid_of, put_mid, same_len_mid}
 use Rattle.std.proofs.lemmas.Option.{cond_some}
@@ -13,9 +16,10 @@ use Rattle.scrypt.specs.Accepted.{Parameters}
 use Rattle.scrypt.specs.Cost.{chunks_bytes}
 use Rattle.scrypt.specs.InBuffers.{are_enough}
 use Rattle.scrypt.specs.Key.{mixed_chunks}
-use Rattle.scrypt.specs.Logins.{Attempt, all_cost, all_of, chunks_cost, compare_cost, count_of, hashed_on, own_cost, verdict_on, with_more}
+use Rattle.scrypt.specs.Logins.{Attempt, AreLeft, IsAlone, all_cost, all_of, attempt_of, attempts, chunks_cost, compare_cost, count_of, hashed_on, own, own_cost, shared, verdict_on, with_more}
 use Rattle.scrypt.specs.Reading.{Stored, chunks_of, mixed_of, verdict, verify_cost}
-use Rattle.scrypt.specs.Workspace.{Workspace}
+use Rattle.scrypt.specs.Workspace.{IsDone, IsLeft, Workspace}
+use Rattle.scrypt.specs.declared.logins.Login.{Login}
 use Rattle.scrypt.proofs.KeyFacts.{both_mixed, length-mixed_chunks}
 use Rattle.scrypt.proofs.ReadingFacts.{enough_decided, same_hashed, same_verdict}
 
@@ -137,6 +141,22 @@ same_costs w v chunks table scratch (a ∷ rest) =
 
 -- one after another
 
+-- those from the i-th on
+pub from : (logins : List Login) (i : ℕ) (login : Login) → i < length logins → login ≡ get_or logins i login
+    → drop i (attempts logins) ≡ attempt_of login ∷ drop (i + 1) (attempts logins)
+from logins i login below is =
+    drop_more (attempts logins) i (attempt_of login) (rw (length-map logins attempt_of) below)
+    ∙ ap (λ a. a ∷ drop (i + 1) (attempts logins)) (get_or-map attempt_of logins i login ∙ ap attempt_of (sym is))
+
+-- one more of a list that is written, which says the same as another
+pub one_more : {X Y Z : Type 0} (f : X → Z) (g : Y → Z) (xs : List X) (ys : List Y) (i : ℕ) (x : X) (y : Y) → i < length xs → i < length ys
+    → get_or ys i y ≡ y → f x ≡ g y → map f (take i xs) ≡ map g (take i ys) → map f (take (i + 1) (slice_set xs i x)) ≡ map g (take (i + 1) ys)
+one_more f g xs ys i x y short below is same before =
+    let next : i + 1 ≡ suc i = add-one i in
+    ap (λ n. map f (take n (slice_set xs i x))) next ∙ ap (map f) (take-suc-set xs i x short) ∙ map-append f (take i xs) (x ∷ [])
+    ∙ ap₂ (λ zs z. zs ++ z ∷ []) before same
+    ∙ sym (ap (map g) (take_more ys i y below ∙ ap (λ z. take i ys ++ z ∷ []) is) ∙ map-append g (take i ys) (y ∷ []))
+
 -- those that are written first, and then all others
 pub all_put : {X : Type 0} (xs ys : List X) (i k : ℕ) → i ≤ length xs → length ys ≡ length (mid_of i k xs) → i + length ys ≡ length xs
     → put_mid i k xs ys ≡ take i xs ++ ys
@@ -144,15 +164,62 @@ all_put xs ys i k inside sized long =
     let whole = same_len_mid i k xs ys sized in
     sym (take_all (i + length ys) (put_mid i k xs ys) (omega (arith, whole, long))) ∙ take-put_mid i k xs ys (i + length ys) refl inside
 
--- a list whose first element is set, and then all others are written
-pub first_then : {X Y Z : Type 0} (f : X → Z) (g : Y → Z) (xs rest : List X) (x : X) (y : Y) (ys : List Y) (k : ℕ) → length xs ≡ suc (length ys)
-    → length rest ≡ length (mid_of 1 k (slice_set xs 0 x)) → f x ≡ g y → map f rest ≡ map g ys
-    → map f (put_mid 1 k (slice_set xs 0 x) rest) ≡ map g (y ∷ ys)
-first_then f g [] rest x y ys k long sized same others = absurd (omega arith)
-first_then f g (z ∷ xs) rest x y ys k long sized same others =
-    let both = ap length others in
-    ap (map f) (all_put (x ∷ xs) rest 1 k (omega arith) sized (omega (arith, length-map rest f, length-map ys g, both)))
-    ∙ ap₂ (λ u us. u ∷ us) same others
+-- what all have of f: the first i, the next and the others
+own_then : (f : List ℕ → Stored → List ℕ) (logins : List Login) (i : ℕ) (login : Login) → i < length logins → login ≡ get_or logins i login
+    → all_of f (attempts logins)
+    ≡ all_of f (take i (attempts logins)) ++ (own f (attempt_of login) ++ all_of f (drop (i + 1) (attempts logins)))
+own_then f logins i login below is =
+    ap (all_of f) (sym (take-append-drop i (attempts logins)))
+    ∙ flat_map-append (own f) (take i (attempts logins)) (drop i (attempts logins))
+    ∙ ap (λ xs. all_of f (take i (attempts logins)) ++ all_of f xs) (from logins i login below is)
+
+pub own_more : (f : List ℕ → Stored → List ℕ) (logins : List Login) (i : ℕ) (login : Login) → i < length logins → login ≡ get_or logins i login
+    → all_of f (take (i + 1) (attempts logins)) ≡ all_of f (take i (attempts logins)) ++ own f (attempt_of login)
+own_more f logins i login below is =
+    let these = attempts logins in
+    let a = attempt_of login in
+    let here = get_or-map attempt_of logins i login ∙ ap attempt_of (sym is) in
+    ap (all_of f) (take_more these i a (rw (length-map logins attempt_of) below) ∙ ap (λ x. take i these ++ x ∷ []) here)
+    ∙ flat_map-append (own f) (take i these) (a ∷ []) ∙ ap (λ x. all_of f (take i these) ++ x) (append-nil (own f a))
+
+pub own_fits : (f : List ℕ → Stored → List ℕ) (logins : List Login) (i : ℕ) (login : Login) → i < length logins → login ≡ get_or logins i login
+    → length (all_of f (take i (attempts logins))) + length (own f (attempt_of login)) ≤ length (all_of f (attempts logins))
+own_fits f logins i login below is =
+    let whole = ap length (own_then f logins i login below is) ∙ length-append (all_of f (take i (attempts logins))) _ in
+    let rest = length-append (own f (attempt_of login)) (all_of f (drop (i + 1) (attempts logins))) in
+    omega (arith, whole, rest)
+
+pub own_at : (f : List ℕ → Stored → List ℕ) (logins : List Login) (i : ℕ) (login : Login) → i < length logins → login ≡ get_or logins i login
+    → take (length (own f (attempt_of login))) (drop (length (all_of f (take i (attempts logins)))) (all_of f (attempts logins)))
+    ≡ own f (attempt_of login)
+own_at f logins i login below is =
+    let own = own f (attempt_of login) in
+    let before = all_of f (take i (attempts logins)) in
+    ap (λ xs. take (length own) (drop (length before) xs)) (own_then f logins i login below is)
+    ∙ ap (take (length own)) (drop-append_seam before _) ∙ take-append_seam own _
+
+-- f of the first i together, and of the next
+pub sum_more : (f : Attempt → ℕ) (logins : List Login) (i : ℕ) (login : Login) → i < length logins → login ≡ get_or logins i login
+    → sum_by f (take i (attempts logins)) + f (attempt_of login) ≡ sum_by f (take (i + 1) (attempts logins))
+sum_more f logins i login below is =
+    let these = attempts logins in
+    let a = attempt_of login in
+    let here = get_or-map attempt_of logins i login ∙ ap attempt_of (sym is) in
+    sym (ap (sum_by f) (take_more these i a (rw (length-map logins attempt_of) below) ∙ ap (λ x. take i these ++ x ∷ []) here)
+    ∙ sum_by_push f (take i these) a)
+
+-- the first alone, and then the others
+pub left_alone : (a : Attempt) (rest : List Attempt) (before between after : Workspace) → IsAlone (a ∷ rest) before → IsLeft a.1 before between
+    → AreLeft rest between after → AreLeft (a ∷ rest) before after
+left_alone a rest before between after alone one others = chosen (shared (a ∷ rest)) alone
+  where
+    Alone : Type 0
+    Alone = (between : Workspace) × IsLeft a.1 before between × AreLeft rest between after
+
+    chosen : (s : Option Parameters) → ((c : Parameters) → s ≡ Some c → are_enough c before.chunks before.table before.scratch ≡ false)
+        → MatchOption s Alone (λ c. MatchBool (are_enough c before.chunks before.table before.scratch) (IsDone c before after) Alone)
+    chosen None none = (between, one, others)
+    chosen (Some c) none = rw (none c refl) (between, one, others)
 
 pub ruleset chunks_together = (long_all, mixed_is)
 

@@ -172,14 +172,13 @@ pub fn verify_logins<W: Mixer>(
     ensures hashed { cores.new.compressions ≡ cores.old.compressions
         + sum_by (hashed_on (workspace_of chunks.old table.old scratch.old cores.old)) (attempts logins.now) }
 {
-    if verified_at_once::<W>(logins, verdicts, chunks, table, scratch, cores) {
-        return;
+    for i in 0..logins.len() {
+        let (_, rest) = logins.split_at(i);
+        if verified_at_once::<W>(rest, &mut verdicts[i..], chunks, table, scratch, cores) {
+            return;
+        }
+        verdicts[i] = logins[i].verify_alone::<W>(chunks, table, scratch, cores);
     }
-    let Some((login, others)) = logins.split_first() else {
-        return;
-    };
-    verdicts[0] = login.verify_alone::<W>(chunks, table, scratch, cores);
-    verify_logins::<W>(others, &mut verdicts[1..], chunks, table, scratch, cores);
 }
 
 // Verifies all at once and returns true, or returns false if there is no room for that, or no login.
@@ -280,12 +279,13 @@ fn derive_all_chunks(logins: &[Login<'_, '_>], chunks: &mut [u8], cores: &mut Co
     ensures value { chunks.new ≡ all_of chunks_of (attempts logins.now) }
     ensures counted { AreHashed (all_cost chunks_cost (attempts logins.now)) cores.old cores.new }
 {
-    let Some((login, others)) = logins.split_first() else {
-        return;
-    };
-    let (own, rest) = chunks.split_at_mut(login.chunks_len());
-    login.derive_chunks(own, cores);
-    derive_all_chunks(others, rest, cores);
+    let mut at = 0;
+    for i in 0..logins.len() {
+        let login = &logins[i];
+        let end = at + login.chunks_len();
+        login.derive_chunks(&mut chunks[at..end], cores);
+        at = end;
+    }
 }
 
 // Step 3: compares each key with the one that its mixed chunks give.
@@ -300,12 +300,13 @@ fn compare(
     ensures verdicts { map with_limited_refusal verdicts.new ≡ map (λ a. verdict a.0 a.1) (attempts logins.now) }
     ensures counted { AreHashed (all_cost compare_cost (attempts logins.now)) cores.old cores.new }
 {
-    let Some((login, others)) = logins.split_first() else {
-        return;
-    };
-    let (own, rest) = mixed.split_at(login.chunks_len());
-    verdicts[0] = login.compare(own, cores);
-    compare(others, rest, &mut verdicts[1..], cores);
+    let mut at = 0;
+    for i in 0..logins.len() {
+        let login = &logins[i];
+        let end = at + login.chunks_len();
+        verdicts[i] = login.compare(&mixed[at..end], cores);
+        at = end;
+    }
 }
 
 // Returns a verdict as one of a call with limits.
