@@ -1,7 +1,8 @@
-/* The names of other libraries, over this one: scrypt of libscrypt-kdf and of libscrypt, and libsodium's
- * crypto_pwhash_scryptsalsa208sha256 with its own limits and its own choice of N, r and p. Not proved. */
+/* For programs that are linked with libscrypt-kdf, libscrypt or libsodium: their names, over this
+ * library, with libsodium's own limits and its own choice of N, r and p. Not proved. As there, no
+ * pointer may be NULL where bytes are read or written. */
 #define _GNU_SOURCE
-#include "groups.h"
+#include "scrypt_c.h"
 
 #include <errno.h>
 #include <stdlib.h>
@@ -60,8 +61,6 @@ static int derive_key(const uint8_t *password, size_t password_len, const uint8_
 
 static int derive(const uint8_t *password, size_t password_len, const uint8_t *salt, size_t salt_len, uint64_t n,
                   uint64_t most_n, uint32_t r, uint32_t p, uint8_t *output, size_t output_len) {
-  if (is_null(password, password_len) || is_null(salt, salt_len) || is_null(output, output_len))
-    return refused(EINVAL);
   if (output_len > SCRYPT_MAX_OUTPUT_LEN || (uint64_t)r * p >= (uint64_t)1 << 30) return refused(EFBIG);
   if (r == 0 || p == 0) return refused(EINVAL);
   if (n > most_n) return refused(EFBIG);
@@ -115,8 +114,7 @@ API int crypto_pwhash_scryptsalsa208sha256(unsigned char *output, unsigned long 
   uint8_t log_n;
   uint32_t r, p;
   if (output_len > SCRYPT_MAX_OUTPUT_LEN) return refused(EFBIG);
-  if (is_null(output, (size_t)output_len)) return refused(EINVAL);
-  if (output != NULL) memset(output, 0, (size_t)output_len);
+  memset(output, 0, (size_t)output_len);
   if (output_len < LEAST_OUTPUT || (const void *)output == (const void *)password) return refused(EINVAL);
   choose(work, memory, &log_n, &r, &p);
   return derive((const uint8_t *)password, (size_t)password_len, salt, SALT_LEN, (uint64_t)1 << log_n, UINT32_MAX, r,
@@ -133,7 +131,7 @@ static void put_letters(char *to, int count, uint32_t number) {
 
 /* The text has the length of those of .._str, and eleven letters for its costs. */
 static int has_costs(const char *text) {
-  if (text == NULL || strnlen(text, TEXT_LEN + 1) != TEXT_LEN) return 0;
+  if (strnlen(text, TEXT_LEN + 1) != TEXT_LEN) return 0;
   return strncmp(text, "$7$", 3) == 0 && strspn(text + 3, LETTERS) >= 11;
 }
 
@@ -143,7 +141,6 @@ API int crypto_pwhash_scryptsalsa208sha256_str(char text[TEXT_LEN + 1], const ch
   uint8_t log_n, salt[SALT_LEN];
   char made[TEXT_LEN + 1];
   uint32_t r, p;
-  if (text == NULL || is_null(password, (size_t)password_len)) return refused(EINVAL);
   memset(text, 0, TEXT_LEN + 1);
   choose(work, memory, &log_n, &r, &p);
   if (log_n > MOST_LOG_N) return refused(EINVAL);
@@ -157,7 +154,6 @@ API int crypto_pwhash_scryptsalsa208sha256_str(char text[TEXT_LEN + 1], const ch
 API int crypto_pwhash_scryptsalsa208sha256_str_verify(const char text[TEXT_LEN + 1], const char *password,
                                                       unsigned long long password_len) {
   ptrdiff_t log_n;
-  if (is_null(password, (size_t)password_len)) return refused(EINVAL);
   if (!has_costs(text) || text[KEY_AT - 1] != '$') return -1;
   log_n = strchr(LETTERS, text[3]) - LETTERS;
   if (log_n == 0 || log_n > MOST_LOG_N) return -1;
