@@ -15,17 +15,25 @@ var statuses = map[string]error{
 	"KEY_TOO_SHORT": ErrKeyTooShort,
 }
 
-// TestCases makes the verifications of bindings/cases.tsv. The errors of a text alone come without
-// waiting, which takes forever here.
-func TestCases(t *testing.T) {
-	file, err := os.ReadFile("../cases.tsv")
+// rows returns the lines of a table without its first, each as its words.
+func rows(t *testing.T, path string) (found [][]string) {
+	t.Helper()
+	file, err := os.ReadFile(path)
 	if err != nil {
 		t.Skip(err) // the module of a release is without it
 	}
+	for _, line := range strings.Split(strings.TrimSuffix(string(file), "\n"), "\n")[1:] {
+		found = append(found, strings.Split(line, "\t"))
+	}
+	return found
+}
+
+// TestCases makes the verifications of bindings/cases.tsv. The errors of a text alone come without
+// waiting, which takes forever here.
+func TestCases(t *testing.T) {
 	ctx, hasher, full := context.Background(), newHasher(t, Options{}), newHasher(t, Options{})
 	full.of.inside = nil
-	for _, line := range strings.Split(strings.TrimSpace(string(file)), "\n")[1:] {
-		words := strings.Split(line, "\t")
+	for _, words := range rows(t, "../cases.tsv") {
 		text, want, of := strings.ReplaceAll(words[2], "\\0", "\x00"), statuses[words[0]], full
 		if text == "" {
 			want = ErrMismatch // as for a name that doesn't exist

@@ -2,78 +2,34 @@ package scrypt
 
 import (
 	"context"
+	"encoding/hex"
 	"errors"
 	"fmt"
+	"strconv"
 	"strings"
 	"testing"
 )
 
+// TestStoredText makes the texts of bindings/stored.tsv.
 func TestStoredText(t *testing.T) {
-	hasher := newHasher(t, Options{Params: Params{4, 8, 1, 10}})
-	for _, it := range []struct {
-		why    string
-		salt   string
-		keyLen int
-	}{
-		{"the usual lengths", "seasalt", 32},
-		{"a key that a PHC text cuts", "seasalt", 100},
-		{"no salt, and a key of whole groups", "", 33},
-		{"one byte more than whole groups", strings.Repeat("a", 65), 34},
-		{"two bytes more", strings.Repeat("ö", 40), 35},
-	} {
-		key, err := Key([]byte("pw"), []byte(it.salt), 64, 8, 1, it.keyLen)
-		if err != nil {
-			t.Fatal(err)
+	for _, words := range rows(t, "../stored.tsv") {
+		salt, _ := hex.DecodeString(words[0])
+		key, _ := hex.DecodeString(words[1])
+		var numbers [3]int
+		for i := range numbers {
+			numbers[i], _ = strconv.Atoi(words[2+i])
 		}
-		text, err := StoredText([]byte(it.salt), key, 64, 8, 1)
-		if err == nil {
-			err = hasher.Verify(context.Background(), text, []byte("pw"))
-		}
-		if err != nil {
-			t.Errorf("%s: %q, %v", it.why, text, err)
+		text, err := StoredText(salt, key, numbers[0], numbers[1], numbers[2])
+		if text != words[5] || (err == nil) != (text != "") {
+			t.Errorf("%.80s: %q, %v", words, text, err)
 		}
 	}
-	key := make([]byte, 32)
-	for _, it := range []struct {
-		why       string
-		salt, key []byte
-		n, r, p   int
-		want      error
-	}{
-		{"N is not a power of two", key, key, 1000, 8, 1, ErrInvalidParams},
-		{"N is 0", key, key, 0, 8, 1, ErrInvalidParams},
-		{"r is 0", key, key, 64, 0, 1, ErrInvalidParams},
-		{"p has more than 32 bits", key, key, 64, 8, 1 + 1<<32, ErrInvalidParams},
-		{"no key", key, nil, 64, 8, 1, ErrInvalidOutputLen},
-		{"a $ in the salt of a $7$ text", []byte(strings.Repeat("$", 65)), key, 64, 8, 1, ErrSaltInvalid},
-		{"a salt of a $7$ text is UTF-8", []byte(strings.Repeat("\xff", 65)), key, 64, 8, 1, ErrSaltInvalid},
-	} {
-		if text, err := StoredText(it.salt, it.key, it.n, it.r, it.p); text != "" || !errors.Is(err, it.want) {
-			t.Errorf("%s: %q, %v", it.why, text, err)
-		}
+	const words = "N is at least 64, and 14 may be its logarithm, LogN: 16384 is N = 2^14"
+	if _, err := StoredText(nil, make([]byte, 32), 14, 8, 1); !strings.HasSuffix(fmt.Sprint(err), words) {
+		t.Error(err)
 	}
-}
-
-// In place of N a log_n is refused by name. A hash that names its N may have a small one.
-func TestLogNInPlaceOfN(t *testing.T) {
-	salt := []byte("seasalt")
-	key, err := Key([]byte("pw"), salt, 16, 8, 1, 32)
-	if err != nil {
-		t.Fatal(err)
-	}
-	for n, power := range map[int]string{1: "2", 14: "16384", 16: "65536", 32: "4294967296", 63: "9223372036854775808"} {
-		text, err := StoredText(salt, key, n, 8, 1)
-		want := fmt.Sprintf("N is at least 64, and %d may be its logarithm, LogN: %s is N = 2^%d", n, power, n)
-		if text != "" || !errors.Is(err, ErrInvalidParams) || !strings.HasSuffix(err.Error(), want) {
-			t.Errorf("%d: %q, %v", n, text, err)
-		}
-	}
-	text, err := FromSimpleScrypt(fmt.Sprintf("16$8$1$%x$%x", salt, key))
-	if err == nil {
-		err = newHasher(t, Options{Params: small()}).Verify(context.Background(), text, []byte("pw"))
-	}
-	if err != nil {
-		t.Errorf("%q: %v", text, err)
+	if _, err := StoredText(nil, make([]byte, 32), 64, 8, 1+1<<32); !errors.Is(err, ErrInvalidParams) {
+		t.Error("p of 1 in 32 bits:", err)
 	}
 }
 

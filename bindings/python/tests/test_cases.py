@@ -1,12 +1,16 @@
-"""The verifications of bindings/cases.tsv."""
+"""The verifications of bindings/cases.tsv, and the conversions of bindings/stored.tsv."""
 
 import pathlib
 import pickle
 import unittest
 
 import scrypt_c
+from scrypt_c.migration import stored_text
 
-CASES = pathlib.Path(__file__).parents[2] / "cases.tsv"
+
+def rows(table):
+    text = (pathlib.Path(__file__).parents[2] / table).read_text("utf-8")
+    return [line.split("\t") for line in text.splitlines()[1:]]
 
 
 def outcome(call, *arguments):
@@ -19,10 +23,9 @@ def outcome(call, *arguments):
 
 
 class Cases(unittest.TestCase):
-    def test_all(self):
+    def test_verifications(self):
         hasher = scrypt_c.PasswordHasher()
-        for line in CASES.read_text("utf-8").splitlines()[1:]:
-            status, password, text = line.split("\t")
+        for status, password, text in rows("cases.tsv"):
             text = text.replace("\\0", "\0")
             found, error = outcome(hasher.verify, text, password)
             self.assertEqual(found, status, text)
@@ -35,6 +38,14 @@ class Cases(unittest.TestCase):
             for reads in (hasher.check_needs_rehash, scrypt_c.params_of):
                 unread = isinstance(error, scrypt_c.InvalidHashError)
                 self.assertEqual(outcome(reads, text)[0], status if unread else "OK", text)
+
+    def test_stored(self):
+        for salt, key, *numbers, wanted in rows("stored.tsv"):
+            try:
+                text = stored_text(bytes.fromhex(salt), bytes.fromhex(key), *map(int, numbers))
+            except ValueError:
+                text = ""
+            self.assertEqual(text, wanted, (salt, key, numbers))
 
 
 if __name__ == "__main__":

@@ -1,12 +1,9 @@
-"""A hasher in threads and processes: exceptions, signals and copies at any time. Its queue has tests in C."""
+"""A hasher in threads: signals, statistics, and its end. The queue has tests in C."""
 
-import asyncio
 import contextlib
 import copy
 import gc
 import math
-import pickle
-import random
 import signal
 import subprocess
 import sys
@@ -55,14 +52,15 @@ def on_alarm(handler):
         signal.signal(signal.SIGALRM, before)
 
 
-def alarm(least, most):
-    signal.setitimer(signal.ITIMER_REAL, random.uniform(least, most))
-
-
 def resident():
     """KiB of this process."""
     with open("/proc/self/status", encoding="ascii") as file:
         return next(int(line.split()[1]) for line in file if line.startswith("VmRSS"))
+
+
+def program(text):
+    command = [sys.executable, "-c", text]
+    return subprocess.run(command, capture_output=True, text=True, timeout=WAIT)
 
 
 # A program ends while daemon threads derive and wait.
@@ -71,15 +69,17 @@ import random, scrypt_c, threading, time
 hasher = scrypt_c.PasswordHasher(log_n=12, at_once=2)
 text = hasher.hash("pw")
 for _ in range(8):
-    threading.Thread(target=lambda: [hasher.verify(text, "pw") for _ in iter(int, 1)], daemon=True).start()
+    verify = lambda: [hasher.verify(text, "pw") for _ in iter(int, 1)]
+    threading.Thread(target=verify, daemon=True).start()
 time.sleep(random.uniform(0, 0.1))
 print("end")
 """
 
-# A program whose garbage is a cycle with a hasher, each of which uses it when the collector finalizes it. They are made before
+# A program whose garbage is a cycle with a hasher, which uses it when the collector finalizes it: a
+# value with `__del__`, which may keep it, and a generator in a `with` block. They are made before
 # and after the hasher, as the collector begins with the oldest.
 FINALIZERS = """
-import asyncio, gc, scrypt_c
+import gc, scrypt_c
 gc.disable()
 text = scrypt_c.PasswordHasher(log_n=4).hash("pw")
 kept = []
@@ -96,81 +96,42 @@ def in_a_generator(login):
         finally:
             print(hasher.verify(text, "pw"))
 
-async def in_an_async_generator(login):
-    with login.hasher as hasher:
-        try:
-            yield
-        finally:
-            print(hasher.verify(text, "pw"))
-
-def make(keeps):
+for keeps in (False, True):
     first, hasher, last = Login(), scrypt_c.PasswordHasher(log_n=4), Login()
     for login in (first, last):
         login.hasher, login.both, login.keeps = hasher, [first, last], []
     last.keeps = [last] if keeps else []
     first.generator = in_a_generator(first)
     next(first.generator)
-
-async def main():
-    login = Login()
-    login.hasher, login.keeps = scrypt_c.PasswordHasher(log_n=4), []
-    login.generator = in_an_async_generator(login)
-    await login.generator.__anext__()
-    del login
-    gc.collect()
-    await asyncio.sleep(0)
-
-for keeps in (False, True):
-    make(keeps)
+    del first, hasher, last, login
     gc.collect()
 print(kept.pop().hasher.check_needs_rehash(text))
 gc.collect()
-asyncio.run(main())
 print("end")
 """
 
 
 class Signals(unittest.TestCase):
-    def test_interrupts(self):
-        """1,000 at any time, without other threads and with some. The only turn is never lost."""
-        hasher, interrupts = PasswordHasher(log_n=4, at_once=1, timeout=WAIT), []
-
-        def interrupt(*_):
-            interrupts.append(1)
-            raise KeyboardInterrupt
-
-        def verify_until(enough):
-            while len(interrupts) < enough:
-                hasher.verify(TEXT, "pw")
-
-        for others, enough in [(0, 500), (2, 1000)]:
-            with ThreadPoolExecutor(2) as threads, on_alarm(interrupt):
-                running = [threads.submit(verify_until, enough) for _ in range(others)]
-                while len(interrupts) < enough:
-                    with contextlib.suppress(KeyboardInterrupt):
-                        alarm(1e-6, 3e-4)
-                        while True:
-                            hasher.verify(TEXT, "pw")
-                            hasher.hash("pw")
-                    self.assertTrue(hasher.verify(TEXT, "pw"))
-                for it in running:
-                    it.result(WAIT)
-
     def test_handlers_after_the_wait(self):
-        """They run when the call has returned, at the latest after the timeout, and what one raises comes in place of its result."""
-        for handler, result in [(signal.default_int_handler, KeyboardInterrupt), (lambda *_: None, TimeoutError)]:
+        """They run when the call has returned, at the latest after the timeout, and what one raises
+        comes in place of its result."""
+        for handler, result in [
+            (signal.default_int_handler, KeyboardInterrupt),
+            (lambda *_: None, TimeoutError),
+        ]:
             hasher = PasswordHasher(log_n=4, at_once=1, timeout=0.2)
             with busy(hasher, 4), on_alarm(handler):
-                alarm(0.05, 0.05)
+                signal.setitimer(signal.ITIMER_REAL, 0.05)
                 began = time.monotonic()
                 self.assertIs(outcome(hasher, TEXT, "pw"), result)
                 self.assertTrue(0.15 < time.monotonic() - began < 0.5, result)
 
     def test_milliseconds(self):
-        """For how many a call may wait: never fewer than the timeout, and never more than C counts."""
+        """For how many a call may wait: never fewer than the timeout, nor more than C counts."""
         longest = math.ceil(1000 * threading.TIMEOUT_MAX)
         for timeout, wanted in [(0, 0), (0.1201, 121), (None, longest), (1e300, longest)]:
-            self.assertEqual(PasswordHasher(log_n=4, timeout=timeout)._run(lambda _, most_ms: most_ms), wanted)
+            hasher = PasswordHasher(log_n=4, timeout=timeout)
+            self.assertEqual(hasher._run(lambda _, most_ms: most_ms), wanted)
 
 
 class Threads(unittest.TestCase):
@@ -183,9 +144,10 @@ class Threads(unittest.TestCase):
         self.assertLess(resident() - before, 8 << 10)
 
     def test_finalizers(self):
-        """Whatever the collector finalizes first, a hasher is freed last, also if one of them was kept."""
-        run = subprocess.run([sys.executable, "-c", FINALIZERS], capture_output=True, text=True, timeout=WAIT)
-        wanted = [*6 * ["True"], "False", "True", "True", "end", ""]
+        """Whatever the collector finalizes first, a hasher is freed last, also if one of them was
+        kept."""
+        run = program(FINALIZERS)
+        wanted = [*6 * ["True"], "False", "end", ""]
         self.assertEqual((run.stdout.split("\n"), run.stderr, run.returncode), (wanted, "", 0))
         self.assertFalse(gc.is_tracked(PasswordHasher(log_n=4)._c))
 
@@ -204,60 +166,10 @@ class Threads(unittest.TestCase):
         self.assertEqual(hasher.stats(), (0, 0, before.refused + 2))
         self.assertEqual(copy.copy(hasher).stats(), (0, 0, 0))
 
-    def test_asyncio(self):
-        """The event loop runs meanwhile. An await that is cancelled ends at once, and its call after the hasher's timeout."""
-        hasher, ended = PasswordHasher(log_n=4, at_once=1, timeout=0.4), []
-
-        def verify():
-            try:
-                hasher.verify(TEXT, "pw")
-            except TimeoutError:
-                ended.append(time.monotonic() - begun)
-
-        async def login():
-            task = asyncio.create_task(asyncio.to_thread(verify))
-            await asyncio.sleep(0.01)
-            task.cancel()
-            await asyncio.wait([task])
-            self.assertEqual((task.cancelled(), ended), (True, []))
-
-        with busy(hasher, 4):
-            begun = time.monotonic()
-            asyncio.run(login())
-            self.assertEqual(len(ended), 1, "asyncio.run waited for it")
-            self.assertGreaterEqual(ended[0], 0.4)
-
-
-class Processes(unittest.TestCase):
-    def test_copies(self):
-        """Each argument is in the copy, which is open when the other is closed."""
-        for options in [
-            {"log_n": 4, "r": 3, "p": 2, "key_len": 33, "salt_len": 40, "mcf": True},
-            {"log_n": 4, "at_once": 3, "timeout": 0.5, "most_bytes": 1 << 20, "most_work": 1 << 15},
-        ]:
-            hasher = Other("one", **options)
-            hasher.tenants.append("another")
-            size = len(hasher.hash("pw"))
-            for copied in (pickle.loads(pickle.dumps(hasher)), copy.copy(hasher), copy.deepcopy(hasher)):
-                self.assertEqual((type(copied), repr(copied)), (Other, repr(hasher)))
-                self.assertEqual(*((it.params, it._options, it._timeout, it.tenants) for it in (copied, hasher)))
-                with hasher:
-                    pass
-                self.assertRaises(ValueError, hasher.hash, "pw")
-                self.assertEqual(len(copied.hash("pw")), size)
-
     def test_daemons(self):
         for _ in range(3):
-            run = subprocess.run([sys.executable, "-c", DAEMONS], capture_output=True, text=True, timeout=WAIT)
+            run = program(DAEMONS)
             self.assertEqual((run.stdout, run.stderr, run.returncode), ("end\n", "", 0))
-
-
-class Other(PasswordHasher):
-    """A subclass with an argument and an attribute of its own."""
-
-    def __init__(self, tenant, **options):
-        super().__init__(**options)
-        self.tenants = [tenant]
 
 
 if __name__ == "__main__":

@@ -1,7 +1,7 @@
 //! Hashes of other programs: each is converted to a text that its password opens, or refused.
 
 use scrypt_c::migration::{from_simple_scrypt, stored_text};
-use scrypt_c::{scrypt, Error, Hasher, Params};
+use scrypt_c::{Error, Hasher, Params};
 
 // Of `pw`, by (10, 8, 1).
 const SIMPLE: &str = "1024$8$1$73656173616c74$\
@@ -30,33 +30,24 @@ fn refused() {
     }
 }
 
+/// The texts of bindings/stored.tsv.
 #[test]
-fn keys() {
-    let params = Params::new(4, 8, 1).unwrap();
-    let hasher = Hasher::default();
-    for (salt, len) in [
-        ("seasalt", 16),
-        ("seasalt", 17),
-        ("seasalt", 64),
-        ("seasalt", 100),
-        ("", 33),
-        ("", 34),
-        ("", 35),
-    ] {
-        let mut key = vec![0; len];
-        scrypt(b"pw", salt.as_bytes(), &params, &mut key).unwrap();
-        let text = stored_text(salt.as_bytes(), &key, &params).unwrap();
-        assert_eq!(
-            hasher.verify(&text, "pw"),
-            Ok(()),
-            "a salt of {salt:?} and a key of {len} bytes"
-        );
-    }
-    for (why, salt, key, wanted) in [
-        ("no key", "seasalt".as_bytes(), &[][..], Error::InvalidOutputLen),
-        ("a $ in the salt of a $7$ text", &[b'$'; 65], &[0; 32], Error::SaltInvalid),
-        ("a salt of a $7$ text is UTF-8", &[255; 65], &[0; 32], Error::SaltInvalid),
-    ] {
-        assert_eq!(stored_text(salt, key, &params), Err(wanted), "{why}");
+fn stored() {
+    let hex = |text: &str| -> Vec<u8> {
+        let byte = |at| u8::from_str_radix(&text[at..at + 2], 16).unwrap();
+        (0..text.len()).step_by(2).map(byte).collect()
+    };
+    // The crate of a release is without the table.
+    let table = std::fs::read_to_string("../stored.tsv").unwrap_or_default();
+    for line in table.lines().skip(1) {
+        let words: Vec<&str> = line.split('\t').collect();
+        let [n, r, p] = [2, 3, 4].map(|it| words[it].parse::<u64>().unwrap());
+        if n != 64 {
+            continue; // which is refused where N is a number
+        }
+        let made = Params::new(6, r as u32, p as u32)
+            .map_err(Error::from)
+            .and_then(|params| stored_text(&hex(words[0]), &hex(words[1]), &params));
+        assert_eq!(made.unwrap_or_default(), words[5], "{line}");
     }
 }
