@@ -260,33 +260,28 @@ static void long_inputs(void) {
             is_of_long(password, LEN, text), "a long $7$ text");
 }
 
-static void refusals_of_texts(void) {
-  static const struct {
-    const char *text;
-    int status;
-  } REFUSED[] = {
-      {"", SCRYPT_ENCODING_INVALID},
-      {"$7", SCRYPT_ENCODING_INVALID},
-      {"$7$", SCRYPT_ENCODING_INVALID},
-      {"$scrypt$ln=4\xff", SCRYPT_ENCODING_INVALID},
-      {"$7$26..../....s\xc3lt$......................", SCRYPT_ENCODING_INVALID},
-      {"$7$26..../....s\xc3\xa4lt$......................", SCRYPT_MISMATCH},
-      {"$argon2$c2FsdHNhbHQ$AAAAAAAAAAAAAAAAAAAA", SCRYPT_ALGORITHM},
-      {"$scrypt$v=1$ln=4$c2FsdHNhbHQ$AAAAAAAAAAAAAAAAAAAA", SCRYPT_VERSION},
-      {"$scrypt$ln=256$c2FsdHNhbHQ$AAAAAAAAAAAAAAAAAAAA", SCRYPT_HASH_PARAM_INVALID},
-      {"$scrypt$r=x$c2FsdHNhbHQ$AAAAAAAAAAAAAAAAAAAA", SCRYPT_HASH_PARAM_INVALID},
-      {"$scrypt$ln=57$c2FsdHNhbHQ$AAAAAAAAAAAAAAAAAAAA", SCRYPT_HASH_PARAMS_INVALID},
-      {"$scrypt$q=1$c2FsdHNhbHQ$AAAAAAAAAAAAAAAAAAAA", SCRYPT_HASH_PARAMS_INVALID},
-      {"$7$z6..../....salt$......................", SCRYPT_HASH_PARAMS_INVALID},
-      {"$7$26..../....salt$", SCRYPT_OUTPUT_SIZE},
-      {"$scrypt$ln=4,r=8,p=1", SCRYPT_MISMATCH},
-  };
-  size_t i;
-  for (i = 0; i < sizeof REFUSED / sizeof REFUSED[0]; i++) {
-    check(verify("", REFUSED[i].text) == REFUSED[i].status, REFUSED[i].text);
-    check(rehash(REFUSED[i].text, 4) == REFUSED[i].status, REFUSED[i].text);
+/* Texts that are not UTF-8, which bindings/cases.tsv can't have, and one that is. */
+static void texts_of_other_bytes(void) {
+  check(verify("", "$scrypt$ln=4\xff") == SCRYPT_ENCODING_INVALID, "a byte of no letter");
+  check(verify("", "$7$26..../....s\xc3lt$......................") == SCRYPT_ENCODING_INVALID, "half a letter");
+  check(verify("", "$7$26..../....s\xc3\xa4lt$......................") == SCRYPT_MISMATCH, "a letter of two bytes");
+}
+
+static int has_words(int status) { return strcmp(scrypt_status_text(status), "unknown status") != 0; }
+
+/* Each status has words of its own and a name, and says whether a text is refused. */
+static void words_of_statuses(void) {
+  int status, other;
+  for (status = SCRYPT_OK; has_words(status); status++)
+    for (other = SCRYPT_OK; other < status; other++)
+      check(strcmp(scrypt_status_text(status), scrypt_status_text(other)) != 0, "words of its own");
+  check(status > SCRYPT_OPTIONS_SIZE, "the words of a status");
+  for (status = -1; status < 99; status++) {
+    const int is_of_text = status >= SCRYPT_ALGORITHM && status <= SCRYPT_VERSION && status != SCRYPT_SALT_INVALID;
+    check((scrypt_status_name(status) != NULL) == has_words(status), "a name for each status");
+    check(scrypt_status_is_invalid_hash(status) == is_of_text, "what a text is refused by");
   }
-  check(verify("", "$scrypt$ln=56,r=1,p=1$c2FsdHNhbHQ$AAAAAAAAAAAAAAAAAAAA") == SCRYPT_OUT_OF_MEMORY, "memory");
+  check(strcmp(scrypt_status_name(SCRYPT_SALT_INVALID), "SCRYPT_SALT_INVALID") == 0, "its name");
 }
 
 int main(int argc, char **argv) {
@@ -296,7 +291,8 @@ int main(int argc, char **argv) {
   hashes();
   long_inputs();
   each_number_of_chunks();
-  refusals_of_texts();
+  texts_of_other_bytes();
+  words_of_statuses();
   check(strncmp(scrypt_version(), VERSION, sizeof VERSION - 1) == 0, "the version of the header");
   return failed;
 }
