@@ -1,5 +1,7 @@
 // The proved calls, in memory that is wiped after each of them.
-import { NO_LIMIT, bytesOf, copyOf, isNone, lengthOf, limit, optionsOf, parameters, withDefaults } from './arguments.js';
+import {
+  NO_LIMIT, bytesOf, copyOf, isNone, lengthOf, limit, optionsOf, parameters, withDefaults,
+} from './arguments.js';
 import { SALT_LEN } from './declared.js';
 import { ScryptError, errorFor, errorOfHash } from './errors.js';
 import { Instance, places } from './instance.js';
@@ -22,7 +24,8 @@ export class Scrypt {
       const { exports } = await WebAssembly.instantiate(module);
       return new Scrypt(exports, () => new WebAssembly.Instance(module).exports);
     } catch (cause) {
-      throw errorFor(cause, 'LOAD_FAILED', `this is not the module of this package: ${cause.message}`);
+      const message = `this is not the module of this package: ${cause.message}`;
+      throw errorFor(cause, 'LOAD_FAILED', message);
     }
   }
 
@@ -38,20 +41,20 @@ export class Scrypt {
   }
 
   scrypt(password, salt, given) {
-    const [params, ...others] = keyOptions(optionsOf(given, 'scrypt'));
+    const wanted = keyOptions(optionsOf(given, 'scrypt'));
     return this.#run({ password, salt }, (it, ...slices) => {
-      const [key, buffers] = keyAndBuffers(it, params, ...others);
+      const [params, key, buffers] = keyPlaces(it, wanted);
       it.call('scrypt_kdf_with_buffers', ...slices, ...params, key, ...buffers);
       return copyOf(it.view(key));
     });
   }
 
-  /** The same in steps of some 10 ms, between which this thread goes on, shows how far it is, and may be told to end. */
+  /** The same in steps, between which this thread goes on. */
   async scryptAsync(password, salt, given) {
     const { onProgress, signal, ...options } = optionsOf(given, 'scrypt', 'steps');
-    const [params, ...others] = keyOptions(options);
+    const wanted = keyOptions(options);
     return this.#runInSteps({ password, salt }, function* work(it, ...slices) {
-      const [key, buffers] = keyAndBuffers(it, params, ...others);
+      const [params, key, buffers] = keyPlaces(it, wanted);
       yield* keyInSteps(it, ...slices, params, key, buffers);
       return copyOf(it.view(key));
     }, onProgress, signal);
@@ -67,27 +70,26 @@ export class Scrypt {
       const text = it.take(TEXT_CAPACITY + 2 * slices[1].length);
       const [textLen] = it.words(1);
       const buffers = it.buffersFor(params, mostBytes, NO_LIMIT);
-      it.call(`scrypt_hash_${format}_with_buffers`, ...slices, ...params, keyLen, text, textLen.at, ...buffers);
+      const places = [text, textLen.at, ...buffers];
+      it.call(`scrypt_hash_${format}_with_buffers`, ...slices, ...params, keyLen, ...places);
       return new TextDecoder().decode(it.view(text).subarray(0, it.number(textLen)));
     });
   }
 
   verify(password, text, given) {
-    const options = optionsOf(given, 'verify');
-    const wanted = withDefaults(options);
-    const keyLen = BigInt(lengthOf(options.dkLen));
-    return this.#run(isNone(text) ? { password } : { password, text }, (it, passwordSlice, textSlice) => {
-      const limits = limitsOf(options, it, wanted, keyLen);
-      if (textSlice === undefined) return isOfNobody(it, passwordSlice, wanted, keyLen, limits);
-      return it.isOk('scrypt_verify_within_with_buffers', passwordSlice, textSlice, ...limits, ...it.buffersOf(textSlice, limits));
+    const wanted = verifyOptions(optionsOf(given, 'verify'));
+    if (isNone(text)) return this.#run({ password }, (it, slice) => ofNobody(it, slice, wanted));
+    return this.#run({ password, text }, (it, ...slices) => {
+      const limits = limitsOf(it, wanted);
+      const buffers = it.buffersOf(slices[1], limits);
+      return it.isOk('scrypt_verify_within_with_buffers', ...slices, ...limits, ...buffers);
     });
   }
 
   needsRehash(text, given) {
     const options = optionsOf(given, 'needsRehash');
-    const params = withDefaults(options);
-    const keyLen = BigInt(lengthOf(options.dkLen));
-    return this.#run({ text }, (it, slice) => !it.isOk('scrypt_needs_rehash', slice, ...params, keyLen));
+    const wanted = [...withDefaults(options), BigInt(lengthOf(options.dkLen))];
+    return this.#run({ text }, (it, slice) => !it.isOk('scrypt_needs_rehash', slice, ...wanted));
   }
 
   params(text) {
@@ -100,7 +102,7 @@ export class Scrypt {
   }
 
   #run(values, work) {
-    return this.#steps(values, function* atOnce(...placed) { return work(...placed); }).next().value;
+    return this.#steps(values, function* inOne(...placed) { return work(...placed); }).next().value;
   }
 
   async #runInSteps(values, work, onProgress, signal) {
@@ -119,8 +121,9 @@ export class Scrypt {
     }
   }
 
-  // Calls the module in an empty memory. All values are bytes before one is placed. No other call finds the instance meanwhile, and none
-  // later if the engine ended the call inside of the module, at the end of the stack or by a timeout: then it goes with its memory.
+  // Calls the module in an empty memory. All values are bytes before one is placed. No other call
+  // finds the instance meanwhile, and none later if the engine ended the call inside of the module,
+  // at the end of the stack or by a timeout: then it goes with its memory.
   *#steps(values, work) {
     const given = Object.entries(values).map(([name, value]) => bytesOf(value, name));
     const it = this.#instance ?? new Instance(this.#another());
@@ -128,8 +131,10 @@ export class Scrypt {
     try {
       return yield* work(it, ...given.map((bytes) => it.put(bytes)));
     } catch (cause) {
-      const error = cause instanceof ScryptError ? cause : errorFor(cause, 'INTERNAL', `the module was ended: ${cause.message}`);
-      throw values.text === undefined ? error : errorOfHash(error, 'password' in values ? given[0] : undefined);
+      const message = `the module was ended: ${cause.message}`;
+      const error = cause instanceof ScryptError ? cause : errorFor(cause, 'INTERNAL', message);
+      if (values.text === undefined) throw error;
+      throw errorOfHash(error, values.password === undefined ? undefined : given[0]);
     } finally {
       it.wipe();
       if (!it.isInside) this.#instance = it;
@@ -137,30 +142,42 @@ export class Scrypt {
   }
 }
 
-// The parameters of a key, its length, and its limits.
 function keyOptions(options) {
-  const limits = [limit(options.maxmem, 'maxmem', MOST_MEMORY), limit(options.maxwork, 'maxwork', NO_LIMIT)];
-  return [parameters(options), lengthOf(options.dkLen), limits];
+  const mostBytes = limit(options.maxmem, 'maxmem', MOST_MEMORY);
+  const limits = [mostBytes, limit(options.maxwork, 'maxwork', NO_LIMIT)];
+  return { params: parameters(options), length: lengthOf(options.dkLen), limits };
 }
 
-// The buffers first, since the key is not within the limits.
-function keyAndBuffers(it, params, length, limits) {
+// The buffers come first, since the key is not within the limits.
+function keyPlaces(it, { params, length, limits }) {
   const buffers = it.buffersFor(params, ...limits);
-  return [it.take(length), buffers];
+  return [params, it.take(length), buffers];
 }
 
-// The usual limits, which admit hashes that are made with these options, for those that are left out.
-function limitsOf(options, it, wanted, keyLen) {
+const verifyOptions = (options) =>
+  ({ options, params: withDefaults(options), length: lengthOf(options.dkLen) });
+
+// The limits, of which those that are left out are the usual ones: these admit hashes that are made
+// with the same options.
+function limitsOf(it, { options, params, length }) {
   const usual = it.words(3);
-  it.call('scrypt_limits_for_new', ...wanted, keyLen, ...places(usual));
-  const [bytes, ...others] = usual.map((word) => it.big(word));
-  const limits = [ofMachine(bytes), ...others];
-  return ['maxmem', 'maxwork', 'minKeyLength'].map((name, i) => limit(options[name], name, limits[i]));
+  it.call('scrypt_limits_for_new', ...params, BigInt(length), ...places(usual));
+  const [bytes, work, keyLen] = usual.map((word) => it.big(word));
+  const { maxmem, maxwork, minKeyLength } = options;
+  return [
+    limit(maxmem, 'maxmem', ofMachine(bytes)), limit(maxwork, 'maxwork', work),
+    limit(minKeyLength, 'minKeyLength', keyLen),
+  ];
 }
 
-// The work of a wrong password, as for a new hash, where there is no hash.
-function isOfNobody(it, password, wanted, keyLen, [mostBytes, mostWork]) {
-  const [key, buffers] = keyAndBuffers(it, wanted, Number(keyLen), [mostBytes, mostWork]);
-  it.call('scrypt_kdf_with_buffers', password, it.take(SALT_LEN), ...wanted, key, ...buffers);
+// Where there is no hash: the work of a wrong password for a new one.
+function nobodyPlaces(it, wanted) {
+  const limits = limitsOf(it, wanted).slice(0, 2);
+  return [it.take(SALT_LEN), ...keyPlaces(it, { ...wanted, limits })];
+}
+
+function ofNobody(it, password, wanted) {
+  const [salt, params, key, buffers] = nobodyPlaces(it, wanted);
+  it.call('scrypt_kdf_with_buffers', password, salt, ...params, key, ...buffers);
   return false;
 }

@@ -1,7 +1,7 @@
 // What is refused, and why.
 import {
-  ALGORITHM, BUFFER_SIZE, ENCODING_INVALID, HASH_PARAMS_INVALID, HASH_PARAM_INVALID, KEY_TOO_SHORT, MISMATCH, OUTPUT_SIZE, OUT_OF_MEMORY,
-  TOO_COSTLY, VERSION, WORDS,
+  ALGORITHM, BUFFER_SIZE, ENCODING_INVALID, HASH_PARAMS_INVALID, HASH_PARAM_INVALID, KEY_TOO_SHORT,
+  MISMATCH, OUTPUT_SIZE, OUT_OF_MEMORY, TOO_COSTLY, VERSION, WORDS,
 } from './declared.js';
 
 /** Why a call was refused: `code` for programs, `message` for people. Neither holds a secret. */
@@ -13,7 +13,8 @@ export class ScryptError extends Error {
   }
 }
 
-/** A stored hash was refused: its text is no hash of scrypt, it costs more than the limits allow, or its key is shorter. */
+/** A stored hash was refused: it is none of scrypt, costs more than the limits allow, or has a
+ * shorter key. */
 export class RefusedHashError extends ScryptError {
   constructor(code, message) {
     super(code, message);
@@ -22,14 +23,17 @@ export class RefusedHashError extends ScryptError {
 }
 
 const REFUSALS = new Set([
-  ALGORITHM, ENCODING_INVALID, HASH_PARAMS_INVALID, HASH_PARAM_INVALID, KEY_TOO_SHORT, OUTPUT_SIZE, TOO_COSTLY, VERSION,
+  ALGORITHM, ENCODING_INVALID, HASH_PARAMS_INVALID, HASH_PARAM_INVALID, KEY_TOO_SHORT, OUTPUT_SIZE,
+  TOO_COSTLY, VERSION,
 ].map((status) => WORDS.get(status)[0]));
 
 /** The error of a call that reads the text of a hash, and perhaps takes a password, in bytes. */
 export function errorOfHash(error, password = new Uint8Array()) {
   if (!REFUSALS.has(error.code)) return error;
-  const isSwapped = error.code === 'ENCODING_INVALID' && /^\$(scrypt|7)\$/.test(new TextDecoder().decode(password.subarray(0, 8)));
-  return new RefusedHashError(error.code, error.message + (isSwapped ? ': verify takes the password first, and then the text' : ''));
+  const isHash = /^\$(scrypt|7)\$/.test(new TextDecoder().decode(password.subarray(0, 8)));
+  const isSwapped = isHash && error.code === 'ENCODING_INVALID';
+  const hint = isSwapped ? ': verify takes the password first, and then the text' : '';
+  return new RefusedHashError(error.code, error.message + hint);
 }
 
 /** The error that a worker told of. */
@@ -39,18 +43,23 @@ export const errorNamed = ({ name, code = 'INTERNAL', message }) =>
 /** Another password, or: needs a new hash. */
 export const NO = MISMATCH;
 
-/** Of what a proved call returned, with more words for people. That a buffer is too short is a fault of this package. */
+/**
+ * Of what a proved call returned, with more words for people. A buffer that is too short is a fault
+ * of this package.
+ */
 export const errorOf = (status, options, more = '') => {
   const [code, message] = WORDS.get(status) ?? [];
   const isFault = code === undefined || status === BUFFER_SIZE;
-  return isFault ? new ScryptError('INTERNAL', `the module returned ${status}`, options) : new ScryptError(code, message + more, options);
+  if (isFault) return new ScryptError('INTERNAL', `the module returned ${status}`, options);
+  return new ScryptError(code, message + more, options);
 };
 
-/** There is no memory for a copy or a table, or the stack ends: `cause` is what the engine threw. */
+/** There is no memory for a copy or a table, or the stack ends; `cause` is what was thrown. */
 export const outOfMemory = (cause) => errorOf(OUT_OF_MEMORY, { cause });
 
 // Firefox throws an InternalError at the end of the stack.
 const isExhausted = (cause) => cause instanceof RangeError || cause?.name === 'InternalError';
 
 /** The error for what was thrown: another one if that was for want of memory or stack. */
-export const errorFor = (cause, code, message) => (isExhausted(cause) ? outOfMemory(cause) : new ScryptError(code, message, { cause }));
+export const errorFor = (cause, code, message) =>
+  (isExhausted(cause) ? outOfMemory(cause) : new ScryptError(code, message, { cause }));

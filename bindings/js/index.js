@@ -1,4 +1,4 @@
-// scrypt (RFC 7914) and its password hashes. What computes is proved; this code around it is tested.
+// scrypt (RFC 7914) and its password hashes. The module is proved, then changed; this is tested.
 import { copiesOf, isNone, optionsOf } from './arguments.js';
 import { Scrypt } from './core.js';
 import { RefusedHashError, ScryptError } from './errors.js';
@@ -8,24 +8,29 @@ import { call, configure } from './workers.js';
 
 export { RefusedHashError, ScryptError, configure, isSupported, load, storedText };
 
+// What is for this thread, and what is for the worker.
+const parted = ({ onProgress, signal, timeout, ...options }) =>
+  [{ onProgress, signal, timeout }, options];
+
 /** Derives a key, in a worker. */
 export async function scrypt(password, salt, given) {
-  const { onProgress, signal, timeout, ...options } = optionsOf(given, 'scrypt', 'steps', 'worker');
-  return call('scrypt', [...copiesOf({ password, salt }), options], { onProgress, signal, timeout });
+  const [how, options] = parted(optionsOf(given, 'scrypt', 'steps', 'worker'));
+  return call('scrypt', [...copiesOf({ password, salt }), options], how);
 }
 
 /** Makes the text of a hash with a random salt, in a worker. */
 export async function hash(password, given) {
-  const { signal, timeout, salt, ...options } = optionsOf(given, 'hash', 'worker');
+  const [how, { salt, ...options }] = parted(optionsOf(given, 'hash', 'worker'));
   const [copy, saltCopy] = copiesOf(salt === undefined ? { password } : { password, salt });
-  return call('hash', [copy, { ...options, salt: saltCopy }], { signal, timeout });
+  return call('hash', [copy, { ...options, salt: saltCopy }], how);
 }
 
-/** Whether the password is that of the text, in a worker. Without a text it is not, after the work of a new hash. */
+/** Whether the password is that of the text, in a worker. Without a text it is not, after the work
+ * of a new hash. */
 export async function verify(password, text, given) {
-  const { signal, timeout, ...options } = optionsOf(given, 'verify', 'worker');
+  const [how, options] = parted(optionsOf(given, 'verify', 'worker'));
   const [copy, textCopy] = copiesOf(isNone(text) ? { password } : { password, text });
-  return call('verify', [copy, textCopy, options], { signal, timeout });
+  return call('verify', [copy, textCopy, options], how);
 }
 
 // The calls that read a text take microseconds. The memory for a long one is not kept.

@@ -64,7 +64,8 @@ export class Instance {
   }
 
   #refusal(status) {
-    return errorOf(status, undefined, status === TOO_COSTLY || status === KEY_TOO_SHORT ? this.#needs : '');
+    const isLimit = status === TOO_COSTLY || status === KEY_TOO_SHORT;
+    return errorOf(status, undefined, isLimit ? this.#needs : '');
   }
 
   /** Takes zeros above what is taken. */
@@ -108,7 +109,7 @@ export class Instance {
     return Number(this.big(taken));
   }
 
-  // Takes the place of a scrypt_needs, and returns it with those of its fields after log_n, r and p.
+  // Takes the place of a scrypt_needs. Returns it, with those of its fields after log_n, r and p.
   #takeNeeds() {
     const { at } = this.take(72);
     return [at, ...Array.from({ length: 7 }, (_, i) => ({ at: at + BigInt(16 + 8 * i) }))];
@@ -123,7 +124,10 @@ export class Instance {
     return this.buffers(sizes);
   }
 
-  /** The buffers for verifying a hash, or none if it is refused: the call that verifies it says why, before it looks at them. */
+  /**
+   * The buffers for verifying a hash, or none if it is refused: the call that verifies it says why,
+   * before it looks at them.
+   */
   buffersOf(text, limits) {
     const [needs, keyLength, ...sizes] = this.#takeNeeds();
     const status = this.#status('scrypt_hash_needs', [text, ...limits, needs]);
@@ -131,7 +135,10 @@ export class Instance {
     return status === OK ? this.buffers(sizes) : [1, 4, 4].map((size) => this.take(0, size));
   }
 
-  /** The chunks, the table and the scratch of these sizes: for as many chunks at a time as the memory allows. */
+  /**
+   * The chunks, the table and the scratch of these sizes: for as many chunks at a time as the
+   * memory allows.
+   */
   buffers(sizes) {
     const [tables, chunks, table, scratch] = sizes.map((it) => this.number(it));
     const top = this.#top;
@@ -158,7 +165,8 @@ export class Instance {
 function inWords([bytes, work, key], limits) {
   const [most, mostWork, least] = limits.map((it) => (it === NO_LIMIT ? Infinity : it));
   const ofHash = key === undefined ? '' : `, a key of ${key} bytes (minKeyLength is ${least})`;
-  return `: ${bytes} bytes (maxmem is ${most}), a work of ${work} (maxwork is ${mostWork})${ofHash}`;
+  const ofWork = `a work of ${work} (maxwork is ${mostWork})`;
+  return `: ${bytes} bytes (maxmem is ${most}), ${ofWork}${ofHash}`;
 }
 
 /** Where words are. */

@@ -3,21 +3,27 @@ import { Scrypt } from './core.js';
 import { ScryptError } from './errors.js';
 
 // A module of one function, which makes a vector.
-const VECTOR = Uint8Array.of(0, 97, 115, 109, 1, 0, 0, 0, 1, 5, 1, 96, 0, 1, 123, 3, 2, 1, 0, 10, 8, 1, 6, 0, 65, 0, 253, 15, 11);
+const VECTOR = Uint8Array.of(
+  0, 97, 115, 109, 1, 0, 0, 0, 1, 5, 1, 96, 0, 1, 123, 3, 2, 1, 0, 10, 8, 1, 6, 0, 65, 0, 253, 15,
+  11,
+);
 
 /** Whether this engine has WebAssembly with vectors. */
 export const isSupported = () => typeof WebAssembly === 'object' && WebAssembly.validate(VECTOR);
 
 function checkSupported() {
   if (isSupported()) return;
-  throw new ScryptError('UNSUPPORTED', 'this engine lacks WebAssembly with vectors (SIMD), which Chrome 91, Firefox 89, '
-    + 'Safari 16.4 and Node 20 have');
+  throw new ScryptError('UNSUPPORTED', 'this engine lacks WebAssembly with vectors (SIMD), which '
+    + 'Chrome 91, Firefox 89, Safari 16.4 and Node 20 have');
 }
 
 let given = Promise.resolve(); // the module of the last source that was loaded, if there was one
 let own; // that of this package's file
 
-/** The module that calls use: once a source is being loaded, its module if it can be loaded, or else the one before. */
+/**
+ * The module that calls use: once a source is being loaded, its module if it can be loaded, or else
+ * the one before.
+ */
 export async function compile() {
   checkSupported();
   return (await given) ?? ownModule();
@@ -75,7 +81,8 @@ async function opened(source) {
   return { module, scrypt: await Scrypt.of(module) };
 }
 
-/** Loads the module for calls in this thread. With a source, all later calls use that module too, unless it cannot be loaded. */
+/** Loads the module for calls in this thread. With a source, all later calls use that module too,
+ * unless it cannot be loaded. */
 export async function load(source) {
   checkSupported();
   if (source === undefined) return Scrypt.of(await compile());

@@ -2,8 +2,10 @@
 const { process } = globalThis;
 const os = process?.getBuiltinModule?.('node:os');
 
-/** The bytes that calls may use, of which the rest of the program leaves them 7/8. Infinity in a page, which does not know. */
-export const MEMORY = Math.floor(Math.min(process?.constrainedMemory?.() || Infinity, os?.totalmem() ?? Infinity) * 7 / 8);
+const memory = Math.min(process?.constrainedMemory?.() || Infinity, os?.totalmem() ?? Infinity);
+
+/** The bytes that calls may use; the rest is for the program. A page does not know: Infinity. */
+export const MEMORY = Math.floor((memory * 7) / 8);
 
 const processors = os?.availableParallelism() ?? globalThis.navigator?.hardwareConcurrency ?? 4;
 

@@ -1,7 +1,7 @@
-// A key in steps, each of which takes some 10 ms.
+// Keys in steps of some 10 ms.
 const STEP_MS = 10;
 
-/** A turn of the event loop, in which a page paints, and messages come in. Timers would wait longer. */
+/** A turn of the event loop: a page paints, and messages come in. A timer would wait longer. */
 export const turn = () => new Promise((resolve) => {
   const { port1, port2 } = new MessageChannel();
   port1.onmessage = () => {
@@ -11,19 +11,24 @@ export const turn = () => new Promise((resolve) => {
   port2.postMessage(undefined);
 });
 
-/** Derives a key in buffers that nothing else changes meanwhile, and yields how much is done, from 0 to 1. */
-export function* keyInSteps(it, password, salt, params, key, buffers) {
+// Takes the place of a scrypt_progress.
+function takeProgress(it) {
+  const { at } = it.take(24);
+  const [chunks, width, mixes] = [0n, 8n, 16n].map((i) => ({ at: at + i }));
+  return { at, chunks, width, mixes };
+}
+
+// Goes on to the end of all chunks, and yields how much is done, from 0 to 1.
+function* mixedInSteps(it, params, buffers, progress) {
   const [logN, r, p] = params;
   const inChunk = 2 ** (logN + 1);
-  const { at } = it.take(24); // a scrypt_progress
-  const [chunks, atOnce, mixes] = [0n, 8n, 16n].map((i) => ({ at: at + i }));
-  const mixed = () => it.number(chunks) * inChunk + it.number(atOnce) * it.number(mixes);
   const all = p * inChunk;
-  it.call('scrypt_key_begin', password, salt, ...params, ...buffers, at);
+  const number = (name) => it.number(progress[name]);
+  const mixed = () => number('chunks') * inChunk + number('width') * number('mixes');
   let [count, shown] = [Math.ceil(512 / r), performance.now()];
   for (let before = 0; before < all;) {
-    const [begun, width] = [performance.now(), it.number(atOnce)];
-    it.call('scrypt_key_step', ...params, BigInt(count), ...buffers, at);
+    const [begun, width] = [performance.now(), number('width')];
+    it.call('scrypt_key_step', ...params, BigInt(count), ...buffers, progress.at);
     const [done, ended] = [mixed(), performance.now()];
     // A step ends with its chunk, so it may be shorter. Clocks of pages may stand still meanwhile.
     const inTime = Math.floor(((done - before) * STEP_MS) / (width * (ended - begun)));
@@ -33,5 +38,12 @@ export function* keyInSteps(it, password, salt, params, key, buffers) {
     yield done / all;
     shown = performance.now();
   }
-  it.call('scrypt_key_finish', password, ...params, buffers[0], at, key);
+}
+
+/** Derives a key in buffers that nothing else changes meanwhile. */
+export function* keyInSteps(it, password, salt, params, key, buffers) {
+  const progress = takeProgress(it);
+  it.call('scrypt_key_begin', password, salt, ...params, ...buffers, progress.at);
+  yield* mixedInSteps(it, params, buffers, progress);
+  it.call('scrypt_key_finish', password, ...params, buffers[0], progress.at, key);
 }

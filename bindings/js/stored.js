@@ -1,6 +1,5 @@
 // The salts and keys of other programs, as hashes.
-import { bytesOf, optionsOf, parameters } from './arguments.js';
-import { ScryptError } from './errors.js';
+import { bytesOf, optionsOf, parameters, wrong } from './arguments.js';
 
 const LETTERS = './0123456789ABCDEFGHIJKLMNOPQRSTUVWXYZabcdefghijklmnopqrstuvwxyz';
 
@@ -25,23 +24,25 @@ export const phcText = (salt, key, [logN, r, p]) =>
 
 export function mcfText(salt, key, [logN, r, p]) {
   const text = new TextDecoder().decode(salt);
-  if (text.includes('$') || text.includes('\ufffd')) {
-    throw new ScryptError('SALT_INVALID', 'neither format can store this salt');
-  }
+  if (/[$\ufffd]/.test(text)) wrong('neither format can store this salt', 'SALT_INVALID');
   return `$7$${digits(logN, 1)}${digits(r, 5)}${digits(p, 5)}${text}$${letters(key)}`;
 }
 
 /**
- * The text that `verify` reads, of a salt and a key of another program: in PHC form if the lengths allow it, with the first 64 bytes of the
- * key, which are the key of that length; otherwise `$7$`. An N below 64 may be its logarithm, and then no password would match.
+ * The text that `verify` reads, of a salt and a key of another program: in PHC form if the lengths
+ * allow it, with the first 64 bytes of the key, which are the key of that length; otherwise `$7$`.
+ * An N below 64 may be its logarithm, and then no password would match.
  */
 export function storedText(salt, key, given) {
   const options = optionsOf(given, 'stored');
-  const [params, saltBytes, keyBytes] = [parameters(options), bytesOf(salt, 'salt'), bytesOf(key, 'key')];
+  const params = parameters(options);
   const { N, r, p } = options;
-  if (N < 64) throw new ScryptError('INVALID_PARAMS', `N of ${N} may be its logarithm: ${2 ** N} is N = 2 ** ${N}`);
-  if (r * p === 0 || r * p >= 2 ** 30 || 128 * r * N >= 2 ** 64) throw new ScryptError('INVALID_PARAMS', 'r or p is not accepted');
-  if (keyBytes.length === 0) throw new ScryptError('INVALID_OUTPUT_LEN', 'there is no key');
+  const [saltBytes, keyBytes] = [bytesOf(salt, 'salt'), bytesOf(key, 'key')];
+  if (N < 64) wrong(`N of ${N} may be its logarithm: ${2 ** N} is N = 2 ** ${N}`, 'INVALID_PARAMS');
+  const isAccepted = r * p > 0 && r * p < 2 ** 30 && 128 * r * N < 2 ** 64;
+  if (!isAccepted) wrong('r or p is not accepted', 'INVALID_PARAMS');
+  if (keyBytes.length === 0) wrong('there is no key', 'INVALID_OUTPUT_LEN');
   const isPhc = saltBytes.length >= 1 && saltBytes.length <= 64 && keyBytes.length >= 10;
-  return isPhc ? phcText(saltBytes, keyBytes.subarray(0, 64), params) : mcfText(saltBytes, keyBytes, params);
+  if (isPhc) return phcText(saltBytes, keyBytes.subarray(0, 64), params);
+  return mcfText(saltBytes, keyBytes, params);
 }

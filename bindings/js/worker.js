@@ -3,7 +3,8 @@ import { bytesAmong } from './arguments.js';
 import { Scrypt } from './core.js';
 import { outOfMemory } from './errors.js';
 
-const port = typeof WorkerGlobalScope === 'function' ? globalThis : process.getBuiltinModule('node:worker_threads').parentPort;
+const port = typeof WorkerGlobalScope === 'function'
+  ? globalThis : process.getBuiltinModule('node:worker_threads').parentPort;
 let own; // the module that was given last
 let scrypt;
 let controller; // of the last call
@@ -14,7 +15,8 @@ const onProgress = (progress) => port.postMessage({ progress });
 // The bytes are wiped before the caller has the answer.
 async function answer({ module, name, args, isReporting }) {
   controller = new AbortController();
-  const options = { ...args.at(-1), signal: controller.signal, onProgress: isReporting ? onProgress : undefined };
+  const { signal } = controller;
+  const options = { ...args.at(-1), signal, onProgress: isReporting ? onProgress : undefined };
   try {
     if (module !== undefined) [own, scrypt] = [module, undefined];
     scrypt ??= await Scrypt.of(own);

@@ -23,8 +23,10 @@ export function configure(given) {
 }
 
 function start() {
-  // Bundlers look for exactly this expression.
-  if (typeof Worker === 'function') return new Worker(new URL('./worker.js', import.meta.url), { type: 'module' });
+  if (typeof Worker === 'function') {
+    // Bundlers look for exactly this expression.
+    return new Worker(new URL('./worker.js', import.meta.url), { type: 'module' });
+  }
   // Not imported, since bundlers for pages would look for it.
   const threads = globalThis.process?.getBuiltinModule?.('node:worker_threads');
   if (!threads) throw new Error('this thread cannot start workers; use load()');
@@ -37,7 +39,8 @@ function start() {
   return worker;
 }
 
-// A worker is given a call once it says that it is ready: so a call that waits for one that cannot start is not lost.
+// A worker is given a call once it says that it is ready: so no call is lost that waits for one
+// that cannot start.
 function started() {
   try {
     const worker = Object.assign(start(), { isReady: false });
@@ -102,8 +105,8 @@ function rest(worker) {
 
 const starting = () => [...workers].filter((it) => !it.isReady).length;
 
-// In an overload those who have waited long are about to leave, and then their work is lost. So the last one goes first while more
-// than two wait for each worker, and otherwise the first one.
+// In an overload those who have waited long are about to leave, and then their work is lost. So the
+// last one goes first while more than two wait for each worker, and otherwise the first one.
 const next = () => (waiting.length > 2 * workers.size ? waiting.pop() : waiting.shift());
 
 // Gives the calls that wait to workers that are idle, and starts others.
@@ -118,8 +121,9 @@ function give(worker, call) {
   worker.ref?.();
   worker.call = call;
   call.worker = worker;
-  const { module, name, args, onProgress } = call;
-  const message = { module: worker.module === module ? undefined : module, name, args, isReporting: onProgress !== undefined };
+  const { module, name, args } = call;
+  const message = { name, args, isReporting: call.onProgress !== undefined };
+  if (worker.module !== module) message.module = module;
   try {
     worker.postMessage(message, bytesAmong(args).map((it) => it.buffer));
     worker.module = module;
@@ -129,22 +133,27 @@ function give(worker, call) {
   }
 }
 
-// Browsers give no reason if the page's policy forbids workers, or the script is not there. Its name is not written as where it starts,
-// since bundlers would look for it here too.
-const address = () => import.meta.url.replace(/[^/]*$/, 'worker.js');
-const failed = (cause) =>
-  new ScryptError('WORKER_FAILED', `${address()} did not start, or ended: ${cause.message || 'is it there, and allowed here?'}`, { cause });
+// Browsers give no reason if the page's policy forbids workers, or the script is not there. Its
+// name is not written as where it starts, since bundlers would look for it here too.
+function failed(cause) {
+  const address = import.meta.url.replace(/[^/]*$/, 'worker.js');
+  const reason = cause.message || 'is it there, and allowed here?';
+  const message = `${address} did not start, or ended: ${reason}`;
+  return new ScryptError('WORKER_FAILED', message, { cause });
+}
 
 function enqueue(call) {
   waiting.push(call);
   assign();
   const isLast = waiting.at(-1) === call;
   if (isLast && waiting.length > maxQueue + starting()) {
-    leave(call, new ScryptError('QUEUE_FULL', `${maxQueue} calls wait for a worker already (maxQueue)`));
+    const message = `${maxQueue} calls wait for a worker already (maxQueue)`;
+    leave(call, new ScryptError('QUEUE_FULL', message));
   }
 }
 
-// A call that a worker has begun with ends between two steps, so that the worker and its memory are there for the next one.
+// A call that a worker has begun with ends between two steps, so that the worker and its memory are
+// there for the next one.
 function leave(call, reason) {
   call.isOver = true;
   if (waiting.includes(call)) waiting.splice(waiting.indexOf(call), 1);
@@ -152,11 +161,13 @@ function leave(call, reason) {
   call.reject(reason);
 }
 
-// Until the call is answered, refused or aborted: also while the module is fetched, and while the call waits for a worker.
+// Until the call is answered, refused or aborted: also while the module is fetched, and while the
+// call waits for a worker.
 async function answer(call, signal, timeout) {
   const answered = new Promise((resolve, reject) => { Object.assign(call, { resolve, reject }); });
   const onAbort = () => leave(call, signal.reason);
-  const onTimeout = () => leave(call, new ScryptError('TIMEOUT', `no worker was free within ${timeout} ms (timeout)`));
+  const message = `no worker was free within ${timeout} ms (timeout)`;
+  const onTimeout = () => leave(call, new ScryptError('TIMEOUT', message));
   signal?.addEventListener('abort', onAbort);
   if (timeout !== undefined) call.timer = setTimeout(onTimeout, Math.min(timeout, MAX_TIMER));
   compile().then((module) => {
@@ -174,7 +185,8 @@ async function answer(call, signal, timeout) {
 export async function call(name, args, { signal, timeout, onProgress }) {
   try {
     signal?.throwIfAborted();
-    return await answer({ name, args, onProgress, isOver: false }, signal, amount(timeout, 'timeout'));
+    const it = { name, args, onProgress, isOver: false };
+    return await answer(it, signal, amount(timeout, 'timeout'));
   } finally {
     for (const it of bytesAmong(args)) if (it.length > 0) it.fill(0); // what no worker was given
   }

@@ -1,4 +1,5 @@
-// Calls each function of two modules with the same arguments, and compares what is returned or trapped, and the memories.
+// Calls each function of two modules with the same arguments, and compares what is returned or
+// trapped, and the memories.
 // usage: node both_memories.js BEFORE AFTER    of which BEFORE has a 64-bit memory
 import { readFileSync } from 'node:fs';
 

@@ -13,7 +13,8 @@ async function until(condition) {
 const [KEY, OTHER] = [Uint8Array.of(1), Uint8Array.of(2)];
 const args = () => [new Uint8Array(1), new Uint8Array(1), {}];
 
-// Runs a check with workers that start if `starts` says so, and a copy of workers.js that has no others.
+// Runs a check with workers that start if `starts` says so, and a copy of workers.js that has no
+// others.
 async function withWorkers(name, check, starts = () => true) {
   const made = [];
   class Acting {
@@ -21,24 +22,28 @@ async function withWorkers(name, check, starts = () => true) {
       Object.assign(this, { sent: [], isEnded: false });
       made.push(this);
       const does = starts(made.length);
-      setTimeout(() => (does ? this.says({ isReady: true }) : this.onerror({ message: 'no room' })));
+      setTimeout(() => (does ? this.says({ isReady: true }) : this.fails('no room')));
     }
     postMessage(message) { this.sent.push(message); }
     says(data) { this.onmessage({ data }); }
+    fails(message) { this.onerror({ message }); }
     terminate() { this.isEnded = true; }
   }
-  await instead(globalThis, 'Worker', Acting, async () => check(await import(`../workers.js?${name}`), made));
+  await instead(globalThis, 'Worker', Acting, async () => {
+    const { call, configure } = await import(`../workers.js?${name}`);
+    await check((options = {}) => call('scrypt', args(), options), made, configure);
+  });
 }
 
 /** The checks of calls in workers. */
 export function endingChecks() {
   const list = {};
-  list['an abort leaves the worker, and ends no other call'] = () => withWorkers('abort', async ({ call, configure }, made) => {
+  list['an abort ends no other'] = () => withWorkers('leave', async (call, made, configure) => {
     configure({ maxWorkers: 1 });
     const abort = new AbortController();
-    const aborted = refused('AbortError', () => call('scrypt', args(), { signal: abort.signal }));
+    const aborted = refused('AbortError', () => call({ signal: abort.signal }));
     await until(() => made[0]?.sent.length === 1);
-    const next = call('scrypt', args(), {});
+    const next = call();
     abort.abort();
     await aborted;
     equal(made[0].sent[1].isAborted, true, 'what the worker is told');
@@ -49,25 +54,25 @@ export function endingChecks() {
     equal(await next, OTHER, 'the next call');
     equal(`${made.length} ${made[0].isEnded}`, '1 false', 'workers');
   });
-  list['an abort just after an answer'] = () => withWorkers('after', async ({ call, configure }, made) => {
+  list['an abort after an answer'] = () => withWorkers('after', async (call, made, configure) => {
     configure({ maxWorkers: 1 });
     const abort = new AbortController();
-    const calls = [call('scrypt', args(), { signal: abort.signal }), call('scrypt', args(), {})];
+    const calls = [call({ signal: abort.signal }), call()];
     await until(() => made[0]?.sent.length === 1);
     // The worker is given the next call at once, which is not the one that is aborted.
     made[0].says({ value: KEY });
     abort.abort();
     equal(made[0].sent.filter((it) => it.isAborted).length, 0, 'aborts');
     made[0].says({ value: OTHER });
-    equal((await Promise.all(calls)).map((it) => it[0]).join(), '1,2', 'both answers');
+    equal((await Promise.all(calls)).join(), '1,2', 'both answers');
   });
   list['a worker that fails in the midst of a call'] = async () => {
     for (const event of ['onerror', 'onmessageerror']) {
-      await withWorkers(event, async ({ call, configure }, made) => {
+      await withWorkers(event, async (call, made, configure) => {
         configure({ maxWorkers: 1 });
-        const refusal = refused('WORKER_FAILED', () => call('scrypt', args(), {}), event, 'no more');
+        const refusal = refused('WORKER_FAILED', () => call(), event, 'no more');
         await until(() => made[0]?.sent.length === 1);
-        const next = call('scrypt', args(), {});
+        const next = call();
         made[0][event]({ message: 'no more' });
         await refusal;
         made[0].says({ value: KEY }); // what it had posted before: an ended worker is not idle
@@ -79,26 +84,28 @@ export function endingChecks() {
     }
   };
   list['workers that cannot start'] = async () => {
-    await withWorkers('further', async ({ call }, made) => {
-      const calls = Array.from({ length: 3 }, () => call('scrypt', args(), {}));
+    await withWorkers('further', async (call, made) => {
+      const calls = [call(), call(), call()];
       for (let i = 1; i <= 3; i++) {
         await until(() => made[0]?.sent.length === i);
         made[0].says({ value: KEY });
       }
       equal((await Promise.all(calls)).length, 3, 'calls wait for the one that did');
     }, (count) => count === 1);
-    await withWorkers('none', async ({ call }) => {
-      await Promise.all(Array.from({ length: 9 }, () => refused('WORKER_FAILED', () => call('scrypt', args(), {}), 'none', 'no room')));
+    await withWorkers('none', async (call) => {
+      const refusal = () => refused('WORKER_FAILED', () => call(), 'none', 'no room');
+      await Promise.all(Array.from({ length: 9 }, refusal));
     }, () => false);
   };
-  list['more calls than workers'] = () => withWorkers('overload', async ({ call, configure }, made) => {
+  list['more calls than workers'] = () => withWorkers('overload', async (call, made, configure) => {
     configure({ maxWorkers: 1, maxQueue: 3 });
     const answers = [];
-    const add = (i, options = {}) => call('scrypt', args(), options).then(() => answers.push(i), ({ code }) => answers.push(code));
+    const add = (i, options) =>
+      call(options).then(() => answers.push(i), ({ code }) => answers.push(code));
     const first = add(0);
     await until(() => made[0]?.sent.length === 1);
     const others = [1, 2, 3].map((i) => add(i));
-    await refused('QUEUE_FULL', () => call('scrypt', args(), {}));
+    await refused('QUEUE_FULL', () => call());
     for (let i = 2; i <= 4; i++) {
       made[0].says({ value: KEY });
       await until(() => made[0].sent.length === i);
@@ -108,13 +115,19 @@ export function endingChecks() {
     await Promise.all([first, ...others]);
     // The newest one first, while more than two wait for a worker.
     equal(answers.join(), '0,3,1,TIMEOUT,2', 'the order');
-    for (const timeout of [-1, NaN]) await refused('INVALID_LIMIT', () => call('scrypt', args(), { timeout }));
-    for (const it of [{ maxWorkers: 0 }, { maxWorkers: -1 }, { maxQueue: NaN }]) await refused('INVALID_LIMIT', () => configure(it));
+    for (const timeout of [-1, NaN]) await refused('INVALID_LIMIT', () => call({ timeout }));
+    for (const it of [{ maxWorkers: 0 }, { maxQueue: NaN }]) {
+      await refused('INVALID_LIMIT', () => configure(it));
+    }
   });
   list['as many workers as fit'] = async () => {
+    const os = { availableParallelism: () => 8, totalmem: () => 2 ** 40 };
     for (const [mib, wanted] of [[0, 4], [187, 1], [512, 1], [700, 2], [1024, 3], [2048, 4]]) {
-      const process = { constrainedMemory: () => mib * 2 ** 20, getBuiltinModule: () => ({ availableParallelism: () => 8, totalmem: () => 2 ** 40 }) };
-      await instead(globalThis, 'process', process, async () => equal((await import(`../machine.js?${mib}`)).MAX_WORKERS, wanted, `${mib} MiB`));
+      const constrainedMemory = () => mib * 2 ** 20;
+      const process = { constrainedMemory, getBuiltinModule: () => os };
+      await instead(globalThis, 'process', process, async () => {
+        equal((await import(`../machine.js?${mib}`)).MAX_WORKERS, wanted, `${mib} MiB`);
+      });
     }
   };
   return list;

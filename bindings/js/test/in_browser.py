@@ -2,7 +2,8 @@
 """Runs checks.js in a browser, with random keys and hashes of node:crypto.
 
 usage: in_browser.py                a headless Chromium, by its driver
-       in_browser.py COMMAND..      followed by the address, as firefox-esr --headless --profile FOLDER
+       in_browser.py --installed    whether that is there
+       in_browser.py COMMAND..      as firefox-esr --headless --profile FOLDER, and the address
 
 ONE_SCRIPT is a page with all in one script, which Chromium opens from the disk if it is there.
 """
@@ -25,7 +26,9 @@ SECONDS = 240
 PAGE = "/bindings/js/test/page.html"
 
 # As strict as it can be for a page that uses the package.
-POLICY = "default-src 'none'; script-src 'self' 'wasm-unsafe-eval'; worker-src 'self'; connect-src 'self'"
+POLICY = (
+    "default-src 'none'; script-src 'self' 'wasm-unsafe-eval'; worker-src 'self'; connect-src 'self'"
+)
 
 
 class Handler(http.server.SimpleHTTPRequestHandler):
@@ -56,32 +59,25 @@ class Handler(http.server.SimpleHTTPRequestHandler):
 
 def serve():
     """Serves the repository, and returns the address."""
-    server = http.server.ThreadingHTTPServer(("127.0.0.1", 0), functools.partial(Handler, directory=TOP))
+    handler = functools.partial(Handler, directory=TOP)
+    server = http.server.ThreadingHTTPServer(("127.0.0.1", 0), handler)
     threading.Thread(target=server.serve_forever, daemon=True).start()
     return f"http://127.0.0.1:{server.server_port}"
 
 
 def answer():
-    """What a page says, or None if it says nothing for long."""
-    try:
-        return Handler.said.get(timeout=SECONDS)
-    except queue.Empty:
-        print(f"no answer within {SECONDS} seconds")
-        return None
+    """What a page says."""
+    return Handler.said.get(timeout=SECONDS)
 
 
 def in_another(command, page):
     """What a page says that a command opens."""
-    with subprocess.Popen([*command, page], stdout=subprocess.DEVNULL, stderr=subprocess.DEVNULL) as ran:
+    quiet = {"stdout": subprocess.DEVNULL, "stderr": subprocess.DEVNULL}
+    with subprocess.Popen([*command, page], **quiet) as ran:
         try:
             return answer()
         finally:
             ran.terminate()
-
-
-def all_passed(said):
-    print(said or "", end="")
-    return said is not None and said.endswith("all passed\n")
 
 
 def is_hashed(chromium, page):
@@ -92,25 +88,26 @@ def is_hashed(chromium, page):
     return title.startswith("$scrypt$")
 
 
-def in_chromium(at):
+def in_chromium(page):
+    """What the page says in Chromium, in which ONE_SCRIPT is opened too."""
     chromium = browser.Browser()
     try:
-        print("Chromium", chromium.driver.capabilities["browserVersion"])
-        chromium.open(f"{at}{PAGE}")
-        if not all_passed(answer()):
-            return False
-        page = os.environ.get("ONE_SCRIPT", "")
-        return not os.path.exists(page) or is_hashed(chromium, page)
+        chromium.open(page)
+        said, script = answer(), os.environ.get("ONE_SCRIPT", "")
+        return said if not os.path.exists(script) or is_hashed(chromium, script) else f"{said}failed"
     finally:
         chromium.close()
 
 
 def main(*command):
+    if command == ("--installed",):
+        sys.exit(not browser.found())
     keys = Path(__file__).with_name("keys.js")
     Handler.cases = subprocess.run(["node", keys], check=True, stdout=subprocess.PIPE).stdout
-    at = serve()
-    is_well = all_passed(in_another(command, f"{at}{PAGE}")) if command else in_chromium(at)
-    sys.exit(not is_well)
+    page = serve() + PAGE
+    said = in_another(command, page) if command else in_chromium(page)
+    print(said, end="")
+    sys.exit(not said.endswith("all passed\n"))
 
 
 if __name__ == "__main__":

@@ -16,15 +16,16 @@ for (const [name, check] of Object.entries(list)) test(name, check);
 // Programs of the command line, with a flag that no file may have; they end by themselves.
 function prints(program) {
   const text = program.replaceAll("'scrypt-proved'", `'${PACKAGE}'`);
-  const { stdout, status } = spawnSync(process.execPath, ['--input-type=module', '-e', text], { encoding: 'utf8' });
+  const words = ['--input-type=module', '-e', text];
+  const { stdout, status } = spawnSync(process.execPath, words, { encoding: 'utf8' });
   return `${stdout}${status || ''}`;
 }
 
 test('the examples of README print what they say', () => {
   const page = `${read('bindings/js/README.md')}`;
   for (const [, program] of page.matchAll(/^```js$(.*?)^```$/gms)) {
-    const said = [...program.matchAll(/^console\.log\(.*\); \/\/ (\w+)/gm)].map(([, it]) => `${it}\n`);
-    deepStrictEqual(prints(program), said.join(''));
+    const said = [...program.matchAll(/^console\.log\(.*\); \/\/ (\w+)/gm)];
+    deepStrictEqual(prints(program), said.map(([, it]) => `${it}\n`).join(''));
   }
 });
 

@@ -20,15 +20,18 @@ export async function refused(code, work, what = `${work}`, reason = '') {
   equal(found, code, what);
 }
 
-export const works = async (api) =>
-  equal(hex(await api.scrypt('', '', { N: 16, r: 1, p: 1, dkLen: 4 })), '77d65762', 'the next call');
+export async function works(api) {
+  const key = await api.scrypt('', '', { N: 16, r: 1, p: 1, dkLen: 4 });
+  equal(hex(key), '77d65762', 'the next call');
+}
 
 /** What bindings/cases.tsv says of verifications. */
 export async function verifies(api, lines, after = () => {}) {
   for (const line of lines.trimEnd().split('\n').slice(1)) {
     const [status, password, text] = line.split('\t');
     const answer = Promise.resolve().then(() => api.verify(password, text.replace('\\0', '\0')));
-    equal(await answer.then((is) => (is ? 'OK' : 'MISMATCH'), ({ code }) => code), status, text.slice(0, 60));
+    const found = await answer.then((is) => (is ? 'OK' : 'MISMATCH'), ({ code }) => code);
+    equal(found, status, text.slice(0, 60));
     after();
   }
 }
@@ -47,8 +50,12 @@ export async function instead(object, name, value, work) {
 
 /** With a clock by which each step takes another time, so that the next one has another size. */
 export function inRandomSteps(work) {
-  let now = 0;
-  return instead(performance, 'now', () => { now += 2 ** (10 * Math.random() - 3); return now; }, work);
+  let ms = 0;
+  const now = () => {
+    ms += 2 ** (10 * Math.random() - 3);
+    return ms;
+  };
+  return instead(performance, 'now', now, work);
 }
 
 // The calls on a module, whose memory can be read, and can be kept from growing above `most` bytes.
@@ -77,7 +84,8 @@ export async function opened(module) {
     equal(hex(new Uint8Array(buffer).subarray(2 ** 20, base)), data, 'data');
     const words = new Uint32Array(buffer);
     for (let at = 0; at < words.length; at++) {
-      if (words[at] !== 0 && (at < 2 ** 18 || at > base / 4)) throw new Error(`${words[at]} is at ${4 * at}`);
+      const isData = at >= 2 ** 18 && at <= base / 4;
+      if (words[at] !== 0 && !isData) throw new Error(`${words[at]} is at ${4 * at}`);
     }
   };
   return it;
