@@ -24,10 +24,12 @@ def found(folder):
 
 def tag_of(library):
     """The tag of a wheel with this library. The newest name that it takes from glibc is of 2.14, or
-    of 2.17 for arm64, and the tags for Linux ask for 2.17."""
+    of 2.17 for arm64, and the tags for glibc ask for 2.17; linked with musl it is for 1.2."""
     if library[:2] == b"MZ":
         return "py3-none-win_amd64"
     machine = os.environ.get("SCRYPT_C_MACHINE") or platform.machine()
+    if b"\0libc.so.6\0" not in library:
+        return f"py3-none-musllinux_1_2_{machine}"
     return f"py3-none-manylinux_2_17_{machine}.manylinux2014_{machine}"
 
 

@@ -22,14 +22,22 @@ if ! $python -c 'import venv, ensurepip, hatchling' 2> /dev/null; then
   exit
 fi
 unset PYTHONPATH
+wheel() {
+  $python -m hatchling build -t wheel -d "$room" > "$room/log" 2>&1 || { cat "$room/log"; exit 1; }
+}
+if has musl-gcc musl-tools; then
+  musl-gcc -shared -o "$room/libscrypt_c.so.0" \
+    -Wl,--whole-archive "$lib/libscrypt_c.a" -Wl,--no-whole-archive
+  (cd bindings/python && SCRYPT_C_LIBRARY="$room/libscrypt_c.so.0" && wheel)
+  rm "$room"/scrypt_c-*-py3-none-musllinux_1_2_x86_64.whl
+fi
 
 # The wheel of a source archive, around which another user may have put anything.
 (cd bindings/python && $python -m hatchling build -t sdist -d "$room/source" > "$room/log" 2>&1)
 mkdir -p "$room/build/lib"
 echo foreign > "$room/build/lib/libscrypt_c.so.0"
 unset SCRYPT_C_LIBRARY
-(cd "$room/source" && tar xzf ./*.tar.gz && cd scrypt_c-*/ &&
-  $python -m hatchling build -t wheel -d "$room" > "$room/log" 2>&1)
+(cd "$room/source" && tar xzf ./*.tar.gz && cd scrypt_c-*/ && wheel)
 if [ "$system" = windows ]; then
   $python -m zipfile -e "$room"/*-win_amd64.whl "$room/unpacked"
   cmp "$room/unpacked/scrypt_c/scrypt_c.dll" "$lib/scrypt_c.dll"
