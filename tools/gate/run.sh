@@ -29,12 +29,14 @@ for task in $(gate tasks); do
     *) failed=$((failed + 1)) && echo "$task: FAILED (build/log/$task.log)" ;;
   esac
 done
-if [ $failed = 0 ]; then python3 -B tools/release/proved.py keep build/log/*.log || failed=1; fi
+cat build/log/{proofs,library,module,library-*,program-*}.log > build/log/verdicts.log 2> /dev/null
+if [ $failed = 0 ]; then python3 -B tools/release/proved.py keep build/log/verdicts.log || failed=1; fi
 grep -h ': not run' build/log/*.log | sort -u
 packages=$(grep -h ': not run' build/log/*.log | grep -oE 'packages? [a-z0-9+., -]+' | sed -E 's/packages? //; s/ is$//' | tr ', ' '\n\n' | sort -u)
 if [ -n "$packages" ]; then echo "parts were left out without the packages" $packages; fi
 took=$((SECONDS - begun))
-used=$(times | tail -n 1 | tr 'ms' '  ' | awk '{ printf "%.1f", $1 + $2 / 60 + $3 + $4 / 60 }')
+times > build/gate/times # of this shell, and of its children
+used=$(tail -n 1 build/gate/times | tr 'ms' '  ' | awk '{ printf "%.1f", $1 + $2 / 60 + $3 + $4 / 60 }')
 echo "$((took / 60)):$(printf %02d $((took % 60))) minutes, $used processor minutes"
 # `rt ci` counts the crates and what it ran.
 proofs=$(tail -n 1 build/log/proofs.log)
