@@ -29,7 +29,7 @@ WRONG_BODIES = $(patsubst %,wrong-bodies-%,scrypt scrypt_kernel scrypt_commands 
 DOCUMENTS = pages lint links version fit promises formats cores
 EXAMPLES = $(patsubst examples/%/test.sh,example-%,$(wildcard examples/*/test.sh))
 LANGUAGES = python go rust javascript drop-in $(EXAMPLES) examples-of-pages
-SUITES = native asan tsan $(LANGUAGES) answers hashes migration oracle allocations hostile groups completions
+SUITES = native asan tsan $(LANGUAGES) answers hashes migration oracle allocations hostile completions
 TASKS = proofs $(BUILDS) $(WRONG_BODIES) must-not-compile $(DOCUMENTS) $(SUITES) by-rattle $(MACHINES)
 .PHONY: gate tasks documents suites examples $(TASKS)
 gate: $(TASKS)
@@ -108,8 +108,6 @@ examples-of-pages: native
 	$(TASK) python3 -B bindings/readme_examples.py
 hostile: native
 	$(TASK) $(PY) tools.tests.hostile $(LIBRARY) 100000
-groups: native
-	$(TASK) $(PY) tools.tests.groups $(LIBRARY)
 
 # ---- The program ----
 program: $(call proved,$(PROVED)/scrypt_tool)

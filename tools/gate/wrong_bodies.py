@@ -11,7 +11,6 @@ proves it of the right body: the wrong body is refused by the answer. With `all`
 
 usage: python3 -m tools.gate.wrong_bodies [NAME..]         the edits of crates/NAME/wrong-bodies.txt for the gate, one round for each crate
        python3 -m tools.gate.wrong_bodies all [NAME..]     the others that the prover has to refuse too, in as many rounds as it takes
-       python3 -m tools.gate.wrong_bodies over FOLDER NAME those of a crate for the gate, over what a check of the crate kept there
        python3 -m tools.gate.wrong_bodies fit              tries nothing: prints the edits that can't be applied, and those of
                                                            the gate that need more than one round
 The libraries below a crate have to be built.
@@ -109,9 +108,8 @@ def add_answers(name, tried, folder):
             file.write_text("\n".join([*lines, *given.values()]), "utf-8")
 
 
-def check(name, tried, kept=(), are_right=False):
-    """What a check of a crate prints that has these edits, or only their answers. It takes what they leave as it was from what
-    was kept."""
+def check(name, tried, are_right=False):
+    """What a check of a crate prints that has these edits, or only their answers."""
     with tempfile.TemporaryDirectory() as crate:
         for part in ("src", "specs", "proofs"):
             if os.path.isdir(f"crates/{name}/{part}"):
@@ -121,10 +119,10 @@ def check(name, tried, kept=(), are_right=False):
         add_answers(name, tried, crate)
         changed = set().union(*tried.values())
         only = [word for path in changed for word in ("--only", path)]
-        if changed and not kept:
+        if changed:
             leave_out(name, changed, crate)
             only.append("--allow-holes")
-        command = [*prover_command.of("check", name), *only, *kept]
+        command = [*prover_command.of("check", name), *only]
         ran = subprocess.run(command, cwd=crate, capture_output=True, text=True, errors="replace")
     return ran.stdout + ran.stderr
 
@@ -136,15 +134,15 @@ def false_answers(name, parts):
     return [edit for edit, its in found.items() if prover_output.verdict(printed, its) != "NOT REFUSED"]
 
 
-def judged(name, tried, kept):
+def judged(name, tried):
     """Each edit of a round with its verdict."""
-    printed = check(name, tried, kept)
+    printed = check(name, tried)
     if not prover_output.statuses(printed):
         return {edit: "BAD EDIT: " + printed.strip()[:300] for edit in tried}
     return {edit: prover_output.verdict(printed, its) for edit, its in tried.items()}
 
 
-def try_all(names, parts, kept=()):
+def try_all(names, parts):
     """Tries the edits of crates, prints each that isn't refused with a goal, and returns how many these are. If these are all
     edits, their answers are tried on the right bodies too."""
     tried = wrong = 0
@@ -153,7 +151,7 @@ def try_all(names, parts, kept=()):
     all_rounds.sort(key=lambda job: -len(job[1]))
     with concurrent.futures.ThreadPoolExecutor(AT_ONCE) as lanes:
         right = [lanes.submit(false_answers, name, parts) for name in names if MORE in parts]
-        running = [lanes.submit(judged, *job, kept) for job in all_rounds]
+        running = [lanes.submit(judged, *job) for job in all_rounds]
         for done in concurrent.futures.as_completed(running):
             for edit, verdict in done.result().items():
                 tried += 1
@@ -191,8 +189,6 @@ def main():
         wrong = list(unfit())
         print("\n".join([*wrong, f"wrong bodies: {len(wrong)} can't be tried"]))
         sys.exit(1 if wrong else 0)
-    if names[:1] == ["over"]:
-        sys.exit(1 if try_all(names[2:], [FIRST], ["--incremental", names[1]]) else 0)
     if names[:1] != ["all"]:
         sys.exit(1 if try_all(names or edits.crates_with(FIRST), [FIRST]) else 0)
     parts = [FIRST, MORE]
