@@ -4,11 +4,11 @@
 #include "test_hasher.h"
 
 /* What a call derives: keys, and verifications with these parameters. */
-enum kind { NONE, KEYS, A, B, P2, P4, P16, R16, LONG, LONG2 };
+enum kind { NONE, KEYS, A, B, P2, P4, P16, R16, SLOW, SLOW2 };
 static const struct { uint8_t log_n; uint32_t r, p; } PARAMS[] = {
     [KEYS] = {4, 8, 1}, [A] = {4, 8, 1},    [B] = {5, 8, 1},
     [P2] = {4, 8, 2},   [P4] = {4, 8, 4},   [P16] = {4, 8, 16},
-    [R16] = {4, 16, 1}, [LONG] = {13, 8, 1}, [LONG2] = {13, 8, 2}};
+    [R16] = {4, 16, 1}, [SLOW] = {13, 8, 1}, [SLOW2] = {13, 8, 2}};
 
 /* A scenario: calls in a hasher, in which no derivation ends unless the test says so. Each second
  * verification has a wrong password. */
@@ -183,24 +183,24 @@ static void share_of_a_slot(void) {
 static void in_a_window(void) {
   begin("compatible calls that come in the window of a leader join it", 1, 4);
   let_windows_last(1);
-  start_all((enum kind[]){LONG, LONG, KEYS, A, LONG, NONE});
+  start_all((enum kind[]){SLOW, SLOW, KEYS, A, SLOW, NONE});
   let_windows_last(0);
   end("014~ 2 3");
   begin("after those that waited before, and as many as have room", 1, 4);
-  start_all((enum kind[]){LONG, LONG, LONG, NONE});
+  start_all((enum kind[]){SLOW, SLOW, SLOW, NONE});
   let_windows_last(1);
   end_first();
-  start_all((enum kind[]){LONG, LONG, A, LONG, NONE});
+  start_all((enum kind[]){SLOW, SLOW, A, SLOW, NONE});
   let_windows_last(0);
   end("0~ 1234~ 5 6~");
   begin("a full batch has no window", 1, 2);
-  start_all((enum kind[]){LONG, LONG, LONG, NONE});
+  start_all((enum kind[]){SLOW, SLOW, SLOW, NONE});
   end("0~ 12");
   begin("nor a slot with one table", 1, 1);
-  start_all((enum kind[]){LONG, LONG, LONG2, NONE});
+  start_all((enum kind[]){SLOW, SLOW, SLOW2, NONE});
   end("0 1 2");
   begin("nor while a slot is free", 2, 4);
-  start_all((enum kind[]){LONG, LONG, LONG, NONE});
+  start_all((enum kind[]){SLOW, SLOW, SLOW, NONE});
   end_first();
   end("0 1~ 2~");
   expect(READ(windows_ahead) > 0, "no window lasts");
@@ -247,7 +247,7 @@ static void closed(void) {
   end("0 12");
   begin("closed in a window", 1, 4);
   let_windows_last(1);
-  start_all((enum kind[]){LONG, LONG, NONE});
+  start_all((enum kind[]){SLOW, SLOW, NONE});
   all[1].wanted = SCRYPT_CLOSED;
   close_now();
   let_windows_last(0);

@@ -1,4 +1,5 @@
-/* The hasher under load, forked, closed and freed at any time: no wrong verdict, no hang. */
+/* The hasher under load, forked, closed and freed at any time: no wrong verdict, no hang.
+ * usage: test_hasher_load [ROUNDS]   a second for each 40 */
 #define MIN_LINGER_NS 0
 #include "test_hasher.h"
 
@@ -32,11 +33,12 @@ static void *verify_until_closed(void *hasher) {
   return NULL;
 }
 
+static size_t rounds = 24;
 static void at_any_time(void) {
   static const size_t PROCESSORS[] = {1, 2, 64};
   pthread_t all[16];
   scrypt_stats stats;
-  for (size_t round = 0; round < 24; round++) {
+  for (size_t round = 0; round < rounds; round++) {
     size_t processors = PROCESSORS[round % 3];
     scrypt_hasher *hasher = new_hasher(processors, round % 4 * processors + 1, 4);
     for (int i = 0; i < 16; i++) pthread_create(&all[i], NULL, verify_until_closed, hasher);
@@ -78,7 +80,8 @@ static void freed_when_they_returned(void) {
   }
 }
 
-int main(void) {
+int main(int argc, char **argv) {
+  if (argc > 1) rounds = (size_t)atoi(argv[1]);
   make_text(texts[0], "right", 4, 8, 1);
   make_text(texts[1], "right", 6, 8, 1);
   make_text(texts[2], "right", 4, 8, 3);
