@@ -11,10 +11,23 @@
 #define DEFAULT(field, value) \
   if (with->field == 0) with->field = (value)
 
+static size_t usable_memory(void) {
+  size_t memory = memory_of_process();
+  return memory - memory / 8;
+}
+
+/* The limit, or 7/8 of the memory if that is less, as in a small container, but as much as a new
+ * hash needs. */
+static size_t default_most_bytes(size_t limit, const scrypt_needs *new) {
+  size_t usable = usable_memory();
+  size_t most = limit < usable ? limit : usable;
+  return most > new->bytes ? most : (size_t)new->bytes;
+}
+
 /* Two tables for each processor, or as many as fit into 7/8 of the memory: of the largest that are
  * allowed or, if not one of these does, of new hashes. */
 static size_t default_at_once(const scrypt_options *with, const scrypt_needs *new) {
-  size_t memory = memory_of_process(), usable = memory - memory / 8;
+  size_t usable = usable_memory();
   size_t fit = usable / with->most_bytes;
   size_t two = 2 * (with->processors < MAX_SLOTS ? with->processors : MAX_SLOTS);
   if (fit == 0) fit = usable / new->bytes;
@@ -39,7 +52,9 @@ int complete_options(const scrypt_options *given, scrypt_options *with, scrypt_n
   status = scrypt_limits_for_new(with->log_n, with->r, with->p, with->key_len, &most_bytes,
                                  &most_work, &least_key_len);
   if (status != SCRYPT_OK) return status;
-  DEFAULT(most_bytes, most_bytes);
+  status = scrypt_params_need(with->log_n, with->r, with->p, SIZE_MAX, UINT64_MAX, needs);
+  if (status != SCRYPT_OK) return status;
+  DEFAULT(most_bytes, default_most_bytes(most_bytes, needs));
   DEFAULT(most_work, most_work);
   DEFAULT(least_key_len, least_key_len);
   /* Otherwise new hashes would be refused. */

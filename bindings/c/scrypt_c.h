@@ -394,8 +394,8 @@ typedef struct scrypt_options {
   uint32_t log_n, r, p;     /* of new hashes and keys: SCRYPT_RECOMMENDED_LOG_N, .. */
   int mcf;                  /* new hashes are PHC texts, or $7$ texts of crypt(3) if this is not 0 */
   size_t key_len, salt_len; /* of new hashes: SCRYPT_KEY_LEN and SCRYPT_SALT_LEN */
-  size_t most_bytes;        /* what the buffers for one hash may need, as in scrypt_hash_needs: SCRYPT_MOST_BYTES, or what */
-                            /* a new hash needs if that is more */
+  size_t most_bytes;        /* what the buffers for one hash may need, as in scrypt_hash_needs: SCRYPT_MOST_BYTES, or */
+                            /* 7/8 of that memory if it is less; but at least what a new hash needs */
   uint64_t most_work;       /* the most work of a hash: SCRYPT_MOST_WORK, or that of a new hash if that is more */
   size_t least_key_len;     /* of a hash that is verified, at most key_len: SCRYPT_LEAST_KEY_LEN, or key_len if that is less */
   size_t at_once;           /* how many tables may exist at a time: two for each processor, or as many of most_bytes as fit */

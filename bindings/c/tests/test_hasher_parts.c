@@ -272,12 +272,14 @@ static void memory(void) {
   static const size_t GIB = (size_t)1 << 30;
   const struct {
     const char *why;
-    size_t memory, most_bytes, processors, at_once;
+    size_t memory, most_bytes, processors, at_once, default_most;
   } MEMORY[] = {{"two for each processor", SIZE_MAX, 1 << 14, 64, 128},
                 {"or for each of 8192", SIZE_MAX, 1 << 14, SIZE_MAX / 2 + 1, 1 << 14},
-                {"three of the default, and the rest of the process", GIB, 0, 64, 3},
+                {"three of the default, and the rest of the process", GIB, 0, 64, 3,
+                 SCRYPT_MOST_BYTES},
                 {"or six", GIB, 129 << 20, 64, 6},
-                {"not one of the default, but one of a new hash", GIB / 4, 0, 64, 1},
+                {"a default of 7/8 of the memory", GIB / 4, 0, 64, 1, 7 * (GIB / 32)},
+                {"but not less than a new hash needs", GIB / 16, 0, 64, 1, 134220800},
                 {"six of new hashes, as nobody has room for the largest", GIB, SIZE_MAX, 64, 6},
                 {"one at least", 1000, 0, 64, 1}};
   for (size_t i = 0; i < sizeof MEMORY / sizeof MEMORY[0]; i++) {
@@ -288,6 +290,8 @@ static void memory(void) {
     memory_there = MEMORY[i].memory;
     hasher = scrypt_hasher_new(&with, NULL);
     expect(scrypt_hasher_options(hasher)->at_once == MEMORY[i].at_once, "%s", MEMORY[i].why);
+    if (MEMORY[i].default_most != 0)
+      IS(scrypt_hasher_options(hasher)->most_bytes, MEMORY[i].default_most);
     scrypt_hasher_free(hasher);
   }
   memory_there = SIZE_MAX;

@@ -60,8 +60,8 @@ class PasswordHasher:
     memory for later calls until `close` or the end of a `with` block.
 
     A hash that needs more than `most_bytes` of memory, or whose `Params.work` is above `most_work`,
-    is refused without waiting. By default these are MOST_BYTES and MOST_WORK, or what new hashes
-    need if that is more. A hash whose key has fewer than LEAST_KEY_LEN bytes, or than `key_len` if
+    is refused without waiting. By default these are MOST_BYTES, or 7/8 of the memory if that is
+    less, and MOST_WORK, or what new hashes need if that is more. A hash whose key has fewer than LEAST_KEY_LEN bytes, or than `key_len` if
     that is less, is refused too.
     """
 
