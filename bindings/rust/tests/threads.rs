@@ -1,9 +1,7 @@
 //! A hasher that threads share.
 
 use scrypt_c::{DeriveError, Error, Hasher, InvalidParams, Options, Params};
-use std::cell::RefCell;
-use std::panic::{catch_unwind, AssertUnwindSafe, RefUnwindSafe, UnwindSafe};
-use std::sync::atomic::{AtomicU32, Ordering};
+use std::panic::{RefUnwindSafe, UnwindSafe};
 use std::thread;
 use std::time::{Duration, Instant};
 
@@ -18,23 +16,6 @@ fn types() {
     anywhere::<Hasher>();
     anywhere::<(Options, Params)>();
     anywhere::<(Error, DeriveError, InvalidParams)>();
-}
-
-/// A password whose bytes panic takes nothing with it.
-#[test]
-fn panics() {
-    struct Panics;
-    impl AsRef<[u8]> for Panics {
-        fn as_ref(&self) -> &[u8] {
-            panic!("on purpose")
-        }
-    }
-    let (hasher, mut key) = (with(4, 1, 1), [0; 8]);
-    let text = hasher.hash("pw").unwrap();
-    assert!(catch_unwind(|| hasher.verify(&text, Panics)).is_err());
-    assert!(catch_unwind(|| hasher.hash(Panics)).is_err());
-    assert!(catch_unwind(AssertUnwindSafe(|| hasher.key(Panics, b"", &mut key))).is_err());
-    assert_eq!(hasher.verify(&text, "pw"), Ok(()));
 }
 
 /// A hasher that is dropped goes on for its clones, in other threads too, and closing one closes
@@ -81,30 +62,4 @@ fn timeouts() {
             assert_eq!(deriving.join().unwrap(), Err(Error::PasswordInvalid));
         });
     }
-}
-
-/// A hasher is freed last: a value that is dropped, also one of a thread that ends, still uses its
-/// own.
-#[test]
-fn drops() {
-    struct Login(Hasher);
-    impl Drop for Login {
-        fn drop(&mut self) {
-            assert_eq!(self.0.verify(NO_HASH, "pw"), Err(Error::PasswordInvalid));
-            VERIFIED.fetch_add(1, Ordering::Relaxed);
-        }
-    }
-    static VERIFIED: AtomicU32 = AtomicU32::new(0);
-    const NO_HASH: &str = "$scrypt$ln=4,r=8,p=1$c2FsdHNhbHQ$AAAAAAAAAAAAAAAAAAAAAA";
-    thread_local!(static OF_THREAD: RefCell<Option<Login>> = const { RefCell::new(None) });
-    let hasher = with(4, 1, 1);
-    let clone = hasher.clone();
-    thread::spawn(|| OF_THREAD.with(|it| *it.borrow_mut() = Some(Login(clone)))).join().unwrap();
-    drop((Login(hasher.clone()), Login(hasher)));
-    let panicked = catch_unwind(|| {
-        let _login = Login(with(4, 1, 1));
-        panic!("on purpose")
-    });
-    assert!(panicked.is_err());
-    assert_eq!(VERIFIED.load(Ordering::Relaxed), 4);
 }

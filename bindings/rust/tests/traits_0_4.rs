@@ -30,6 +30,7 @@ fn customized() {
         let params = Params::new_with_output_len(4, 3, 2, len).unwrap();
         let made = Scrypt.hash_password_customized(b"pw", Some(ALG_ID), None, params, &salt);
         let text = made.unwrap().to_string();
+        assert_eq!(Scrypt::from(params).hash_password(b"pw", &salt).unwrap().to_string(), text);
         let hash = PasswordHash::new(&text).unwrap();
         assert_eq!(Params::try_from(&hash), Ok(params));
         assert_eq!(Scrypt.verify_password(b"pw", &hash), Ok(()));
@@ -37,13 +38,6 @@ fn customized() {
         let by_hasher = Hasher::default().verify(&text, "pw");
         assert_eq!(by_hasher.is_ok(), len >= 16, "{by_hasher:?}");
     }
-}
-
-#[test]
-fn with_params() {
-    let params = Params::new_with_output_len(4, 3, 2, 20).unwrap();
-    let text = Scrypt::from(params).hash_password(b"pw", &drawn()).unwrap().to_string();
-    assert_eq!(Params::try_from(&PasswordHash::new(&text).unwrap()), Ok(params));
 }
 
 #[test]
@@ -56,18 +50,6 @@ fn errors_of_this_crate() {
     }
     assert!(matches!(params_are_refused(), Err(Error::ParamValueInvalid(_))));
     assert_eq!(no_key(), Err(Error::Crypto));
-}
-
-#[cfg(feature = "std")]
-#[test]
-fn errors_are_std_errors() {
-    let salt = drawn();
-    let made = || -> Result<String, Box<dyn std::error::Error>> {
-        Ok(Scrypt
-            .hash_password_customized(b"", None, Some(1), Params::RECOMMENDED, &salt)?
-            .to_string())
-    };
-    assert_eq!(made().unwrap_err().to_string(), Error::Version.to_string());
 }
 
 #[test]
