@@ -1,6 +1,7 @@
-//! Tests of the libraries, of what no contract can say: that calls succeed if memory is available, that the compiled code
-//! gives the standards' keys, and how much each call allocates. `ci/program.py` asks the linked program for the keys of RFC
-//! 7914, and `ci/hashes.py` which texts it verifies.
+//! Tests of the libraries, of what no contract can say: that the compiled code gives the standards' keys,
+//! and calls succeed on texts at the bounds of each format. What calls allocate is in `allocation_tests`,
+//! which is proved beside this crate. `tools/tests/program.py` asks the linked program for the keys of RFC
+//! 7914, and `tools/tests/hashes.py` which texts it verifies.
 //!
 //! A function that returns no error is exactly what its contract says, and its definition is evaluated on the standards'
 //! vectors in `proofs/StandardFacts.antt` of its crate. The tables here show the compiled code on the same vectors, and on
@@ -10,17 +11,7 @@
 #[cfg(test)]
 mod buffers;
 #[cfg(test)]
-mod derivation_allocations;
-#[cfg(test)]
-mod failing_allocations;
-#[cfg(test)]
 mod groups;
-#[cfg(test)]
-mod hash_allocations;
-#[cfg(test)]
-mod hashes;
-#[cfg(test)]
-mod hostile;
 #[cfg(test)]
 mod keys;
 #[cfg(test)]
@@ -30,17 +21,11 @@ mod laws;
 #[cfg(test)]
 mod mcf_texts;
 #[cfg(test)]
-mod memory;
-#[cfg(test)]
 mod parameters;
 #[cfg(test)]
 mod phc_texts;
 #[cfg(test)]
-mod refused;
-#[cfg(test)]
 mod romix;
-#[cfg(test)]
-mod verdicts;
 
 #[cfg(test)]
 use std::test::Fail;

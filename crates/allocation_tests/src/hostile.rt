@@ -2,8 +2,7 @@
 
 use crate::hash_allocations::followed;
 use crate::holds;
-use crate::laws::HASH;
-use crate::phc_texts::HASH as PHC;
+use crate::refused::PHC;
 use crate::verdicts::{is_mcf_verdict, is_phc_verdict};
 use password_hash::mcf::alphabet::value;
 use password_hash::{Error, mcf};
@@ -11,6 +10,9 @@ use scrypt::laws::texts_have_one_reading;
 use std::alloc::Global;
 use std::str;
 use std::test::Fail;
+
+// libxcrypt's, of the empty password.
+const HASH: &str = "$7$2/..../....$rNxJWVHNv/mCNcgE/f6/L4zO6Fos5c2uTzhyzoisI62";
 
 // Where the key begins.
 const KEY_AT: usize = 15;

@@ -2,12 +2,15 @@
 
 use crate::failing_allocations::{CallEnd, failing_allocations};
 use crate::holds;
-use crate::phc_texts::HASH as PHC;
 use password_hash::mcf::PasswordHashRef;
 use password_hash::phc::PasswordHash;
 use password_hash::{Error, PasswordVerifier, RehashCheck};
 use scrypt::{InvalidParams, Params, Scrypt};
 use std::test::Fail;
+
+// passlib's, of `password`.
+pub const PHC: &str =
+    "$scrypt$ln=16,r=8,p=1$aM15713r3Xsvxbi31lqr1Q$nFNh2CVHVjNldFVKDHDlm4CbdRSCdEBsjjJxD+iCs5E";
 
 // libxcrypt's, of `pleaseletmein`.
 pub const MCF: &str =
