@@ -4,7 +4,7 @@ set -eu
 unset CDPATH
 cd "$(dirname "$0")"
 export PATH="/usr/bin:$PATH" PYTHONPATH=../../bindings/python SCRYPT_C_LIBRARY=../../build/lib
-for module in django waitress selenium; do
+for module in django waitress gunicorn selenium; do
   if ! python3 -c "import $module" 2> /dev/null; then
     echo "$module is not installed (package python3-$module): not run: examples/login_site"
     exit

@@ -22,7 +22,7 @@ LOGIN_URL, LOGIN_REDIRECT_URL, LOGOUT_REDIRECT_URL = "log_in", "home", "home"
 
 DATABASES = {"default": {
     "ENGINE": "django.db.backends.sqlite3",
-    "NAME": BASE / "accounts.sqlite3",
+    "NAME": os.environ.get("SQLITE", BASE / "accounts.sqlite3"),
     "TEST": {"NAME": BASE / "test.sqlite3"},  # in memory, threads would share a connection
     "OPTIONS": {"timeout": 20},
 }}
