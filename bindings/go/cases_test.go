@@ -6,6 +6,7 @@ import (
 	"os"
 	"strings"
 	"testing"
+	"time"
 )
 
 var statuses = map[string]error{
@@ -42,7 +43,11 @@ func TestCases(t *testing.T) {
 		if !isRefused {
 			of = hasher
 		}
+		begun := time.Now()
 		err := of.Verify(ctx, text, []byte(words[1]))
+		if text == "" && time.Since(begun) < 50*time.Millisecond {
+			t.Error("a name that doesn't exist does not take the time of a wrong password")
+		}
 		if !errors.Is(err, want) || errors.Is(err, ErrRefused) != isRefused {
 			t.Errorf("%.60s: %v, and not %s", text, err, words[0])
 		}

@@ -7,7 +7,6 @@ import (
 	"runtime"
 	"strings"
 	"testing"
-	"time"
 )
 
 const (
@@ -151,30 +150,6 @@ func TestRefusedTexts(t *testing.T) {
 	}
 	if key, err := hasher.Key(ctx, nil, nil, 0); key != nil || err != ErrInvalidOutputLen {
 		t.Errorf("no key: %x, %v", key, err)
-	}
-}
-
-// A name that doesn't exist takes the time of a wrong password, and has its error.
-func TestNoHash(t *testing.T) {
-	hasher := newHasher(t, Options{Params: Params{LogN: 16}})
-	stored, err := hasher.Hash(context.Background(), nil)
-	if err != nil {
-		t.Fatal(err)
-	}
-	fastest := map[string]time.Duration{stored: time.Hour, "": time.Hour}
-	for i := 0; i < 5; i++ {
-		for text := range fastest {
-			begun := time.Now()
-			if err := hasher.Verify(context.Background(), text, []byte("pw")); err != ErrMismatch {
-				t.Error(err)
-			}
-			if took := time.Since(begun); took < fastest[text] {
-				fastest[text] = took
-			}
-		}
-	}
-	if fastest[""] > 3*fastest[stored] || fastest[stored] > 3*fastest[""] {
-		t.Error(fastest)
 	}
 }
 
