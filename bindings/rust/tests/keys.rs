@@ -108,7 +108,7 @@ fn errors() {
         (Error::from(InvalidParams), InvalidParams.to_string()),
         (DeriveError::InvalidOutputLen.into(), DeriveError::InvalidOutputLen.to_string()),
         (DeriveError::OutOfMemory.into(), "out of memory".to_string()),
-        (DeriveError::Status(99).into(), "status 99 of a newer library".to_string()),
+        (DeriveError::Status(99).into(), "status 99: unknown status".to_string()),
     ] {
         assert_eq!(error.to_string(), words);
     }
