@@ -11,6 +11,7 @@
 #include "arena.c"
 #include "calibrate.c"
 #include "blocks.c"
+#include "steps.c"
 #include "clearing.c"
 #ifdef _WIN32
 #include "windows.c"

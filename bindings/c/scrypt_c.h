@@ -6,6 +6,7 @@
  *   a key with no allocation, in your own buffers    scrypt_key_with_buffers                  yes
  *   a key on a small device, with a smaller table    scrypt_key_thin                          yes
  *   a key in steps, with progress between them       scrypt_key_begin; .._step; .._finish     yes
+ *   a key in one call, with progress                 scrypt_key_with_progress                 no
  *   the lengths of buffers; wiping them              scrypt_buffer_lens; scrypt_wipe          yes
  *   a password hash to store                         scrypt_hash_new                          no
  *   the same with other parameters, or your salt     scrypt_hash_phc; scrypt_hash_mcf: $7$    yes
@@ -103,7 +104,8 @@ enum scrypt_status {
   SCRYPT_TIMEOUT = 18,            /* a hasher did not begin with the call in its time */
   SCRYPT_OPTIONS_SIZE = 19,       /* the size in the options of a hasher is not sizeof (scrypt_options) */
   SCRYPT_UNFINISHED = 20,         /* a derivation in steps is not at its end */
-  SCRYPT_INVALID_PROGRESS = 21    /* a derivation with these parameters cannot have come so far */
+  SCRYPT_INVALID_PROGRESS = 21,   /* a derivation with these parameters cannot have come so far */
+  SCRYPT_STOPPED = 22             /* the caller's function stopped the derivation */
 };
 
 /* ---- Keys ---- */
@@ -210,6 +212,17 @@ int scrypt_key_step(scrypt_steps *steps, size_t mixes);
 SCRYPT_CHECKED
 int scrypt_key_finish(const scrypt_steps *steps, const void *password, size_t password_len, uint8_t *output,
                       size_t output_len);
+
+/* Is called between two steps with how many block mixes are done, of so many. A result that is not 0 stops the derivation. */
+typedef int (*scrypt_on_progress)(void *context, uint64_t done, uint64_t all);
+
+/* Does what scrypt_key does, and calls on_progress with this context every 10 ms or so, and last with done equal to all.
+ * If that stops it, the output is unchanged, and the memory is wiped and freed, as after any end.
+ * SCRYPT_NULL_POINTER, SCRYPT_INVALID_PARAMS, SCRYPT_INVALID_OUTPUT_LEN, SCRYPT_OUT_OF_MEMORY, SCRYPT_STOPPED. */
+SCRYPT_CHECKED
+int scrypt_key_with_progress(const void *password, size_t password_len, const void *salt, size_t salt_len,
+                             uint32_t log_n, uint32_t r, uint32_t p, scrypt_on_progress on_progress, void *context,
+                             uint8_t *output, size_t output_len);
 
 /* ---- Password hashes ---- */
 

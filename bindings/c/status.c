@@ -28,6 +28,7 @@ static const struct {
     ROW(OPTIONS_SIZE, "the size in the options of a hasher is not sizeof (scrypt_options)"),
     ROW(UNFINISHED, "the derivation in steps is not at its end"),
     ROW(INVALID_PROGRESS, "a derivation with these parameters cannot have come so far"),
+    ROW(STOPPED, "the derivation was stopped"),
 };
 #undef ROW
 

@@ -39,6 +39,7 @@ def inside(word):
 # ---- Python ----
 
 PYTHON = {"int": "INT", "uint8_t": "U8", "uint32_t": "U32", "uint64_t": "U64", "int64_t": "I64", "size_t": "SIZE", "double": "DOUBLE"}
+FUNCTION = "scrypt_on_progress"
 
 
 def in_python(declared):
@@ -48,6 +49,8 @@ def in_python(declared):
         return "hasher"
     if word in ("void", "char", "uint8_t") and "*" in declared:
         return "BYTES"
+    if word == FUNCTION:
+        return "ON_PROGRESS"
     kind = inside(word) if word in STRUCTURES else PYTHON.get(word, "None")
     return f"POINTER({kind})" if "*" in declared else kind
 
@@ -56,6 +59,7 @@ def python():
     yield from (f'"""{NOTE}bindings/c/scrypt_c.h: its numbers, statuses, structures and calls."""', "", "from __future__ import annotations")
     yield from ("", "import ctypes", "from ctypes import POINTER", "from typing import Any", "", "BYTES = ctypes.c_char_p")
     yield from (f"{short} = ctypes.c_{word if short == 'SIZE' else word.removesuffix('_t')}" for word, short in PYTHON.items())
+    yield "ON_PROGRESS = ctypes.CFUNCTYPE(INT, ctypes.c_void_p, U64, U64)"
     yield from ("", f'VERSION_STRING = "{VERSION}"', *(f"{name} = {number}" for name, number in (NUMBERS | STATUSES).items()))
     for name, fields in STRUCTURES.items():
         pairs = ", ".join(f'("{header.name_of(it)}", {in_python(it)})' for it in fields)
@@ -70,7 +74,7 @@ def python():
 # ---- Rust ----
 
 RUST = {"int": "c_int", "uint8_t": "u8", "uint32_t": "u32", "uint64_t": "u64", "int64_t": "i64", "size_t": "usize",
-        "double": "f64", "void": "c_void", "char": "c_char"}
+        "double": "f64", "void": "c_void", "char": "c_char", FUNCTION: "OnProgress"}
 
 
 def in_rust(declared):
@@ -82,6 +86,7 @@ def in_rust(declared):
 def rust():
     yield from (f"//! {NOTE}bindings/c/scrypt_c.h: its numbers, statuses, structures and calls.", "#![allow(dead_code)]", "")
     yield from ("use std::os::raw::{c_char, c_int, c_void};", "")
+    yield from (f"/// `{FUNCTION}`.", 'pub type OnProgress = unsafe extern "C" fn(*mut c_void, u64, u64) -> c_int;', "")
     yield from (f"pub const {name}: u64 = {number};" for name, number in NUMBERS.items())
     yield from ("", *(f"pub const {name}: c_int = {number};" for name, number in STATUSES.items()))
     yield from ("", "/// `scrypt_hasher`, which the library alone looks into.", "#[repr(C)]", "pub struct RawHasher {",
@@ -179,9 +184,9 @@ def each_call():
     for _, name, given in (it for it in CALLS if it[0] == "int" and it[2] != ["int status"]):
         words = []
         for it in given:
-            is_made = "*" in it and not it.startswith("const") and "scrypt_hasher" not in it
+            is_made = "*" in it and not it.startswith("const") and "scrypt_hasher" not in it and it != "void *context"
             words.append(("made." if is_made else "given.") + header.name_of(it))
-            if "*" in it and name not in unchecked:
+            if "*" in it and name not in unchecked and it != "void *context":
                 words[-1] = f"P({words[-1]})"
         text = ", ".join(words)
         memory = "HASHER" if "given.hasher" in text else "BUFFERS" if re.search(r"made\.(chunks|steps)\)", text) else "NEITHER"

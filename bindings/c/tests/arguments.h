@@ -20,6 +20,8 @@ static struct {
   uint64_t most_work;
   int64_t most_ms;
   double seconds;
+  scrypt_on_progress on_progress;
+  void *context;
 } given;
 
 static struct {
@@ -44,6 +46,8 @@ static scrypt_steps ended;
 
 #define BUFFERS_OF_STEPS \
   made.chunks, made.table, made.scratch, given.chunks_len, given.table_len, given.scratch_len
+
+static int go_on(void *context, uint64_t done, uint64_t all) { return context != NULL || done > all; }
 
 /* With buffers for as many tables as a derivation can use, and at most this many. */
 static void take_arguments(const void *password, size_t password_len, const void *salt, size_t salt_len, uint32_t log_n,
@@ -71,7 +75,7 @@ static void take_arguments(const void *password, size_t password_len, const void
   ended = *made.steps, ended.at.chunks = p;
   ended.chunks = calloc(ended.chunks_len, 1);
   if (ended.chunks == NULL) exit(3);
-  given.steps = &ended, given.mixes = 3;
+  given.steps = &ended, given.mixes = 3, given.on_progress = go_on;
 }
 
 /* The text that is verified and read, alone and for `count` logins. */

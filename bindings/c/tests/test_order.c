@@ -73,6 +73,7 @@ static const struct {
     {"scrypt_key_begin", is_begun, SCRYPT_OK},
     {"scrypt_key_step", is_at_3, SCRYPT_OK},
     {"scrypt_key_finish", a_key, SCRYPT_OK},
+    {"scrypt_key_with_progress", a_key, SCRYPT_OK},
     {"scrypt_hash_new", a_new_hash, SCRYPT_OK},
     {"scrypt_hash_phc", a_phc, SCRYPT_OK},
     {"scrypt_hash_mcf", an_mcf, SCRYPT_OK},

@@ -1,5 +1,5 @@
-/* Keys in steps: RFC 7914's and others, in steps of any size; a derivation that is left; and each refusal, which leaves
- * everything as it was. With the word small it leaves out the key of 1 GiB. */
+/* Keys in steps: RFC 7914's keys and others, in steps of any size; a derivation that is left; a function
+ * between steps; and each refusal, which leaves everything as it was. With the word small it leaves out the key of 1 GiB. */
 #include "check.h"
 #include "scrypt_c.h"
 #include "test_keys.h"
@@ -97,6 +97,54 @@ static void left_and_moved(void) {
   free_steps(&it), free_steps(&other);
 }
 
+/* ---- A function between steps ---- */
+
+struct seen {
+  uint64_t last, all;
+  int calls, stop_at, is_in_order;
+};
+
+static int on_progress(void *context, uint64_t done, uint64_t all) {
+  struct seen *it = (struct seen *)context;
+  it->is_in_order &= done > it->last && done <= all;
+  it->last = done, it->all = all;
+  return ++it->calls == it->stop_at;
+}
+
+static void with_progress(void) {
+  static const struct {
+    uint32_t log_n, r, p;
+    int stop_at, wanted;
+    const char *why;
+  } ROWS[] = {
+      {4, 1, 1, 0, SCRYPT_OK, "a short key"},          {0, 1, 3, 0, SCRYPT_OK, "N of 1"},
+      {14, 8, 1, 0, SCRYPT_OK, "a key"},               {12, 8, 5, 0, SCRYPT_OK, "several chunks"},
+      {14, 8, 1, 1, SCRYPT_STOPPED, "stopped at once"}, {14, 8, 2, 3, SCRYPT_STOPPED, "stopped later"},
+      {4, 0, 1, 0, SCRYPT_INVALID_PARAMS, "r of 0"},   {56, 1, 1, 0, SCRYPT_OUT_OF_MEMORY, "2^63 bytes"},
+  };
+  uint8_t key[32], wanted[32];
+  size_t i;
+  for (i = 0; i < sizeof ROWS / sizeof *ROWS; i++) {
+    struct seen seen = {0, 0, 0, ROWS[i].stop_at, 1};
+    const uint64_t all = (UINT64_C(2) << ROWS[i].log_n) * ROWS[i].p;
+    const int status = scrypt_key_with_progress("pw", 2, "salt", 4, ROWS[i].log_n, ROWS[i].r, ROWS[i].p, on_progress,
+                                                &seen, memset(key, 7, 32), 32);
+    check(status == ROWS[i].wanted && seen.is_in_order, ROWS[i].why);
+    if (status != SCRYPT_OK) {
+      check(is_all(7, key, 32) && seen.calls == ROWS[i].stop_at, ROWS[i].why);
+      continue;
+    }
+    check(seen.last == all && seen.all == all, ROWS[i].why);
+    check(scrypt_key("pw", 2, "salt", 4, ROWS[i].log_n, ROWS[i].r, ROWS[i].p, wanted, 32) == SCRYPT_OK, ROWS[i].why);
+    check(memcmp(key, wanted, 32) == 0, ROWS[i].why);
+  }
+  check(scrypt_key_with_progress("pw", 2, "salt", 4, 4, 1, 1, NULL, NULL, key, 32) == SCRYPT_NULL_POINTER, "no function");
+  check(scrypt_key_with_progress("pw", 2, "salt", 4, 4, 1, 1, on_progress, NULL, NULL, 0) == SCRYPT_INVALID_OUTPUT_LEN,
+        "no output");
+}
+
+/* ---- Refusals ---- */
+
 /* What a structure is changed by before a call, and what each call returns then, with -1 for SCRYPT_OK. The key is finished
  * with no output, which is refused last. */
 enum { OK = -1, PARAMS = SCRYPT_INVALID_PARAMS, SIZE = SCRYPT_BUFFER_SIZE, NO_OUTPUT = SCRYPT_INVALID_OUTPUT_LEN };
@@ -163,6 +211,7 @@ int main(int argc, char **argv) {
   vectors(argc > 1 && strcmp(argv[1], "small") == 0 ? 3 : 4);
   others();
   left_and_moved();
+  with_progress();
   refusals();
   return failed;
 }

@@ -53,7 +53,7 @@ class Library(unittest.TestCase):
     def test_as_in_the_header(self):
         """An exception for each status, except those that no call from here returns or lets through; and the defaults."""
         never = {getattr(declared, name) for name in ("OK", "BUFFER_SIZE", "NULL_POINTER", "OPTIONS_SIZE",
-                                                 "UNFINISHED", "INVALID_PROGRESS")}
+                                                 "UNFINISHED", "INVALID_PROGRESS", "STOPPED")}
         known = {it for it in range(256) if library.status_name(it)}
         of_text = {it for it in known if library.status_is_invalid_hash(it)}
         self.assertEqual(set(errors.KINDS), known - of_text - never)

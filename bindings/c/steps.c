@@ -1,0 +1,78 @@
+/* Keys in steps, with a function of the caller's between them. Not proved: over the calls of
+ * calls.c. */
+#include "groups.h"
+#include "system.h"
+
+/* Of blocks.c: what is freed is wiped, or given back to the system. */
+void *clearing_malloc(size_t len);
+void clearing_free(void *block);
+
+/* As scrypt_key has it: what four tables of 32 MiB take, and the words from which several pay. */
+enum { MAX_OF_TABLES = 129 << 20, MIN_WORDS = 1 << 14 };
+
+/* How long a step takes, and how many cores the first one has, which takes less. */
+enum { STEP_NS = 10000000, FIRST_CORES = 1 << 12 };
+
+static void free_buffers(scrypt_steps *steps) {
+  clearing_free(steps->chunks);
+  clearing_free(steps->table);
+  clearing_free(steps->scratch);
+}
+
+/* Buffers with so many tables. */
+static int take_buffers(scrypt_steps *steps, const scrypt_needs *needs, size_t tables) {
+  steps->chunks_len = needs->chunks_len;
+  steps->table_len = tables * needs->table_len;
+  steps->scratch_len = tables * needs->scratch_len;
+  steps->chunks = (uint8_t *)clearing_malloc(steps->chunks_len);
+  steps->table = (uint32_t *)clearing_malloc(sizeof(uint32_t) * steps->table_len);
+  steps->scratch = (uint32_t *)clearing_malloc(sizeof(uint32_t) * steps->scratch_len);
+  if (steps->chunks != NULL && steps->table != NULL && steps->scratch != NULL) return 1;
+  free_buffers(steps);
+  return 0;
+}
+
+/* As many block mixes as take the time of a step, if the last ones took so long. */
+static size_t next_step(size_t mixes, int64_t ns) {
+  if (ns < STEP_NS / 2) return mixes <= SIZE_MAX / 2 ? 2 * mixes : mixes;
+  if (ns > STEP_NS) mixes = (size_t)((double)mixes * STEP_NS / (double)ns);
+  return mixes > 0 ? mixes : 1;
+}
+
+static int all_steps(scrypt_steps *steps, scrypt_on_progress on_progress, void *context) {
+  const uint64_t of_chunk = UINT64_C(2) << steps->log_n, all = of_chunk * steps->p;
+  size_t mixes = FIRST_CORES / steps->r + 1;
+  int status = SCRYPT_OK;
+  while (status == SCRYPT_OK && steps->at.chunks < steps->p) {
+    const int64_t begun = now_ns();
+    status = scrypt_key_step(steps, mixes);
+    mixes = next_step(mixes, now_ns() - begun);
+    if (status == SCRYPT_OK &&
+        on_progress(context, of_chunk * steps->at.chunks + (uint64_t)steps->at.at_once * steps->at.mixes, all) != 0)
+      status = SCRYPT_STOPPED;
+  }
+  return status;
+}
+
+int scrypt_key_with_progress(const void *password, size_t password_len, const void *salt, size_t salt_len,
+                             uint32_t log_n, uint32_t r, uint32_t p, scrypt_on_progress on_progress,
+                             void *context, uint8_t *output, size_t output_len) {
+  scrypt_steps steps = {log_n, r, p, {0, 0, 0}, NULL, NULL, NULL, 0, 0, 0};
+  scrypt_needs needs;
+  size_t tables;
+  int status;
+  if (is_null(password, password_len) || is_null(salt, salt_len) || is_null(output, output_len) || on_progress == NULL)
+    return SCRYPT_NULL_POINTER;
+  status = scrypt_params_need(log_n, r, p, MAX_OF_TABLES, UINT64_MAX, &needs);
+  if (status != SCRYPT_OK && status != SCRYPT_TOO_COSTLY) return status;
+  if (output_len == 0 || output_len > SCRYPT_MAX_OUTPUT_LEN) return SCRYPT_INVALID_OUTPUT_LEN;
+  tables = needs.tables < tables_that_pay() ? needs.tables : tables_that_pay();
+  if (needs.table_len < MIN_WORDS) tables = 1;
+  if (!take_buffers(&steps, &needs, tables) && (tables == 1 || !take_buffers(&steps, &needs, 1)))
+    return SCRYPT_OUT_OF_MEMORY;
+  status = scrypt_key_begin(&steps, password, password_len, salt, salt_len);
+  if (status == SCRYPT_OK) status = all_steps(&steps, on_progress, context);
+  if (status == SCRYPT_OK) status = scrypt_key_finish(&steps, password, password_len, output, output_len);
+  free_buffers(&steps);
+  return status;
+}
