@@ -209,9 +209,16 @@ mod tests {
     #[test]
     fn statuses_of_the_header() {
         for status in (0..256).filter(|it| !unsafe { scrypt_status_name(*it) }.is_null()) {
-            let cannot_come =
-                [OK, BUFFER_SIZE, NULL_POINTER, OPTIONS_SIZE, UNFINISHED, INVALID_PROGRESS, STOPPED]
-                    .contains(&status);
+            let cannot_come = [
+                OK,
+                BUFFER_SIZE,
+                NULL_POINTER,
+                OPTIONS_SIZE,
+                UNFINISHED,
+                INVALID_PROGRESS,
+                STOPPED,
+            ]
+            .contains(&status);
             let has_numbers = [TOO_COSTLY, KEY_TOO_SHORT].contains(&status);
             let (error, words) = (Error::of(status), words_of(status));
             let has_none = cannot_come || has_numbers || error.is_invalid_hash();
