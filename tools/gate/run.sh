@@ -22,7 +22,8 @@ gate --keep-going --output-sync=target -j"$jobs" gate
 
 failed=0 passed=0
 for task in $(gate tasks); do
-  read -r status _ < "build/log/$task.took" 2> /dev/null || status=unbegun
+  status=unbegun
+  if [ -e "build/log/$task.took" ]; then read -r status _ < "build/log/$task.took"; fi
   case $status in
     0) passed=$((passed + 1)) ;;
     unbegun) failed=$((failed + 1)) && echo "$task: did not begin, since what it needs failed" ;;
