@@ -31,8 +31,8 @@ from tools import ours
 from tools.tests.libraries import crypt64, libraries
 from tools.tests.worker import Worker
 
-IN_MEMORY, ALLOCATING, TWO, FOUR = "`scrypt_hasher_verify`", "`scrypt_verify`", "each of two at once", "each of four at once"
-DRAWN = {FOUR: "this library, four at once", TWO: "two at once", IN_MEMORY: "one at a time", ALLOCATING: None}  # None is left out
+IN_MEMORY, ALLOCATING, TWO, FOUR = "`scrypt_hasher_verify`", "`scrypt_verify`", "each of a batch of two", "each of a batch of four"
+DRAWN = {FOUR: "this library, batches of four", TWO: "batches of two", IN_MEMORY: "one at a time", ALLOCATING: None}  # None is left out
 PASSWORD, OTHER = b"pleaseletmein", b"pleaseletmeIn"
 SALT = b"SodiumChloride.SodiumChloride.SodiumChlorid"  # 43 letters, as those of libsodium
 KEY_LEN = 32
