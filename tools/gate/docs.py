@@ -17,7 +17,7 @@ import sys
 from tools.generate import specs
 from tools.generate.sources import read, read_crate
 
-DOCS = ["*.md", "docs/*.md", "bindings/**/*.md", "tools/*.md", "tools/release/*.md", "examples/**/*.md", "crates/*.md"]
+DOCS = ["*.md", "docs/*.md", "bindings/**/*.md", "tools/*.md", "tools/gate/*.md", "tools/release/*.md", "examples/**/*.md", "crates/*.md"]
 SOURCES = ["crates/**/*.rt", "crates/**/*.antt", "examples/**/*.py"]
 SOURCES += [f"bindings/**/*.{suffix}" for suffix in ("c", "h", "py", "go", "rs", "js")]
 
