@@ -92,6 +92,12 @@ function ownChecks(open, { keys, hashes }, lines) {
     none.most = Infinity;
     equal(hex(none.own.scrypt('password', 'salt', of)), key, 'memory again');
   };
+  list['a call that the engine ends drops its instance'] = async () => {
+    const { own, end } = await open();
+    await refused('OUT_OF_MEMORY', () => end(() => own.params('$7$')));
+    equal(own.memory, 0, 'memory');
+    await works(own);
+  };
   list['a key that is left is wiped'] = async () => {
     const { own, isWiped } = await open();
     const leave = () => { throw new TypeError('enough'); };

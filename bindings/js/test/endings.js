@@ -40,11 +40,15 @@ export function endingChecks() {
   const list = {};
   list['an abort ends no other'] = () => withWorkers('leave', async (call, made, configure) => {
     configure({ maxWorkers: 1 });
-    const abort = new AbortController();
-    const aborted = refused('AbortError', () => call({ signal: abort.signal }));
+    const [abort, reports] = [new AbortController(), []];
+    const onProgress = (fraction) => reports.push(fraction);
+    const aborted = refused('AbortError', () => call({ signal: abort.signal, onProgress }));
     await until(() => made[0]?.sent.length === 1);
     const next = call();
+    made[0].says({ progress: 0.1 });
     abort.abort();
+    made[0].says({ progress: 0.2 });
+    equal(reports.join(), '0.1', 'no progress after the abort');
     await aborted;
     equal(made[0].sent[1].isAborted, true, 'what the worker is told');
     made[0].says({ value: KEY }); // its answer was under way
@@ -79,7 +83,12 @@ export function endingChecks() {
         await until(() => made[1]?.sent.length === 1);
         made[1].says({ value: OTHER });
         equal(await next, OTHER, 'the next call');
-        equal(made.map((it) => it.isEnded).join(), 'true,false', 'ended');
+        made[1][event]({ message: 'no more, while it is idle' });
+        const last = call();
+        await until(() => made[2]?.sent.length === 1);
+        made[2].says({ value: KEY });
+        equal(await last, KEY, 'the last call');
+        equal(made.map((it) => it.isEnded).join(), 'true,true,false', 'ended');
       });
     }
   };
@@ -102,8 +111,9 @@ export function endingChecks() {
     const answers = [];
     const add = (i, options) =>
       call(options).then(() => answers.push(i), ({ code }) => answers.push(code));
-    const first = add(0);
+    const first = add(0, { timeout: 500 });
     await until(() => made[0]?.sent.length === 1);
+    await later(600); // it computes, for which the timeout does not count
     const others = [1, 2, 3].map((i) => add(i));
     await refused('QUEUE_FULL', () => call());
     for (let i = 2; i <= 4; i++) {

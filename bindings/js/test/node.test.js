@@ -29,6 +29,14 @@ test('the examples of README print what they say', () => {
   }
 });
 
+test('the default limits are within the memory of a container', () => {
+  deepStrictEqual(prints(`process.constrainedMemory = () => 160 * 2 ** 20;
+    const { load } = await import('scrypt-proved');
+    const [own, text] = [await load(), '$scrypt$ln=18,r=8,p=1$AAAAAAAA$' + 'A'.repeat(43)];
+    try { own.verify('', text); } catch ({ code }) { console.log(code); }
+    console.log(own.verify('', text.replace('18', '17')));`), 'TOO_COSTLY\nfalse\n');
+});
+
 test('a worker that ends by itself', () => {
   deepStrictEqual(prints(`import { hash } from 'scrypt-proved';
     const { EventEmitter } = process.getBuiltinModule('node:events');

@@ -68,7 +68,12 @@ export async function opened(module) {
       if (memory.buffer.byteLength + pages * 65536 > it.most) throw new RangeError('no memory');
       return it.isWide ? memory.grow(BigInt(pages)) : memory.grow(pages);
     };
-    return { ...exports, memory: { get buffer() { return memory.buffer; }, grow } };
+    const params = (...given) => {
+      if (it.isEnding) throw new RangeError('the end of the stack');
+      return exports.scrypt_hash_params(...given);
+    };
+    const limited = { get buffer() { return memory.buffer; }, grow };
+    return { ...exports, scrypt_hash_params: params, memory: limited };
   };
   const another = () => exported(new WebAssembly.Instance(module));
   it.own = new Scrypt(exported(await WebAssembly.instantiate(module)), another);
@@ -78,6 +83,15 @@ export async function opened(module) {
   } catch {
     it.isWide = true; // engines in which the size of a 64-bit memory is a BigInt
   }
+  // Calls so that the engine ends scrypt_hash_params.
+  it.end = (work) => {
+    it.isEnding = true;
+    try {
+      return work();
+    } finally {
+      it.isEnding = false;
+    }
+  };
   // Whether all but the module's own data, which are above its stack, is zeros.
   it.isWiped = () => {
     const { memory: { buffer }, base } = it;

@@ -148,6 +148,9 @@ function hashChecks() {
       for (const text of [null, undefined]) equal(await api.verify('', text, OF), false, `${text}`);
       await refused('TOO_COSTLY', () => api.verify('', null, { maxmem: 1 }));
     }
+    const own = await load();
+    own.verify('', null, { N: 2 ** 14 });
+    equal(own.memory > 2 ** 24, true, 'a table, as for a wrong password');
   };
   list['hashes that are refused'] = async () => {
     const text = await hash('', OF);
