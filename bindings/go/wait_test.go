@@ -105,7 +105,7 @@ func TestDeadlines(t *testing.T) {
 		time.Hour: 3600001, 1500 * time.Microsecond: 2, -time.Second: 0,
 	} {
 		ctx, cancel := context.WithTimeout(context.Background(), within)
-		if ms := left(ctx); ms > most || ms < most-1000 {
+		if ms := left(ctx); ms < 0 || ms > most || ms < most-1000 {
 			t.Errorf("%d ms within %v", ms, within)
 		}
 		cancel()
