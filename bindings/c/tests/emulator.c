@@ -17,21 +17,25 @@ static struct {
 } wiped[MOST];
 static pthread_mutex_t lock = PTHREAD_MUTEX_INITIALIZER;
 
-static void change(void *at, size_t had, size_t len, int is_left_out) {
-  size_t i;
+/* In place of what was known of this address; of nothing if the length is 0. */
+static void note(void *at, size_t len, int is_left_out) {
+  size_t i, place = MOST;
   (void)pthread_mutex_lock(&lock);
-  for (i = 0; i < MOST && (had == 0 ? wiped[i].len != 0 : wiped[i].at != at || wiped[i].len == 0); i++) continue;
-  if (i < MOST) wiped[i].at = at, wiped[i].len = len, wiped[i].is_left_out = is_left_out;
+  for (i = 0; i < MOST; i++) {
+    if (wiped[i].at == at) wiped[i].len = 0;
+    if (wiped[i].len == 0) place = i;
+  }
+  if (place < MOST) wiped[place].at = at, wiped[place].len = len, wiped[place].is_left_out = is_left_out;
   (void)pthread_mutex_unlock(&lock);
 }
 
 int madvise(void *at, size_t len, int advice) {
-  if (advice == MADV_WIPEONFORK || advice == MADV_DONTFORK) change(at, 0, len, advice == MADV_DONTFORK);
+  if (advice == MADV_WIPEONFORK || advice == MADV_DONTFORK) note(at, len, advice == MADV_DONTFORK);
   return (int)syscall(SYS_madvise, at, len, advice);
 }
 
 int munmap(void *at, size_t len) {
-  change(at, len, 0, 0);
+  note(at, 0, 0);
   return (int)syscall(SYS_munmap, at, len);
 }
 

@@ -266,9 +266,9 @@ static void memory_refused(void) {
   start_all((enum kind[]){A, A, A, A, NONE});
   for (int i = 0; i < 2; i++) end_first();
   end("0 12 3");
-  begin("with p of 2 also one after another", 1, 4);
+  begin("memory for three: with p of 2 one after another", 1, 4);
   IS(scrypt_params_need(4, 8, 2, SIZE_MAX, UINT64_MAX, &needs), SCRYPT_OK);
-  WRITE(max_mapped, 2 * needs.bytes + HUGE_PAGE);
+  WRITE(max_mapped, 3 * needs.bytes + HUGE_PAGE);
   start_all((enum kind[]){P2, P2, P2, NONE});
   for (int i = 0; i < 2; i++) end_first();
   end("0 1 2");
