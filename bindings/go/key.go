@@ -32,7 +32,7 @@ func Key(password, salt []byte, N, r, p, keyLen int) ([]byte, error) {
 
 // KeyContext does what Key does, in steps of about 10 ms. Between two of them it looks at the context,
 // whose error it returns if that has ended, and calls progress, if that is not nil, with the part that
-// is done, from 0 to 1.
+// is done, from 0 to 1. The PBKDF2 at either end, of 128 * r * p bytes, is a step of its own.
 func KeyContext(ctx context.Context, password, salt []byte, N, r, p, keyLen int,
 	progress func(done float64)) ([]byte, error) {
 	return keyInSteps(ctx, password, salt, N, r, p, keyLen, progress, nextMixes)

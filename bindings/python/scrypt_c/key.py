@@ -41,7 +41,8 @@ def scrypt(
 
     A long derivation is made in steps of about 10 ms. Between two of them Python runs handlers of
     signals, so that Ctrl-C ends it, and calls `progress` with the part that is done, from 0 to 1.
-    What these raise leaves the derivation.
+    What these raise leaves the derivation. The PBKDF2 at either end, of `128 * r * p` bytes, is a
+    step of its own.
     """
     password, salt = raw_bytes(password, "a password"), raw_bytes(salt, "a salt")
     n, maxmem, dklen = number(n, "n"), number(maxmem, "maxmem"), number(dklen, "dklen")

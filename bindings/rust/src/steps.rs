@@ -15,7 +15,7 @@ const SEVERAL: usize = 129 << 20;
 
 /// Does what [`scrypt`](crate::scrypt()) does, in steps of about 10 ms. After each it calls
 /// `progress` with the part that is done, from 0 to 1, which leaves the derivation by
-/// `ControlFlow::Break`.
+/// `ControlFlow::Break`. The PBKDF2 at either end, of `128 * r * p` bytes, is a step of its own.
 ///
 /// ```
 /// use std::ops::ControlFlow;
