@@ -12,8 +12,9 @@ from .errors import InvalidParamsError, TooCostlyError, check
 from .params import MOST, Params, accepted, check_costs, needs_of
 from .steps import derived
 
-# The Salsa20/8 cores from which on a key is made in steps: some 10 ms.
-LONG = 1 << 17
+# The Salsa20/8 cores from which on a key is made in steps: some 40 ms. Below that one call is faster
+# than to map memory anew.
+LONG = 3 << 18
 
 # How many bytes several tables may have without a bound, as in the library's own call.
 SEVERAL = 129 << 20
