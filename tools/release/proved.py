@@ -44,24 +44,25 @@ def digests():
 
 
 def verdicts(lines):
-    """The line of each crate, and of each crate's tests."""
-    crate, found = None, {}
+    """The verdict of each crate that a log has, and of each crate's tests."""
+    crate = None
     for line in lines:
         if kept_before := re.match(r"rt: (\w+) is kept: (.*)", line):
-            found[kept_before[1]] = kept_before[2]
+            yield f"{kept_before[1]}\n    {kept_before[2]}"
         elif line.startswith("== "):
             crate = line[3:]
         elif line.startswith("logic=") and crate:
             if not line.startswith("logic=proved "):
                 raise SystemExit(f"{crate} is not proved: {line}")
-            found[crate] = line
-    return found or sys.exit("no log has a verdict")
+            yield f"{crate}\n    {line}"
 
 
 def keep(*logs):
     KEPT.unlink(missing_ok=True)
-    lines = [it for log in logs for it in Path(log).read_text("utf-8", "replace").splitlines()]
-    record = {"commit": commit(), "kit": output("rt", "version"), "verdicts": verdicts(lines), "files": digests()}
+    found = [it for log in logs for it in verdicts(Path(log).read_text("utf-8", "replace").splitlines())]
+    if not found:
+        raise SystemExit("no log has a verdict")
+    record = {"commit": commit(), "kit": output("rt", "version"), "verdicts": found, "files": digests()}
     KEPT.write_text(json.dumps(record, indent=1) + "\n", "utf-8")
 
 
@@ -83,8 +84,7 @@ def text():
     record, version = kept(), Path("VERSION").read_text("utf-8").strip()
     said = UNPROVED
     if record:
-        lines = [f"{name}\n    {line}" for name, line in record["verdicts"].items()]
-        said = "\n\n".join([f"{GATE}\nIt was {record['kit']}.", *lines])
+        said = "\n\n".join([f"{GATE}\nIt was {record['kit']}.", *record["verdicts"]])
     sections = [
         ("scrypt, proved", f"version {version}\ncommit  {commit()}"),
         ("What the gate printed of each crate, and of its tests", said),
