@@ -95,6 +95,25 @@ int scrypt_key_finish(const scrypt_steps *steps, const void *password, size_t pa
                                    THE_OUTPUT);
 }
 
+int scrypt_verify_begin(scrypt_steps *steps, STORED, size_t most_bytes, uint64_t most_work, size_t least_key_len) {
+  uint8_t log_n = 0;
+  int status;
+  TAKE_STEPS;
+  TAKE(password);
+  TAKE(text);
+  status = cleared_scrypt_verify_begin(THE_STORED, most_bytes, most_work, least_key_len, &log_n, &steps->r, &steps->p,
+                                       BUFFERS_OF(steps), &steps->at);
+  if (status == SCRYPT_OK) steps->log_n = log_n;
+  return status;
+}
+
+int scrypt_verify_finish(const scrypt_steps *steps, STORED) {
+  TAKE_STEPS;
+  TAKE(password);
+  TAKE(text);
+  return cleared_scrypt_verify_finish(THE_STORED, steps->chunks, steps->chunks_len, &steps->at);
+}
+
 /* ---- Hashes ---- */
 
 /* A call that writes a text, which is one byte longer by its NUL. */

@@ -6,6 +6,7 @@
  *   a key with no allocation, in your own buffers    scrypt_key_with_buffers                  yes
  *   a key on a small device, with a smaller table    scrypt_key_thin                          yes
  *   a key in steps, with progress between them       scrypt_key_begin; .._step; .._finish     yes
+ *   to verify in steps, within bounds                scrypt_verify_begin; .._finish           yes
  *   a key in one call, with progress                 scrypt_key_with_progress                 no
  *   the lengths of buffers; wiping them              scrypt_buffer_lens; scrypt_wipe          yes
  *   a password hash to store                         scrypt_hash_new                          no
@@ -212,6 +213,20 @@ int scrypt_key_step(scrypt_steps *steps, size_t mixes);
 SCRYPT_CHECKED
 int scrypt_key_finish(const scrypt_steps *steps, const void *password, size_t password_len, uint8_t *output,
                       size_t output_len);
+
+/* Begins verifying a password against the text of a hash, and writes the parameters of the hash too. scrypt_hash_needs
+ * returns how long the buffers have to be; scrypt_key_step goes on.
+ * SCRYPT_NULL_POINTER, also for a buffer; the errors of scrypt_hash_needs; SCRYPT_BUFFER_SIZE. */
+SCRYPT_CHECKED
+int scrypt_verify_begin(scrypt_steps *steps, const void *password, size_t password_len, const char *text,
+                        size_t text_len, size_t most_bytes, uint64_t most_work, size_t least_key_len);
+
+/* The verdict of scrypt_verify, once all p chunks are mixed. Of the buffers only the chunks are read, and none is changed.
+ * SCRYPT_NULL_POINTER; the errors of scrypt_verify for a text that cannot be read, SCRYPT_MISMATCH without a salt or a key
+ * among them; SCRYPT_BUFFER_SIZE, SCRYPT_UNFINISHED, and last SCRYPT_MISMATCH if the password is wrong. */
+SCRYPT_CHECKED
+int scrypt_verify_finish(const scrypt_steps *steps, const void *password, size_t password_len, const char *text,
+                         size_t text_len);
 
 /* Is called between two steps with how many block mixes are done, of so many. A result that is not 0 stops the derivation. */
 typedef int (*scrypt_on_progress)(void *context, uint64_t done, uint64_t all);

@@ -48,20 +48,24 @@ static int all_steps(scrypt_steps *steps, scrypt_on_progress on_progress, void *
     status = scrypt_key_step(steps, mixes);
     mixes = next_step(mixes, now_ns() - begun);
     if (status == SCRYPT_OK &&
-        on_progress(context, of_chunk * steps->at.chunks + (uint64_t)steps->at.at_once * steps->at.mixes, all) != 0)
+        on_progress(context,
+                    of_chunk * steps->at.chunks + (uint64_t)steps->at.at_once * steps->at.mixes,
+                    all) != 0)
       status = SCRYPT_STOPPED;
   }
   return status;
 }
 
-int scrypt_key_with_progress(const void *password, size_t password_len, const void *salt, size_t salt_len,
-                             uint32_t log_n, uint32_t r, uint32_t p, scrypt_on_progress on_progress,
-                             void *context, uint8_t *output, size_t output_len) {
+int scrypt_key_with_progress(const void *password, size_t password_len, const void *salt,
+                             size_t salt_len, uint32_t log_n, uint32_t r, uint32_t p,
+                             scrypt_on_progress on_progress, void *context, uint8_t *output,
+                             size_t output_len) {
   scrypt_steps steps = {log_n, r, p, {0, 0, 0}, NULL, NULL, NULL, 0, 0, 0};
   scrypt_needs needs;
   size_t tables;
   int status;
-  if (is_null(password, password_len) || is_null(salt, salt_len) || is_null(output, output_len) || on_progress == NULL)
+  if (is_null(password, password_len) || is_null(salt, salt_len) || is_null(output, output_len) ||
+      on_progress == NULL)
     return SCRYPT_NULL_POINTER;
   status = scrypt_params_need(log_n, r, p, MAX_OF_TABLES, UINT64_MAX, &needs);
   if (status != SCRYPT_OK && status != SCRYPT_TOO_COSTLY) return status;
@@ -72,7 +76,8 @@ int scrypt_key_with_progress(const void *password, size_t password_len, const vo
     return SCRYPT_OUT_OF_MEMORY;
   status = scrypt_key_begin(&steps, password, password_len, salt, salt_len);
   if (status == SCRYPT_OK) status = all_steps(&steps, on_progress, context);
-  if (status == SCRYPT_OK) status = scrypt_key_finish(&steps, password, password_len, output, output_len);
+  if (status == SCRYPT_OK)
+    status = scrypt_key_finish(&steps, password, password_len, output, output_len);
   free_buffers(&steps);
   return status;
 }

@@ -37,7 +37,7 @@ NEW_COUNTS = {
     "crates/scrypt/src/stored_hash.rt": 1,
     "crates/scrypt_c/src/hashes.rt": 2,
     "crates/scrypt_c/src/with_buffers.rt": 4,
-    "crates/scrypt_c/src/in_steps.rt": 3,
+    "crates/scrypt_c/src/in_steps.rt": 5,
     "crates/scrypt_c/src/keys.rt": 3,
     "crates/scrypt_commands/src/answer.rt": 1,
     "crates/scrypt_commands/src/run.rt": 1,

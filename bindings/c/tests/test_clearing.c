@@ -90,10 +90,12 @@ __attribute__((noinline)) static void check_stack(const char *name, int (*call)(
 #include "each_call.h"
 #undef CALL
 
-/* Nobody derives in so little time, and scrypt_key_thin takes one table. */
+/* Nobody derives in so little time, scrypt_key_thin takes one table, and the chunks that
+ * scrypt_verify_finish is given are zeros. */
 static int wanted_of(int (*call)(void)) {
   size_t chunks_len, table_len, scratch_len;
   if (call == each_scrypt_calibrate) return SCRYPT_TOO_COSTLY;
+  if (call == each_scrypt_verify_finish) return SCRYPT_MISMATCH;
   if (call != each_scrypt_key_thin) return SCRYPT_OK;
   if (scrypt_buffer_lens(given.log_n, given.r, given.p, 0, &chunks_len, &table_len, &scratch_len))
     exit(3);

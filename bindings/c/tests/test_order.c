@@ -20,6 +20,14 @@ static int nothing(void) { return 1; }
 static int a_key(void) { return memcmp(made.output, KEY, sizeof KEY) == 0; }
 static int is_begun(void) { return made.steps->at.chunks == 0 && made.steps->at.mixes == 0; }
 static int is_at_3(void) { return made.steps->at.chunks == 0 && made.steps->at.at_once == 1 && made.steps->at.mixes == 3; }
+/* Goes on to the end, for scrypt_verify_finish. */
+static int is_verifying(void) {
+  int status = SCRYPT_OK;
+  if (!is_begun() || made.steps->log_n != 4 || made.steps->r != 2 || made.steps->p != 3) return 0;
+  while (status == SCRYPT_OK && made.steps->at.chunks < 3) status = scrypt_key_step(made.steps, 7);
+  memcpy(ended.chunks, made.chunks, ended.chunks_len);
+  return status == SCRYPT_OK;
+}
 static int a_hashers_key(void) { return memcmp(made.key, KEY, sizeof KEY) == 0; }
 static int a_phc(void) { return memcmp(made.text, PHC, sizeof PHC) == 0; }
 static int an_mcf(void) { return memcmp(made.text, MCF, sizeof MCF) == 0; }
@@ -73,6 +81,8 @@ static const struct {
     {"scrypt_key_begin", is_begun, SCRYPT_OK},
     {"scrypt_key_step", is_at_3, SCRYPT_OK},
     {"scrypt_key_finish", a_key, SCRYPT_OK},
+    {"scrypt_verify_begin", is_verifying, SCRYPT_OK},
+    {"scrypt_verify_finish", nothing, SCRYPT_OK},
     {"scrypt_key_with_progress", a_key, SCRYPT_OK},
     {"scrypt_hash_new", a_new_hash, SCRYPT_OK},
     {"scrypt_hash_phc", a_phc, SCRYPT_OK},

@@ -30,6 +30,12 @@ static int of_key_in_steps(void) {
 }
 static int go_on(void *context, uint64_t done, uint64_t all) { return context != NULL || done > all; }
 static int of_key_with_progress(void) { return scrypt_key_with_progress(INPUTS, go_on, NULL, key, 32); }
+static int of_verify_in_steps(void) {
+  scrypt_steps it = {0, 0, 0, {0, 0, 0}, chunks, table, scratch, sizeof chunks, TABLE, SCRATCH};
+  int status = scrypt_verify_begin(&it, "pw", 2, mcf, strlen(mcf), SIZE_MAX, UINT64_MAX, 0);
+  while (status == SCRYPT_OK && it.at.chunks < it.p) status = scrypt_key_step(&it, 100);
+  return status == SCRYPT_OK ? scrypt_verify_finish(&it, "pw", 2, mcf, strlen(mcf)) : status;
+}
 static int of_phc(void) { return scrypt_hash_phc(MADE); }
 static int of_mcf(void) { return scrypt_hash_mcf(MADE); }
 static int of_phc_with_buffers(void) { return scrypt_hash_phc_with_buffers(MADE, BUFFERS); }
@@ -59,6 +65,7 @@ static const struct {
     {of_key_thin, "scrypt_key_thin"},
     {of_key_in_steps, "scrypt_key_step"},
     {of_key_with_progress, "scrypt_key_with_progress"},
+    {of_verify_in_steps, "scrypt_verify_finish"},
     {of_phc, "scrypt_hash_phc"},
     {of_mcf, "scrypt_hash_mcf"},
     {of_phc_with_buffers, "scrypt_hash_phc_with_buffers"},

@@ -1,23 +1,33 @@
 //! A derivation in steps, in the caller's buffers: between two of them the caller can show how far
 //! it has come, or leave it.
 
-ghost use Rattle.std.specs.Prelude.{◌≡◌, ◌≢◌, ◌↔◌, ℕ, ◌+◌, ◌-◌, ◌*◌, ◌^◌, ◌<◌, ◌≤◌, List, length, min, false, true};
-ghost use Rattle.std.specs.Prelude.{IsErrOf, IsTrue, OnErr, OnOk};
+ghost use Rattle.std.specs.Prelude.{◌≡◌, ◌≢◌, ◌↔◌, ℕ, ◌+◌, ◌-◌, ◌*◌, ◌^◌, ◌<◌, ◌≤◌, List, length};
+ghost use Rattle.std.specs.Prelude.{min, false, true};
+ghost use Rattle.std.specs.Prelude.{IfOk, IsErrOf, IsTrue, OnErr, OnOk};
 ghost use Rattle.scrypt_kernel.specs.Count.{AreCounted, AreCountedAs, AreHashed};
 ghost use Rattle.scrypt_kernel.specs.Diagonal.{pivot};
 ghost use Rattle.scrypt_kernel.specs.Pbkdf2.{pbkdf2};
 ghost use Rattle.scrypt_kernel.specs.Steps.{IsMixing, all_mixes};
 ghost use Rattle.scrypt_kernel.specs.Words.{part, words_of};
 ghost use Rattle.scrypt.specs.Accepted.{is_output_len};
-ghost use Rattle.scrypt.specs.Cost.{chunks_bytes, cost, hash_cost, pbkdf2_cost, scratch_words, table_words};
+ghost use Rattle.scrypt.specs.Cost.{chunks_bytes, cost, hash_cost, pbkdf2_cost, scratch_words};
+ghost use Rattle.scrypt.specs.Cost.{table_words};
 ghost use Rattle.scrypt.specs.Key.{derived_key};
-ghost use Rattle.scrypt.specs.Stepping.{AreMixable, AreMixed, IsUnderWay, IsWithin, first_b, lacking, mixes_done, words_from};
-ghost use Rattle.scrypt.specs.declared.stepping.FinishError.TheVariants.{InvalidOutputLen as BadLength, Unfinished};
+ghost use Rattle.scrypt.specs.Reading.{mapped, verdict, with_refusal};
+ghost use Rattle.scrypt.specs.StoredHash.{reading};
+ghost use Rattle.scrypt.specs.Stepping.{AreMixable, AreMixed, IsUnderWay, IsWithin, first_b};
+ghost use Rattle.scrypt.specs.Stepping.{lacking, mixes_done, words_from};
+ghost use Rattle.scrypt.specs.declared.stepping.FinishError.TheVariants.{};
+ghost use Rattle.scrypt.specs.declared.stepping.FinishError.TheVariants.{InvalidOutputLen as BadLength};
+ghost use Rattle.scrypt.specs.declared.stepping.FinishError.TheVariants.{Unfinished};
 
 use crate::buffers::chunks_at_once;
+use crate::comparing::is_derived_key;
 use crate::derivation::mixing::group_by;
 use crate::derivation::{derive_chunks, output_len_ok};
-use crate::{CoreCount, Mixer, Params};
+use crate::verifying::verdict;
+use crate::{CoreCount, Mixer, Params, StoredHash};
+use password_hash::Error;
 use scrypt_kernel::order::diagonal::{Both, Diagonal, Scalars};
 use scrypt_kernel::pbkdf2::pbkdf2_counted;
 use scrypt_kernel::steps::{begin_chunks, end_chunks, step_chunks};
@@ -74,8 +84,10 @@ pub fn begin<W: Mixer>(
     ensures mixable { AreMixable W.most W.in_words result.at_once }
     ensures table { result.at_once * table_words params.now.log_n params.now.r ≤ length table.old }
     ensures scratch { result.at_once * scratch_words params.now.r ≤ length scratch.old }
-    ensures under_way { IsUnderWay password.now salt.now params.now result chunks.new table.new scratch.new }
-    ensures counted { AreHashed (pbkdf2_cost (length password.now) (length salt.now) (chunks_bytes params.now.r params.now.p))
+    ensures under_way { IsUnderWay password.now salt.now params.now result chunks.new table.new
+        scratch.new }
+    ensures counted { AreHashed (pbkdf2_cost (length password.now) (length salt.now) (chunks_bytes
+        params.now.r params.now.p))
         cores.old cores.new }
 {
     params.expose_invariant();
@@ -113,7 +125,8 @@ pub fn step<W: Mixer>(
     ensures ended { at.chunks ≡ params.now.p → result ≡ at }
     ensures exact { mixes_done params.now result
         ≡ mixes_done params.now at + at.at_once * min count (lacking params.now at) }
-    ensures counted { AreCountedAs true ((mixes_done params.now result - mixes_done params.now at) * (2 * params.now.r))
+    ensures counted { AreCountedAs true ((mixes_done params.now result - mixes_done params.now at)
+        * (2 * params.now.r))
         cores.old cores.new }
 {
     params.expose_invariant();
@@ -137,7 +150,8 @@ pub fn step<W: Mixer>(
 /// buffers that have room: at most `p` chunks are mixed or mixed now, and of the latter fewer than
 /// `2 * N` block mixes are done.
 pub fn is_within<W: Mixer>(params: &Params, at: Progress) -> bool
-    ensures exact { IsTrue result ↔ (IsWithin params.now at × AreMixable W.most W.in_words at.at_once) }
+    ensures exact { IsTrue result ↔ (IsWithin params.now at
+        × AreMixable W.most W.in_words at.at_once) }
 {
     params.expose_invariant();
     let count = params.p() as usize;
@@ -185,7 +199,9 @@ pub fn finish(
         ↔ ((at.chunks ≡ params.now.p) × ¬ IsTrue (is_output_len (length output.old))) }
     ensures value { OnOk result ((salt : List ℕ) → (table : List ℕ) → (scratch : List ℕ)
         → IsUnderWay password.now salt params.now at chunks.old table scratch
-        → output.new ≡ derived_key password.now salt params.now.log_n params.now.r params.now.p (length output.old)) }
+        → output.new
+        ≡ derived_key password.now salt params.now.log_n params.now.r params.now.p (length
+        output.old)) }
     ensures counted { OnOk result (AreHashed
         (pbkdf2_cost (length password.now) (chunks_bytes params.now.r params.now.p) (length output.old)) cores.old cores.new) }
     ensures kept { chunks.new ≡ chunks.old }
@@ -230,10 +246,12 @@ pub fn scrypt_in_steps<W: Mixer, F: FnMut(u128) -> bool>(
     requires scratch { scratch_words params.now.r ≤ length scratch.old }
     ensures value { OnOk result (output.new ≡ derived_key password.now salt.now
         params.now.log_n params.now.r params.now.p (length output.old)) }
-    ensures counted { OnOk result (AreCounted (cost params.now.log_n params.now.r params.now.p) cores.old cores.new) }
+    ensures counted { OnOk result (AreCounted (cost params.now.log_n params.now.r params.now.p)
+        cores.old cores.new) }
     ensures hashed { OnOk result (cores.new.compressions ≡ cores.old.compressions
         + hash_cost (length password.now) (length salt.now) params.now.r params.now.p (length output.old)) }
-    ensures cancelled { OnErr result ((state : F) × (done : ℕ) × (left : F) × F.step state done false left) }
+    ensures cancelled { OnErr result ((state : F) × (done : ℕ) × (left : F)
+        × F.step state done false left) }
     ensures refused { OnErr result (output.new ≡ output.old) }
 {
     params.expose_invariant();
@@ -248,6 +266,49 @@ pub fn scrypt_in_steps<W: Mixer, F: FnMut(u128) -> bool>(
         unreachable!();
     };
     Ok(())
+}
+
+impl<'a> StoredHash<'a> {
+    /// Returns the salt of the hash, for [`begin`]. That of a `$7$` text is its letters.
+    ///
+    /// Returns the errors of [`StoredHash::verify`] before it allocates.
+    pub fn salt(&self) -> Result<&[u8], Error>
+        ensures value { mapped (λ salt. salt.now) (with_refusal result)
+            ≡ mapped (λ s. s.salt) (reading self.now) }
+    {
+        match self.parts() {
+            Ok(parts) => Ok(parts.salt.as_bytes()),
+            Err(error) => Err(error),
+        }
+    }
+
+    /// Finishes a verification in steps, which [`begin`] began with [`StoredHash::params`] and
+    /// [`StoredHash::salt`]: the verdict of [`StoredHash::verify`], once all chunks are mixed. The
+    /// buffers are the caller's to wipe.
+    pub fn finish(
+        &self,
+        password: &[u8],
+        at: Progress,
+        chunks: &mut [u8],
+        cores: &mut CoreCount,
+    ) -> Result<(), Error>
+        requires ended { IfOk (reading self.now) (λ s. at.chunks ≡ s.params.p) }
+        requires chunks { IfOk (reading self.now) (λ s. length chunks.old
+            ≡ chunks_bytes s.params.r s.params.p) }
+        ensures verdict { (table : List ℕ) → (scratch : List ℕ)
+            → IfOk (reading self.now) (λ s. IsUnderWay password.now s.salt s.params at chunks.old
+            table scratch)
+            → with_refusal result ≡ verdict password.now (reading self.now) }
+        ensures counted { IfOk (reading self.now) (λ s. AreHashed
+            (pbkdf2_cost (length password.now) (chunks_bytes s.params.r s.params.p) (length s.key)) cores.old cores.new) }
+        ensures kept { chunks.new ≡ chunks.old }
+        ensures uncounted { OnErr (reading self.now) (cores.new ≡ cores.old) }
+    {
+        match self.parts() {
+            Ok(parts) => verdict(is_derived_key(password, chunks, parts, cores)),
+            Err(refused) => Err(refused),
+        }
+    }
 }
 
 // Does `count` more mixes of each of `n` chunks, of which `done` are done, or all that are left.
@@ -271,7 +332,8 @@ fn mix_more<W: Mixer>(
     ensures mixed { (b : ℕ → List ℕ)
         → IsMixing pivot n b (32 * params.now.r) params.now.log_n done table.old scratch.old
         → IsMixing pivot n b (32 * params.now.r) params.now.log_n result table.new scratch.new }
-    ensures counted { AreCountedAs true ((result - done) * (n * (2 * params.now.r))) cores.old cores.new }
+    ensures counted { AreCountedAs true ((result - done) * (n * (2
+        * params.now.r))) cores.old cores.new }
 {
     params.expose_invariant();
     let r = params.r() as usize;
@@ -354,7 +416,8 @@ fn write_first_rows(
     requires table { n * table_words params.now.log_n params.now.r ≤ length table.old }
     requires scratch { n * scratch_words params.now.r ≤ length scratch.old }
     ensures begun { (b : List ℕ) → AreMixed b params.now.log_n params.now.r i chunks.now
-        → IsMixing pivot n (words_from b params.now.r i) (32 * params.now.r) params.now.log_n 0 table.new scratch.new }
+        → IsMixing pivot n (words_from b params.now.r i) (32
+        * params.now.r) params.now.log_n 0 table.new scratch.new }
 {
     params.expose_invariant();
     let r = params.r() as usize;
@@ -367,7 +430,8 @@ fn end_group(params: &Params, i: usize, n: usize, chunks: &mut [u8], scratch: &m
     requires some { 0 < n }
     requires inside { i * (128 * params.now.r) + n * (128 * params.now.r) ≤ length chunks.old }
     requires scratch { n * scratch_words params.now.r ≤ length scratch.old }
-    ensures mixed { (b : List ℕ) → (table : List ℕ) → AreMixed b params.now.log_n params.now.r i chunks.old
+    ensures mixed { (b : List ℕ) → (table : List ℕ)
+        → AreMixed b params.now.log_n params.now.r i chunks.old
         → IsMixing pivot n (words_from b params.now.r i) (32 * params.now.r) params.now.log_n
         (all_mixes params.now.log_n) table scratch.old
         → AreMixed b params.now.log_n params.now.r (i + n) chunks.new }

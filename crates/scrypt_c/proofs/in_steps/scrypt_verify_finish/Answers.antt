@@ -1,0 +1,26 @@
+use Rattle.std.proofs.Common.{◌≡◌, ◌∙◌, ap, ℕ, List, Result, Ok, Err, IfOk, rules}
+use Rattle.password_hash.specs.Refusal.{Refusal}
+use Rattle.scrypt.specs.Reading.{Stored}
+use Rattle.scrypt.specs.Stepping.{IsUnderWay}
+use Rattle.scrypt.specs.declared.stepping.Progress.{Progress}
+use Rattle.scrypt_c.specs.Statuses.{result_status}
+use Rattle.scrypt_c.specs.Steps.{HasCome}
+use Rattle.scrypt_c.proofs.in_steps.scrypt_verify_finish.Goals as goal
+
+-- the length that parameters may have does not matter
+under_way : (password : List ℕ) (at : Progress) (chunks table scratch : List ℕ) (read : Result Stored Refusal)
+    → IfOk read (λ s. HasCome password s.salt s.params.log_n s.params.r s.params.p at chunks table scratch)
+    → IfOk read (λ s. IsUnderWay password s.salt s.params at chunks table scratch)
+under_way password at chunks table scratch (Ok s) come = record { mixed = come.mixed; next = come.next }
+under_way password at chunks table scratch (Err why) come = tt
+
+pub returns-in-Ok-finish-clause-verdict : goal.returns-in-Ok-finish-clause-verdict
+returns-in-Ok-finish-clause-verdict c long all table scratch come =
+    let its = under_way _ _ _ table scratch _ (rw c.in-Ok.ensures.reading at come) in
+    rw c.in-Ok.ensures.reading (ap result_status (c.in-Ok-finish.ensures.verdict table scratch its))
+
+pub returns-in-Err-finish-clause-verdict : goal.returns-in-Err-finish-clause-verdict
+returns-in-Err-finish-clause-verdict c long all table scratch come =
+    let its = under_way _ _ _ table scratch _ (rw c.in-Ok.ensures.reading at come) in
+    let verdict = c.in-Err-finish.ensures.verdict table scratch its in
+    rw (c.in-Ok.ensures.reading, ← verdict) (search rules)
