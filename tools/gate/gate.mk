@@ -30,7 +30,7 @@ DOCUMENTS = pages lint links version fit promises formats cores
 EXAMPLES = $(patsubst examples/%/test.sh,example-%,$(wildcard examples/*/test.sh))
 LANGUAGES = python go rust javascript drop-in $(EXAMPLES) examples-of-pages
 SUITES = native asan tsan $(LANGUAGES) answers hashes migration oracle allocations hostile completions
-TASKS = proofs $(BUILDS) $(WRONG_BODIES) must-not-compile $(DOCUMENTS) $(SUITES) by-rattle $(MACHINES)
+TASKS = proofs $(BUILDS) $(WRONG_BODIES) must-not-compile $(DOCUMENTS) $(SUITES) by-rattle mutants $(MACHINES)
 .PHONY: gate tasks documents suites examples $(TASKS)
 gate: $(TASKS)
 documents: $(DOCUMENTS)
@@ -85,6 +85,9 @@ native: $(call proved,library)
 	$(TASK) tools/gate/c_tests.sh native $(call proved,$(LLVM))
 asan tsan: native
 	$(TASK) tools/gate/c_tests.sh $@
+# Mutants of the hasher by rules: another twelfth of them with each commit.
+mutants: native
+	$(TASK) $(PY) bindings.c.tests.mutants $$(($$(git rev-list --count HEAD) % 12 + 1)) 12
 by-rattle: library native
 	$(TASK) tools/gate/c_tests.sh by-rattle
 $(CROSS:%=library-%): library-%: library
