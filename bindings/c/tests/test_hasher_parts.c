@@ -58,58 +58,76 @@ static void defaults(void) {
   WRITE(max_mapped, SIZE_MAX);
 }
 
+/* ---- What is refused: nothing of it waits for the slot, which is taken ---- */
+
 #define TEXT_OF(params, more) "$scrypt$ln=" params "$c2FsdHNhbHQ$AAAAAAAAAAAAAAAAAAAA" more
-static void refused(void) {
-  static const size_t LONGEST = SCRYPT_MAX_OUTPUT_LEN;
-  char text[SCRYPT_PHC_CAPACITY], mcf[SCRYPT_MCF_CAPACITY(3)], good[SCRYPT_PHC_CAPACITY];
+static void refused_verifications(void) {
+  char good[SCRYPT_PHC_CAPACITY];
+  scrypt_hasher *hasher = new_hasher(1, 1, 4);
+  scrypt_stats stats;
+  make_text(good, "right", 4, 8, 1);
+  hasher->queue->slots[0].is_taken = 1;
+  IS(verify(hasher, "", "", -1), SCRYPT_ENCODING_INVALID);
+  IS(verify(hasher, TEXT_OF("19,r=8,p=1", "AA"), "", -1), SCRYPT_TOO_COSTLY);
+  IS(verify(hasher, TEXT_OF("4,r=8,p=32768", "AA"), "", -1), SCRYPT_TOO_COSTLY);
+  IS(verify(hasher, TEXT_OF("4,r=8,p=1", ""), "", -1), SCRYPT_KEY_TOO_SHORT);
+  IS(verify(NULL, good, "", -1), SCRYPT_NULL_POINTER);
+  IS(scrypt_hasher_verify(hasher, NULL, 1, good, strlen(good), -1), SCRYPT_NULL_POINTER);
+  IS(scrypt_hasher_verify(hasher, "", 0, NULL, 1, -1), SCRYPT_NULL_POINTER);
+  IS(scrypt_hasher_needs_rehash(NULL, good, 1), SCRYPT_NULL_POINTER);
+  IS(scrypt_hasher_stats(NULL, &stats), SCRYPT_NULL_POINTER);
+  IS(scrypt_hasher_stats(hasher, NULL), SCRYPT_NULL_POINTER);
+  scrypt_hasher_close(NULL);
+  scrypt_hasher_free(NULL);
+  IS(verify(hasher, good, "right", 0), SCRYPT_TIMEOUT);
+  IS(verify(hasher, good, "right", 2), SCRYPT_TIMEOUT);
+  hasher->queue->slots[0].is_taken = 0;
+  scrypt_hasher_close(hasher);
+  expect(look_at(hasher).is_idle, "closed");
+  IS(verify(hasher, "", "", -1), SCRYPT_ENCODING_INVALID); /* the errors of the text come first */
+  IS(verify(hasher, good, "right", -1), SCRYPT_CLOSED);
+  scrypt_hasher_free(hasher);
+}
+
+static void refused_hashes(void) {
+  char text[SCRYPT_PHC_CAPACITY], mcf[SCRYPT_MCF_CAPACITY(3)], salt[65] = "";
   scrypt_options with = {sizeof with, 4, 8, 2, 1, 0, 0, 0, 0, 0, 1, 1};
   scrypt_hasher *phc = new_hasher(1, 1, 4), *of_mcf = scrypt_hasher_new(&with, NULL);
-  scrypt_stats stats;
-  uint8_t key[32];
-  make_text(good, "right", 4, 8, 1);
-  phc->queue->slots[0].is_taken = of_mcf->queue->slots[0].is_taken = 1; /* nothing waits */
-  IS(verify(phc, "", "", -1), SCRYPT_ENCODING_INVALID);
-  IS(verify(phc, TEXT_OF("19,r=8,p=1", "AA"), "", -1), SCRYPT_TOO_COSTLY);
-  IS(verify(phc, TEXT_OF("4,r=8,p=32768", "AA"), "", -1), SCRYPT_TOO_COSTLY);
-  IS(verify(phc, TEXT_OF("4,r=8,p=1", ""), "", -1), SCRYPT_KEY_TOO_SHORT);
-  IS(verify(NULL, good, "", -1), SCRYPT_NULL_POINTER);
-  IS(scrypt_hasher_verify(phc, NULL, 1, good, strlen(good), -1), SCRYPT_NULL_POINTER);
-  IS(scrypt_hasher_verify(phc, "", 0, NULL, 1, -1), SCRYPT_NULL_POINTER);
-  IS(scrypt_hasher_hash(phc, "a", 1, NULL, 1, text, sizeof text, -1), SCRYPT_NULL_POINTER);
-  IS(scrypt_hasher_hash(phc, "a", 1, "", 0, text, sizeof text, -1), SCRYPT_SALT_INVALID);
-  IS(scrypt_hasher_hash(phc, "a", 1, good, 65, text, sizeof text, -1), SCRYPT_SALT_INVALID);
-  IS(scrypt_hasher_hash(phc, "a", 1, NULL, 0, text, sizeof text - 1, -1), SCRYPT_BUFFER_SIZE);
-  IS(scrypt_hasher_hash(phc, "a", 1, NULL, 0, NULL, 0, -1), SCRYPT_BUFFER_SIZE);
-  IS(scrypt_hasher_hash(phc, "a", 1, NULL, 0, NULL, 1, -1), SCRYPT_NULL_POINTER);
-  IS(scrypt_hasher_hash(of_mcf, "a", 1, "abc", 3, mcf, sizeof mcf - 1, -1), SCRYPT_BUFFER_SIZE);
-  IS(scrypt_hasher_hash(of_mcf, "a", 1, "a", SIZE_MAX, mcf, sizeof mcf, -1), SCRYPT_BUFFER_SIZE);
+  phc->queue->slots[0].is_taken = of_mcf->queue->slots[0].is_taken = 1;
   IS(scrypt_hasher_hash(NULL, "a", 1, NULL, 0, text, sizeof text, -1), SCRYPT_NULL_POINTER);
   IS(scrypt_hasher_hash(phc, NULL, 1, NULL, 0, text, sizeof text, -1), SCRYPT_NULL_POINTER);
+  IS(scrypt_hasher_hash(phc, "a", 1, NULL, 1, text, sizeof text, -1), SCRYPT_NULL_POINTER);
+  IS(scrypt_hasher_hash(phc, "a", 1, NULL, 0, NULL, 1, -1), SCRYPT_NULL_POINTER);
+  IS(scrypt_hasher_hash(phc, "a", 1, "", 0, text, sizeof text, -1), SCRYPT_SALT_INVALID);
+  IS(scrypt_hasher_hash(phc, "a", 1, salt, 65, text, sizeof text, -1), SCRYPT_SALT_INVALID);
+  IS(scrypt_hasher_hash(phc, "a", 1, NULL, 0, text, sizeof text - 1, -1), SCRYPT_BUFFER_SIZE);
+  IS(scrypt_hasher_hash(phc, "a", 1, NULL, 0, NULL, 0, -1), SCRYPT_BUFFER_SIZE);
+  IS(scrypt_hasher_hash(of_mcf, "a", 1, "abc", 3, mcf, sizeof mcf - 1, -1), SCRYPT_BUFFER_SIZE);
+  IS(scrypt_hasher_hash(of_mcf, "a", 1, "a", SIZE_MAX, mcf, sizeof mcf, -1), SCRYPT_BUFFER_SIZE);
   is_random_refused = 1;
   IS(scrypt_hasher_hash(phc, "a", 1, NULL, 0, text, sizeof text, -1), SCRYPT_NO_RANDOM_BYTES);
   is_random_refused = 0;
-  IS(scrypt_hasher_key(NULL, "pw", 2, "salt", 4, key, 32, -1), SCRYPT_NULL_POINTER);
-  IS(scrypt_hasher_key(phc, NULL, 2, "salt", 4, key, 32, -1), SCRYPT_NULL_POINTER);
-  IS(scrypt_hasher_key(phc, "pw", 2, NULL, 4, key, 32, -1), SCRYPT_NULL_POINTER);
-  IS(scrypt_hasher_key(phc, "pw", 2, "salt", 4, NULL, 32, -1), SCRYPT_NULL_POINTER);
-  IS(scrypt_hasher_key(phc, "pw", 2, "salt", 4, key, 0, -1), SCRYPT_INVALID_OUTPUT_LEN);
-  IS(scrypt_hasher_key(phc, "pw", 2, "", 0, key, LONGEST + 1, -1), SCRYPT_INVALID_OUTPUT_LEN);
-  IS(scrypt_hasher_needs_rehash(NULL, good, 1), SCRYPT_NULL_POINTER);
-  IS(scrypt_hasher_stats(NULL, &stats), SCRYPT_NULL_POINTER);
-  IS(scrypt_hasher_stats(phc, NULL), SCRYPT_NULL_POINTER);
-  scrypt_hasher_close(NULL);
-  scrypt_hasher_free(NULL);
-  IS(scrypt_hasher_key(phc, "pw", 2, "", 0, key, LONGEST, 0), SCRYPT_TIMEOUT);
-  IS(verify(phc, good, "right", 0), SCRYPT_TIMEOUT);
-  IS(verify(phc, good, "right", 2), SCRYPT_TIMEOUT);
   phc->queue->slots[0].is_taken = of_mcf->queue->slots[0].is_taken = 0;
   scrypt_hasher_close(phc);
-  expect(look_at(phc).is_idle, "closed");
-  IS(verify(phc, "", "", -1), SCRYPT_ENCODING_INVALID); /* the errors of the text come first */
-  IS(verify(phc, good, "right", -1), SCRYPT_CLOSED);
   IS(scrypt_hasher_hash(phc, "a", 1, NULL, 0, text, sizeof text, -1), SCRYPT_CLOSED);
   scrypt_hasher_free(phc);
   scrypt_hasher_free(of_mcf);
+}
+
+static void refused_keys(void) {
+  static const size_t LONGEST = SCRYPT_MAX_OUTPUT_LEN;
+  scrypt_hasher *hasher = new_hasher(1, 1, 4);
+  uint8_t key[32];
+  hasher->queue->slots[0].is_taken = 1;
+  IS(scrypt_hasher_key(NULL, "pw", 2, "salt", 4, key, 32, -1), SCRYPT_NULL_POINTER);
+  IS(scrypt_hasher_key(hasher, NULL, 2, "salt", 4, key, 32, -1), SCRYPT_NULL_POINTER);
+  IS(scrypt_hasher_key(hasher, "pw", 2, NULL, 4, key, 32, -1), SCRYPT_NULL_POINTER);
+  IS(scrypt_hasher_key(hasher, "pw", 2, "salt", 4, NULL, 32, -1), SCRYPT_NULL_POINTER);
+  IS(scrypt_hasher_key(hasher, "pw", 2, "salt", 4, key, 0, -1), SCRYPT_INVALID_OUTPUT_LEN);
+  IS(scrypt_hasher_key(hasher, "pw", 2, "", 0, key, LONGEST + 1, -1), SCRYPT_INVALID_OUTPUT_LEN);
+  IS(scrypt_hasher_key(hasher, "pw", 2, "", 0, key, LONGEST, 0), SCRYPT_TIMEOUT);
+  hasher->queue->slots[0].is_taken = 0;
+  scrypt_hasher_free(hasher);
 }
 
 static void calls(void) {
@@ -310,7 +328,9 @@ static void calibrated(void) {
 int main(void) {
   RUN(options);
   RUN(defaults);
-  RUN(refused);
+  RUN(refused_verifications);
+  RUN(refused_hashes);
+  RUN(refused_keys);
   RUN(calls);
   RUN(decoy);
   RUN(room_for_one);
