@@ -273,7 +273,9 @@ func (h *Hasher) run(ctx context.Context, password []byte,
 	if err := ctx.Err(); err != nil {
 		return err
 	}
-	of := h.of
+	// The context is asked before anything is taken, which a panic of its own would leave so.
+	of, done := h.of, ctx.Done()
+	end, isBounded := ctx.Deadline()
 	of.calls.Add(1)
 	isInside := false
 	leave := func() {
@@ -285,17 +287,21 @@ func (h *Hasher) run(ctx context.Context, password []byte,
 	select {
 	case of.inside <- struct{}{}:
 		isInside = true
-	case <-ctx.Done():
+	case <-done:
+	}
+	select {
+	case <-done:
 		leave()
 		of.refused.Add(1)
 		return ctx.Err()
+	default:
 	}
 	ended := make(chan status, 1)
 	go func(password []byte, ms milliseconds) {
 		defer leave()
 		defer wipe(password)
 		ended <- call(password, ms)
-	}(append([]byte{}, password...), left(ctx))
+	}(append([]byte{}, password...), left(end, isBounded))
 	select {
 	case got := <-ended:
 		if got == C.SCRYPT_TIMEOUT || got == C.SCRYPT_OUT_OF_MEMORY {
@@ -305,16 +311,15 @@ func (h *Hasher) run(ctx context.Context, password []byte,
 			return context.DeadlineExceeded
 		}
 		return failed(got)
-	case <-ctx.Done():
+	case <-done:
 		of.refused.Add(1)
 		return ctx.Err()
 	}
 }
 
 // left returns for how many milliseconds a call may wait in C: without a bound if it is negative.
-func left(ctx context.Context) milliseconds {
-	end, is := ctx.Deadline()
-	if !is {
+func left(end time.Time, isBounded bool) milliseconds {
+	if !isBounded {
 		return -1
 	}
 	if ms := milliseconds(time.Until(end)/time.Millisecond + 1); ms > 0 {

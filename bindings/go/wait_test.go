@@ -104,13 +104,11 @@ func TestDeadlines(t *testing.T) {
 	for within, most := range map[time.Duration]milliseconds{
 		time.Hour: 3600001, 1500 * time.Microsecond: 2, -time.Second: 0,
 	} {
-		ctx, cancel := context.WithTimeout(context.Background(), within)
-		if ms := left(ctx); ms < 0 || ms > most || ms < most-1000 {
+		if ms := left(time.Now().Add(within), true); ms < 0 || ms > most || ms < most-1000 {
 			t.Errorf("%d ms within %v", ms, within)
 		}
-		cancel()
 	}
-	if ms := left(context.Background()); ms != -1 {
+	if ms := left(time.Time{}, false); ms != -1 {
 		t.Errorf("%d ms without a deadline", ms)
 	}
 }
