@@ -1,5 +1,5 @@
 use Rattle.std.proofs.Common.{◌≡◌, ◌↔◌, ◌≢◌, ◌⊎◌, ◌∙◌, ℕ, ◌<◌, ◌≤◌, ◌-◌, ◌^◌, List, length, Ok, Err, inl, inr, true, false, refl, sym, ap, arith}
-use Rattle.std.specs.Prelude.{Bool, IfErr, None, Option, Result, Some, if◌then◌else◌, max, min, ok_or, ⊤, IsTrue}
+use Rattle.std.specs.Prelude.{Bool, IfErr, IsOk, None, Option, Result, Some, if◌then◌else◌, max, min, ok_or, ⊤, IsTrue}
 use Rattle.std.specs.Bool.{Decides}
 use Rattle.std.proofs.lemmas.Bool.Decides.{Decides-and, same_from_decides}
 use Rattle.std.proofs.lemmas.Slice.Eq.{bytes_eq-Decides}
@@ -11,9 +11,10 @@ use Rattle.scrypt.specs.KeyOfParams.{key_by}
 use Rattle.scrypt.proofs.AcceptedFacts.{leb_decided, ok_if}
 use Rattle.scrypt.proofs.KeyFacts.{length-key_by}
 use Rattle.std.proofs.lemmas.Bool.{false_from_ne_true, le-ltb}
+use Rattle.std.proofs.lemmas.Nat.{mul-le}
 use Rattle.scrypt.specs.Reading.{◌and_then◌, NamesNoPassword, Stored, checked, is_below, is_right, mapped, verdict, weaker}
 use Rattle.scrypt.specs.InBuffers.{are_enough}
-use Rattle.scrypt.specs.Limits.{are_within, buffers_bytes, limits_for_new, work}
+use Rattle.scrypt.specs.Limits.{SufficeFor, are_within, buffers_bytes, limits_for_new, work}
 use Rattle.scrypt.specs.declared.limits.Limits.{Limits}
 use Rattle.scrypt.specs.WithinLimits.{within}
 use Rattle.scrypt.specs.Workspace.{Workspace, hashed_in, verdict_in}
@@ -131,6 +132,21 @@ pub within_decided : (limits : Limits) (c : Parameters) → Decides (are_within 
     ((buffers_bytes c.log_n c.r c.p ≤ limits.most_bytes) × (work c.log_n c.r c.p ≤ limits.most_work))
 unfolding are_within
 within_decided limits c = Decides-and _ _ (leb_decided _ _) (leb_decided _ _)
+
+-- a hash within limits has enough room in buffers that suffice for them
+pub enough_within : (limits : Limits) (s : Stored) (chunks table scratch : List ℕ) → SufficeFor limits chunks table scratch
+    → 0 < s.params.p → IsOk (within limits (Ok s)) → are_enough s.params chunks table scratch ≡ true
+enough_within limits s chunks table scratch suffice some within_is =
+    let fits = (within_decided limits s.params).0 (allowed (are_within limits s.params) _ _ within_is) in
+    let more = mul-le s.params.r 1 s.params.r s.params.p (omega arith) some in
+    (enough_decided s.params chunks table scratch).1 (
+      omega (arith, fits, suffice.chunks_fit),
+      (omega (arith, fits, suffice.table_fits), omega (arith, fits, more, suffice.scratch_fits)),
+    )
+  where
+    allowed : (test : Bool) (first : Result Stored Refusal) (why : Refusal) → IsOk (if test then first else Err why) → test ≡ true
+    allowed true first why is = refl
+    allowed false first why is = absurd cc
 
 admitted : (usual needed : ℕ) → needed < 2 ^ 64 → needed ≤ min (max usual needed) (2 ^ 64 - 1)
 admitted usual needed small = omega arith

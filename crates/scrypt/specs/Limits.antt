@@ -1,5 +1,5 @@
 -- What a derivation may need: the bytes of its three buffers together, and its work.
-use Rattle.std.specs.Prelude.{ℕ, ◌+◌, ◌-◌, ◌*◌, ◌/◌, ◌^◌, min, max, ◌&&◌, Bool, nat_le}
+use Rattle.std.specs.Prelude.{ℕ, ◌≤◌, ◌+◌, ◌-◌, ◌*◌, ◌/◌, ◌^◌, min, max, ◌&&◌, Bool, nat_le, List, length}
 use Rattle.scrypt.specs.Accepted.{Parameters}
 use Rattle.scrypt.specs.Cost.{chunks_bytes, cost, scratch_words, table_words}
 use Rattle.scrypt.specs.declared.limits.Limits.{Limits}
@@ -24,6 +24,13 @@ are_within limits c =
 unfoldable pub tables_within : ℕ → Parameters → ℕ
 tables_within most_bytes c = max 1
     (min (min 4 c.p) ((most_bytes - chunks_bytes c.r c.p) / (4 * table_words c.log_n c.r + 4 * scratch_words c.r)))
+
+-- Buffers of these lengths are long enough for every derivation within these limits. The chunks have 128 * r * p bytes, which
+-- are no more than its work, and the scratch has 64 * r words.
+pub record SufficeFor (limits : Limits) (chunks table scratch : List ℕ) : Type 0 where
+  pub chunks_fit : min limits.most_bytes limits.most_work ≤ length chunks
+  pub table_fits : limits.most_bytes / 4 ≤ length table
+  pub scratch_fits : min (limits.most_bytes / 4) (limits.most_work / 2) ≤ length scratch
 
 -- these limits, except that they admit a derivation with these parameters, if 64 bits can say what it needs
 abbrev pub admitting : Limits → Parameters → Limits

@@ -1,5 +1,5 @@
 -- The result of reading a stored hash, in either format, and what is computed from it.
-use Rattle.std.specs.Prelude.{◌≡◌, ◌≢◌, ◌⊎◌, ℕ, Bool, nat_lt, ◌||◌, if◌then◌else◌, List, length, None, Result, Ok, Err, IsOk, ⊤}
+use Rattle.std.specs.Prelude.{◌≡◌, ◌≢◌, ◌⊎◌, ℕ, Bool, true, false, nat_lt, ◌||◌, if◌then◌else◌, List, length, None, Result, Ok, Err, IsOk, ⊤}
 use Rattle.std.specs.Result.{result_map_both}
 use Rattle.std.specs.Str.{bytes_eq}
 use Rattle.password_hash.specs.Refusal.{Refusal, KeyTooShort, OutOfMemory, ParamsInvalid, PasswordInvalid, TooCostly}
@@ -51,6 +51,13 @@ verdict password reading = reading and_then λ s. if is_right password s then Ok
 -- `out` is the verdict, or `OutOfMemory`, which only a readable hash can give
 abbrev pub IsVerdict : List ℕ → Result Stored Refusal → Result ⊤ Refusal → Type 0
 IsVerdict password reading out = (out ≡ verdict password reading) ⊎ (IsOk reading × (out ≡ Err OutOfMemory))
+
+-- Whether a verdict lets the password in. A wrong password is refused without an error, and so is every password of a
+-- hash without a salt or a key.
+abbrev pub let_in : Result ⊤ Refusal → Result Bool Refusal
+let_in (Ok u) = Ok true
+let_in (Err PasswordInvalid) = Ok false
+let_in (Err why) = Err why
 
 -- f of the value, or the same error, as `Result::map`
 abbrev pub mapped : {A B E : Type 0} → (A → B) → Result A E → Result B E

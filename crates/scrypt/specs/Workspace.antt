@@ -20,6 +20,14 @@ abbrev pub workspace_of : List ℕ → List ℕ → List ℕ → CoreCount → W
 workspace_of chunks table scratch cores =
     record { chunks = chunks; table = table; scratch = scratch; cores = cores }
 
+-- these buffers, in a call that counts from 0 and discards its count
+abbrev pub buffers : List ℕ → List ℕ → List ℕ → Workspace
+buffers chunks table scratch = workspace_of chunks table scratch (record { seal = tt; all = 0; lanes = 0; compressions = 0 })
+
+-- this holds of these buffers with some count: the call discards its own, so nothing is said of the cores that it runs
+abbrev pub LeftIn : (Workspace → Type 0) → List ℕ → List ℕ → List ℕ → Type 0
+LeftIn IsLeft chunks table scratch = (w : Workspace) × IsLeft (workspace_of chunks table scratch w.cores)
+
 -- how many of n chunks of this N and r are mixed at a time in a table and a scratch of so many words: at most four, and as
 -- many as have a table and a scratch there
 unfoldable pub chunks_at_once : ℕ → ℕ → ℕ → ℕ → ℕ → ℕ

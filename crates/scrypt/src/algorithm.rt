@@ -44,8 +44,8 @@ impl Scrypt {
     }
 
     /// Returns the parameters that this value hashes with.
-    pub(crate) fn params(&self) -> Params
-        ensures { result ≡ self.now }
+    pub fn params(&self) -> Params
+        ensures value { result ≡ self.now }
     {
         self.params
     }

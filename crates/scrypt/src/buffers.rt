@@ -1,4 +1,4 @@
-// The workspace of a derivation: the lengths of its buffers ([`BufferLens`]), the caller's, allocated ones ([`Buffers`]), and
+// The workspace of a derivation: the lengths of its buffers ([`BufferLens`]), the caller's, allocated ones ([`OwnBuffers`]), and
 // what is used of either ([`InUse`]).
 
 ghost use Rattle.std.specs.Prelude.{◌≡◌, ◌⊎◌, ◌↔◌, ◌+◌, ◌-◌, ◌*◌, ◌<◌, ◌≤◌, length, IfOk, IfSome, IsSome, IsTrue, None};
@@ -230,18 +230,18 @@ pub(crate) fn at_front<V, T, F: FnOnce(&mut InUse<'_, Buffer<'_>>, &mut [V]) -> 
     Some(derive(&mut used, output))
 }
 
-/// Buffers for one derivation.
+/// Buffers of one derivation, whose table grows while it is filled.
 #[derive(Drop)]
-pub(crate) struct Buffers {
+pub(crate) struct OwnBuffers {
     pub(crate) chunks: Vec<u8>,
     pub(crate) table: Allocated,
     pub(crate) scratch: Vec<u32>,
 }
 
-impl Buffers {
+impl OwnBuffers {
     /// Allocates the chunks, the table and the scratch, in this order. The table is empty, and grows
     /// within its capacity.
-    pub(crate) fn allocate(alloc: Global, lens: &BufferLens) -> Result<Buffers, AllocError>
+    pub(crate) fn allocate(alloc: Global, lens: &BufferLens) -> Result<OwnBuffers, AllocError>
         ensures chunks { IfOk result (λ own. length own.chunks.items ≡ lens.now.chunks) }
         ensures table { IfOk result (λ own. allocated_room own.table ≡ lens.now.table) }
         ensures scratch { IfOk result (λ own. length own.scratch.items ≡ lens.now.scratch) }
@@ -253,7 +253,7 @@ impl Buffers {
         let Ok(()) = chunks.resize_with(lens.chunks, || 0u8) else {
             unreachable!();
         };
-        Ok(Buffers {
+        Ok(OwnBuffers {
             chunks,
             table,
             scratch,
@@ -267,7 +267,7 @@ impl Buffers {
         alloc: Global,
         params: &Params,
         most_bytes: usize,
-    ) -> Result<(usize, Buffers), AllocError>
+    ) -> Result<(usize, OwnBuffers), AllocError>
         ensures chunks { IfOk result (λ got. length got.1.chunks.items ≡ chunks_bytes params.now.r params.now.p) }
         ensures memory { IfOk result (λ got. HasTables params.now.log_n 0 params.now.r got.0
             (allocated_room got.1.table) (length got.1.scratch.items)) }
@@ -280,10 +280,10 @@ impl Buffers {
         params.expose_invariant();
         let width = BufferLens::tables_within(params, most_bytes);
         if width > 1
-            && let Ok(own) = Buffers::allocate(alloc, &BufferLens::for_tables(params, width))
+            && let Ok(own) = OwnBuffers::allocate(alloc, &BufferLens::for_tables(params, width))
         {
             return Ok((width, own));
         }
-        Ok((1, Buffers::allocate(alloc, &BufferLens::of(params))?))
+        Ok((1, OwnBuffers::allocate(alloc, &BufferLens::of(params))?))
     }
 }

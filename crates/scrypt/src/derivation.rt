@@ -13,7 +13,7 @@ ghost use Rattle.scrypt.specs.declared.errors.DeriveError.TheVariants.{InvalidOu
 
 pub(crate) mod mixing;
 
-use crate::buffers::{Buffers, InUse, at_front};
+use crate::buffers::{InUse, OwnBuffers, at_front};
 use crate::derivation::mixing::mix_all;
 use crate::{CoreCount, DeriveError, InvalidOutputLen, Mixer, Params, Vectors};
 use scrypt_kernel::memory::{Allocated, Buffer, TableMemory};
@@ -108,7 +108,7 @@ pub fn scrypt_in_groups<W: Mixer>(
     if !output_len_ok(output.len()) {
         return Err(DeriveError::InvalidOutputLen);
     }
-    let (width, mut own) = Buffers::allocate_within(alloc, params, most_bytes)?;
+    let (width, mut own) = OwnBuffers::allocate_within(alloc, params, most_bytes)?;
     let mut used = InUse::new(
         width,
         &mut own.chunks,

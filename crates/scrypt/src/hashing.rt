@@ -9,7 +9,7 @@ ghost use Rattle.scrypt.specs.KeyOfParams.{key_by};
 ghost use Rattle.scrypt.specs.Mixing.{IsReady, IsSpent};
 ghost use Rattle.password_hash.specs.declared.error.Error.TheVariants.{OutOfMemory};
 
-use crate::buffers::{Buffers, InUse};
+use crate::buffers::{InUse, OwnBuffers};
 use crate::derivation::derive_in;
 use crate::{CoreCount, Mixer, Params};
 use password_hash::phc::Output;
@@ -60,7 +60,7 @@ pub(crate) fn key_allocating<W: Mixer>(
     ensures memory { IfErr result (λ e. e ≡ OutOfMemory) }
 {
     // In no bytes a derivation takes one table.
-    let (width, mut own) = Buffers::allocate_within(alloc, params, 0)?;
+    let (width, mut own) = OwnBuffers::allocate_within(alloc, params, 0)?;
     let mut cores = CoreCount::new();
     let mut used = InUse::new(
         width,

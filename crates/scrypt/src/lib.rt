@@ -21,6 +21,7 @@ mod comparing;
 mod derivation;
 pub mod errors;
 mod hashing;
+mod kept;
 pub mod laws;
 mod limits;
 mod logins;
@@ -43,6 +44,7 @@ pub use derivation::{
     scrypt_thin_by, scrypt_with_buffers,
 };
 pub use errors::{DeriveError, InvalidOutputLen, InvalidParams, LimitedError};
+pub use kept::Buffers;
 pub use limits::Limits;
 pub use logins::{Login, verify_logins};
 pub use mixers::{Mixer, Pairs, Vectors, Words};

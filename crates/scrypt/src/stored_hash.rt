@@ -1,11 +1,11 @@
 // Stored hashes of either format.
 
-ghost use Rattle.std.specs.Prelude.{◌≡◌, ◌≢◌, ◌↔◌, ◌+◌, Err, IfErr, IfOk, IsErrOf, IsOk, IsTrue, None, OnErr};
-ghost use Rattle.password_hash.specs.Refusal.{PasswordInvalid};
+ghost use Rattle.std.specs.Prelude.{◌≡◌, ◌≢◌, ◌⊎◌, ◌↔◌, ◌+◌, Err, IfErr, IfOk, IsErrOf, IsOk, IsTrue, None, Ok, OnErr};
+ghost use Rattle.password_hash.specs.Refusal.{PasswordInvalid, refusal};
 ghost use Rattle.password_hash.specs.declared.error.Error.TheVariants.{EncodingInvalid, OutOfMemory};
 ghost use Rattle.scrypt_kernel.specs.Count.{AreCounted};
 ghost use Rattle.scrypt.specs.Cost.{chunks_bytes, cost, scratch_words, table_words};
-ghost use Rattle.scrypt.specs.Reading.{◌and_then◌, IsVerdict, mapped, verify_cost, weaker, with_refusal};
+ghost use Rattle.scrypt.specs.Reading.{◌and_then◌, IsVerdict, let_in, mapped, verdict, verify_cost, weaker, with_refusal};
 ghost use Rattle.scrypt.specs.StoredHash.{formatted, is_mcf_text, is_stored_text, key_len_or_zero, params_reading, reading};
 ghost use Rattle.scrypt.specs.StoredParts.{IsReadAs, stored};
 ghost use Rattle.scrypt.specs.Workspace.{IsLeft, hashed_in, verdict_in, workspace_of};
@@ -133,6 +133,21 @@ impl<'a> StoredHash<'a> {
         ensures verdict { IsVerdict password.now (reading self.now) (with_refusal result) }
     {
         self.verify_counted::<Vectors>(alloc, password, &mut CoreCount::new())
+    }
+
+    /// Returns whether the hash accepts `password`. A hash without a salt or a key accepts none.
+    ///
+    /// Returns the other errors of [`StoredHash::verify`].
+    pub fn accepts(&self, alloc: Global, password: &[u8]) -> Result<bool>
+        ensures accepted { IfOk result (λ right. let_in (verdict password.now (reading self.now)) ≡ Ok right) }
+        ensures err { IfErr result (λ e. (IsOk (reading self.now) × (e ≡ OutOfMemory))
+            ⊎ (let_in (verdict password.now (reading self.now)) ≡ Err (refusal e))) }
+    {
+        match self.verify(alloc, password) {
+            Ok(()) => Ok(true),
+            Err(Error::PasswordInvalid) => Ok(false),
+            Err(error) => Err(error),
+        }
     }
 
     /// Does what [`StoredHash::verify`] does, by the mixer `W`, and counts the `4 * N * r * p` cores of the hash's parameters,

@@ -10,7 +10,7 @@ ghost use Rattle.scrypt.specs.Reading.{IsVerdict, is_right, verify_cost, with_re
 ghost use Rattle.scrypt.specs.StoredParts.{stored};
 ghost use Rattle.scrypt.specs.Workspace.{IsLeft, hashed_in, verdict_in, workspace_of};
 
-use crate::buffers::{Buffers, InUse, at_front};
+use crate::buffers::{InUse, OwnBuffers, at_front};
 use crate::comparing::is_derived_key;
 use crate::derivation::derive_chunks;
 use crate::derivation::mixing::mix_all;
@@ -80,7 +80,7 @@ pub(crate) fn verify_allocating<W: Mixer>(
         → cores.new.compressions ≡ cores.old.compressions + verify_cost password.now (stored parts.now) }
 {
     // In no bytes a derivation takes one table.
-    let (width, mut own) = Buffers::allocate_within(alloc, &parts.params, 0)?;
+    let (width, mut own) = OwnBuffers::allocate_within(alloc, &parts.params, 0)?;
     let mut used = InUse::new(
         width,
         &mut own.chunks,

@@ -8,9 +8,8 @@ use Rattle.password_hash.specs.Refusal.{Refusal}
 use Rattle.scrypt.specs.Cost.{chunks_bytes, scratch_words, table_words}
 use Rattle.scrypt.specs.InBuffers.{are_enough}
 use Rattle.scrypt.specs.Reading.{Stored}
-use Rattle.scrypt.specs.Workspace.{Workspace, verdict_in}
+use Rattle.scrypt.specs.Workspace.{Workspace, buffers, verdict_in}
 use Rattle.scrypt_c.specs.Buffers.{AreBuffers}
-use Rattle.scrypt_c.specs.InBuffers.{buffers}
 use Rattle.scrypt_c.specs.Limits.{params_of}
 use Rattle.scrypt_c.specs.Statuses.{IsKeyStatus, buffers_status}
 

@@ -6,9 +6,8 @@ ghost use Rattle.scrypt.specs.InBuffers.{are_enough};
 ghost use Rattle.scrypt.specs.Cost.{chunks_bytes};
 ghost use Rattle.scrypt.specs.Key.{derived_key, mixed_b};
 ghost use Rattle.scrypt.specs.Limits.{are_within};
-ghost use Rattle.scrypt.specs.Workspace.{IsRestKept};
+ghost use Rattle.scrypt.specs.Workspace.{IsRestKept, buffers};
 ghost use Rattle.scrypt_c.specs.Buffers.{AreBuffers, IsSpacing};
-ghost use Rattle.scrypt_c.specs.InBuffers.{buffers};
 ghost use Rattle.scrypt_c.specs.Limits.{bytes_that_pay, limits_of, params_of};
 ghost use Rattle.scrypt_c.specs.Statuses.{IsKeyStatus};
 

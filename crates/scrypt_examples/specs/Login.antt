@@ -1,6 +1,5 @@
 -- Enrolling and logging in.
-use Rattle.std.specs.Prelude.{◌≡◌, ℕ, ◌+◌, ◌*◌, ◌≤◌, List, Bool, true, false, Option, None, Some, Result, Ok, Err, string_bytes, ⊤}
-use Rattle.password_hash.specs.Refusal.{Refusal, PasswordInvalid}
+use Rattle.std.specs.Prelude.{◌≡◌, ℕ, ◌+◌, ◌*◌, ◌≤◌, List, Bool, true, false, Option, None, Some, Ok, string_bytes}
 use Rattle.scrypt.specs.Accepted.{Parameters}
 use Rattle.scrypt.specs.PhcHash.{IsMadeText}
 use Rattle.scrypt.specs.Reading.{verdict, weaker}
@@ -27,13 +26,6 @@ abbrev pub new_text : LoginOutcome → Option (List ℕ)
 new_text Refused = None
 new_text In = None
 new_text (InWithNewText text) = Some (string_bytes text)
-
--- Whether a verdict lets the password in. A wrong password is refused without an error, and so is every password of a
--- hash without a salt or a key.
-abbrev pub let_in : Result ⊤ Refusal → Result Bool Refusal
-let_in (Ok u) = Ok true
-let_in (Err PasswordInvalid) = Ok false
-let_in (Err why) = Err why
 
 -- both counts together went up by n at most, where a block that SHA-256 compresses is nine cores
 abbrev pub CostsAtMost : ℕ → CoreCount → CoreCount → Type 0

@@ -1,18 +1,68 @@
 //! Logins by untrusted texts: one that is too costly is refused before any work.
 
-ghost use Rattle.std.specs.Prelude.{◌≡◌, ◌+◌, ◌*◌, ◌≤◌, IfOk, IsErrOf, Ok, length, nat_le};
-ghost use Rattle.password_hash.specs.declared.error.Error.TheVariants.{OutOfMemory};
+ghost use Rattle.std.specs.Prelude.{◌≡◌, ◌+◌, ◌*◌, ◌≤◌, IfOk, length};
 ghost use Rattle.scrypt.specs.Cost.{lengths_cost};
-ghost use Rattle.scrypt.specs.Reading.{mapped, verdict, with_refusal};
-ghost use Rattle.scrypt.specs.StoredHash.{params_reading, reading};
+ghost use Rattle.scrypt.specs.Reading.{let_in, verdict};
+ghost use Rattle.scrypt.specs.StoredHash.{reading};
 ghost use Rattle.scrypt.specs.WithinLimits.{with_limited_refusal, within};
 ghost use Rattle.scrypt.specs.Workspace.{IsLeft, verdict_in, workspace_of};
-ghost use Rattle.scrypt_examples.specs.Login.{CostsAtMost, let_in};
+ghost use Rattle.scrypt_examples.specs.Login.{CostsAtMost};
 
 use password_hash::Error;
 use scrypt::laws::work_bounds_both_counts;
-use scrypt::{CoreCount, LimitedError, Limits, StoredHash, Vectors};
-use std::alloc::Global;
+use scrypt::{Buffers, CoreCount, LimitedError, Limits, StoredHash, Vectors};
+use std::alloc::{AllocError, Global};
+use std::marker::Model;
+
+/// Logs users in within limits, in buffers that are allocated once and are long enough for every hash within them.
+#[derive(Drop)]
+pub struct BoundedLogins {
+    limits: Limits,
+    own: Buffers,
+}
+
+impl Model for BoundedLogins {
+    ghost use Rattle.scrypt.specs.Limits.{SufficeFor};
+    ghost use Rattle.scrypt.specs.declared.limits.Limits.{Limits};
+
+    ghost Value = { Limits };
+
+    ghost view = { λ a. a.limits };
+
+    ghost invariant = { λ a. SufficeFor a.limits a.own.chunks.items a.own.table.items a.own.scratch.items };
+}
+
+impl BoundedLogins {
+    /// Allocates the buffers for these limits.
+    pub fn new(alloc: Global, limits: Limits) -> Result<BoundedLogins, AllocError>
+        ensures limits { IfOk result (λ logins. logins ≡ limits) }
+    {
+        let own = Buffers::for_limits(alloc, &limits)?;
+        Ok(BoundedLogins { limits, own })
+    }
+
+    /// Whether the password is that of the stored text. Does not allocate.
+    ///
+    /// Returns the error of reading the text, `TooCostly` if its parameters exceed the limit on memory or on work, and
+    /// `KeyTooShort` if its key is shorter than they allow. It never returns `OutOfMemory`.
+    pub fn log_in(&mut self, stored: &str, password: &[u8]) -> Result<bool, LimitedError>
+        ensures limits { self.new ≡ self.old }
+        ensures verdict { with_limited_refusal result
+            ≡ let_in (verdict password.now (within self.old (reading stored.now))) }
+    {
+        let hash = StoredHash::read(stored)?;
+        let verified = match hash.within(&self.limits) {
+            Ok(hash) => self.own.verify(hash, password),
+            Err(LimitedError::Hash(error)) => Err(error),
+            Err(error) => return Err(error),
+        };
+        match verified {
+            Ok(()) => Ok(true),
+            Err(Error::PasswordInvalid) => Ok(false),
+            Err(error) => Err(LimitedError::Hash(error)),
+        }
+    }
+}
 
 /// Whether the password is that of the stored text, in buffers that are kept from login to login.
 ///
@@ -55,44 +105,5 @@ pub fn log_in(
         Ok(()) => Ok(true),
         Err(Error::PasswordInvalid) => Ok(false),
         Err(error) => Err(LimitedError::Hash(error)),
-    }
-}
-
-/// Whether the password is that of the stored text, in memory that is allocated.
-///
-/// Returns the error of reading the text, and otherwise `OutOfMemory` if an allocation fails. Then no core is counted, so
-/// that a login that is tried again pays once.
-pub fn log_in_counted(
-    alloc: Global,
-    stored: &str,
-    password: &[u8],
-    cores: &mut CoreCount,
-) -> password_hash::Result<bool>
-    ensures right { IfOk result (λ right. let_in (verdict password.now (reading stored.now)) ≡ Ok right) }
-    ensures memory { IsErrOf result OutOfMemory → cores.new ≡ cores.old }
-{
-    let hash = match StoredHash::read(stored) {
-        Ok(hash) => hash,
-        Err(error) => return Err(error),
-    };
-    match hash.verify_counted::<Vectors>(alloc, password, cores) {
-        Ok(()) => Ok(true),
-        Err(Error::PasswordInvalid) => Ok(false),
-        Err(error) => Err(error),
-    }
-}
-
-/// Returns whether the key of a stored text has at least so many bytes. A key of `n` bytes accepts one wrong password in
-/// `256^n`.
-pub fn has_long_key(stored: &str, least: usize) -> password_hash::Result<bool>
-    ensures value { with_refusal result ≡ mapped (λ read. nat_le least read.1) (params_reading stored.now) }
-{
-    let hash = match StoredHash::read(stored) {
-        Ok(hash) => hash,
-        Err(error) => return Err(error),
-    };
-    match hash.key_len() {
-        Ok(len) => Ok(least <= len),
-        Err(error) => Err(error),
     }
 }

@@ -26,8 +26,5 @@ pub fn stored_text(alloc: Global, password: &[u8], salt: [u8; 16]) -> Result<Str
 pub fn verify(alloc: Global, stored: &str, password: &[u8]) -> Result<()>
     ensures verdict { IsVerdict password.now (reading stored.now) (with_refusal result) }
 {
-    match StoredHash::read(stored) {
-        Ok(hash) => hash.verify(alloc, password),
-        Err(error) => Err(error),
-    }
+    StoredHash::read(stored)?.verify(alloc, password)
 }

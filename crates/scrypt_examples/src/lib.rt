@@ -6,12 +6,6 @@
 #![tactic(auto)]
 
 pub mod bounded_login;
-mod buffers;
-pub mod by_traits;
-pub mod derived_keys;
 pub mod hash;
 pub mod key_file;
 pub mod login;
-pub mod migration;
-pub mod one_chunk;
-pub mod verdicts;

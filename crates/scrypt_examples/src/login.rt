@@ -5,11 +5,11 @@ ghost use Rattle.password_hash.specs.Refusal.{refusal};
 ghost use Rattle.password_hash.specs.declared.error.Error.TheVariants.{OutOfMemory};
 ghost use Rattle.scrypt.specs.Accepted.{are_accepted};
 ghost use Rattle.scrypt.specs.McfHash.{IsMadeHash as IsMadeMcf};
-ghost use Rattle.scrypt.specs.Reading.{verdict, weaker};
+ghost use Rattle.scrypt.specs.Reading.{let_in, verdict, weaker};
 ghost use Rattle.scrypt.specs.StoredHash.{reading};
-ghost use Rattle.scrypt_examples.specs.Login.{IsEnrolled, let_in, lets_in, new_text};
+ghost use Rattle.scrypt_examples.specs.Login.{IsEnrolled, lets_in, new_text};
 
-use password_hash::{Error, PasswordHasher, Result, mcf};
+use password_hash::{PasswordHasher, Result, mcf};
 use scrypt::laws::made_texts_are_accepted;
 use scrypt::{InvalidParams, Params, Scrypt, StoredHash, hash_text};
 use std::alloc::Global;
@@ -89,15 +89,9 @@ impl LoginPolicy {
         ensures err { IfErr result (λ e. (IsOk (reading stored.now) × (e ≡ OutOfMemory))
             ⊎ (let_in (verdict password.now (reading stored.now)) ≡ Err (refusal e))) }
     {
-        let hash = match StoredHash::read(stored) {
-            Ok(hash) => hash,
-            Err(error) => return Err(error),
-        };
-        if let Err(error) = hash.verify(alloc, password) {
-            return match error {
-                Error::PasswordInvalid => Ok(LoginOutcome::Refused),
-                _ => Err(error),
-            };
+        let hash = StoredHash::read(stored)?;
+        if !hash.accepts(alloc, password)? {
+            return Ok(LoginOutcome::Refused);
         }
         if !hash.needs_rehash(&self.wanted)? {
             return Ok(LoginOutcome::In);

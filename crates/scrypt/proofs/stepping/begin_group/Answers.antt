@@ -1,4 +1,4 @@
-use Rattle.std.proofs.Common.{◌≡◌, ◌≤◌, ◌+◌, ◌*◌, arith}
+use Rattle.std.proofs.Common.{◌*◌, arith}
 use Rattle.scrypt.proofs.SteppingFacts.{chunks_inside}
 use Rattle.scrypt.proofs.stepping.begin_group.Goals as goal
 

@@ -1,4 +1,4 @@
-use Rattle.std.proofs.Common.{◌≡◌, ◌<◌, ◌+◌, ◌-◌, ◌*◌, ℕ, List, min, arith}
+use Rattle.std.proofs.Common.{◌≡◌, ◌-◌, ◌*◌, ℕ, List, min, arith}
 use Rattle.scrypt_kernel.specs.Steps.{all_mixes}
 use Rattle.scrypt.specs.Stepping.{first_b, lacking, mixes_done, words_from}
 use Rattle.scrypt.proofs.SteppingFacts.{all_done, chunks_inside, cores_of_step, more_mixes}

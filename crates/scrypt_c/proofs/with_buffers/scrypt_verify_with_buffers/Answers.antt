@@ -1,5 +1,5 @@
 use Rattle.std.proofs.Common.{refl}
-use Rattle.scrypt_c.specs.InBuffers.{buffers}
+use Rattle.scrypt.specs.Workspace.{buffers}
 use Rattle.scrypt_c.proofs.with_buffers.scrypt_verify_with_buffers.Goals as goal
 
 pub returns-in-Err-clause-left : goal.returns-in-Err-clause-left

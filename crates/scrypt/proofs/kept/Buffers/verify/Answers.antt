@@ -1,0 +1,18 @@
+use Rattle.std.proofs.Common.{◌≡◌, ◌∙◌, Ok, refl, rules}
+use Rattle.scrypt.specs.Reading.{with_refusal}
+use Rattle.scrypt.specs.StoredHash.{reading}
+use Rattle.scrypt.specs.StoredParts.{stored}
+use Rattle.scrypt.specs.Workspace.{buffers, verdict_in}
+use Rattle.scrypt.proofs.ReadingFacts.{enough_within}
+use Rattle.scrypt.proofs.kept.Buffers.verify.Goals as goal
+
+pub returns-in-Ok-clause-within : goal.returns-in-Ok-clause-within
+returns-in-Ok-clause-within c = λ limits suffice is.
+    let own = c.args.self.now in
+    let s = stored c.in-Ok.parts.now in
+    let read : reading c.args.hash.now ≡ Ok s = search rules in
+    let here : with_refusal c.verify_in_buffers.result
+    ≡ verdict_in (buffers own.chunks.items own.table.items own.scratch.items) c.args.password.now (Ok s) = search rules in
+    let enough = enough_within limits s own.chunks.items own.table.items own.scratch.items suffice c.expose_invariant.ensures.some.1
+    (rw read at is) in
+    rw read (here ∙ rw enough refl)
