@@ -30,7 +30,7 @@ DOCUMENTS = pages lint links version fit promises formats cores
 EXAMPLES = $(patsubst examples/%/test.sh,example-%,$(wildcard examples/*/test.sh))
 LANGUAGES = python go rust javascript drop-in $(EXAMPLES) examples-of-pages
 SUITES = native asan tsan $(LANGUAGES) answers hashes migration oracle allocations hostile completions
-TASKS = proofs $(BUILDS) $(WRONG_BODIES) must-not-compile $(DOCUMENTS) $(SUITES) by-rattle mutants $(MACHINES)
+TASKS = proofs $(BUILDS) $(WRONG_BODIES) must-not-compile new-user $(DOCUMENTS) $(SUITES) by-rattle mutants $(MACHINES)
 .PHONY: gate tasks documents suites examples $(TASKS)
 gate: $(TASKS)
 documents: $(DOCUMENTS)
@@ -59,6 +59,8 @@ wrong-bodies-scrypt: $(PROVED)/scrypt_kernel
 wrong-bodies-scrypt_commands wrong-bodies-scrypt_examples wrong-bodies-scrypt_c must-not-compile: $(PROVED)/scrypt
 must-not-compile:
 	$(TASK) $(PY) tools.gate.must_not_compile edits
+new-user: $(PROVED)/scrypt
+	$(TASK) tools/gate/new_user.sh
 cores:
 	$(TASK) $(PY) tools.gate.must_not_compile sources
 
