@@ -1,5 +1,5 @@
 // The calls that can run out of memory, once each, and the texts of errors, which no clause gives. Which texts are made,
-// verified and refused is in `ci/hashes.py` and `ci/program.py`, which ask the built programs.
+// verified and refused is in `tools/tests/hashes.py` and `tools/tests/program.py`, which ask the built programs.
 
 use crate::refused::{MCF, params_of};
 use crate::{holds, is};

@@ -1,4 +1,4 @@
-// Hostile texts, whose verdicts are the same by each call that reads them. More texts are in `ci/hashes.py`.
+// Hostile texts, whose verdicts are the same by each call that reads them. More texts are in `tools/tests/hashes.py`.
 
 use crate::hash_allocations::followed;
 use crate::holds;

@@ -1,4 +1,4 @@
-// Verdicts on passwords, by the calls of the libraries. `ci/hashes.py` asks the built program for more of them.
+// Verdicts on passwords, by the calls of the libraries. `tools/tests/hashes.py` asks the built program for more of them.
 
 use crate::holds;
 use password_hash::Error::{

@@ -1,4 +1,4 @@
-// The commands over streams that give or take one byte a call, and fail. `ci/streams.py` has streams of the system.
+// The commands over streams that give or take one byte a call, and fail. `tools/tests/streams.py` has streams of the system.
 
 ghost use Rattle.std.specs.Prelude.{◌≤◌, IfOk};
 

@@ -1,4 +1,4 @@
-// Lengths of keys, and what parameters need, at their bounds. `ci/program.py` has the smallest parameters, and those that are
+// Lengths of keys, and what parameters need, at their bounds. `tools/tests/program.py` has the smallest parameters, and those that are
 // refused.
 
 use crate::holds;
