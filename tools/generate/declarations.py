@@ -9,7 +9,6 @@ usage: python3 -m tools.generate.declarations            writes the files of the
 import os
 import re
 import sys
-import textwrap
 from pathlib import Path
 
 from tools.generate import header
@@ -22,13 +21,6 @@ VERSION = header.version_of(header.TEXT)
 
 def read(path):
     return Path(path).read_text("utf-8")
-
-
-def wrapped(line, indent):
-    """A long line in several, each of which ends after a comma."""
-    whole = re.sub("(?<!,) ", "\0", line)
-    lines = textwrap.wrap(whole, 120, subsequent_indent=" " * indent, break_long_words=False, break_on_hyphens=False)
-    return [it.replace("\0", " ") for it in lines]
 
 
 def inside(word):
@@ -63,11 +55,11 @@ def python():
     yield from ("", f'VERSION_STRING = "{VERSION}"', *(f"{name} = {number}" for name, number in (NUMBERS | STATUSES).items()))
     for name, fields in STRUCTURES.items():
         pairs = ", ".join(f'("{header.name_of(it)}", {in_python(it)})' for it in fields)
-        yield from ("", "", f"class {inside(name)}(ctypes.Structure):", *wrapped(f"    _fields_ = [{pairs}]", 8))
+        yield from ("", "", f"class {inside(name)}(ctypes.Structure):", f"    _fields_ = [{pairs}]")
     yield from ("", "", "def calls(hasher: Any) -> dict[str, tuple[list[Any], Any]]:",
                 '    """The types of the arguments and of the result of each call. `hasher` is that of a scrypt_hasher."""', "    return {")
     for result, name, given in CALLS:
-        yield from wrapped(f'        "{name}": ([{", ".join(map(in_python, given))}], {in_python(result)}),', 12)
+        yield f'        "{name}": ([{", ".join(map(in_python, given))}], {in_python(result)}),'
     yield "    }"
 
 
@@ -95,11 +87,11 @@ def rust():
         default = [] if any("*" in it for it in fields) else ["#[derive(Default)]"]
         inner = ", ".join(f"pub {header.name_of(it)}: {in_rust(it)}" for it in fields)
         yield from ("", f"/// `{name}`.", "#[repr(C)]", *default, "#[rustfmt::skip]")
-        yield from wrapped(f"pub struct {in_rust(name)} {{ {inner} }}", 4)
+        yield f"pub struct {in_rust(name)} {{ {inner} }}"
     yield from ("", "#[rustfmt::skip]", 'extern "C" {')
     for result, name, given in CALLS:
         arguments = ", ".join(f"{header.name_of(it)}: {in_rust(it)}" for it in given)
-        yield from wrapped(f"    pub fn {name}({arguments}){'' if result == 'void' else f' -> {in_rust(result)}'};", 8)
+        yield f"    pub fn {name}({arguments}){'' if result == 'void' else f' -> {in_rust(result)}'};"
     yield "}"
 
 
@@ -171,7 +163,7 @@ def proved_calls():
     for kind, name, arguments in proved():
         if name != "scrypt_wipe":
             names = ", ".join(map(header.name_of, arguments))
-            yield from wrapped(f"PROVED_{kind}({name}, ({', '.join(arguments)}), ({names}))", 4)
+            yield f"PROVED_{kind}({name}, ({', '.join(arguments)}), ({names}))"
         elif arguments != next(given for _, it, given in CALLS if it == name):  # the header declares it, as it sees no password
             sys.exit(f"{name} has other arguments than in the header: {', '.join(arguments)}")
 
@@ -190,7 +182,7 @@ def each_call():
                 words[-1] = f"P({words[-1]})"
         text = ", ".join(words)
         memory = "HASHER" if "given.hasher" in text else "BUFFERS" if re.search(r"made\.(chunks|steps)\)", text) else "NEITHER"
-        yield from wrapped(f"CALL({name}, {memory}, ({text}))", 4)
+        yield f"CALL({name}, {memory}, ({text}))"
 
 
 PACKAGES = {
