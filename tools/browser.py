@@ -58,7 +58,7 @@ class Browser:
         self.type(getattr(Keys, key))
 
     def enter(self):
-        """Presses Enter, and waits for the page that it leads to."""
+        """Presses Enter, and waits for the next page."""
         page = self.driver.find_element("tag name", "html")
         self.press("ENTER")
         WebDriverWait(self.driver, SECONDS).until(staleness_of(page))

@@ -1,6 +1,7 @@
 """Copies of crates and of the kit's toolchain for another target, and their build.
 
-A copy is the crate with the mixer of that target in `src/target.rt`, and is proved as the crate is, over the same libraries.
+A copy is the crate with the mixer (the backend) of that target in `src/target.rt`. It is proved like
+the crate, over the same libraries.
 """
 
 import os
@@ -15,7 +16,7 @@ from tools import kit, prover_command
 TOP = Path(__file__).resolve().parents[1]
 
 def run(*words, cwd=None):
-    """What a command prints. If it fails, this ends with that."""
+    """The output of a command. If it fails, the script ends with that output."""
     how = {"stdout": subprocess.PIPE, "stderr": subprocess.STDOUT, "text": True, "errors": "replace"}
     ran = subprocess.run(list(map(str, words)), cwd=cwd, **how)
     if ran.returncode:
@@ -24,7 +25,7 @@ def run(*words, cwd=None):
 
 
 def copy_crate(name, to, mixer, left_out=()):
-    """Copies a crate without these functions and their proofs. `mixer` says how chunks are mixed
+    """Copies a crate without these functions and their proofs. `mixer` is the backend
     (crates/scrypt/src/mixers.rt); the crates themselves have Vectors, for x86-64."""
     for part in "src", "specs", "proofs":
         if os.path.isdir(f"crates/{name}/{part}"):
@@ -50,8 +51,8 @@ def leave_out(crate, function):
 
 
 def copy_toolchain(to, *flags, given=None):
-    """The kit's toolchain, with a compiler that has these flags. It keeps in a folder what it is given, if there is to
-    be one: its options, one a line, and module.bc. Then it is called once."""
+    """The kit's toolchain, with these flags for the compiler. If a folder is given, the compiler saves its input there:
+    its options, one a line, and module.bc. In that case it is called once."""
     own = f"{kit.located()}/toolchain"
     (to / "bin").mkdir(parents=True)
     (to / "lib").symlink_to(f"{own}/lib")
@@ -65,7 +66,7 @@ def copy_toolchain(to, *flags, given=None):
 
 
 def build(name, crate, output, *options, kept=None):
-    """Proves and builds a copy, from what is kept of proofs of its crate, and returns the verdict."""
+    """Proves and builds a copy, starting with the kept proofs of its crate, and returns the verdict."""
     if kept and os.path.isdir(kept):
         shutil.copytree(kept, crate / "kept")
     command = [*prover_command.of("build", name), "--jobs", "2", "--incremental", "kept", *options, "-o", output]

@@ -13,15 +13,15 @@ __all__ = ["Login", "Needs", "Options", "UNBOUNDED", "buffers", "loaded", "secon
 
 
 def verifying(library, most_bytes, most_work):
-    """A verification by a hasher, which keeps its memory, in one table, within these bounds."""
+    """A verification by a hasher, which keeps its memory, in one table, within these limits."""
     options = Options(ctypes.sizeof(Options), 1, 1, 1, most_bytes=most_bytes, most_work=most_work, at_once=1, processors=1)
     hasher = library.scrypt_hasher_new(ctypes.byref(options), None)
     return lambda *login: library.scrypt_hasher_verify(hasher, *login, -1)
 
 
 def buffers(library, params, tables, logins=1):
-    """The chunks of so many logins, so many tables, at most four, and their scratch, in huge pages if there are some: each
-    with its length after it."""
+    """The chunks for a number of logins, up to four tables and their scratch, in huge pages if available: each followed by
+    its length."""
     needs = Needs()
     if library.scrypt_params_need(*params, UNBOUNDED, UNBOUNDED, needs) != 0:
         sys.exit(f"no lengths for {params}")
@@ -32,7 +32,7 @@ def buffers(library, params, tables, logins=1):
 
 
 def seconds(verify, log_n, r, p):
-    """The processor time in which `verify` refuses a password, which takes as long as to accept one."""
+    """The processor time in which `verify` rejects a password, which takes as long as accepting one."""
     password, text = b"pleaseletmein", b"$scrypt$ln=%d,r=%d,p=%d$c2FsdHNhbHQ$AAAAAAAAAAAAAAAAAAAAAA" % (log_n, r, p)
     start = time.process_time()
     if verify(password, len(password), text, len(text)) != 1:

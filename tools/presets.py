@@ -1,10 +1,10 @@
-"""What CMakePresets.json says of other machines beyond CMake: the target of the kit and its mixer, and the commands
-and files that are needed to build and run what is made for them, each with its Debian package.
+"""Reads the vendor part of CMakePresets.json about other machines: the kit's target and its mixer,
+and the commands and files that are needed to build and run for them, each with its Debian package.
 
 usage: python3 -m tools.presets packages      the Debian packages of all
-       python3 -m tools.presets needs NAME    what is needed for one, as COMMAND:PACKAGE
+       python3 -m tools.presets needs NAME    the needs of one, as COMMAND:PACKAGE
        python3 -m tools.presets names         the other machines
-       python3 -m tools.presets proved        those of them for which the kit proves and compiles
+       python3 -m tools.presets proved        the machines for which the kit proves and compiles
 """
 
 import json

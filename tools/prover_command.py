@@ -1,5 +1,5 @@
-"""The words of a `rattle` command on one crate, over the libraries below it that are built: those of crates/*/out, or of
-the folder that PROVED_LIBRARIES names in the environment, which has them in the same places."""
+"""The arguments of a `rattle` command on one crate, over the built libraries below it: in
+crates/*/out, or at the same paths in the folder that PROVED_LIBRARIES names in the environment."""
 
 import os
 from tools.kit import located as kit
@@ -7,7 +7,7 @@ from tools.generate.sources import crates
 
 
 def below(name):
-    """The crates of this repository below a crate, each after those that it uses."""
+    """The crates of this repository below a crate, each after the crates that it uses."""
     found = []
     for used in crates()[name][1]:
         if used in crates():
@@ -16,7 +16,7 @@ def below(name):
 
 
 def of(command, name):
-    """The words, for any folder that has the crate's src/, specs/ and proofs/."""
+    """The arguments, for any folder that has the crate's src/, specs/ and proofs/."""
     kind, used = crates()[name]
     folder, libraries = kit(), os.environ.get("PROVED_LIBRARIES") or os.path.join(os.getcwd(), "crates")
     root = "src/main.rt" if os.path.isfile(f"crates/{name}/src/main.rt") else "src/lib.rt"

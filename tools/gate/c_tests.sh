@@ -1,8 +1,9 @@
 #!/bin/sh
 # Builds the library and its tests by a preset of bindings/c/CMakePresets.json, and runs them.
 # usage: c_tests.sh PRESET [ARCHIVES]
-# ARCHIVES is what the gate built: it is put where `make lib` puts it. For by-rattle, the kit's own
-# compiler builds them first, and for another processor of Linux the program is tested too.
+# ARCHIVES is the folder that the gate built: its files are copied to the folder of `make lib`. For
+# by-rattle, the kit's own compiler builds them first, and for another processor of Linux the program
+# is tested too.
 set -eu
 unset CDPATH
 cd "$(dirname "$0")/../.."

@@ -1,13 +1,16 @@
-"""Compares the documents with the sources, and refuses what does not fit.
+"""Compares the documents with the sources, and rejects differences:
 
-Refused are: a name in a document that no source has; a link that leads nowhere, or whose words name a definition that
-its file doesn't have; an example in Rust that is not a part of the file that it names; a call in the graph of CONTRIBUTING
-that its function doesn't make; a module of proofs without a comment in its crate's proofs/Lib.antt; and a proof of a
-caller that names a proof of a library, since callers are proved from public clauses alone. docs/PROMISES.md is
-compared by tools/generate/promises.py.
+- a name in a document that no source has
+- a broken link, or a link whose words name a definition that its file doesn't have
+- an example in Rust that is not a part of the file that it names
+- a call in the graph of CONTRIBUTING that its function doesn't make
+- a module of proofs without a comment in its crate's proofs/Lib.antt
+- a proof of a caller that names a proof of a library, because callers are proved only from public
+  clauses
 
-A name is what is between backquotes and is a path (`mcf::Base64`, `Params::{log_n, n}`), a word with an underscore
-(`scrypt_ro_mix`), a call (`new()`, `.verify(&hash)`), or a file of the repository. What belongs to others is listed below.
+tools/generate/promises.py compares docs/PROMISES.md. A name is text between backquotes that is a
+path (`mcf::Base64`, `Params::{log_n, n}`), a word with an underscore (`scrypt_ro_mix`), a call
+(`new()`, `.verify(&hash)`), or a file of the repository. Names of other programs are listed below.
 """
 
 import glob
@@ -31,7 +34,7 @@ LIBRARY_PROOF = re.compile(r"Rattle\.(?:scrypt|scrypt_kernel|password_hash)\.pro
 
 
 def known_names():
-    """Every word that the sources and the bindings have, which is what a name may consist of."""
+    """Every word of the sources and the bindings: names consist of these."""
     names = set(re.findall(r"^([\w-]+):", read("Makefile"), re.M)) | set(re.findall(r"\w+", read("tools/generate/axioms.txt")))
     for path in (found for pattern in SOURCES for found in glob.glob(pattern, recursive=True)):
         if "/out/" not in path and (path.startswith("crates/") or "test" not in path):
@@ -41,7 +44,7 @@ def known_names():
 
 
 def words_of(name):
-    """The words of a name, or none if it isn't one."""
+    """The words of a name; empty if it is not a name."""
     called = re.fullmatch(r"\.?([A-Za-z_]\w*(?:(?:::|\.)[A-Za-z_]\w*)*)\(.*\)", name)
     if called:
         return re.findall(r"\w+", called[1])
@@ -53,7 +56,7 @@ def words_of(name):
 
 
 def unknown_names(path, text, names):
-    """What is named in a document and is nowhere."""
+    """Names in a document that no source has."""
     for number, line in enumerate(text.splitlines(), 1):
         for name in re.findall(r"`([^`]+)`", line):
             file = re.fullmatch(r"(crates|docs|tools|bindings|examples)/[\w./-]+", name)
@@ -65,12 +68,12 @@ def unknown_names(path, text, names):
 
 
 def headings(text):
-    """The places of a document that a link can lead to, as forges name them."""
+    """The anchors of a document, as forges name them."""
     return {re.sub(r"[^\w -]", "", title.lower()).replace(" ", "-") for title in re.findall(r"^#+ (.*)", text, re.M)}
 
 
 def broken_links(path, text):
-    """Links to nothing, and definitions that are not in the file that a link on their names leads to."""
+    """Broken links, and definitions that are not in the file to which a link on their names leads."""
     for words, target in re.findall(r"\[([^\]]*)\]\(([^)\s]+)\)", text):
         if re.match(r"https?:", target):
             continue
@@ -90,7 +93,7 @@ def stripped(text):
 
 
 def other_examples(path, text):
-    """Examples in Rust whose lines don't follow each other in the page to which the line before them leads."""
+    """Examples in Rust that are not consecutive lines of the file to which the line before them links."""
     for link, example in re.findall(r"\]\((\S+)\):\n```rust\n(.*?)^```$", text, re.M | re.S):
         file = os.path.normpath(os.path.join(os.path.dirname(path), link))
         if stripped(example) not in stripped(read(file)):
@@ -98,12 +101,12 @@ def other_examples(path, text):
 
 
 def complaints(path, text, names):
-    """Everything that is refused in a document."""
+    """All errors in a document."""
     return [*unknown_names(path, text, names), *broken_links(path, text), *other_examples(path, text)]
 
 
 def unexplained_modules(path, text):
-    """The modules of a list that no comment is on."""
+    """The modules of a list without a comment."""
     lines = ["", *text.splitlines()]
     for before, line in zip(lines, lines[1:]):
         if line.startswith("pub mod ") and not before.startswith("--"):
@@ -111,12 +114,12 @@ def unexplained_modules(path, text):
 
 
 def inner_proofs(path, text):
-    """What a caller's proof names of the proofs of libraries."""
+    """Proofs of libraries that a caller's proof names."""
     return [f"{path}: a proof of a library, {name}" for name in LIBRARY_PROOF.findall(text)]
 
 
 def names_of(source, item):
-    """The names that a picture may have for a function: with its module, its type or its trait, or without."""
+    """The names that a picture can have for a function: with its module, its type or its trait, or without."""
     owners = [re.sub(r"<.*", "", owner) for owner in item.owner.split(" for ")]
     return {item.name, *(f"{owner}::{item.name}" for owner in [source.module.split("::")[-1], *owners])}
 

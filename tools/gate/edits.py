@@ -1,11 +1,14 @@
-"""Copies of the repository, and edits that are applied to a copy and taken back.
+"""Copies of the repository, and mutants (edits) that are applied to a copy and reverted.
 
-A crate's edits are in its file `wrong-bodies.txt`, in the parts that `PARTS` names, each under a heading in brackets. A
-paragraph has those of a file: a line `file: PATH`, from the crate's folder, and then edits, each a line with its name, which says
-what is wrong, and pairs of lines `old: TEXT` and `new: TEXT`. A line `file: PATH` within an edit is for the rest of that one. Each old text occurs once in that file, or, after a line `after: TEXT`, whose text occurs
-once, is the first one after that. A new text of several lines has a line `new: TEXT` for each. A wrong body may also answer
-goals of its function that it makes false, by lines `answer: ANSWER`, perhaps after `unfolding: NAME`, and `use: NAMES`. One that
-only tests refuse may name all tests that fail by it, by lines `test: TEXT`, each a part of their names.
+A crate's mutants are in its file `wrong-bodies.txt`, in the parts that `PARTS` names, each under a
+heading in brackets. A paragraph is about one file: a line `file: PATH`, relative to the crate's
+folder, and then edits. An edit is a line with its name, which says what is wrong, and pairs of lines
+`old: TEXT` and `new: TEXT`. A line `file: PATH` within an edit holds for the rest of that edit. Each
+old text occurs once in its file, or, after a line `after: TEXT`, whose text occurs once, is the
+first occurrence after that. A new text of several lines has a line `new: TEXT` for each. A mutant
+can also answer goals of its function that it makes false, by lines `answer: ANSWER`, perhaps after
+`unfolding: NAME`, and `use: NAMES`. A mutant that only tests kill can name all tests that fail by
+it, by lines `test: TEXT`, each a part of their names.
 """
 
 import contextlib
@@ -28,7 +31,7 @@ class BadEdit(Exception):
 
 @dataclass(frozen=True)
 class Edit:
-    """An edit of a crate, with the words of its lines and what follows them."""
+    """An edit of a crate, with the key and the text of each of its lines."""
 
     crate: str
     part: str
@@ -39,7 +42,7 @@ class Edit:
         return f"{self.crate}: {self.name}"
 
     def pairs(self):
-        """What it replaces in which file, after what, and by what."""
+        """Its replacements: file, preceding text, old text, new text."""
         path, after, old = None, "", None
         for word, lines in itertools.groupby(self.lines, key=lambda it: it[0]):
             texts = [rest for _, rest in lines]
@@ -54,7 +57,7 @@ class Edit:
                 after = ""
 
     def place(self, text, after, old):
-        """Where a text is that it replaces."""
+        """The position of a text that it replaces."""
         if text.count(after or old) != 1:
             raise BadEdit(f"{self}: the text doesn't occur there once: {after or old}")
         at = text.find(old, text.index(after))
@@ -63,7 +66,7 @@ class Edit:
         return at
 
     def answers(self):
-        """What it answers, by the goal, as in a file of answers, and the names that the answers use."""
+        """Its answers by goal, as in a file of answers, and the names that the answers use."""
         given, uses, unfolding = {}, [], ""
         for word, rest in self.lines:
             if word == "use":
@@ -77,7 +80,7 @@ class Edit:
         return given, uses
 
     def tests(self):
-        """The tests that fail by it, if it names them: a part of the name of each."""
+        """The tests that fail by it, if it names them: a part of each name."""
         return [rest for word, rest in self.lines if word == "test"]
 
 
@@ -104,7 +107,7 @@ def read(crate, text):
 
 
 def line_of(line):
-    """The word that a line begins with, and what follows it."""
+    """The key of a line, and the text after it."""
     word, _, rest = line.partition(":")
     return word, rest.removeprefix(" ")
 
@@ -149,7 +152,7 @@ def write(texts):
 
 @contextlib.contextmanager
 def applied(those, crate):
-    """Applies edits to a crate, one after another, and takes them back at the end."""
+    """Applies edits to a crate, one after another, and reverts them at the end."""
     after = texts_after(those, crate)
     before = {path: Path(path).read_text("utf-8") for path in after}
     try:
@@ -165,8 +168,8 @@ def each_alone(those):
 
 
 def tried(part, names=(), left_out=(), in_groups=each_alone):
-    """The edits of a part of these crates, or of all, in groups, while those of a group are applied to a copy of the
-    repository, in which a crate's path is returned with them. The copy lacks files of the names that are left out."""
+    """Yields the edits of a part of these crates, or of all, in groups, each with the path of its crate in a copy of the
+    repository to which the group is applied. The copy omits files with the names that are left out."""
     with tempfile.TemporaryDirectory() as room:
         copy = os.path.join(room, "copy")
         shutil.copytree(".", copy, ignore=shutil.ignore_patterns(".git", *left_out))

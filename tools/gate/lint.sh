@@ -1,5 +1,5 @@
 #!/bin/sh
-# Runs the linters and formatters that are installed over everything but what is built, and names the others.
+# Runs the installed linters and formatters over everything except build output, and names the missing ones.
 set -eu
 failed=0
 

@@ -1,20 +1,28 @@
-"""Checks what the compiler has to refuse before any proof, and what no clause can refuse.
+"""Checks for errors that no clause can exclude, and that the compiler rejects certain mutants.
 
-The compiler has to refuse each edit for it in crates/NAME/wrong-bodies.txt, because it uses something private or makes
-the `prove!` of a constant false: clauses name constants, so they hold for any value.
+The compiler has to reject each mutant in the part for it of crates/NAME/wrong-bodies.txt before any
+proof, because the mutant uses something private or makes the `prove!` of a constant false: clauses
+name constants, so they hold for any value.
 
-A count of cores could be wrong in three more ways, which are refused: a handwritten proof other than the one of the
-counter; a new count anywhere but where a derivation begins, or in a test; and an impl for the counter that makes
-another count. Another name for the counter is refused too, since it could hide a new count. What SHA-256 compresses is
-counted in one file, so no other may name the trait `Digest`, by which the crate `sha2` is called. And a function of the
-libraries that is passed a count must not call one that makes a count of its own and drops it, as `hmac_sha256` and
-`StoredHash::verify` do: what that hashes or derives would not be counted.
+A count of cores could be wrong in more ways, each of which is an error here:
 
-An impl of `PartialEq` chooses its own relation, and the contract of `Clone` does not require a copy to be equal. So
-`Clone` is always derived, and `PartialEq` is derived or its clause compares the whole values.
+- a handwritten proof other than the counter's
+- a new count, except where a derivation begins and in tests; or another name for the counter, which
+  could hide a new count
+- an impl for the counter that makes another count
+- a file that names the trait `Digest`, through which the crate `sha2` is called, except the file
+  that counts the blocks that SHA-256 compresses
+- a library function with a counter argument that calls a function which makes its own count and
+  drops it, as `hmac_sha256` and `StoredHash::verify` do: its hashes and derivations would not be
+  counted
 
-usage: python3 -m tools.gate.must_not_compile sources   what no clause can refuse
-       python3 -m tools.gate.must_not_compile edits     what the compiler has to refuse; the libraries below a crate have to be built
+An impl of `PartialEq` chooses its own relation, and the contract of `Clone` does not require a copy
+to be equal. Therefore `Clone` is always derived, and `PartialEq` is derived or its clause compares
+the whole values.
+
+usage: python3 -m tools.gate.must_not_compile sources   errors that no clause can exclude
+       python3 -m tools.gate.must_not_compile edits     mutants that the compiler has to reject; the
+                                                        libraries below a crate have to be built
 """
 
 import glob
@@ -47,18 +55,18 @@ NEW_COUNTS = {
 # A new count, however the type is written: `CoreCount::new`, `<CoreCount>::new`, `scrypt::CoreCount :: new`.
 NEW = re.compile(r"\bCoreCount\s*>?\s*::\s*new\b")
 
-# The libraries, in which a function that is passed a count, alone or in what a derivation uses, calls none that makes a count of
-# its own, and none that calls such a one, however deep. So nothing is hashed or derived without being counted.
+# The libraries. In these a function with a counter argument (or one inside of another argument) must
+# not call, at any depth, a function that makes its own count. So all hashes and derivations count.
 LIBRARIES = ("crates/scrypt_kernel/", "crates/scrypt/")
 PASSED = re.compile(r"\b(?:CoreCount|InUse)\b")
 
-# A call by its last name, `x::f(..)` or `x.f::<T>(..)`, or a function that is named by a path and passed on, `x::f`.
+# A call by its last name, `x::f(..)` or `x.f::<T>(..)`, or a path to a function as an argument, `x::f`.
 CALL = re.compile(r"\b(\w+)\s*(?:::\s*<[^;{}()]*>\s*)?\(|::\s*(\w+)")
 
-# Another name for the counter or for what is in it.
+# Another name for the counter or for its fields.
 OTHER_NAMES = re.compile(r"\bCoreCount\s+as\b|\btype\s+\w+[^=;]*=[^;]*\bCoreCount\b|\buse\s[^;]*\bCoreCount\s*::")
 
-# The trait by which `sha2` is called, and the file that counts these calls.
+# The trait through which `sha2` is called, and the file that counts these calls.
 HASHING, HASHING_SOURCE = re.compile(r"\bDigest\b"), "crates/scrypt_kernel/src/cores/sha256.rt"
 
 # The counter's own file, and the only impls for it.
@@ -72,7 +80,8 @@ WHOLE = [
     "ensures exact { IsTrue result ↔ (self.now ≡ other.now) }",
 ]
 
-# Why the compiler may refuse an edit, and the errors for it. What counts a core is not even known to another crate.
+# The expected reasons for rejecting a mutant, with their errors. Other crates do not even see the
+# functions that count a core.
 KINDS = {
     "private": re.compile("private-"),
     "unknown outside of the cores": re.compile("unknown-method]: no function or constant named `after_core` found for struct `CoreCount`"),
@@ -81,13 +90,13 @@ KINDS = {
 
 
 def kind_of(printed):
-    """What a check refuses for, if all errors that it prints are of one kind, or None."""
+    """The reason for rejection, if all errors that a check prints have the same reason, or None."""
     errors = re.findall(r"^src/\S+ error\[(.*)", printed, re.M)
     return next((kind for kind, error in KINDS.items() if errors and all(map(error.match, errors))), None)
 
 
 def refused_as(name, crate):
-    """What the compiler refuses a copy of a crate for before any proof, or None."""
+    """The compiler's reason to reject a copy of a crate before any proof, or None."""
     ran = subprocess.run([*prover_command.of("check", name), "--only", ""], cwd=crate, capture_output=True, text=True)
     return kind_of(ran.stdout + ran.stderr) if ran.returncode != 0 else None
 
@@ -105,7 +114,7 @@ def own_sources():
 
 
 def count_complaints(those):
-    """What is refused of new counts and their names."""
+    """Errors in new counts and their names."""
     counts = {source.path: len(NEW.findall(source.text)) for source in those if NEW.search(source.text)}
     if counts != NEW_COUNTS:
         yield f"new counts of cores: {counts}, where only {NEW_COUNTS} may be"
@@ -122,7 +131,7 @@ def count_complaints(those):
 
 
 def functions(those):
-    """The functions of the libraries: where each is, its name, whether it is passed a count, and its body."""
+    """The functions of the libraries: position, name, whether it has a counter argument, body."""
     for source in those:
         lines = source.text.splitlines()
         for it in source.items if source.path.startswith(LIBRARIES) else []:
@@ -132,8 +141,8 @@ def functions(those):
 
 
 def uncounted_complaints(those):
-    """What is refused of functions that are passed a count: that they reach one that makes its own. Calls are followed by their
-    names alone, so two functions with one name are taken for both."""
+    """Functions with a counter argument that reach a function which makes its own count. Calls are followed only by their
+    names, so a call counts as a call of every function with that name."""
     found = [(*it, {first or second for first, second in CALL.findall(it[-1])}) for it in functions(those)]
     reached, more = set(), {name for _, name, _, body, _ in found if NEW.search(body)}
     while more - reached:
@@ -145,7 +154,7 @@ def uncounted_complaints(those):
 
 
 def impl_complaints(source):
-    """What is refused of the implementations of a source: for the counter, and of `Clone` and `PartialEq`."""
+    """Errors in the impls of a source: for the counter, and of `Clone` and `PartialEq`."""
     for item in (item for item in source.items if item.kind == "impl"):
         if re.search(r"\bCoreCount\b", item.text.partition(" where ")[0]) and item.text not in COUNTER_IMPLS:
             yield f"{source.path}: an impl for the counter of cores: {item.text}"
@@ -158,12 +167,12 @@ def impl_complaints(source):
 
 
 def complaints(those):
-    """What is refused in these sources."""
+    """All errors in these sources."""
     return [*count_complaints(those), *uncounted_complaints(those), *(found for source in those for found in impl_complaints(source))]
 
 
 def wrong_in_sources():
-    """What is refused of the sources and the proofs."""
+    """All errors in the sources and the proofs."""
     wrong = complaints(own_sources())
     if sorted(glob.glob("crates/*/proofs/**/Proof.antt", recursive=True)) != HANDWRITTEN:
         wrong.append(f"handwritten proofs other than {', '.join(HANDWRITTEN)}")
@@ -171,7 +180,7 @@ def wrong_in_sources():
 
 
 def wrong_edits():
-    """The edits that the compiler does not refuse."""
+    """The mutants that the compiler does not reject."""
     for [edit], crate in edits.tried(edits.NOT_COMPILED, left_out=["out"]):
         kind = refused_as(edit.crate, crate)
         print(f"must-not-compile {edit}: {f'refused, as {kind}' if kind else 'NOT REFUSED'}", flush=True)

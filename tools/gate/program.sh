@@ -1,5 +1,5 @@
 #!/bin/sh
-# Links the program with what asks at a terminal. Where `rt ci` gave only the program, since it proved the same
+# Links the program with the password prompt. If `rt ci` left only the program, because it proved the same
 # files earlier on this machine, the object is made over the proved libraries.
 set -eu
 unset CDPATH

@@ -1,6 +1,6 @@
 #!/usr/bin/env bash
-# Runs `rt ci` for the gate, and notes in build/gate/proved which crates are proved. It prints those, and
-# of what failed all that `rt ci` prints.
+# Runs `rt ci` for the gate, and records in build/gate/proved which crates are proved. It prints these, and
+# for a failure the whole output of `rt ci`.
 set -u
 unset CDPATH
 cd "$(dirname "$0")/../.."

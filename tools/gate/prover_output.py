@@ -1,14 +1,14 @@
-"""What a check prints of the functions of a crate, and whether it refuses some of them.
+"""Parses the output of a check of a crate: which functions it rejects, and why.
 
-A check prints a function by its path, a closure in it below that, and its proof lies below proofs/PATH/.
+A check prints a function by its path, a closure in it below that; its proof is below proofs/PATH/.
 """
 
 import re
 
-# Refused itself, and not because a function that it calls is.
+# Rejected itself, and not because a function that it calls is rejected.
 REFUSED = re.compile(r"not proved(?:;|$)|no proof: expected answers")
 
-# A reason that is not about the body: a search that gave up, and names that are gone.
+# A reason that is not about the body: a search that gave up, and names that no longer exist.
 WEAK = re.compile(
     r"gave up at one of its limits|can be named (?:from )?here|has no field|has no `|is not in scope"
     r"|was not admitted|depend[s]? on `|declarations? that depend"
@@ -19,23 +19,23 @@ STRONG = re.compile(r"it is not proved that|error: `[^`]+`: |error: .*(differ|do
 
 
 def statuses(printed):
-    """What a check prints of each function."""
+    """The output of a check about each function."""
     return dict(re.findall(r"^fn (\S+): (.*)$", printed, re.M))
 
 
 def unshown_goals(printed):
-    """The reasons that a check prints and that name an unproved goal."""
+    """The reasons in the output that name an unproved goal."""
     found = reasons(printed)
     return [reason for reason in found if STRONG.search(reason) and not WEAK.search(reason) and not reason.startswith("so far")]
 
 
 def reasons(printed):
-    """What a check prints. A reason continues in the indented lines after it."""
+    """The lines of the output. A reason continues in the indented lines after it."""
     return re.sub(r"\n(?=  )", "", printed).splitlines()
 
 
 def own_reasons(printed, path):
-    """The reasons that a check gives for one function: of its proof files, and right before its own line."""
+    """The reasons for one function: in its proof files, and directly before its own line."""
     folder = "proofs/" + path.partition("::")[2].replace("::", "/") + "/"
     before, own = [], []
     for reason in reasons(printed):
@@ -50,7 +50,7 @@ def own_reasons(printed, path):
 
 
 def verdict(printed, changed):
-    """Whether a check refuses one of these functions, or the crate if there are none, or what is missing."""
+    """Whether a check rejects one of these functions (or the crate if the list is empty), or what is missing."""
     if not changed:
         refused = not re.search(r"^logic=proved", printed, re.M)
         return word_for(refused, unshown_goals(printed))

@@ -1,13 +1,14 @@
-"""Tries the bodies that meet every contract and are wrong still, which the tests have to refuse.
+"""Tries mutants that meet every contract, which the tests have to kill.
 
-No clause can say that an allocation succeeds, or how much a call allocates: a body that allocates once more, or that
-always returns `OutOfMemory`, is proved. Each edit for the tests in crates/NAME/wrong-bodies.txt is such a body. It is
-applied to a copy of the repository, where everything still has to be proved, and a test of the crate NAME has to fail.
-If every clause is exact, an edit may weaken one with its body. The tests of the program are the cases of
-tools/tests/program.py, and the loops that tools/bench/registers.py asks for.
+No clause can state that an allocation succeeds, or how much a call allocates: a body that allocates
+once more, or that always returns `OutOfMemory`, is proved. Such mutants are in the part for tests of
+crates/NAME/wrong-bodies.txt. Each is applied to a copy of the repository, where everything still has
+to be proved, and a test of the crate NAME has to fail. If every clause is exact, a mutant can weaken
+one together with its body. The tests of the program are the cases of tools/tests/program.py, and the
+loops that tools/bench/registers.py requires.
 
-Edits that name all tests that fail by them share a build, if each names one that no other does. Then all these have to
-fail, and no other.
+Mutants that name all tests that fail by them share a build, if each names a test that no other
+names. Then all these tests have to fail, and no others.
 
 usage: python3 -m tools.gate.refused_by_tests [NAME..]    the crates, or all that have such edits; minutes for each build
 """
@@ -22,18 +23,18 @@ from tools.gate import edits
 
 
 def own_tests(edit, group):
-    """The tests that an edit names, and no other edit of a group."""
+    """The tests that an edit names and no other edit of the group names."""
     others = [its for other in group if other is not edit for its in other.tests()]
     return [it for it in edit.tests() if not any(it in its or its in it for its in others)]
 
 
 def share(group):
-    """Whether edits can share a build: each has a test of its own, and all can be applied."""
+    """Whether edits can share a build: each has its own test, and all can be applied."""
     return all(own_tests(edit, group) for edit in group) and edits.fit(group, f"crates/{group[0].crate}")
 
 
 def groups(those):
-    """Edits of a crate in groups, each for one build. One that names no test is alone."""
+    """The edits of a crate in groups, one build each. An edit that names no test is in its own group."""
     made = []
     for edit in those:
         group = next((it for it in made if share([*it, edit])), None)
@@ -45,7 +46,7 @@ def groups(those):
 
 
 def failed_tests(crate):
-    """The tests that fail, or None if they can't be run, as what they use isn't proved."""
+    """The tests that fail, or None if they can't be run because code that they use isn't proved."""
     ran = subprocess.run(["rt", "test"], cwd=crate, capture_output=True, text=True)
     if not re.search(r"^test result: ", ran.stdout, re.M):
         print((ran.stdout + ran.stderr)[-2000:])
@@ -54,7 +55,7 @@ def failed_tests(crate):
 
 
 def failed_cases(crate):
-    """The same of the cases of the program."""
+    """The same for the cases of the program."""
     program = f"{crate}/out/scrypt_tool"
     with contextlib.suppress(FileNotFoundError):
         os.remove(program)
@@ -69,7 +70,7 @@ def failed_cases(crate):
 
 
 def verdict(edit, failed):
-    """What the tests that failed say of an edit."""
+    """The result for an edit, from the tests that failed."""
     if failed is None:
         return "NOT PROVED"
     named = edit.tests()

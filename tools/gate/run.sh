@@ -1,7 +1,7 @@
 #!/usr/bin/env bash
-# The gate: proves every crate by `rt ci`, and beside that runs every other task of gate.mk, whatever
-# fails. The last line is `N passed, M failed`; the status is 0 if none failed and none was left out for
-# a failure. Before it come the packages that parts of it need and aren't here, and the time.
+# The gate: proves every crate by `rt ci`, and concurrently runs every other task of gate.mk, even if
+# some fail. The last line is `N passed, M failed`; the status is 0 if no task failed and none was
+# skipped because of a failure. Before it come the missing packages that parts of it need, and the time.
 set -u
 unset CDPATH
 cd "$(dirname "$0")/../.."

@@ -1,9 +1,9 @@
 #!/usr/bin/env bash
-# Runs a command as a step of the gate or of make. What it prints goes to build/log/NAME.log. One line
-# says how it ended and what it took; if it failed, the last lines of the log come first.
+# Runs a command as a step of the gate or of make. Its output goes to build/log/NAME.log. One line has
+# the result and the time; if the step failed, the last lines of the log come first.
 #
 # usage: step.sh NAME [--needs COMMAND:PACKAGE ..] COMMAND ..
-# Without one of the needed commands (or files) nothing is run, and a line names the Debian package.
+# If a needed command (or file) is missing, nothing is run, and a line names the Debian package.
 set -u
 unset CDPATH
 name=$1 log=build/log/$1.log took=build/log/$1.took missing=

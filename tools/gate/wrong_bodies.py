@@ -1,18 +1,21 @@
-"""Tries wrong bodies, which the prover has to refuse, many of them in one check.
+"""Mutation test of the contracts: tries mutants (wrong bodies), many in one check, which the prover
+has to kill.
 
-A function is proved by its own body and the contracts of those that it calls, so a wrong body does not affect the
-proofs of other functions. The edits of a crate are tried in rounds: each is one check of a copy with at most one edit
-of a function, in which the proofs of all other functions are holes. Each function has to be refused with an unproved goal
-of its own: that it calls a refused one is not enough, nor is a search that gave up, or a name that is gone. The author has
-to see that the goal is false. An edit of a constant, or of a type, has a round of its own, with every proof.
+A function is proved from its own body and the contracts of its callees, so a mutant does not affect
+the proofs of other functions. The mutants of a crate are tried in rounds: a round is one check of a
+copy in which each function has one mutant or none, and the proofs of all other functions are holes.
+A mutant is killed if its function is rejected with an unproved goal of its own. It survives if only
+a callee is rejected, if the search gave up, or if a name no longer exists. The author has to check
+that the goal is false. A mutant of a constant, or of a type, has a separate round, with every proof.
 
-The prover searches long for a proof of a false goal, and once more at the end. So an edit may answer that goal by what
-proves it of the right body: the wrong body is refused by the answer. With `all`, the right bodies are proved by all answers.
+The prover takes long to fail to prove a false goal, and searches again at the end. So a mutant can
+come with the original proof of that goal, which the checker rejects immediately. With `all`, the
+original bodies are proved by all these answers.
 
-usage: python3 -m tools.gate.wrong_bodies [NAME..]         the edits of crates/NAME/wrong-bodies.txt for the gate, one round for each crate
-       python3 -m tools.gate.wrong_bodies all [NAME..]     the others that the prover has to refuse too, in as many rounds as it takes
-       python3 -m tools.gate.wrong_bodies fit              tries nothing: prints the edits that can't be applied, and those of
-                                                           the gate that need more than one round
+usage: python3 -m tools.gate.wrong_bodies [NAME..]         the gate's mutants of crates/NAME/wrong-bodies.txt, one round per crate
+       python3 -m tools.gate.wrong_bodies all [NAME..]     also the others that the prover has to kill, in several rounds
+       python3 -m tools.gate.wrong_bodies fit              tries nothing: prints the mutants that can't be applied, and the
+                                                           gate's mutants that need more than one round
 The libraries below a crate have to be built.
 """
 
@@ -31,7 +34,7 @@ from tools.generate import sources
 
 FIRST, MORE = edits.GATE, edits.MORE
 
-# The proof of a function, by its path in antt and its name, that a check takes by its contract alone.
+# The proof of a function, by its path in antt and its name, of which a check uses only the contract.
 HOLE = """use Rattle.{}.Statement as stated
 
 pub {}_spec : {{M : Type 1}} → stated.statement M
@@ -43,7 +46,7 @@ AT_ONCE = min(4, len(os.sched_getaffinity(0)))
 
 
 def changed(edit, name, crate):
-    """The paths of the functions that an edit changes, or none if it changes what is outside of them."""
+    """The paths of the functions that an edit changes; empty if it changes something outside of functions."""
     edits.texts_after([edit], f"crates/{name}")
     found, files = set(), {source.path: source for source in crate.values()}
     for path, after, old, _ in edit.pairs():
@@ -57,12 +60,12 @@ def changed(edit, name, crate):
 
 
 def takes(tried, edit, its, folder):
-    """Whether a round takes an edit: it changes other functions, and its old texts still occur once."""
+    """Whether an edit fits into a round: it changes other functions, and its old texts still occur once."""
     return not any(its & other for other in tried.values()) and edits.fit([*tried, edit], folder)
 
 
 def rounds(name, *parts):
-    """The edits of a crate with what they change, so that those of a round change different functions."""
+    """The edits of a crate in rounds, with the functions that they change; in a round these differ."""
     made, alone, folder = [], [], f"crates/{name}"
     crate = sources.read_crate(name, folder)
     for edit in edits.edits_of(name, *parts):
@@ -76,7 +79,7 @@ def rounds(name, *parts):
 
 
 def leave_out(name, changed, folder):
-    """Gives the functions of a copy of a crate, except those that are changed, a hole for their proof."""
+    """Replaces the proofs in a copy of a crate by holes, except for the changed functions."""
     crate = sources.read_crate(name, f"crates/{name}")
     for source in crate.values():
         lines = source.text.splitlines()
@@ -94,7 +97,7 @@ def leave_out(name, changed, folder):
 
 
 def add_answers(name, tried, folder):
-    """Answers goals in a copy of a crate as these edits do. Each changes one function if it has an answer."""
+    """Writes the answers of these edits into a copy of a crate. An edit with an answer changes one function."""
     for edit, changed in tried.items():
         given, uses = edit.answers()
         for path in changed if given else ():
@@ -109,7 +112,7 @@ def add_answers(name, tried, folder):
 
 
 def check(name, tried, are_right=False):
-    """What a check of a crate prints that has these edits, or only their answers."""
+    """The output of a check of a crate with these edits, or only with their answers."""
     with tempfile.TemporaryDirectory() as crate:
         for part in ("src", "specs", "proofs"):
             if os.path.isdir(f"crates/{name}/{part}"):
@@ -128,7 +131,7 @@ def check(name, tried, are_right=False):
 
 
 def false_answers(name, parts):
-    """The edits of a crate whose answers refuse the right bodies too."""
+    """The edits of a crate whose answers fail for the original bodies too."""
     found = {edit: its for tried in rounds(name, *parts) for edit, its in tried.items() if edit.answers()[0]}
     printed = check(name, found, are_right=True) if found else ""
     return [edit for edit, its in found.items() if prover_output.verdict(printed, its) != "NOT REFUSED"]
@@ -143,10 +146,10 @@ def judged(name, tried):
 
 
 def try_all(names, parts):
-    """Tries the edits of crates, prints each that isn't refused with a goal, and returns how many these are. If these are all
-    edits, their answers are tried on the right bodies too."""
+    """Tries the mutants of crates, prints the survivors, and returns their number. If these are all mutants, their answers
+    are also tried on the original bodies."""
     tried = wrong = 0
-    # The longest begin first.
+    # The longest start first.
     all_rounds = [(name, tried) for name in names for tried in rounds(name, *parts)]
     all_rounds.sort(key=lambda job: -len(job[1]))
     with concurrent.futures.ThreadPoolExecutor(AT_ONCE) as lanes:
@@ -166,7 +169,7 @@ def try_all(names, parts):
 
 
 def unfit():
-    """What is wrong with the edits, without trying them."""
+    """Errors in the edits, without trying them."""
     for name in edits.crates_with(*edits.PARTS):
         wrong = list(filter(None, (unfit_edit(edit, name) for edit in edits.edits_of(name, *edits.PARTS))))
         yield from wrong
@@ -175,7 +178,7 @@ def unfit():
 
 
 def unfit_edit(edit, name):
-    """Why an edit can't be applied, or None."""
+    """The reason why an edit can't be applied, or None."""
     try:
         edits.texts_after([edit], f"crates/{name}")
     except edits.BadEdit as error:
