@@ -56,7 +56,8 @@ run: kit
 # Both levels of x86-64 are built in any case. rt lib gives both one name, so the newer one is moved.
 BUILD_native = cd crates/scrypt_c && rt lib --cpu x86-64-v3 && mkdir -p out/x86-64-v3 && \
   mv out/libscrypt_c.a out/x86-64-v3/ && rt lib
-BUILD_windows = python3 -m bindings.bitcode
+BUILD_windows = rm -rf build/given && python3 -m tools.gate.library build/given crates/scrypt_c/out/incremental llvm && \
+  python3 -m bindings.bitcode build/given
 lib: kit
 	$(PROVE) proved-scrypt$(if $(BUILD_$(PRESET)),,_commands)
 	$(or $(BUILD_$(PRESET)),python3 -m bindings.cross $(PRESET) scrypt_c scrypt_tool)

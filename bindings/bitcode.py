@@ -3,15 +3,13 @@
 Linux: the same text of LLVM, by the same clang, with the same options. What it makes is in crates/scrypt_c/out/windows,
 for each level of x86-64.
 
-usage: python3 -m bindings.bitcode [MADE]
+usage: python3 -m bindings.bitcode MADE
 
-MADE is a folder like crates/scrypt_c/out, with the library that the kit
-built for each level, and beside it the folder `given` with what its clang was given. Without MADE the crate is proved
-and built before, from the proofs that a check of it kept.
+MADE is a folder that tools/gate/library.py has made: the library of the kit for each level, and beside it the folder
+`given` with what its clang was given.
 
 First each text is compiled for Linux, and has to give the object of the kit byte by byte. For Windows the text differs
-in two attributes of functions. It needs the kit, and without MADE the libraries below the crate, which `make lib`
-proves.
+in two attributes of functions. It needs the kit.
 """
 
 import os
@@ -40,21 +38,6 @@ FOR_WINDOWS = ["-fno-function-sections", "-fno-addrsig", "-Wno-override-module"]
 # The attributes of functions with code. `nounwind` they keep.
 ATTRIBUTES = re.compile(r'^attributes #(\d+) = \{ (.*)nounwind "probe-stack"="inline-asm" (.*"target-cpu"=.*)\}$', re.M)
 DEFINED = re.compile(r"^define .*", re.M)
-
-
-def prove(room):
-    """Proves and builds the crate for each level, and returns the folder MADE."""
-    crate, kept = room / "scrypt_c", "crates/scrypt_c/out/incremental"
-    copies.copy_crate("scrypt_c", crate, "Vectors")
-    for level, place in LEVELS.items():
-        made, toolchain = (room / "made" / place).parent, room / f"toolchain-{level}"
-        made.mkdir(parents=True, exist_ok=True)
-        copies.copy_toolchain(toolchain, given=made / "given")
-        options = ["--toolchain", toolchain, "--backend", "llvm", "--cpu", level]
-        verdict = copies.build("scrypt_c", crate, room / "made" / place, *options, kept=kept)
-        print(f"== scrypt_c-{level}\n{verdict}", flush=True)
-        kept = None  # the second level begins with what the first one kept
-    return room / "made"
 
 
 def tool(name):
@@ -108,12 +91,10 @@ def build(archive, output, room):
     copies.run(tool("llvm-ar"), "rcs", output, made)
 
 
-def main(made=None):
-    # Not in the repository, in which rt refuses sources that are of no crate.
+def main(made):
     with tempfile.TemporaryDirectory() as room:
-        folder = Path(made) if made else prove(Path(room))
         for level, place in LEVELS.items():
-            build(folder / place, OUT / place, Path(room))
+            build(Path(made, place), OUT / place, Path(room))
             print(f"{level}: for Linux it is what the kit built, byte by byte; compiled for {TARGET}", flush=True)
 
 
