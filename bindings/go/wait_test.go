@@ -222,7 +222,7 @@ func TestMemory(t *testing.T) {
 		_, _ = fmt.Sscan(after, &kib)
 		return kib
 	}
-	hashers := make([]*Hasher, 4)
+	before, hashers := resident(), make([]*Hasher, 4)
 	for i := range hashers {
 		hashers[i] = newHasher(t, Options{Params: Params{LogN: 16, P: 4}, AtOnce: 1, Processors: 4})
 		_, _ = hashers[i].Hash(context.Background(), nil)
@@ -236,7 +236,7 @@ func TestMemory(t *testing.T) {
 		runtime.GC()
 		left = resident()
 	}
-	if held > 640<<10 || left > held-192<<10 {
+	if held > before+320<<10 || left > held-192<<10 {
 		t.Errorf("4 Hashers with a table of 64 MiB: %d KiB, and %d KiB without them", held, left)
 	}
 }
