@@ -1,8 +1,10 @@
-"""Refuses each allocation of a run of the program in turn, and compares their number, and the sizes of a derivation's.
+"""Makes each allocation of a run of the program fail in turn, and compares the number of allocations
+and the sizes for a derivation.
 
-The program runs with failing_calls.c preloaded, which fails the allocation of one number, from the first to the last.
-Each refusal has to end with status 3, nothing in the output and its fault line. How many a run makes is compared too,
-so that a hidden one is seen, and in which order it allocates the chunks, the table and the scratch.
+The program runs with failing_calls.c preloaded, which makes the n-th allocation fail, for each n.
+Each failure has to end with status 3, empty output and the fault line. The number of allocations is
+compared, so that a hidden allocation is seen, and so is the order of the chunks, the table and the
+scratch.
 
 usage: python3 -m tools.tests.allocations PROGRAM        needs a C compiler
 """
@@ -13,13 +15,13 @@ import sys
 from tools.tests import crypt64, phc, runs
 from tools.tests.known import HASHLIB as PHC
 
-# how a run ends if an allocation is refused: while the arguments are read, and after that
+# how a run ends if an allocation fails: while the arguments are read, and after that
 ARGUMENTS = (3, "", "the arguments can't be read\n")
 MEMORY = (3, "", "out of memory\n")
 
 MCF = "$7$2/..../....C3qEg/$oOSIli7m/kDufp3GXHdJ7lqr3hzIyIJUYr4iTamAqDA"
 
-# the words, the input, the status, and how many allocations a run makes for them
+# the arguments, the input, the status, and the number of allocations of the run
 RUNS = [
     ("key 4 1 1 32 4e61436c", b"password", 0, 8),
     ("key 4 1 1 4000 4e61436c", b"password", 0, 8),
@@ -37,19 +39,19 @@ RUNS = [
     (f"rehash mcf 5 1 1 32 4e61436c {PHC}", b"password", 0, 10),
     (f"rehash mcf 4 1 1 32 4e61436c {PHC}", b"password", 0, 5),
     (f"rehash mcf 5 1 1 32 4e61436c {MCF}", b"another", 1, 5),
-    # large chunks take no more
+    # large chunks take no more allocations
     ("key 0 2048 1 32 4e61436c", b"password", 0, 8),
     ("hash phc 0 2048 1 4e61436c", b"password", 0, 7),
     ("hash mcf 0 2048 1 4e61436c", b"password", 0, 7),
     (f"verify {phc.text(b'NaCl', bytes(32), 0, 2048, 1)}", b"password", 1, 4),
     (f"verify {crypt64.text('NaCl', bytes(32), 0, 2048, 1)}", b"password", 1, 4),
-    # refused before the input, some with the salt in memory
+    # rejected before the input, some with the salt in memory
     ("key 4 1 1", b"password", 2, 0),
     ("key 4 1 1 32 4", b"password", 2, 0),
     ("key 4 1 1 0 4e", b"password", 2, 1),
     ("key 4 0 1 32 4e", b"password", 2, 1),
     ("verify x", b"password", 2, 0),
-    # refused after it
+    # rejected after it
     ("verify $scrypt$v=1$ln=4,r=1,p=1$TmFDbA$rsa3SD7SbgiAK0H0AyCGoOiGvnrEj8/ZL/DO+BCXUvQ", b"password", 2, 1),
     ("hash phc 4 1 1 " + "4e" * 65, b"password", 2, 2),
     ("verify $argon2id$ln=4$aA", b"password", 2, 1),
@@ -65,7 +67,7 @@ RUNS = [
     (f"--most-work=1 verify {PHC}", b"password", 2, 1),
 ]
 
-# the words of runs that derive a key with four chunks, and the sizes of the chunks, the table and the scratch, or of these
+# the arguments of runs that derive a key with four chunks, and the sizes of the chunks, the table and the scratch, or of these
 # after the text of a `$7$` hash
 BUFFERS = [
     ("key 4 1 4 32 4e61436c", [512, 2048, 256]),
@@ -82,10 +84,10 @@ def sizes(run):
 
 
 def refused(run, wanted):
-    """How many allocations a run makes whose refusal ends it, or how the runs end if one ends otherwise.
+    """The number of allocations whose failure ends a run, or how the runs end if one ends differently.
 
-    Collecting the arguments asks for room that it can do without, as std has it: one refusal, between
-    those of the arguments and those of the run, changes nothing.
+    Collecting the arguments, std makes one allocation that it can do without: its failure, after the
+    allocations for the arguments and before those of the run, changes nothing.
     """
     total = len(sizes(run))
     ends = [run(FAIL_AT=str(it + 1)) for it in range(total)]

@@ -4,7 +4,7 @@ ALPHABET = "./0123456789ABCDEFGHIJKLMNOPQRSTUVWXYZabcdefghijklmnopqrstuvwxyz"
 
 
 def digits(number, count):
-    """So many letters of a number, the lowest digit first."""
+    """The first `count` letters of a number, the lowest digit first."""
     return "".join(ALPHABET[number >> 6 * place & 63] for place in range(count))
 
 
@@ -15,7 +15,7 @@ def letters(data):
 
 
 def number(text):
-    """The number of letters, the lowest digit first, or None for what has no letter."""
+    """The number that letters encode, the lowest digit first, or None if one is outside the alphabet."""
     if not all(letter in ALPHABET for letter in text):
         return None
     return sum(ALPHABET.index(letter) << 6 * place for place, letter in enumerate(text))
@@ -34,7 +34,7 @@ def read(text):
 
 
 def params(log_n, r, p):
-    """What comes before the salt in a `$7$` text."""
+    """The part of a `$7$` hash before the salt."""
     return f"$7${ALPHABET[log_n]}{digits(r, 5)}{digits(p, 5)}"
 
 

@@ -10,8 +10,8 @@ from tools.tests.runs import run
 # A `$7$` hash of 4096 bytes whose salt has all but its other letters.
 LONGEST = f"$7$2/..../....{'x' * 4079}$r/"
 
-# The bytes of a file if there is one, the words with {} for its name, the status, the line, and the reason for the row. The
-# password is empty.
+# The bytes of a file if there is one, the arguments with {} for its name, the status, the line, and
+# the reason for the row. The password is empty.
 HASH_FILES = [
     (EMPTY, "--hash-file={} verify", 0, "ok", "the text of a file"),
     (f"{EMPTY}\n", "--hash-file={} verify", 0, "ok", "the newline at its end is not of the hash"),
@@ -32,7 +32,7 @@ HASH_FILES = [
     ("\udcff", "--hash-file={} verify", 2, "{}: stream did not contain valid UTF-8", "not a text"),
 ]
 
-# Names of files that are not there, how they are printed, and the reason for the row.
+# Names of missing files, how they are printed, and the reason for the row.
 NAMES = [
     ("a\nusage: b", "a\\nusage: b", "a newline: the fault is one line"),
     ("\x1b[2J\x07", "\\u{1b}[2J\\u{7}", "what a terminal obeys"),

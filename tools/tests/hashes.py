@@ -1,7 +1,8 @@
-"""Verifies and makes hashes by the built program: those of other programs, and what is changed, cut or long.
+"""Verifies and makes hashes by the built program: hashes of other programs, and changed, truncated or
+long ones.
 
-The hashes are those of tools/tests/known.py, and all other keys are those of Python's hashlib. `tools/tests/hostile.py` verifies
-more than a million texts by the library for C.
+The hashes are from tools/tests/known.py, and all other keys from Python's hashlib.
+`tools/tests/hostile.py` fuzzes the C library with more than a million texts.
 
 usage: python3 -m tools.tests.hashes SCRYPT_TOOL
 """
@@ -70,7 +71,7 @@ SHORT_TEXTS = [
     ("$scrypt$ln=56,r=1,p=1$aA$AAAAAAAAAAAAAA", "out of memory", "the table would have 2^63 bytes"),
 ]
 
-# Texts of no hash, and what is wrong.
+# Texts that are not hashes, and the error.
 UNREAD = [
     ("", "the empty text"),
     ("$", "no algorithm"),
@@ -101,22 +102,22 @@ UNREAD = [
     ("$scrypt$aA$AAAAAAAAAAAAAA$aA", "one part too many"),
 ]
 
-# The lengths of the beginnings of a `$7$` hash that are hashes of shorter keys, and the verdicts on those of a PHC hash that
-# can be read.
+# The lengths of the prefixes of a `$7$` hash that are hashes with shorter keys, and the verdicts on
+# the readable prefixes of a PHC hash.
 SHORTER_KEYS = [19, 23, 25, 27, 31, 34, 35, 39, 43, 46, 47, 51, 55]
 BEGINNINGS = {**dict.fromkeys((2, 3, 4, 5, 6), "Algorithm"), **dict.fromkeys((61, 65, 69, 73, 77, 81, 85), "ok")}
 BEGINNINGS |= dict.fromkeys((7, 12, 13, 17, 21, 26, 30, 33, 34, 38, 42, 44), "no")
 
-# Passwords that have the same key, since HMAC pads a short one with zero bytes and hashes a long one.
+# Passwords that have the same key, because HMAC pads a short one with zero bytes and hashes a long one.
 SAME_KEYS = [(b"a" * 63, b"a" * 63 + b"\0"), (b"a" * 65, hashlib.sha256(b"a" * 65).digest())]
 
-# How long a password is, around the block of SHA-256 and far beyond it.
+# Lengths of passwords, around the block of SHA-256 and far beyond it.
 LONG_PASSWORDS = [63, 64, 65, 200, 100_000]
 
-# How long a key is: a stored key is compared in pieces of 96 bytes. An argument may have up to 128 KiB.
+# Lengths of keys: a stored key is compared in pieces of 96 bytes. An argument can have up to 128 KiB.
 LONG_KEYS = [33, 65, 95, 96, 97, 192, 200, 4096, 90_000]
 
-# How a run ends by its verdict, if that isn't a refusal of the hash.
+# How a run ends by its verdict, if the hash is not rejected.
 ENDS = {"ok": runs.OK, "no": runs.NO, "out of memory": (3, "", "out of memory\n")}
 
 
@@ -139,7 +140,7 @@ def verdicts():
 
 
 def beginnings():
-    """The same for the beginnings of a hash of each format."""
+    """The same for the prefixes of a hash of each format."""
     for at in range(len(EMPTY)):
         verdict = "ok" if at in SHORTER_KEYS else "OutputSize" if at == KEY_AT else "EncodingInvalid"
         yield EMPTY[:at], b"", verdict, f"the first {at} bytes"

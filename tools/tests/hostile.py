@@ -1,13 +1,14 @@
-"""Compares the verdicts on hostile hashes with a reader in plain Python.
+"""Fuzzes the verifier: compares its verdicts on hostile hashes with a reader in plain Python.
 
 usage: python3 -m tools.tests.hostile LIBRARY [TEXTS [SEED]]
 
-LIBRARY is libscrypt_c.so. First come two long texts, the texts that are one character away from one of both formats, and
-`$7$` texts with a key of up to three letters, all of them. Then come random texts of both formats (a million if not
-given): good ones, and good ones that are mutated, spliced, cut, doubled, or random, from a seed that is printed. Their
-log_n is 0 to 4, or so great that the table is refused. Then the same texts, and texts with random parameters, are
-verified within bounds, in buffers for a log_n of 4 and an r * p of 16. Printed is how many texts fell on each verdict; it
-fails if a verdict differs, or if one has no text.
+LIBRARY is libscrypt_c.so. First come two long texts, all texts that are one character away from a
+text of each format, and all `$7$` hashes with a key of up to three letters. Then come random texts of
+both formats (by default a million): valid ones, and valid ones that are mutated, spliced, truncated,
+doubled, or random, from a seed that is printed. Their log_n is 0 to 4, or so large that the
+allocation of the table fails. Then the same texts, and texts with random parameters, are verified
+within limits, in buffers for a log_n of 4 and an r * p of 16. The script prints the number of texts
+for each verdict, and fails if a verdict differs, or if one has no text.
 """
 
 import collections
@@ -24,25 +25,25 @@ from tools.tests import crypt64, known, phc, reference, runs
 
 TEXTS = 1_000_000
 
-# the statuses of the verdicts on the empty password, and those within bounds
+# the statuses of the verdicts on the empty password, and within limits
 STATUSES = {"Ok": 0, "PasswordInvalid": 1, "OutOfMemory": 4, "Algorithm": 5, "EncodingInvalid": 6, "OutputSize": 7}
 STATUSES |= {"ParamInvalid": 8, "ParamsInvalid": 9, "Version": 11}
 WITHIN = {"BufferSize": 12, "TooCostly": 13, "KeyTooShort": 15}
 
-# no text is to take more than this
+# the maximum cost of a text
 MEMORY = 4 << 30
 
 # from this log_n on no machine has the table
 GREAT = 50
 
-# the default bounds, and the lengths of the buffers
+# the default limits, and the lengths of the buffers
 BOUNDS = MOST_BYTES, MOST_WORK, LEAST_KEY_LEN = [header.NUMBERS[name] for name in ("MOST_BYTES", "MOST_WORK", "LEAST_KEY_LEN")]
 LENS = CHUNKS, TABLE, SCRATCH = 128 * 16, 32 * 16 * 16, 64 * 16
 
-# parameters that are exactly, or almost, what is allowed
+# parameters that are exactly, or almost, at the limits
 ALLOWED = [(17, 8, 1), (17, 8, 4), (18, 8, 1), (20, 1, 4), (0, 1, 127131), (4, 16, 1), (4, 1, 16), (4, 1, 17), (5, 16, 1)]
 
-# the characters that mutations put in
+# the characters that mutations insert
 CHARACTERS = "$$$=,,.-/+" + crypt64.ALPHABET + "*!\x00\x7f \u00e9\u20ac"
 
 # the texts whose neighbours are read: each part of a PHC text, and a key that is compared
@@ -63,12 +64,12 @@ derived_key = functools.lru_cache(maxsize=1 << 16)(functools.partial(reference.k
 
 
 class Costly(Exception):
-    """The parameters are too great to derive a key by, and too small to be refused."""
+    """The parameters are too large to derive a key, and too small for the allocation to fail."""
 
 
 def compared(salt, log_n, r, p, key):
-    """The verdict once all but the key is accepted."""
-    # The chunks are allocated before the table, so they are to be small at every log_n.
+    """The verdict once everything except the key is accepted."""
+    # The chunks are allocated before the table, so they have to be small at every log_n.
     if r * p > 16:
         raise Costly
     if log_n >= GREAT:
@@ -79,7 +80,7 @@ def compared(salt, log_n, r, p, key):
 
 
 def compared_within(salt, log_n, r, p, key):
-    """The same within the bounds, in the buffers."""
+    """The same within the limits, in the buffers."""
     chunks, table, scratch = 128 * r * p, 32 * r << log_n, 64 * r
     size, work = chunks + 4 * table + 4 * scratch, 4 * ((1 << log_n) + 32) * r * p
     if size > MOST_BYTES or work > MOST_WORK:
@@ -92,7 +93,7 @@ def compared_within(salt, log_n, r, p, key):
 
 
 def phc_params(pairs):
-    """The parameters of the pairs, or the refusal."""
+    """The parameters of the pairs, or the error."""
     params = {"ln": 17, "r": 8, "p": 1}
     for pair in pairs.split(",") if pairs else []:
         name, value = pair.split("=", 1)
@@ -151,7 +152,7 @@ def verdict(text, by):
 
 
 def calls(path):
-    """The calls that verify a text with the empty password: in memory of their own, and within the bounds in the buffers."""
+    """The calls that verify a text with the empty password: one allocates, one has limits and uses the buffers."""
     library = header.loaded(path)
     needs, rooms = header.structure("scrypt_needs")(), [((ctypes.c_uint32 * length)(), length) for length in LENS]
     buffers = list(itertools.chain(*rooms))
@@ -171,7 +172,7 @@ def random_params(rng):
 
 
 def good_texts(rng):
-    """Hashes of the empty password, and texts near them."""
+    """Hashes of the empty password, and similar texts."""
     texts = ["$7$s/..../....$r/", "$scrypt$ln=56,r=1,p=1$aA$AAAAAAAAAAAAAA", "$7$2/..../....$"]
     texts += ["$scrypt$v=1$ln=1", "$argon2id$ln=4,r=1,p=1$aA$AAAAAAAAAAAAAA", "$scrypt$ln=4,r=1,p=1$aA"]
     for _ in range(60):
@@ -185,7 +186,7 @@ def good_texts(rng):
 
 
 def hostile(rng, texts):
-    """A text: a good one, or one that was made of good ones."""
+    """A text: a valid one, or one that was made from valid ones."""
     text = rng.choice(texts)
     kind = rng.randrange(8)
     if kind == 0:
@@ -226,7 +227,7 @@ def short_keys():
 
 
 def judged(texts, by=compared):
-    """Texts and their verdicts, except those whose parameters are too great."""
+    """Texts and their verdicts, except for texts whose parameters are too large."""
     for text in texts:
         try:
             yield text, verdict(text, by)

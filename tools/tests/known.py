@@ -5,7 +5,7 @@ from tools.tests import crypt64, phc
 # passlib's of `password`
 PASSLIB = "$scrypt$ln=16,r=8,p=1$aM15713r3Xsvxbi31lqr1Q$nFNh2CVHVjNldFVKDHDlm4CbdRSCdEBsjjJxD+iCs5E"
 
-# of `pleaseletmein`: the third key of RFC 7914, the beginning of it, libxcrypt's, and one whose salt is plain text
+# of `pleaseletmein`: the third key of RFC 7914, a prefix of it, libxcrypt's, and one whose salt is plain text
 RFC = "$scrypt$ln=14,r=8,p=1$U29kaXVtQ2hsb3JpZGU$cCO9yzr9c0hGHAbNgf046/2o+7qQT44+qbVD9lRdofI"
 SHORT = "$scrypt$ln=14,r=8,p=1$U29kaXVtQ2hsb3JpZGU$cCO9yzr9c0hGHA"
 CRYPT = "$7$CU..../....Mq4YHD2syxYT.MsH1Ek0n1$JyHIxez0DOwm0r6.kAIohc8UFBOLU4xX8a1wGBpLrw7"
@@ -19,8 +19,8 @@ LONG = "$7$2/..../....$rNxJWVHNv/mCNcgE/f6/L4zO6Fos5c2uTzhyzoisI62zEPEbhb.Gs9XOp
 # of `password`, with the salt `NaCl`, by hashlib
 HASHLIB = "$scrypt$ln=4,r=1,p=1$TmFDbA$rsa3SD7SbgiAK0H0AyCGoOiGvnrEj8/ZL/DO+BCXUvQ"
 
-# parameters that ask for seconds to days, for more memory than there is, or for a byte or a little work more than the
-# usual limits allow; and those whose work is PBKDF2 more than cores, since N is small
+# parameters that take seconds to days, more memory than exists, or a byte or a little work more than the
+# default limits; and parameters whose work is PBKDF2 more than cores, because N is small
 COSTLY = [(13, 1, 8192), (14, 1, 16384), (20, 1, 1048576), (50, 1, 16777216), (40, 8, 1), (56, 1, 1)]
 COSTLY += [(18, 9, 1), (17, 8, 5), (20, 1, 5), (10, 2056, 1), (4, 65536, 2)]
 COSTLY += [(1, 1, 2000000), (0, 1, 127132), (0, 127132, 1), (3, 8, 13111), (0, 1, 2097150)]

@@ -43,7 +43,7 @@ def filled(length, name, call):
 
 
 def deriving(name, derive, first=lambda log_n: log_n, verify=None):
-    """A function of C that takes log_n, or what `first` makes of it, r and p."""
+    """A C function that takes log_n, or the result of `first` for it, r and p."""
 
     def call(password, salt, log_n, r, p, length):
         texts = password, len(password), salt, len(salt)
@@ -53,7 +53,7 @@ def deriving(name, derive, first=lambda log_n: log_n, verify=None):
 
 
 def of_this_repository(path):
-    """This library in buffers that are kept, with as many tables as there are chunks, at most four, and as it allocates."""
+    """This library in kept buffers, with one table per chunk, up to four, and with its own allocations."""
     library = ours.loaded(path)
     kept = functools.lru_cache(maxsize=1)(lambda *params: list(ours.buffers(library, params, min(params[2], 4))))
 

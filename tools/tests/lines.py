@@ -1,10 +1,10 @@
-"""Error lines of the program that several tables have."""
+"""Error lines of the program that several tables share."""
 
 USAGE = (
     "usage: key LOG_N R P LEN SALT_HEX | hash phc|mcf LOG_N R P SALT_HEX [LEN] | verify HASH"
     " | rehash phc|mcf LOG_N R P LEN SALT_HEX HASH"
 )
-# The line for options that do not fit a command.
+# The line for options that the command does not take.
 MISFIT = {
     "key": "key takes no option except --raw and --strip-newline: see --help",
     "hash": "hash takes no option except --draw-salt, --recommended and --strip-newline: see --help",

@@ -1,12 +1,13 @@
 #!/usr/bin/env python3
-"""Converts hashes and keys that other programs make now, and verifies them by the program.
+"""Differential test against other programs: converts hashes and keys that they make now, and verifies
+them by the program.
 
 usage: python3 -m tools.tests.migration PROGRAM [--seed N]
 
-Each part draws passwords, lets another program hash them, converts the hashes by the functions of
-Python's scrypt_c.migration (those of Go and Node by their packages), and lets PROGRAM verify each
-with its password and with another one. What one of both refuses is tried too. The library is that
-of build/lib. What is not installed is named; the status is 1 if something differs.
+Each part draws passwords, lets another program hash them, converts the hashes with Python's
+scrypt_c.migration (Go and Node with their packages), and lets PROGRAM verify each with the right and
+a wrong password. Hashes that only one of the two rejects are tried too. The library is in build/lib.
+Missing programs are named; the status is 1 if something differs.
 """
 
 import argparse
@@ -41,14 +42,14 @@ DJANGO_TEXTS = [
      "ECMIUp+LMxMSK8xB/IVyba+KYGTI7FTnet025q/1f/vBAVnnP3hdYqJuRi+mJn6ji6ze3Fbb7JEFPKGpuEf5vw=="),
 ]
 
-# What passlib reads and the program does not: a part of a text with the salt `s`, another spelling.
+# Spellings that passlib reads and the program does not: a part of a text with the salt `s`, another spelling.
 PASSLIB_SPELLINGS = [
     ("ln=4", "ln=04", "ParamInvalid ln"),
     ("$cw$", "$cw==$", "EncodingInvalid"),
     ("$cw$", "$cx$", "EncodingInvalid"),
 ]
 
-# What crypt(3) does not verify and the program does: log_n, r, p and the key's length, a password.
+# Hashes that crypt(3) does not verify and the program does: log_n, r, p and the key's length, a password.
 CRYPT_REFUSES = [
     ((0, 8, 1, 32), b"password"),
     ((1, 8, 1, 32), b"password"),
@@ -105,7 +106,7 @@ func main() {
 
 
 class Trial:
-    """The program, and what agreed of one tool."""
+    """The program, and the number of agreements for one tool."""
 
     def __init__(self, program, rng):
         self.program, self.rng, self.agreed, self.notes = program, rng, [], []
@@ -125,7 +126,7 @@ class Trial:
         self.check(got == (2, "", f"hash refused: {error}\n"), text, got)
 
     def converted(self, convert, text, password):
-        """A text that is refused as it is, and verified once it is converted."""
+        """A text that is rejected as it is, and verified once it is converted."""
         self.refuses(text, "EncodingInvalid")
         self.verifies(convert(text), password)
 

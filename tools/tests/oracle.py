@@ -1,10 +1,11 @@
-"""Compares the program with independent implementations on random input.
+"""Differential test of the program against independent implementations, on random input.
 
 usage: python3 -m tools.tests.oracle PROGRAM [--seed N] [--worker PATH]
 
-Each part prints how many cases are as they should be. Parts whose library isn't installed, also where Debian puts it,
-are skipped and named. WORKER speaks the protocol that tools/bench/bench.py describes: with it, only 10,000 keys are compared,
-some of parameters and lengths that both have to refuse.
+Each part prints the number of cases that agree. Parts whose library isn't installed, also where
+Debian puts it, are skipped and named. WORKER speaks the protocol that tools/bench/bench.py
+describes: with it, only 10,000 keys are compared, some with parameters and lengths that both have to
+reject.
 """
 
 import argparse
@@ -25,7 +26,7 @@ CASES, WORKER_CASES = 200, 10_000
 
 
 class Missing(Exception):
-    """What a part needs and isn't installed."""
+    """A library that a part needs is not installed."""
 
 
 def passlib():
@@ -63,23 +64,23 @@ def some_bytes(rng, greatest):
 
 
 def words_of(*words):
-    """The words of a command, with salts in hexadecimal."""
+    """The arguments of a command, with salts in hexadecimal."""
     return [it.hex() if isinstance(it, bytes) else str(it) for it in words]
 
 
 def made(program, words, password, wanted):
-    """The case of a command that makes a line."""
+    """The case of a command that writes a line."""
     return f"{words} on {password.hex()}", unlimited(program, words, password), (0, f"{wanted}\n", "")
 
 
 def verified(program, text, password):
-    """The case of a hash that is verified with its password and with another one."""
+    """The case of a hash that is verified with its password and with a wrong one."""
     got = [unlimited(program, ["verify", text], it) for it in (password, password + b"x")]
     return f"verify {text!r} on {password.hex()}", got, [OK, NO]
 
 
 def some_case(rng):
-    """A password, a salt, parameters and a length, of which one in 50 is refused."""
+    """A password, a salt, parameters and a length, of which one in 50 is rejected."""
     password, salt = (some_bytes(rng, 2 + rng.choice((0, 1, 16, 80, most))) for most in (400, 300))
     log_n, r = rng.randrange(11), rng.randrange(1, 17)
     p = rng.randrange(1, 5) if r << log_n <= 2048 else 1
@@ -89,7 +90,7 @@ def some_case(rng):
 
 
 def keys(program, rng, derive=by_python, count=CASES):
-    """Keys of random passwords, salts, parameters and lengths, or that both refuse."""
+    """Keys of random passwords, salts, parameters and lengths; or both reject them."""
     for _ in range(count):
         password, salt, params, length = case = some_case(rng)
         try:
@@ -126,7 +127,7 @@ def hashes_of_crypt(program, rng):
 
 
 def some_params(rng):
-    """log_n, r, p and the length of a key, so few of each that two are often equal."""
+    """log_n, r, p and the length of a key, from few values, so that two are often equal."""
     return rng.randrange(3, 6), rng.randrange(1, 4), rng.randrange(1, 4), rng.choice((16, 31, 32, 33))
 
 
@@ -153,9 +154,9 @@ def rehashes(program, rng):
 def rehashes_of_passlib(program, rng):
     """passlib finds the same hashes weaker, and makes the same new ones; the hash in the tests is passlib's.
 
-    The two agree on log_n, and on keys of 32 bytes, the only ones that passlib has. An r or p that isn't the wanted
-    one is enough for passlib, and here it has to be below. So if none of the three is below, and r or p is above,
-    passlib rehashes a hash that is kept here.
+    The two agree on log_n, and on keys of 32 bytes, the only length in passlib. passlib rehashes if r or p differs from
+    the wanted value, this library only if it is below. So if no parameter is below, and r or p is above, passlib rehashes
+    a hash that is kept here.
     """
     scrypt = passlib()
     yield "the hash of the tests", scrypt.verify("password", known.PASSLIB), True

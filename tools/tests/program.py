@@ -1,8 +1,8 @@
-"""Runs the built program on command lines whose answers come from elsewhere, and on each fault once.
+"""Runs the built program on command lines whose results are known from elsewhere, and on each fault once.
 
-The answer of a run is a line on the standard output for the statuses 0 and 1, and otherwise on the standard error; the
-other one stays empty. The keys are those of RFC 7914, section 12, and of Python's hashlib; the hashes are those of
-tools/tests/known.py.
+A run writes one line, to standard output for the statuses 0 and 1, and otherwise to standard error;
+the other stream stays empty. The keys are from RFC 7914, section 12, and from Python's hashlib; the
+hashes are from hashes are from tools/tests/known.py.
 
 usage: python3 -m tools.tests.program PROGRAM        prints the first wrong answers
        python3 -m tools.tests.program PROGRAM all    prints all of them
@@ -38,7 +38,7 @@ THIRD_KEY = (
 )
 USUAL_BYTES, USUAL_WORK, LEAST = (header.NUMBERS[name] for name in ("MOST_BYTES", "MOST_WORK", "LEAST_KEY_LEN"))
 
-# The least log_n whose table with r = 8 has more.
+# The minimum log_n whose table with r = 8 is larger.
 ABOVE = USUAL_BYTES.bit_length() - 10
 
 
@@ -61,11 +61,11 @@ def key_of(password, salt, length):
     return hashlib.scrypt(password, salt=salt, n=16, r=1, p=1, dklen=length)
 
 
-# A format, a long salt, and the hash of the empty password. That of a PHC hash has at most 64 bytes.
+# A format, a long salt, and the hash of the empty password. The salt of a PHC hash has up to 64 bytes.
 LONG_SALTS = [(form, salt, reference.hash_of(form, b"", salt, 4, 1, 1, 32))
               for form, salt in (("phc", b"s" * 64), ("mcf", b"s" * 64), ("mcf", b"s" * 65), ("mcf", b"s" * 5000))]
 
-# Each row has the words between single blanks, the input, the status, the line, and the reason for the row.
+# Each row has the arguments between single blanks, the input, the status, the line, and the reason for the row.
 ANSWERS = [
     ("key 4 1 1 64 ", "", 0, FIRST_KEY, "the first key of RFC 7914"),
     ("key 10 8 16 64 4e61436c", "password", 0, SECOND_KEY, "the second, whose sixteen chunks share a table"),
@@ -107,7 +107,7 @@ ANSWERS = [
       for form, salt, text in LONG_SALTS),
 ]
 
-# Lines that are not commands, by what is wrong.
+# Lines that are not commands, by error.
 NO_COMMANDS = {
     "no command": ["", "help", "Key 4 1 1 64 ", "--usual-limits", "--draw-salt", "--recommended", "--strip-newline", "--most-work=1"],
     "no command after an option": ["--usual-limits help"],
@@ -125,21 +125,21 @@ NO_COMMANDS = {
                                     "hash --draw-salt phc 4 1 1", f"rehash phc 4 1 1 --draw-salt 32 {EMPTY}"],
 }
 
-# What is not a number, and each place for one.
+# Texts that are not numbers, and each argument that is a number.
 NO_NUMBERS = {"": "nothing", "04": "a leading zero", "00": "two digits for 0", "+4": "a plus", "-4": "a minus", "4.": "a dot",
               "0x4": "hexadecimal", "\u0664": "a digit that is not ASCII"}
 NUMBER_PLACES = ["key {} 1 1 64 ", "key 4 {} 1 64 ", "key 4 1 {} 64 ", "key 4 1 1 {} ", "hash mcf {} 1 1 ", "hash phc 4 {} 1 00",
                  "hash mcf 4 1 {} ", "hash mcf 4 1 1  {}", "rehash mcf {} 1 1 32  " + EMPTY, "rehash mcf 4 {} 1 32  " + EMPTY,
                  "rehash phc 4 1 {} 32 00 " + EMPTY, "rehash mcf 4 1 1 {}  " + EMPTY]
 
-# The greatest number that each place takes. It is read, and then not accepted; one more is a usage error.
+# The maximum of each number. It is read, and then not accepted; one more is a usage error.
 GREATEST = list(zip(NUMBER_PLACES, itertools.cycle((255, 2**32 - 1, 2**32 - 1, 2**64 - 1))))
 
 # Parameters that are not accepted.
 NOT_ACCEPTED = {"4 0 1": "r is 0", "4 1 0": "p is 0", "57 1 1": "N * r is 2^57", "28 1073741823 1": "N * r is above 2^57",
                 "255 1 1": "N is 2^255", "1 1073741824 1": "r * p is 2^30", "4 65536 65536": "r * p is 2^32"}
 
-# Each fault but those of hashes that are verified (tools/tests/hashes.py).
+# Each fault, except for the verification of hashes (tools/tests/hashes.py).
 FAULTS = [
     *((line, "", 2, USAGE, reason) for reason, lines in NO_COMMANDS.items() for line in lines),
     *((place.format(it), "", 2, USAGE, reason) for place in NUMBER_PLACES for it, reason in NO_NUMBERS.items()),
@@ -212,7 +212,7 @@ REHASHES = [
     (f"rehash phc 15 8 1 10 00 {PASSLIB}", "password", 0, "ok", "nothing is below"),
 ]
 
-# The words, the input, the status, the line, and the reason for the row. EMPTY needs 128 + 2048 + 256 bytes, and the
+# The arguments, the input, the status, the line, and the reason for the row. EMPTY needs 128 + 2048 + 256 bytes, and the
 # work 4 * (16 + 32).
 LIMITS = [
     (f"--most-bytes=2432 verify {EMPTY}", "", 0, "ok", "as much memory as is allowed"),
@@ -304,8 +304,8 @@ def long_passwords(program):
 
 
 def salts(program):
-    """Hashes whose salt is drawn have different ones of 16 bytes, and accept their passwords; without random bytes, none is
-    made."""
+    """Hashes with a drawn salt have different salts of 16 bytes, and accept their passwords; without random bytes, no hash
+    is made."""
     drawn = set()
     # The salt of a `$7$` text has its 11 letters of the parameters before it.
     for form, letters in (("phc", 22), ("mcf", 33)) * 2:
@@ -351,7 +351,7 @@ def raw_keys(program):
 
 
 def refused_memory(program):
-    """Each allocation fails in turn, if what fails it can be built here."""
+    """Each allocation fails in turn, if failing_calls.c can be built here."""
     if runs.COMPILER:
         yield from allocations.cases(program)
     else:
@@ -359,7 +359,7 @@ def refused_memory(program):
 
 
 def terminal(program):
-    """Runs on a terminal, if the program that is installed can be linked here."""
+    """Runs on a terminal, if the installed program can be linked here."""
     if not runs.COMPILER:
         print("a C compiler is not installed (package gcc): not run: the program on a terminal")
     elif not os.path.exists(f"{program}.o"):
@@ -369,7 +369,7 @@ def terminal(program):
 
 
 def main():
-    # What a program touches counts what this one has before, so that this is first.
+    # The memory that a program touches includes this script's at its start, so this test is first.
     parts = [memory, rows, long_passwords, streams, cuts, faults, refused_memory, salts, hash_files, information, raw_keys, terminal]
     shown = {"shown": sys.maxsize} if sys.argv[2:] == ["all"] else {}
     _, wrong = runs.report("program", itertools.chain(*(part(sys.argv[1]) for part in parts)), **shown)

@@ -1,4 +1,4 @@
-"""Runs the program that is installed on a terminal, where it asks for the password without echo."""
+"""Runs the installed program on a terminal, where it asks for the password without echo."""
 
 import os
 import signal
@@ -19,8 +19,8 @@ ONCE, TWICE = ["Password: "], ["Password: ", "The same again: "]
 
 ENDING = signal.SIGALRM, signal.SIGHUP, signal.SIGINT, signal.SIGQUIT, signal.SIGTERM
 
-# The words, what is typed at each question or which signal comes, the status (below 0 for a signal), the lines on the
-# terminal, and the reason.
+# The arguments, the input typed at each prompt or the signal, the status (below 0 for a signal), the
+# lines on the terminal, and the reason.
 ROWS = [
     (KEY, ["password\n"], 0, [*ONCE, "d33c6ec1818daaf728f55afadfeaa558"], "a key is asked for once"),
     (HASH, ["password\n"] * 2, 0, [*TWICE, HASHLIB], "a hash twice"),
@@ -46,7 +46,7 @@ ROWS = [
 
 
 def non_blocking(words, parts):
-    """How a run ends whose input is a pipe that does not block, which gets each part after some time."""
+    """How a run ends whose input is a non-blocking pipe, to which the parts are written after some time."""
     read, write = os.pipe()
     os.set_blocking(read, False)
     ran = subprocess.Popen(words, stdin=read, stdout=subprocess.PIPE, stderr=subprocess.PIPE, text=True)
@@ -59,7 +59,7 @@ def non_blocking(words, parts):
 
 
 def cases(program):
-    """Each row, by the program that is linked from the proved one. The echo is off at each question, and on again."""
+    """Each row, by the program that is linked from the proved one. The echo is off at each prompt, and then on again."""
     with tempfile.TemporaryDirectory() as folder:
         subprocess.run([f"{TOP}/bindings/cli/build.sh", program, f"{folder}/scrypt_tool"], check=True)
         subprocess.run([f"{TOP}/tools/release/hardened.sh", f"{folder}/scrypt_tool"], check=True)

@@ -1,7 +1,7 @@
-"""scrypt (RFC 7914) in plain Python, written from the standard, for what OpenSSL refuses.
+"""scrypt (RFC 7914) in plain Python, written from the standard, for parameters that OpenSSL rejects.
 
-It is slow, and takes N = 1 and N from 2^(16*r) too. And hashes by it, and which are weaker than wanted, as
-docs/DECISIONS.md says it.
+It is slow, and takes N = 1 and N from 2^(16*r) too. It also makes hashes, and compares which are
+weaker than wanted, as defined in docs/DECISIONS.md.
 """
 
 import hashlib
@@ -74,7 +74,7 @@ def scrypt(password, salt, log_n, r, p, length):
 
 
 def key(password, salt, log_n, r, p, length):
-    """The key by OpenSSL, or by plain Python if OpenSSL refuses the parameters."""
+    """The key by OpenSSL, or by plain Python if OpenSSL rejects the parameters."""
     if 1 <= log_n < 16 * r:
         return hashlib.scrypt(password, salt=salt, n=1 << log_n, r=r, p=p, dklen=length, maxmem=1 << 30)
     return scrypt(password, salt, log_n, r, p, length)
@@ -94,15 +94,15 @@ def accepted(log_n, r, p):
 
 
 def is_weaker(stored, wanted):
-    """Whether log_n, r, p or the length of the key is below the wanted one; one of the four is enough."""
+    """Whether log_n, r, p or the length of the key is below the wanted value; one of the four is enough."""
     return any(has < wants for has, wants in zip(stored, wanted))
 
 
 def thin_ro_mix(words, n, s):
     """scryptROMix by a table of the rows whose numbers are multiples of 2^s, and its cores.
 
-    A row that the table lacks is recomputed from the row below it that the table has. Each block mix
-    adds its cores to the count.
+    A missing row is recomputed from the nearest row below it in the table. Each block mix adds its
+    cores to the count.
     """
     cores = 0
 

@@ -1,4 +1,4 @@
-"""Runs of the built programs, and the cases that compare their answers with the wanted ones."""
+"""Runs of the built programs, and cases that compare their results with the expected ones."""
 
 import contextlib
 import os
@@ -11,24 +11,24 @@ COMPILER = shutil.which(os.environ.get("CC", "cc"))
 
 
 def run(words, password=b"", **options):
-    """How a run ends: its status, and what it wrote to the standard output and error."""
+    """How a run ends: its status, its standard output and its standard error."""
     ran = subprocess.run(words, input=password, capture_output=True, **options)
     return ran.returncode, ran.stdout.decode(), ran.stderr.decode()
 
 
 def unlimited(program, words, password):
-    """How a run of scrypt_tool ends that verifies hashes of any cost."""
+    """How a run of scrypt_tool ends, with hashes of any cost."""
     return run([program, *words], password)
 
 
 def redirected(shell, words):
-    """How a run ends whose streams the shell opens, in a line that has `"$@"` for its words."""
+    """How a run ends whose streams the shell opens, in a line that has `"$@"` for the arguments."""
     return run(["sh", "-c", shell, "sh", *words])
 
 
 @contextlib.contextmanager
 def failing_calls():
-    """The path of failing_calls.c as a library that is preloaded."""
+    """The path of failing_calls.c as a library to preload."""
     with tempfile.TemporaryDirectory() as folder:
         library, source = f"{folder}/failing_calls.so", os.path.join(os.path.dirname(__file__), "failing_calls.c")
         subprocess.run([COMPILER, "-O2", "-shared", "-fPIC", source, "-o", library], check=True)
@@ -36,9 +36,9 @@ def failing_calls():
 
 
 def report(title, cases, shown=20):
-    """Prints the first cases whose answer is not the wanted one, and returns how many are right and how many are wrong.
+    """Prints the first cases whose result is not the expected one, and returns the numbers of right and wrong cases.
 
-    A case is a triple: what it is about, the answer, and the wanted answer.
+    A case is a triple: a description, the result, and the expected result.
     """
     right = wrong = 0
     for about, answer, wanted in cases:

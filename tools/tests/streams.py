@@ -1,4 +1,4 @@
-"""Runs the program over streams that fail, and where memory is refused."""
+"""Runs the program with streams that fail, and with failing allocations."""
 
 import os
 import pty
@@ -9,11 +9,11 @@ import tty
 from tools.tests import runs
 from tools.tests.known import EMPTY, EMPTY_PHC
 
-# One command of each kind, which all answer an empty password with status 0.
+# One command of each kind, all of which return status 0 for an empty password.
 STREAM_COMMANDS = ["key 4 1 1 64 ", "hash phc 4 1 1 00", "hash mcf 4 1 1 ", f"verify {EMPTY_PHC}", f"verify {EMPTY}"]
 STREAM_COMMANDS += [f"rehash phc 5 1 1 32 00 {EMPTY}"]
 
-# Lines that are read while the input fails, the status and the fault: what is looked at before the input and after it.
+# Lines that are read while the input fails, the status and the fault: checks before the input and after it.
 ORDERS = [
     ("key 4 1 1 0 ", 2, "invalid output buffer length", "the words come before the input"),
     ("verify $scrypt$", 2, "hash refused: EncodingInvalid", "a PHC text is read before it"),
@@ -30,7 +30,7 @@ ORDERS = [
     ("--usual-limits verify $7$s/..../....$r/", 4, "input failed", "and the limits"),
 ]
 
-# A line for each fault without numbers that the arguments alone can have. It is written at once.
+# A line for each fault without numbers that the arguments can cause. It is written by one write.
 FAULTS = ["help", "--hash-file verify", "--raw hash phc 4 1 1 00", "--recommended key 16", "--draw-salt verify x", "--raw rehash x"]
 FAULTS += ["key 4 1 1 16 0", "key 4 0 1 16 ", "key 4 1 1 0 ", "hash phc 4 1 1 ", "key 56 1 1 32 ", "\udcff"]
 FAULTS += ["verify $", "verify $argon2id", "verify $7$2/..../....$", "verify $scrypt$v=1"]
@@ -44,19 +44,19 @@ STREAMS = [
     ('"$@" <&-', "input failed\n", "the standard input is closed"),
 ]
 
-# How many bytes the input has before it fails, and the reason for the row.
+# The number of bytes of the input before it fails, and the reason for the row.
 ENDS = [(1, "after a first piece"), (3000, "after several reads, the last a short one")]
 
-# Parameters whose chunks take 2 GiB, and whose table is refused: log_n is 56, r is 1 and p is 2^24. Nothing is written
-# before everything is allocated, so that the run touches little memory. Each row has a bound on the addresses of the
-# run, and the reason for the row.
+# Parameters whose chunks take 2 GiB, and whose table cannot be allocated: log_n is 56, r is 1 and p is
+# 2^24. Nothing is written before everything is allocated, so that the run touches little memory. Each
+# row has a limit on the address space of the run, and the reason for the row.
 REFUSED_TABLE = "verify $7$s/......../$r/"
 MOST_TOUCHED = 64 << 20
 ADDRESSES = [("unlimited", "there is room for the chunks"), (1 << 30, "there is none")]
 
 
 def without_reader(words):
-    """How a run ends whose output is a pipe that nobody reads."""
+    """How a run ends whose output is a pipe without a reader."""
     read, write = os.pipe()
     os.close(read)
     ran = subprocess.run(words, stdin=subprocess.DEVNULL, stdout=write, stderr=subprocess.PIPE)
@@ -65,7 +65,7 @@ def without_reader(words):
 
 
 def failing_after(length, words):
-    """How a run ends whose input fails after so many bytes: one side of a terminal whose other side wrote them and closed."""
+    """How a run ends whose input fails after `length` bytes: one side of a terminal whose other side wrote them and closed."""
     input, terminal = pty.openpty()
     tty.setraw(terminal)
     os.write(terminal, b"x" * length)
@@ -76,12 +76,12 @@ def failing_after(length, words):
 
 
 def writes_of(stream, words):
-    """What each write to one of the outputs of a run writes, through a pipe that keeps them apart."""
+    """The content of each write to one of the outputs of a run, through a pipe that keeps writes separate."""
     read, write = os.pipe2(os.O_DIRECT)
     how = {"stdin": subprocess.DEVNULL, "stdout": subprocess.DEVNULL, "stderr": subprocess.DEVNULL, stream: write}
     ran = subprocess.Popen(words, **how)
     os.close(write)
-    # While it runs, since a pipe holds few writes.
+    # While it runs, because a pipe holds few writes.
     with open(read, "rb", buffering=0) as pipe:
         writes = [text.decode() for text in iter(lambda: pipe.read(1 << 16), b"")]
     ran.wait()
@@ -89,9 +89,9 @@ def writes_of(stream, words):
 
 
 def cut_at(length, stream, words):
-    """The status of a run one of whose outputs is a file that takes only so many bytes, and what this and the other get."""
+    """The status of a run one of whose outputs is a file that takes only `length` bytes, and the content of both outputs."""
     with tempfile.TemporaryFile() as file:
-        # Python ignores the signal of a file that is too large, and so does what it runs: writing fails.
+        # Python ignores the signal of a file that is too large, and so do its child processes: writing fails.
         how = {"stdout": subprocess.PIPE, "stderr": subprocess.PIPE, stream: file, "restore_signals": False}
         ran = subprocess.run(["prlimit", f"--fsize={length}", *words], stdin=subprocess.DEVNULL, **how)
         file.seek(0)
@@ -99,7 +99,7 @@ def cut_at(length, stream, words):
 
 
 def cuts(program):
-    """Outputs that take only the start of a line, which is written at once: an answer fails, and a fault keeps its status."""
+    """Outputs that take only the start of a line, which is written by one write: a result fails, and a fault keeps its status."""
     for line in STREAM_COMMANDS:
         words = [program, *line.split(" ")]
         answer = runs.run(words)[1]
@@ -151,7 +151,7 @@ def streams(program):
 
 
 def touched_by(program, line, addresses):
-    """How a run ends whose addresses are bounded, and how many bytes of memory it touched."""
+    """How a run with a limit on its address space ends, and how many bytes of memory it touched."""
     words = ["prlimit", f"--as={addresses}", program, *line.split(" ")]
     ran = subprocess.Popen(words, stdin=subprocess.DEVNULL, stderr=subprocess.PIPE)
     error = ran.stderr.read().decode()

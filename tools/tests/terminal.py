@@ -13,8 +13,8 @@ def has_echo(terminal):
 
 
 def send(pid, terminal, answer):
-    """Types an answer or sends a signal. A signal that comes before readpassphrase waits for its input is not seen
-    until another one comes: so it is sent again where the program says nothing for a second."""
+    """Types an answer or sends a signal. A signal that arrives before readpassphrase waits for its input is not seen
+    until another one arrives, so it is sent again if the program prints nothing for a second."""
     while True:
         if isinstance(answer, int):
             os.kill(pid, answer)
@@ -39,7 +39,7 @@ def session(words, answers):
         try:
             part = os.read(terminal, 1024)
         except OSError:
-            # Linux may say that the program has closed its side before it gives what was written last.
+            # Linux can report that the program has closed its side before it returns the last output.
             if is_closed:
                 break
             is_closed = True
@@ -56,5 +56,5 @@ def session(words, answers):
 
 
 def on_terminal(words, answers):
-    """The status of a program that gets these answers, each with a newline."""
+    """The status of a program to which these answers are typed, each with a newline."""
     return session(words, [it.encode() + b"\n" for it in answers])[0]

@@ -1,4 +1,4 @@
-"""An implementation in a process of its own, as tools/bench/bench.py describes it."""
+"""An implementation in a separate process, as tools/bench/bench.py describes it."""
 
 import os
 import subprocess
