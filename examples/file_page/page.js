@@ -23,7 +23,7 @@ async function choose([given]) {
     if (given.size > MOST_BYTES) throw new Error(`This file has more than ${inMiB(MOST_BYTES)}.`);
     const bytes = new Uint8Array(await given.arrayBuffer());
     const params = await paramsOf(bytes);
-    if (chosen !== current) return; // another file was chosen meanwhile
+    if (chosen !== current) return; // another file has been chosen
     Object.assign(current, { bytes, params });
     if (params) drop.lastChild.textContent += `\n${costOf(params)}`;
     go.textContent = params ? 'Open' : 'Encrypt';

@@ -23,7 +23,7 @@ export async function paramsOf(file) {
 }
 
 // An untrusted file chooses its own cost: the limits are the memory, and N * r * p of memory / 32,
-// which is four times what (N, r, p) = (memory / 1024, 8, 1) has.
+// which is four times the value for (N, r, p) = (memory / 1024, 8, 1).
 async function deriveKeys(password, salt, params, { memory, signal, onProgress }) {
   const limits = { maxmem: memory + 2 ** 20, maxwork: 4 * 4 * (memory / 1024 + 32) * 8 };
   const options = { ...params, ...limits, dkLen: 64, signal, onProgress };

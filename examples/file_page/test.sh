@@ -1,5 +1,5 @@
 #!/bin/sh
-# Tests the page in Chromium over the module that `make js` built, beside the program scrypt.
+# Tests the page in Chromium over the module that `make js` built, against the program scrypt.
 set -eu
 unset CDPATH
 cd "$(dirname "$0")"

@@ -1,5 +1,5 @@
 #!/usr/bin/env python3
-"""Opens and makes files in a headless Chromium, beside the program scrypt."""
+"""Opens and makes files in a headless Chromium, and compares with the program scrypt."""
 
 import functools
 import hashlib

@@ -47,7 +47,7 @@ class KeyFilesTest(unittest.TestCase):
             self.refuses("wrong password", open_file, file, PASSWORD + "x")
 
     def test_keys_are_those_of_hashlib(self):
-        for open_file, file, _ in VECTORS[:2]:  # OpenSSL refuses r = 1 with N = 2^18
+        for open_file, file, _ in VECTORS[:2]:  # OpenSSL rejects r = 1 with N = 2^18
             with mock.patch("key_files.scrypt", wraps=key_files.scrypt) as ours:
                 open_file(file, PASSWORD)
             (password,), salt_and_params = ours.call_args

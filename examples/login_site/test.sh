@@ -1,5 +1,5 @@
 #!/bin/sh
-# Tests the site over build/lib, by SQLite, and by PostgreSQL in a cluster of the test's own.
+# Tests the site over build/lib, with SQLite, and with PostgreSQL in a temporary cluster.
 set -eu
 unset CDPATH
 cd "$(dirname "$0")"

@@ -2,23 +2,24 @@
 
 usage: python3 -m tools.bench.bench LIBRARY [--worker NAME=PATH].. [--runs 15] [--cpu N] [--params 14,8,1:17,8,1]
 
-All libraries are called in one process: this one (LIBRARY is libscrypt_c.so) by scrypt_key_with_buffers, in buffers that
-are kept from call to call, with as many tables as there are chunks, at most four, and by scrypt_key; libxcrypt, libsodium,
-libscrypt-kdf, and hashlib, which calls OpenSSL. A library that isn't installed is named and left out.
-Each round calls every one once, in a new random order, on one processor (--cpu, by default the last). The minimum and the
-median of the rounds are printed as a table in Markdown. An implementation has no figure if it returns an error or another
-key than OpenSSL.
+All libraries are called in one process: this library (LIBRARY is libscrypt_c.so) by
+scrypt_key_with_buffers, in buffers that are kept between calls, with one table per chunk, up to four,
+and by scrypt_key; libxcrypt, libsodium, libscrypt-kdf, and hashlib, which calls OpenSSL. A library
+that isn't installed is named and left out. Each round calls each library once, in a new random order,
+on one processor (--cpu, by default the last). The minimum and the median of the rounds are printed as
+a table in Markdown. An implementation has no figure if it returns an error or a key that differs from
+OpenSSL's.
 
-Each call but the first kind allocates its table and frees it, so page faults are part of its time. This library asks for
-pages of 2 MiB; with GLIBC_TUNABLES=glibc.malloc.hugetlb=1 in the environment malloc asks for them for the others too,
-except for those that map their table.
+Each call except the first kind allocates its table and frees it, so page faults are part of its
+time. This library asks for pages of 2 MiB; with GLIBC_TUNABLES=glibc.malloc.hugetlb=1 in the
+environment malloc asks for them for the others too, unless they map their table.
 
-Other programs can be added with --worker. A worker is a process of its own on the same processor that reads lines and
-answers each one with a line, immediately:
+Other programs can be added with --worker. A worker is a separate process on the same processor that
+reads lines and answers each line immediately with a line:
 
     LOG_N R P LENGTH PASSWORD SALT REPEATS      numbers, and bytes in hexadecimal (- for none)
-    ok NANOSECONDS NANOSECONDS KEY              the least wall time and processor time, and the key
-    err REASON                                  if the input is refused
+    ok NANOSECONDS NANOSECONDS KEY              the minimum wall time and processor time, and the key
+    err REASON                                  if the input is rejected
 """
 
 import argparse
@@ -47,7 +48,7 @@ def derived(implementation, params):
 
 
 def times(implementations, params, runs):
-    """The times of each implementation, or none if one of its calls failed or its key differs from OpenSSL's."""
+    """The times of each implementation; empty if one of its calls failed or its key differs from OpenSSL's."""
     calls = {it.name: [] for it in implementations}
     for _ in range(runs):
         for it in random.sample(implementations, len(implementations)):

@@ -1,9 +1,10 @@
-"""Measures the slowest hash within the default bounds, for each log_n and some r.
+"""Measures the slowest hash within the default limits, for each log_n and some r.
 
 usage: python3 -m tools.bench.bounds LIBRARY
 
-LIBRARY is the shared C library of this repository. For each log_n and r, p is the greatest that scrypt_params_need
-allows. The last column is the time relative to the slowest hash with log_n of 10 or more and r = 8.
+LIBRARY is the shared C library of this repository. For each log_n and r, p is the maximum that
+scrypt_params_need allows. The last column is the time relative to the slowest hash with log_n of 10
+or more and r = 8.
 """
 
 import ctypes
@@ -15,7 +16,7 @@ LOG_NS, RS = range(0, 22), (1, 2, 8, 64)
 
 
 def default_bounds(library):
-    """Those of a hasher that makes hashes with the recommended parameters: on bytes and on work."""
+    """The limits of a hasher that makes hashes with the recommended parameters: on bytes and on work."""
     made = ctypes.c_size_t(), ctypes.c_uint64(), ctypes.c_size_t()
     if library.scrypt_limits_for_new(17, 8, 1, 32, *map(ctypes.byref, made)) != 0:
         sys.exit("no default bounds")
@@ -23,7 +24,7 @@ def default_bounds(library):
 
 
 def most_p(library, bounds, log_n, r):
-    """The greatest p within the bounds, or 0."""
+    """The maximum p within the limits, or 0."""
     needs = ours.Needs()
     below, above = 0, 1 << 30
     while above - below > 1:
@@ -38,7 +39,7 @@ def main():
     bounds = default_bounds(library)
     verify = ours.verifying(library, *bounds)
     rows = [(log_n, r, most_p(library, bounds, log_n, r)) for log_n in LOG_NS for r in RS]
-    # The minimum of two, of which the first maps the memory.
+    # The minimum of two: the first one maps the memory.
     times = {row: min(ours.seconds(verify, *row) for _ in range(2)) for row in rows if row[2] > 0}
     slowest = max(taken for (log_n, r, _), taken in times.items() if log_n >= 10 and r == 8)
     print("| log_n | r | p | seconds | relative to the slowest with r = 8 |\n|---|---|---|---|---|")

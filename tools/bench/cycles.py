@@ -1,11 +1,12 @@
 #!/usr/bin/env python3
-"""Estimates the cycles of a Salsa20/8 core on arm64 by llvm-mca, which simulates a processor's pipeline by LLVM's description of it.
-No caches are simulated, and nothing is measured.
+"""Estimates the cycles of a Salsa20/8 core on arm64 by llvm-mca, which simulates a processor's
+pipeline from LLVM's description. No caches are simulated, and nothing is measured.
 
 usage: cycles.py LIBRARY [PROCESSOR..]
 
-LIBRARY is a library or an object for arm64. For each number of chunks at once it prints the least and the most cycles of the loops
-that registers.py knows, for each of their cores. It takes the newest llvm-mca that is installed, and names its version.
+LIBRARY is a library or an object for arm64. For each number of interleaved chunks it prints the
+minimum and maximum number of cycles per core of the loops that registers.py finds. It uses the newest
+llvm-mca that is installed, and names its version.
 """
 
 import collections
@@ -32,7 +33,7 @@ def simulator():
 
 
 def cycles(llvm_mca, texts, processor):
-    """How many cycles one iteration of a loop takes, with these instructions."""
+    """The number of cycles of one iteration of a loop with these instructions."""
     lines = [BRANCH.sub(r"\1 .L", re.sub(r"\s+//.*", "", it)) for it in texts]
     options = ["-mtriple=aarch64", f"-mcpu={processor}", f"-iterations={ITERATIONS}", "-resource-pressure=false"]
     ran = subprocess.run([llvm_mca, *options], input="\n".join([".L:", *lines, ""]), capture_output=True, check=True, text=True)

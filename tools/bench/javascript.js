@@ -40,7 +40,7 @@ export async function measure(others = () => ({})) {
   for (const [logN, r, p] of PARAMS) {
     const best = {};
     const keys = new Set();
-    // In turns, so that all meet the same load.
+    // They alternate, so that all have the same load.
     for (let round = 0; round < ROUNDS; round++) {
       for (const [name, derive] of Object.entries(kinds)) {
         const begun = performance.now();

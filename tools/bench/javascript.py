@@ -1,9 +1,10 @@
-"""Measures the package for JavaScript for docs/PARAMETERS.md, beside plain JavaScript and Node's crypto.
+"""Measures the package for JavaScript for docs/PARAMETERS.md, with plain JavaScript and Node's crypto.
 
 usage: python3 -m tools.bench.javascript [NAME=COMMAND..]    other browsers, whose command opens a page, as 'Firefox=firefox-esr --headless --profile FOLDER'
 
-In Node and in Chromium, if they are installed, keys are derived in turns in the page's own thread. The least time of 6 is divided by
-the number of Salsa20/8 cores, 4 * N * r * p. It needs bindings/js/scrypt.wasm, which `make js` makes.
+In Node and in Chromium, if they are installed, the implementations alternate in the page's own
+thread. The minimum of 6 times is divided by the number of Salsa20/8 cores, 4 * N * r * p. It needs
+bindings/js/scrypt.wasm, which `make js` builds.
 """
 
 import json
@@ -20,7 +21,7 @@ TOP = Path(__file__).resolve().parents[2]
 
 in_browser.SECONDS = 900
 
-# Prints what javascript.js measures, as JSON.
+# Prints the measurements of javascript.js as JSON.
 NODE = """
 import { scryptSync } from 'node:crypto';
 import { measure } from './javascript.js';
@@ -37,7 +38,7 @@ def in_node():
 
 
 def of_page(said):
-    """The rows that a page sends, or none if it sends an error."""
+    """The rows that a page sends; empty if it sends an error."""
     rows = json.loads(said or "null")
     if not isinstance(rows, list):
         print(f"a page failed: {rows}\n")

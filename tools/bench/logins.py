@@ -1,9 +1,10 @@
-"""Measures how many logins a second a hasher verifies, and how long they wait, and prints a table in Markdown.
+"""Measures the throughput of a hasher in logins a second, and their latency, and prints a table in Markdown.
 
 usage: python3 -m tools.bench.logins LIBRARY [--clients 16:8] [--seconds 10] [--params 17,8,1] [--tables 1:2:4]
 
-LIBRARY is libscrypt_c.so. Each client is a thread that verifies one PHC hash again and again, on all processors, with a
-hasher that has so many tables for each processor. What the hashers do in the first tenth of the seconds isn't counted.
+LIBRARY is libscrypt_c.so. Each client is a thread that verifies one PHC hash repeatedly, on all
+processors, with a hasher that has --tables tables for each processor. The first tenth of the seconds
+isn't counted.
 """
 
 import argparse

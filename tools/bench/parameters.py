@@ -2,10 +2,11 @@
 
 usage: python3 -m tools.bench.parameters LIBRARY [RUNS [PICTURE]]
 
-LIBRARY is the shared C library of this repository. A login is one call of scrypt_verify on a PHC text. For each log_n,
-at r = 8 and p = 1, a process of its own prints the seconds of its first login, the minimum of RUNS others (by default 7),
-and its peak memory. Seconds are processor time, so other work on the machine matters only as far as it slows memory down.
-With PICTURE, the minimum over the memory of the table is drawn there as SVG.
+LIBRARY is the shared C library of this repository. A login is one call of scrypt_verify on a PHC
+string. For each log_n, at r = 8 and p = 1, a separate process prints the seconds of its first login,
+the minimum of RUNS others (by default 7), and its peak memory. Seconds are processor time, so other
+work on the machine matters only if it slows memory down. With PICTURE, the minimum over the memory of
+the table is drawn there as SVG.
 """
 
 import multiprocessing
@@ -20,7 +21,7 @@ LOG_NS = range(10, 21)
 
 
 def logins(path, log_n, runs):
-    """The seconds of the first login, the least of the others, and the mebibytes that the process had at its peak."""
+    """The seconds of the first login, the minimum of the others, and the peak memory of the process in MiB."""
     verify, before = ours.loaded(path).scrypt_verify, resource.getrusage(resource.RUSAGE_SELF).ru_maxrss
     first, *others = (ours.seconds(verify, log_n, 8, 1) for _ in range(1 + runs))
     return first, min(others), (resource.getrusage(resource.RUSAGE_SELF).ru_maxrss - before) / 1024

@@ -2,7 +2,7 @@
 
 const rotated = (x, n) => (x << n) | (x >>> (32 - n));
 
-// 16 words of `to` become the Salsa20/8 core of those of `last` xor those of `from`.
+// Writes the Salsa20/8 core of 16 words of `last` xor 16 words of `from` to `to`.
 function core(last, before, from, at, to, place) {
   let a = last[before] ^ from[at], b = last[before + 1] ^ from[at + 1], c = last[before + 2] ^ from[at + 2], d = last[before + 3] ^ from[at + 3];
   let e = last[before + 4] ^ from[at + 4], f = last[before + 5] ^ from[at + 5], g = last[before + 6] ^ from[at + 6], h = last[before + 7] ^ from[at + 7];

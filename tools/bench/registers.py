@@ -3,13 +3,15 @@
 
 usage: registers.py [LIBRARY..]
 
-Each LIBRARY is a shared or static library, an object or a program, by default the libraries of build/lib. The compiler drops an
-`inline(always)` without a word where a function grows too large. The keys stay the same, but each block then goes through memory,
-and one chunk takes up to 1.12 of the time, two up to 1.19.
+Each LIBRARY is a shared or static library, an object or a program, by default the libraries of
+build/lib. The compiler silently ignores `inline(always)` if a function grows too large. The keys stay
+the same, but each block then goes through memory, and one chunk takes up to 1.12 times as long, two
+up to 1.19 times.
 
-A loop of the block mix has two cores of each chunk that it mixes. It is known by its rotations, and how many chunks it mixes by
-their number. For each loop this counts the vector instructions, and those of them with an operand on the stack. It fails if
-a number of chunks has no such loop, a loop calls a function, cores are outside of a loop, or a number is above its limit.
+A loop of the block mix has two cores of each interleaved chunk. It is recognized by its rotations,
+whose number gives the number of chunks. For each loop this counts the vector instructions, and the
+vector instructions with an operand on the stack. It fails if a number of chunks has no such loop, a
+loop calls a function, cores are outside of a loop, or a number is above its limit.
 """
 
 import re
@@ -19,13 +21,15 @@ from pathlib import Path
 
 BUILT = Path(__file__).parents[2] / "build" / "lib"
 
-# The limits of a loop by the number of its chunks: the vector instructions, and those with an operand on the stack. They are a
-# little above what was measured: for x86-64-v3 up to 404 and 0, 440 and 0, 852 and 12, 890 and 22; for x86-64-v2, whose
-# instructions overwrite an operand and whose vectors have four words, up to 528 and 0, 1082 and 24, 1688 and 78, 2410 and 355; for
-# three and four on arm64, which has 32 registers of four words, up to 1126 and 0, 1557 and 38. Blocks of three or four chunks that
-# go through memory take 32 more, or those of x86-64-v2 48 and 64. On arm64 no two are in one loop: one chunk is in words, and its
-# rows are in vectors. The 16 words of a block and those that its core makes of them don't fit into 31 registers: what is on the
-# stack counts as a vector instruction too, and these are up to 80 and 46.
+# The limits of a loop by the number of its chunks: the vector instructions, and the vector
+# instructions with an operand on the stack. They are a little above the measured numbers: for
+# x86-64-v3 up to 404 and 0, 440 and 0, 852 and 12, 890 and 22; for x86-64-v2, whose instructions
+# overwrite an operand and whose vectors have four words, up to 528 and 0, 1082 and 24, 1688 and 78,
+# 2410 and 355; for three and four on arm64, which has 32 registers of four words, up to 1126 and 0,
+# 1557 and 38. Blocks of three or four chunks that go through memory take 32 more, or on x86-64-v2 48
+# and 64. On arm64 two chunks are not interleaved: one chunk is in scalar registers, and its rows are
+# in vectors. The 16 words of a block and the words that its core computes from them don't fit into 31
+# registers: stack accesses count as vector instructions too, and these are up to 80 and 46.
 LIMITS = {
     "x86-64-v3": {1: (430, 0), 2: (470, 0), 3: (900, 28), 4: (940, 32)},
     "x86-64-v2": {1: (560, 0), 2: (1140, 40), 3: (1780, 100), 4: (2550, 400)},
@@ -33,8 +37,8 @@ LIMITS = {
     "arm64, in words": {1: (90, 56)},
 }
 
-# A rotation by seven bits begins with this shift, or is in this instruction. A core has eight of each of its vectors, or 32, and a
-# loop two cores.
+# A rotation by seven bits begins with this shift, or is in this instruction. A core has eight
+# rotations of each of its vectors, or 32, and a loop has two cores.
 ROTATION = re.compile(r"(v?pslld) +\$0x7,|(shl)\s+v\d+\.4s, v\d+\.4s, #7$|(eor)\s+w\d+, w\d+, w\d+, ror #25$")
 KINDS = {"vpslld": ("x86-64-v3", 16), "pslld": ("x86-64-v2", 16), "shl": ("arm64", 16), "eor": ("arm64, in words", 64)}
 
@@ -70,7 +74,7 @@ def inner_loops(code):
 
 
 def wrong(chunks, level, texts, vectors, on_stack):
-    """What is wrong with a loop of cores, or nothing."""
+    """The errors of a loop of cores."""
     if any(CALL.match(it) for it in texts):
         return "calls a function, which was to be inlined"
     if chunks not in LIMITS[level]:
@@ -82,7 +86,7 @@ def wrong(chunks, level, texts, vectors, on_stack):
 
 
 def loops_of_cores(code):
-    """For each loop of cores of a section: its processor, its chunks, its numbers, and what is wrong with it."""
+    """For each loop of cores of a section: its processor, its chunks, its numbers, and its errors."""
     rotations = {at: text for at, text in code.items() if ROTATION.match(text)}
     for first, last in inner_loops(code):
         its = [text for at, text in rotations.items() if first <= at <= last]
@@ -102,12 +106,12 @@ def loops_of_cores(code):
 
 
 def check(library):
-    """Prints the loops of cores of a library, and returns how much is wrong."""
+    """Prints the loops of cores of a library, and returns the number of errors."""
     found = sorted((loop for code in sections(library) for loop in loops_of_cores(code)), key=lambda it: it[:4])
     for level, chunks, vectors, on_stack, error in found:
         loop = f"{level}, {chunks:g} at once: {vectors} vector instructions, {on_stack} on the stack" if chunks else "cores"
         print(f"{library}: {loop}{': ' + error if error else ''}")
-    # Chunks that are mixed in something else, as in words, have no loop here.
+    # Chunks that are mixed otherwise, such as by scalar code, have no loop here.
     loops = {(loop[0], loop[1]) for loop in found if loop[1]}
     levels = sorted({level for level, _ in loops})
     missing = [(level, it) for level in levels for it in LIMITS[level] if (level, it) not in loops]

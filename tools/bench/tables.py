@@ -35,7 +35,7 @@ def head(cells):
 
 
 def relative(times, unit):
-    """Each time in a unit, with the ratio of the first to it in parentheses. None is printed as "no figure"."""
+    """Each time in a unit, with the first time relative to it in parentheses. A missing time is printed as "no figure"."""
     first = times[0]
     return [f"{time / unit:.1f}" + (f" ({first / time:.2f})" if at and first else "") if time else "no figure"
             for at, time in enumerate(times)]

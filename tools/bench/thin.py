@@ -25,7 +25,7 @@ def thin_call(path):
 
     def call(log_n, r, p, s):
         key = ctypes.create_string_buffer(LENGTH)
-        # With s = 0 the scratch is that of a derivation with the whole table.
+        # With s = 0 the scratch is as long as for a derivation with the whole table.
         lens = 128 * r * p, 32 * r << (log_n - s), (96 if s else 64) * r
         chunks = ctypes.create_string_buffer(lens[0])
         table, scratch = (ctypes.c_uint32 * lens[1])(), (ctypes.c_uint32 * lens[2])()
@@ -45,7 +45,7 @@ def expected_cores(log_n, r, p, s):
 
 
 def measured(call, params, runs):
-    """For each s: the size of the table in MiB, the expected cores, and the least time."""
+    """For each s: the size of the table in MiB, the expected cores, and the minimum time."""
     log_n, r, p = params
     wanted = hashlib.scrypt(PASSWORD, salt=SALT, n=1 << log_n, r=r, p=p, dklen=LENGTH, maxmem=(1 << 31) - 1)
     rows = []

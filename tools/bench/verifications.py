@@ -2,16 +2,18 @@
 
 usage: python3 -m tools.bench.verifications LIBRARY [NAME=WORKER..] [--runs 20] [--params 14,8,1:17,8,1:20,8,1] [--processes 1] [--picture FILE]
 
-This library (LIBRARY is libscrypt_c.so) verifies by scrypt_hasher_verify, in memory that is kept from call to call,
-by scrypt_verify, and two or four at once by scrypt_verify_group_with_buffers, of which each one's part of the time counts. libsodium verifies by
-crypto_pwhash_scryptsalsa208sha256_str_verify, and libxcrypt by crypt_r, whose answer is compared with the hash. OpenSSL,
-libscrypt-kdf and workers, which bench.py describes, have no call for it: they derive the key, and it is compared. All
-verify one $7$ hash, in one process (a worker is one of its own), in turns: in each of the runs every one verifies once, in
-a new random order. Before that each has to accept the password and to refuse another one.
+This library (LIBRARY is libscrypt_c.so) verifies by scrypt_hasher_verify, in memory that is kept
+between calls, by scrypt_verify, and in batches of two or four by scrypt_verify_group_with_buffers:
+then the time of the batch is divided by its size. libsodium verifies by
+crypto_pwhash_scryptsalsa208sha256_str_verify, and libxcrypt by crypt_r, whose result is compared with
+the hash. OpenSSL, libscrypt-kdf and workers, which bench.py describes, have no call for it: they
+derive the key, and it is compared. All verify one $7$ hash, in one process (each worker in its own).
+In each run every implementation verifies once, in a new random order. Before that each has to accept
+the password and to reject another one.
 
-With --processes, so many do this at the same time, each on a processor of its own and all with the same implementation.
-With --picture, the verifications a second of all processes over the memory of a table are drawn as SVG: for each
-implementation those of its median time.
+With --processes, several processes do this concurrently, each on its own processor and all with the
+same implementation. With --picture, the verifications a second of all processes, at each
+implementation's median time, are drawn as SVG over the memory of a table.
 """
 
 import argparse
@@ -107,7 +109,7 @@ def check(made):
 
 
 def times(made, params, runs, start, orders):
-    """The nanoseconds of each verification, which begins when the other processes begin theirs."""
+    """The nanoseconds of each verification, which starts together with the other processes' verifications."""
     text, key = hash_of(params)
     taken = {name: [] for name in made}
     for _ in range(runs):

@@ -1,4 +1,4 @@
-"""What the pages are refused for: links without a target, targets with the same name, a headline of its own."""
+"""Checks of the pages: links without a target, targets with the same name, a different headline."""
 
 import html
 import re
@@ -9,7 +9,7 @@ TARGET = re.compile(r'\bid="([^"]*)"')
 
 
 def links(pages):
-    """How many links the pages have, and what is wrong with them and with their targets."""
+    """The number of links in the pages, and the errors in them and in their targets."""
     targets = {name: Counter(map(html.unescape, TARGET.findall(text))) for name, text in pages.items()}
     count = 0
     wrong = [f"{name}: two targets are named {it}" for name, those in targets.items() for it in those if those[it] > 1]
@@ -24,7 +24,7 @@ def links(pages):
 
 
 def plain(text):
-    """The words of a text, without the marks of a quotation, of links and of code."""
+    """The words of a text, without the markup of quotations, links and code."""
     text = re.sub(r"\[([^\]]*)\]\([^)]*\)", r"\1", re.sub(r"^>", "", text, flags=re.M))
     return " ".join(re.sub(r"[`*]", "", text).split())
 

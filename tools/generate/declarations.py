@@ -1,6 +1,7 @@
 #!/usr/bin/env python3
-"""Writes what is made of bindings/c/scrypt_c.h and of the functions of crates/scrypt_c: the declarations of the packages
-for Python, Rust and JavaScript, and two lists in C. `make lib` calls it, and none of it is a file of the repository.
+"""Generates code from bindings/c/scrypt_c.h and the functions of crates/scrypt_c: the declarations of
+the packages for Python, Rust and JavaScript, and two lists in C. `make lib` calls it; the repository
+has none of the generated files.
 
 usage: python3 -m tools.generate.declarations            writes the files of the packages
        python3 -m tools.generate.declarations FOLDER     and the lists in C into this folder
@@ -24,7 +25,7 @@ def read(path):
 
 
 def inside(word):
-    """What the packages call a structure of the header: `Needs` for scrypt_needs."""
+    """The name of a structure of the header in the packages: `Needs` for scrypt_needs."""
     return word.removeprefix("scrypt_").title()
 
 
@@ -35,7 +36,7 @@ FUNCTION = "scrypt_on_progress"
 
 
 def in_python(declared):
-    """A type of ctypes. Bytes are c_char_p, also where C writes them; a number that C writes is behind a pointer."""
+    """A ctypes type. Bytes are c_char_p, even if C writes them; a number that C writes is behind a pointer."""
     word = header.word_of(declared)
     if word == "scrypt_hasher":
         return "hasher"
@@ -98,7 +99,7 @@ def rust():
 # ---- JavaScript ----
 
 def javascript():
-    """The statuses of proved calls. Words speak of N, which is an option there, and not of its logarithm."""
+    """The statuses of proved calls. The messages speak of N, which is an option there, and not of its logarithm."""
     proved = dict(re.findall(r"^pub const (\w+): i32 = (\d+);", read("crates/scrypt_c/src/statuses.rt"), re.M))
     for name, number in proved.items():
         if number != str(STATUSES.get(name)):
@@ -122,7 +123,7 @@ C = {"u8": "uint8_t", "u32": "uint32_t", "u64": "uint64_t", "usize": "size_t", "
 
 
 def in_c(name, kind):
-    """How C declares an argument of a proved function: a slice is a pointer and a length, and a text has characters."""
+    """The C declaration of an argument of a proved function: a slice is a pointer and a length, and a text has characters."""
     kind = re.sub(r"'\w+ ", "", kind)
     if kind == "Global":
         return []
@@ -137,7 +138,7 @@ def in_c(name, kind):
 
 
 def check_layout(path, text):
-    """Refuses a structure of the proved calls whose fields are not those of the header's."""
+    """Fails if the fields of a structure of the proved calls differ from the header's."""
     for name, fields in re.findall(r"^#\[repr\(C\)\]\n.*?^pub struct (\w+) \{\n(.*?)^\}", text, re.M | re.S):
         own = [f"{C[kind]} {field}" for field, kind in re.findall(r"pub (\w+): (\w+),", fields)]
         if own != STRUCTURES[C[name]]:
@@ -194,7 +195,7 @@ LISTS = {"proved_calls.h": proved_calls, "each_call.h": each_call}
 
 
 def write(path, make):
-    """Writes a file if it changes, in one step, since another build may do the same."""
+    """Writes a file if it changes, in one step, because another build may do the same."""
     text = "\n".join(make()) + "\n"
     if not path.exists() or path.read_text("utf-8") != text:
         path.parent.mkdir(parents=True, exist_ok=True)

@@ -1,4 +1,4 @@
-"""What bindings/c/scrypt_c.h declares: its calls and structures, and their types in ctypes."""
+"""Parses bindings/c/scrypt_c.h: its calls and structures, and their types in ctypes."""
 
 import ctypes
 import functools
@@ -41,7 +41,7 @@ def statuses_of(text):
 
 
 def words_of(text):
-    """The words of each status by its name, as status.c has them."""
+    """The message of each status by its name, from status.c."""
     found = re.findall(r'ROW\((\w+), ((?:"[^"]*"\s*)+)\)', text)
     return {name: "".join(re.findall('"([^"]*)"', words)) for name, words in found}
 

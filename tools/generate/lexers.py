@@ -1,6 +1,6 @@
 """Cuts code into tokens, colours it and puts links into it. A token is the class of its colour, or "", and its text.
 
-antt has a lexer of its own, and Rattle that of Rust in Debian's python3-pygments; without that it has no colours.
+antt has its own lexer, and Rattle uses Rust's in Debian's python3-pygments; without that it has no colours.
 """
 
 import re
@@ -12,7 +12,7 @@ try:
 except ImportError:
     RustLexer = None
 
-# A name may hold `'`, and `-` before another letter.
+# A name can contain `'`, and `-` before another letter.
 ANTT = re.compile(
     r"""
     (?P<c1> -- .* | // .* )

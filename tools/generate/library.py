@@ -1,4 +1,4 @@
-"""Everything that the pages show: the crates with their sources and definitions, and what their names mean."""
+"""The content of the pages: the crates with their sources and definitions, and the targets of their names."""
 
 import glob
 import os
@@ -13,7 +13,7 @@ TESTS = "_tests"
 
 @dataclass(frozen=True)
 class Target:
-    """What a name means: its page and place. A name of the kit has none."""
+    """The target of a name: its page and anchor. A name of the kit has no target."""
 
     href: str
     key: tuple
@@ -35,11 +35,11 @@ class Library:
                 self.modules[name] = specs.read_module(name, os.path.relpath(path, self.folder), sources.read(path))
 
     def crates(self):
-        """The crates that are promised: libraries, except those of tests."""
+        """The crates that are promised: libraries, except for tests."""
         return [it for it in self.uses if not it.endswith(TESTS) and os.path.exists(f"{self.folder}/crates/{it}/src/lib.rt")]
 
     def specs_of(self, crate):
-        """The modules of definitions of a crate, in the order of its table of contents, with the lines on them."""
+        """The modules of definitions of a crate, in the order of its table of contents, with their descriptions."""
         lib = self.modules.get(f"Rattle.{crate}.specs.Lib")
         names = [f"Rattle.{crate}.specs.{it}" for it in (lib.order if lib else []) if "." not in it]
         rest = [it for it in self.modules if it.startswith(f"Rattle.{crate}.specs.") and not it.endswith(".Lib")]
@@ -65,7 +65,7 @@ class Library:
         return self.find(*it.passed_on[name]) if name in it.passed_on else None
 
     def find_declared(self, module, name):
-        """A type of a crate, by the name that the specs have for it, or a constant, also one of a type."""
+        """A type of a crate, by its name in the specs, or a constant, also an associated one."""
         crate, path = re.match(r"Rattle\.(\w+)\.specs\.declared\.(.*)", module).groups()
         words = path.removesuffix(".TheVariants").split(".")
         if "TheConstants" not in words:
@@ -86,7 +86,7 @@ class Library:
         return None
 
     def rust_path(self, source, path):
-        """The target of a path of Rust as it is used in a source."""
+        """The target of a Rust path as it is used in a source."""
         first, *rest = path.split("::")
         here = source.module.split("::") if source.module else []
         if rest and first in source.uses and first not in self.uses:
@@ -101,7 +101,7 @@ class Library:
         return self.rust_path(module, module.uses[name][0])
 
     def rust_name(self, source, name):
-        """The target of a word of Rust in a source: an item of its own, or one that it uses."""
+        """The target of a Rust word in a source: an item of the source, or one that it uses."""
         found = self.rust_item(source.crate, source.module, name)
         if found is None and name in source.uses:
             found = self.rust_path(source, source.uses[name][0])
@@ -125,7 +125,7 @@ class Library:
         return item.public and (item.kind == "impl" or bool(self.path_of(source, item)))
 
     def path_of(self, source, item):
-        """The path by which users know an item, or None. A method may be in another source than its type."""
+        """The path by which users know an item, or None. A method can be in another source than its type."""
         name = re.sub(r"<.*", "", item.owner.split(" for ")[-1]) or item.name
         found = self.rust_name(source, name) if item.owner else None
         home = self.sources[found.key[1]][found.key[2]] if found else source
@@ -141,7 +141,7 @@ class Library:
         return min(found, key=lambda it: it.count("::"), default=None)
 
     def same(self, user, path, source, name):
-        """Whether a path that a module uses leads to an item of a source, perhaps by what other modules use."""
+        """Whether a path that a module uses leads to an item of a source, perhaps through other modules' uses."""
         inner, _, last = path.removeprefix("crate::").removeprefix("self::").rpartition("::")
         modules = {inner, "::".join(filter(None, (user.module, inner)))}
         if source.module in modules:

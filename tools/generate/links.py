@@ -1,4 +1,4 @@
-"""Resolves the names in clauses, definitions and signatures, and remembers who cites what."""
+"""Resolves the names in clauses, definitions and signatures, and records the citations."""
 
 import re
 from dataclasses import dataclass, field
@@ -13,13 +13,13 @@ BINDERS = (
     re.compile(r"[{;]\s+([\w']+) = "),
 )
 LAMBDA = re.compile(r"λ ((?:\([^)]*\)|\{[^}]*\}|[^.(){}])*)\.")
-# Words that have no definition: those of the logic itself, and those of clauses.
+# Words without a definition: the words of the logic itself, and of clauses.
 PLAIN = {"tt", "absurd", "refl", "omega", "rw", "Unit", "self", "Self", "result", "_"}
 
 
 @dataclass
 class Place:
-    """The place of a text: what its words may mean there."""
+    """The scope of a text: the possible targets of its words."""
 
     imports: dict
     own: object = None
@@ -57,14 +57,14 @@ def patterns_of(definition):
 
 
 class Links:
-    """Puts links into texts. `cited` has for each target those that cite it, and `lost` the names that lead nowhere."""
+    """Puts links into texts. `cited` has the citations of each target, and `lost` the names without a target."""
 
     def __init__(self, library):
         self.library = library
         self.cited, self.lost = {}, []
 
     def target(self, place, name):
-        """What a word means at a place, or None."""
+        """The target of a word in a scope, or None."""
         if place.trait is not None and any(it.name == name for it in place.trait.clauses):
             href = f"{page_of(place.source)}#{place.trait.anchor}.relation-{name}"
             return Target(href, ("relation", href))
@@ -80,7 +80,7 @@ class Links:
         return target.href
 
     def projected(self, place, head, name):
-        """The address of a name after a dot: that of a module, or of the trait that bounds a type parameter."""
+        """The address of a name after a dot: a module's, or the address of the trait that bounds a type parameter."""
         module, whole = place.imports.get(head, (None, ""))
         if whole is None:
             found = self.library.find(module, name)
@@ -93,14 +93,14 @@ class Links:
         return self.cite(place, found) if found else None
 
     def antt(self, text, place):
-        """HTML of a clause or of a definition. A name that is not bound in it and leads nowhere is lost."""
+        """HTML of a clause or of a definition. A name that is neither bound in it nor has a target is lost."""
         tokens = lexers.antt(text)
         bound = place.bound | bound_in(text)
 
         def link(at):
             style, value = tokens[at]
             name = {"if": "if◌then◌else◌", "[]": "[]"}.get(value, f"◌{value}◌")
-            # An operator may be a word.
+            # An operator can be a word.
             own = place.own is not None and name in place.own.definitions
             if style == "o" or value == "if" or style == "n" and (own or name in place.imports):
                 found = place.imports.get(name) or ((place.own.name, name) if own else None)

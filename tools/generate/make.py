@@ -1,9 +1,10 @@
-"""Makes the reader for the proof: build/doc/index.html and the pages that it leads to.
+"""Generates the pages for reading the proof: build/doc/index.html and the pages that it links to.
 
 It reads the sources, the specs, crates.txt and headline.json, and needs Debian's python3-jinja2 and
-python3-pygments, but not the kit. It fails if a name in a clause or in a definition leads nowhere, if a
-public function, a clause of it or a definition has no words, if a link has no target, if two targets of a
-page have the same name, or if the headline isn't that of PROMISES or names a clause that is gone.
+python3-pygments, but not the kit. It fails if a name in a clause or in a definition has no target, if
+a public function, a clause of it or a definition has no comment, if a link has no target, if two
+targets of a page have the same name, or if the headline differs from PROMISES or names a clause that
+no longer exists.
 
 usage: python3 -m tools.generate.make [FOLDER]    the folder of the pages, which is replaced: build/doc
 """
@@ -83,12 +84,12 @@ class Pages:
                 "first_line": first_sentence}
 
     def phrases(self, rows):
-        """Phrases with their clauses and a note, which a row may lack."""
+        """Phrases with their clauses and an optional note."""
         rows = (row + [None, [], ""][len(row) :] for row in rows)
         return [{"text": text, "clauses": self.views.clauses(names), "note": note} for text, names, note in rows]
 
     def reading(self, page, of, clauses):
-        """A page of the definitions that clauses rest on, in reading order. Returns their count and lines."""
+        """A page of the definitions that clauses depend on, in reading order. Returns their count and lines."""
         found = [(module, self.with_vectors(shown)) for module, shown in self.views.reading(clauses)]
         every = [it for _, shown in found for it, *_ in shown]
         lines = sum(it.lines for it in every)
@@ -96,7 +97,7 @@ class Pages:
         return {"definitions": len(every), "lines": lines}
 
     def front(self):
-        """The first page, and the definitions that the headline rests on. Returns a complaint if PROMISES has
+        """The first page, and the definitions that the headline depends on. Returns an error if PROMISES has
         another headline."""
         rows = json.loads(read(f"{HERE}/headline.json"))
         phrases, verifying = self.phrases(rows["headline"]), self.phrases(rows["verifying"])

@@ -1,11 +1,14 @@
-"""Writes docs/PROMISES.md: fills the places {name} of tools/generate/promises.md from the sources, without the kit and without
-packages. These are the clauses of a key and of a verdict with their definitions, the headline, the definitions to review, the
-public functions of each file, and checksums of each crate's clauses and definitions.
+"""Generates docs/PROMISES.md: fills the placeholders {name} of tools/generate/promises.md from the
+sources, without the kit and without packages. These are the clauses of a key and of a verdict with
+their definitions, the headline, the definitions to review, the public functions of each file, and
+checksums of each crate's clauses and definitions.
 
 usage: python3 -m tools.generate.promises          writes the page
-       python3 -m tools.generate.promises check    refuses a page that differs from the sources, another number of lines to read in TRUST,
-                            a name that leads nowhere, and a public function, a clause or a definition without words
-       python3 -m tools.generate.promises clauses  prints every public function with the text of its clauses, as the packages have it
+       python3 -m tools.generate.promises check    fails if the page differs from the sources, if TRUST
+                            has another number of lines to read, if a name has no target, or if a public
+                            function, a clause or a definition has no comment
+       python3 -m tools.generate.promises clauses  prints every public function with the text of its
+                            clauses, as in the packages
 """
 
 import hashlib
@@ -26,12 +29,12 @@ PAGE, TEMPLATE = "docs/PROMISES.md", "tools/generate/promises.md"
 # Relations that are not about calls: the shape of a model, and the laws of a derived relation.
 OF_MODELS = {"laws", "view", "invariant", "inverse_ok", "Value", "inverse", "inverse_invariant", "view_ok"}
 
-# The two promises, each with the clauses that it is made of.
+# The clauses of each of the two promises.
 KEY = ["scrypt::Params::new accepted", *(f"scrypt::scrypt_counted {it}" for it in ("length", "value", "counted"))]
 VERDICT = [f"scrypt::StoredHash::{it}" for it in ("verify_with_buffers verdict", "verify_with_buffers left")]
 VERDICT += ["scrypt::StoredHash::read reading"]
 
-# What the page quotes: functions with their clauses, and definitions with the comments on them, which name the standard's steps.
+# Quotations on the page: functions with their clauses, and definitions with their comments, which name the standard's steps.
 QUOTED = {
     "clauses_of_a_key": [("scrypt", "derivation", ["scrypt"])],
     "definitions_of_a_key": [
@@ -64,8 +67,8 @@ def name_of(item):
 
 
 def promised(library, source, item):
-    """The clauses by which an item promises something: what a function ensures, and the relations of a trait or of an
-    implementation. What a function requires is among them, since it limits what is promised."""
+    """The clauses that are promises of an item: the postconditions of a function with its preconditions, which limit the
+    promise, and the relations of a trait or of an implementation."""
     if item.kind in ("impl", "trait"):
         is_shown = item.kind == "trait" or library.is_public(source, item)
         return [it for it in item.clauses if it.name not in OF_MODELS] if is_shown else []
@@ -108,14 +111,14 @@ def checksums(library):
 
 
 def quoted_function(library, crate, module, name):
-    """The head of a function as the source has it, with its clauses and without its body."""
+    """The head of a function in the source, with its clauses and without its body."""
     source = library.sources[crate][module]
     item = next(it for it in source.items if it.kind == "fn" and name_of(it) == name)
     return textwrap.dedent("\n".join(source.text.splitlines()[item.line - 1 : item.opened - 1]))
 
 
 def quoted_definition(library, crate, module, name):
-    """A definition as its file has it, with the comment above it."""
+    """A definition in its file, with the comment above it."""
     it = library.modules[f"Rattle.{crate}.specs.{module}"]
     lines, definition = read(it.path).splitlines(), it.definitions[name]
     above = list(itertools.takewhile(lambda line: line.startswith("--"), reversed(lines[: definition.line - 1])))
@@ -123,7 +126,7 @@ def quoted_definition(library, crate, module, name):
 
 
 def quoted(library, place):
-    """Blocks of code, one for each file, after its name and the sentences with which it begins."""
+    """Blocks of code, one for each file, after its name and its first comment."""
     for crate, module, names in QUOTED[place]:
         if module in library.sources[crate]:
             path, language, quote, comment = library.sources[crate][module].path, "rust", quoted_function, ""
@@ -146,7 +149,7 @@ def clauses(library):
 
 
 def reading(views):
-    """What to read for the two promises, in reading order, with the lines of each file."""
+    """The definitions to read for the two promises, in reading order, with the lines of each file."""
     known = set()
     for title, clauses in (("For the key", KEY), ("For the verdict, with those of the key", VERDICT)):
         modules = views.reading(views.clauses(clauses))
@@ -177,7 +180,7 @@ def page(views):
 
 
 def wrong(views):
-    """What `check` refuses."""
+    """The errors that `check` reports."""
     yield from views.wrong()
     if read(PAGE) != page(views):
         yield f"{PAGE} differs from the sources: make promises"

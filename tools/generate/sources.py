@@ -1,7 +1,7 @@
 """Reads the sources of the crates: their items, what is public, and the contracts.
 
 Sources are formatted: the lines of an item are indented deeper than its first one, unless they begin with a bracket.
-What looks like the beginning of a function, an implementation or a clause and is not read as one is in `unread`.
+Lines that look like the beginning of a function, an implementation or a clause and are not read as one are in `unread`.
 """
 
 import itertools
@@ -33,7 +33,7 @@ class Clause:
 
     @property
     def place(self):
-        """Identifies a clause in its item: a `requires` and an `ensures` may have the same name."""
+        """Identifies a clause in its item: a `requires` and an `ensures` can have the same name."""
         before = {"requires": "requires-", "ghost": "relation-"}.get(self.kind, "")
         return f"{before}{self.name or self.line}"
 
@@ -66,7 +66,7 @@ class Item:
 
 @dataclass
 class Source:
-    """A file of Rattle, with the words that its clauses may use."""
+    """A Rattle file, with the words that its clauses can use."""
 
     crate: str
     module: str
@@ -127,7 +127,7 @@ def doc_above(lines, at):
 
 
 def generics_of(text):
-    """The type parameters of a head, with the first trait that bounds each, or none."""
+    """The type parameters of a head, each with the first trait that bounds it, if any."""
     found = re.match(r"[^(]*?<(.*?)>(?: |\(|$)", text, re.S)
     return dict(re.findall(r"(?:^|, ?|const )([A-Z]\w*)(?:: ([A-Z]\w*))?", found[1].strip())) if found else {}
 
@@ -153,7 +153,7 @@ def function(lines, at, end, found, block):
 
 
 def block_of(lines, at, end, found):
-    """A trait, or an implementation, which is public if it gives relations of a trait."""
+    """A trait, or an implementation, which is public if it defines relations of a trait."""
     head = " ".join(it.strip() for it in lines[at:end]).partition(" {")[0]
     body = "\n".join(lines[at + 1 : end])
     relations = RELATION.finditer(body)
@@ -168,7 +168,7 @@ def block_of(lines, at, end, found):
 
 
 def items_of(lines, at=0, block=None):
-    """The items of a file from a line on, or those of a block."""
+    """The items of a file from a line on, or of a block."""
     indent = 4 if block else 0
     while at < len(lines):
         found = ITEM.match(lines[at])
@@ -194,7 +194,7 @@ def items_of(lines, at=0, block=None):
 
 
 def use_paths(text):
-    """The words that `use` brings, each with its path; those of `pub use` are marked."""
+    """The words that `use` imports, each with its path; words of `pub use` are marked."""
     found = {}
     for public, tree in re.findall(r"^(pub )?(?:pub\(crate\) )?use ([^;]*);", text, re.M):
         before, _, group = tree.rstrip("}").partition("{")
@@ -230,7 +230,7 @@ def crates(folder="."):
 
 
 def checked_path(crate, source, it):
-    """The path by which a check prints a function of a crate's sources.
+    """The path under which a check prints a function of a crate's sources.
 
     `append_mix` in `impl Memory for Buffer<'_>` of src/memory.rt is `memory::BufferMemory::append_mix`, and a pair is
     `Tuple2`. A type's own methods have the path of the type, the nearest if several have its name.

@@ -36,7 +36,7 @@ class Definition:
 
 @dataclass
 class Module:
-    """A file of definitions. `imports` has the module and the name of each word that the file may use."""
+    """A file of definitions. `imports` has the module and the name of each word that the file can use."""
 
     name: str
     path: str
@@ -52,7 +52,7 @@ class Module:
 
 
 def imports_of(text):
-    """What a text imports: words, and words that it passes on. A word for a whole module has no name in it."""
+    """The imports of a text: words, and words that it re-exports. A word for a whole module has no name in it."""
     words, passed_on = {}, {}
     for found in IMPORT.finditer(text):
         if found["other"]:
@@ -84,7 +84,7 @@ def header_comment(lines):
 
 
 def starts_in(lines):
-    """The places at which definitions begin, with their names: an equation of one that has begun is not another."""
+    """The lines at which definitions begin, with their names: a further equation of a definition begins no other one."""
     begun = {}
     for at, line in enumerate(lines):
         found = HEAD.match(line)
@@ -96,8 +96,8 @@ def starts_in(lines):
 
 
 def definitions_in(module, lines):
-    """The definitions of a file by their names, each with the comment right above it. One ends before a blank line,
-    unless an indented line is after that."""
+    """The definitions of a file by their names, each with the comment directly above it. A definition ends before a blank
+    line, unless an indented line follows."""
     begun = starts_in(lines)
     found = {}
     for (name, at), after in zip(begun.items(), [*begun.values(), len(lines)][1:]):
@@ -114,7 +114,7 @@ def definitions_in(module, lines):
 def read_module(name, path, text):
     lines = text.splitlines()
     words, passed_on = imports_of(text)
-    # a whole module that a file passes on or declares is one of its table of contents
+    # a whole module that a file re-exports or declares belongs to its table of contents
     order = re.findall(r"^pub (?:mod|use) ([\w.]+)$", text, re.M)
     return Module(name, path, header_comment(lines), definitions_in(name, lines), words, passed_on, order)
 

@@ -1,4 +1,4 @@
-"""What the templates print: each item, clause and definition with its HTML, and who cites it."""
+"""The data of the templates: each item, clause and definition with its HTML and its citations."""
 
 import itertools
 import re
@@ -8,9 +8,9 @@ from tools.generate import comments, links
 from tools.generate.library import STANDARD_FACTS, definition_target, page_of
 from tools.generate import specs
 
-# types are shown also if they are private, since clauses and definitions may cite them
+# types are shown even if they are private, because clauses and definitions can cite them
 TYPES = ("struct", "enum", "trait")
-# what an implementation gives besides relations: the type of its model, and proofs
+# parts of an implementation that are not relations: the type of its model, and proofs
 PROOFS = {"Value", "laws", "inverse", "inverse_ok", "view_ok", "inverse_invariant"}
 
 
@@ -84,7 +84,7 @@ class Views:
         return (module, found) if any(it.kind == "vector" for it in found) else None
 
     def of_crate(self, crate):
-        """The sources of a crate that have something public, with what it is."""
+        """The sources of a crate that have public items, with these items."""
         found = []
         for source in self.library.sources[crate].values():
             items = (it for it in source.items if it.kind in TYPES or self.library.is_public(source, it))
@@ -124,12 +124,12 @@ class Views:
         return self.library.path_of(source, it) or "::".join(filter(None, (it.owner, it.name)))
 
     def clauses(self, names):
-        """The clauses of these names. One that is gone is lost."""
+        """The clauses of these names. A name without a clause is lost."""
         self.links.lost += [f"no clause is named {it}" for it in names if it not in self.by_name]
         return [self.by_name[it] for it in names if it in self.by_name]
 
     def wrong(self):
-        """What leads nowhere, what is not read, and what has no words."""
+        """Errors: names without a target, lines that are not read, items without a comment."""
         yield from self.links.lost
         for crate in self.crates:
             for module, shown in self.definitions[crate]:
@@ -150,7 +150,7 @@ class Views:
                             yield f"{where} a clause without a name"
 
     def closure(self, roots):
-        """The definitions that these rest on, with themselves, in reading order."""
+        """The definitions that these depend on, including themselves, in reading order."""
         found, todo = set(), list(roots)
         while todo:
             key = todo.pop()
@@ -160,7 +160,7 @@ class Views:
         return sorted(found & self.order.keys(), key=self.order.get)
 
     def reading(self, clauses):
-        """The definitions that clauses rest on, module by module, in reading order."""
+        """The definitions that clauses depend on, module by module, in reading order."""
         keys = set(self.closure(key for it in clauses for key in self.cites.get(it["key"], ())))
         modules = itertools.chain(*self.definitions.values())
         found = ((module, [it for it in shown if it.key in keys]) for module, shown in modules)

@@ -1,7 +1,7 @@
 #!/bin/sh
-# Makes build/dist of what the gate proved: for each machine the archive of CPack, and for Linux its Debian
-# package; wheels for Python, the Go module, the Rust crate, the package for npm, the sources and the hashes
-# of all. It is the same byte by byte whenever root makes it.
+# Makes build/dist from the files that the gate proved: for each machine the archive of CPack, and for
+# Linux its Debian package; wheels for Python, the Go module, the Rust crate, the package for npm, the
+# sources and the hashes of all. The build is reproducible, byte for byte, if root makes it.
 # usage: dist.sh [PRESET..]       the machines, or all; UNPROVED=1 packs what no gate proved
 set -eu
 unset CDPATH

@@ -1,9 +1,9 @@
 #!/usr/bin/env python3
-"""Keeps what the gate proved, and writes it into PROVED.txt, which every package has.
+"""Records the verdicts of the gate, and writes them into PROVED.txt, which every package has.
 
 usage: proved.py keep LOG..    keeps the verdicts that these logs of the gate have, with the commit, the kit, and the
                                SHA-256 of all that the kit built; the gate calls this when it has passed
-       proved.py text          prints PROVED.txt, and refuses another commit and other files than were kept
+       proved.py text          prints PROVED.txt, and fails for another commit or other files than were recorded
 
 UNPROVED=1 packs what is built, proved or not, and PROVED.txt says so.
 """
@@ -17,7 +17,7 @@ import sys
 from pathlib import Path
 
 KEPT = Path("build/proved.json")
-# What the kit built. All else that is packed is compiled and linked of it, the same whenever that is done.
+# The files that the kit built. All other packed files are compiled and linked from these, reproducibly.
 BUILT = ["crates/scrypt_c/out/**/libscrypt_c.a", "crates/scrypt_tool/out/**/scrypt_tool.o", "bindings/js/scrypt.wasm"]
 UNPROVED = "There is no verdict here: `make dist UNPROVED=1` packed what was built, proved or not."
 GATE = """\
@@ -32,13 +32,13 @@ def output(*command):
 
 
 def commit():
-    """The commit, and what says so if there are changes that are not in it."""
+    """The commit, with a note if there are uncommitted changes."""
     changes = output("git", "status", "--porcelain", "--untracked-files=no")
     return output("git", "rev-parse", "HEAD") + (", with changes that are not committed" if changes else "")
 
 
 def digests():
-    """The hash of each file that the kit built, except by its own compiler, which is only compared."""
+    """The hash of each file that the kit built, except by its own compiler, whose files are only compared."""
     paths = (path for it in BUILT for path in Path().glob(it) if not {"by-rattle", "incremental"} & {*path.parts})
     return {str(it): hashlib.sha256(it.read_bytes()).hexdigest() for it in sorted(paths)}
 

@@ -1,6 +1,6 @@
 #!/bin/sh
-# Makes build/dist again, in a clone in another folder, with another umask, time zone and language, of what the
-# kit built here, and compares all files byte by byte.
+# Checks that packages are reproducible: makes build/dist again from the files that the kit built here, in a
+# clone in another folder, with another umask, time zone and language, and compares all files byte by byte.
 # usage: reproducible.sh [PRESET..]    as dist.sh was called
 set -eu
 unset CDPATH

@@ -1,8 +1,8 @@
 #!/bin/bash
-# Tries build/dist as a user meets it, in a fresh root of Debian without the kit: its package, its archive in
-# another folder, and the packages of each language, by the lines of README.md. What is for arm64 runs in
-# Debian's emulator, and what is for Windows in Wine. Needs root, mmdebstrap, a network, and for these
-# machines what `python3 -m tools.presets packages` prints.
+# Tests build/dist as a user would install it, in a fresh root of Debian without the kit: its package, its archive in
+# another folder, and the packages of each language, by the lines of README.md. The arm64 packages run in
+# Debian's emulator, and the Windows packages in Wine. Needs root, mmdebstrap, a network, and for these
+# machines the packages that `python3 -m tools.presets packages` prints.
 # usage: test.sh [PRESET..]    as dist.sh was called
 set -euo pipefail
 unset CDPATH
@@ -16,7 +16,7 @@ expect() {
   if [ "${1%% *}" != "$key" ]; then echo "another key: $2: $1" >&2; exit 1; fi
   echo "the first key of RFC 7914: $2"
 }
-# In a mount namespace of its own, for /proc, without which rustc doesn't run.
+# In a separate mount namespace, for /proc, without which rustc doesn't run.
 inside() {
   unshare --mount sh -c 'mount -t proc proc "$0/proc" && exec chroot "$0" "$@"' "$root" \
     env -i PATH=/usr/sbin:/usr/bin:/sbin:/bin HOME=/root LC_ALL=C.UTF-8 sh -ec "$1" < /dev/null

@@ -1,8 +1,8 @@
 #!/usr/bin/env python3
-"""Checks that all files that state the version state that of VERSION, and that CHANGELOG.md has a heading for it.
+"""Checks that all files that state the version agree with VERSION, and that CHANGELOG.md has a heading for it.
 
-usage: python3 -m tools.release.version        names the files that state another one
-       python3 -m tools.release.version NEW    changes it in each
+usage: python3 -m tools.release.version        names the files that state another version
+       python3 -m tools.release.version NEW    changes it in all of them
 """
 
 import sys

@@ -2,7 +2,7 @@
 
 A run writes one line, to standard output for the statuses 0 and 1, and otherwise to standard error;
 the other stream stays empty. The keys are from RFC 7914, section 12, and from Python's hashlib; the
-hashes are from hashes are from tools/tests/known.py.
+hashes are from tools/tests/known.py.
 
 usage: python3 -m tools.tests.program PROGRAM        prints the first wrong answers
        python3 -m tools.tests.program PROGRAM all    prints all of them

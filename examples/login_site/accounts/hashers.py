@@ -1,7 +1,7 @@
 from scrypt_c import PasswordHasher
 from scrypt_c.django import FalseIfRefused, PHCPasswordHasher
 
-MAX_LOG_INS = 40  # at a time, in fewer threads than the server has; others are refused at once
+MAX_LOG_INS = 40  # concurrently, in fewer threads than the server has; others are rejected immediately
 
 
 class Scrypt(FalseIfRefused, PHCPasswordHasher):

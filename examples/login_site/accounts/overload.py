@@ -3,7 +3,7 @@ from django.utils.deprecation import MiddlewareMixin
 
 
 class OverloadMiddleware(MiddlewareMixin):
-    """Responds with 503 if a log-in is refused, times out, or runs out of memory."""
+    """Responds with 503 if a log-in is rejected, times out, or runs out of memory."""
 
     def process_exception(self, request, exception):
         if isinstance(exception, (TimeoutError, MemoryError)):

@@ -84,7 +84,7 @@ class WaitressTest(TransactionTestCase):
         server = subprocess.Popen(command, env=os.environ | database, **options)
         for stop in (server.wait, server.terminate):
             self.addCleanup(stop)  # the last of them is called first
-        for _ in range(200):  # until it listens, for at most 20 seconds
+        for _ in range(200):  # until it listens, for up to 20 seconds
             try:
                 return self.timed("GET", "/")
             except ConnectionRefusedError:
