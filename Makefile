@@ -1,34 +1,34 @@
-# With the Rattle kit, make and Python 3.11, two commands do everything. Nothing has to be built before either.
+# You need the Rattle kit, make and Python 3.11. Two commands do everything, and need nothing built before:
 #   make run       proves and builds the program, and prints the first key of RFC 7914, section 12
 #   make test      is the gate: proves everything from nothing, checks that wrong code is rejected, and runs
 #                  every test
 # To use it:
-#   make lib       proves and builds the libraries for C into build/lib, with code for x86-64-v2 and for x86-64-v3;
-#                  with PRESET=arm64 those for that processor, and the program, or with PRESET=windows those for
-#                  Windows, into build/PRESET
-#   make install   installs what is built below prefix=/usr/local, and honours DESTDIR
-#   make uninstall removes what was installed last; with the same DESTDIR
+#   make lib       proves and builds the C libraries into build/lib, with code for x86-64-v2 and x86-64-v3; with
+#                  PRESET=arm64 the libraries for that processor, and the program, or with PRESET=windows the
+#                  libraries for Windows, into build/PRESET
+#   make install   installs the built files below prefix=/usr/local, and honours DESTDIR
+#   make uninstall removes the last installation; use the same DESTDIR
 #   make js        proves and builds the module for JavaScript into bindings/js, and tests it
 #   make doc       makes pages for reading the proof, build/doc/index.html; needs python3-jinja2, python3-pygments
-#   make dist      makes packages for Debian, Python, Go, Rust and npm, archives, and their hashes in build/dist
+#   make dist      makes packages for Debian, Python, Go, Rust and npm, archives, and their hashes, in build/dist
 # To change it:
-#   make check     proves and tests what changed since the last check
-#   make generate  writes what packages declare of the header of C, as make lib does
-#   make promises  writes docs/PROMISES.md
-#   make documents checks the documents and the scripts, and reports every fault
-#   make suites    tests what is built: from C and each other language, the examples, and the program
-#   make examples  tests what is in examples/
-#   make clean     removes what was built
-# CONTRIBUTING.md names the scripts for what is done seldom.
-unexport CDPATH # by which cd would go elsewhere
+#   make check     proves and tests the changes since the last check
+#   make generate  generates the packages' declarations from the C header, as make lib does
+#   make promises  generates docs/PROMISES.md
+#   make documents checks the documents and the scripts, and reports every error
+#   make suites    tests the built files: from C and each other language, the examples, and the program
+#   make examples  tests examples/
+#   make clean     removes the built files
+# CONTRIBUTING.md names rarely needed scripts.
+unexport CDPATH # with it, cd would go elsewhere
 PRESET ?= native
 export PRESET
 prefix = $(or $(PREFIX),/usr/local)
 STEP = tools/gate/step.sh
 GATE = +@$(MAKE) --no-print-directory --keep-going --output-sync -f tools/gate/gate.mk
 
-# The libraries below the program, each after those that it uses. The two lowest take about as long: with room,
-# they are proved side by side with three jobs each.
+# The libraries below the program, each after the libraries that it uses. The two lowest take about equally
+# long: if there is enough memory, they are proved concurrently with three jobs each.
 LIBRARIES = $(addprefix proved-,password_hash scrypt_kernel scrypt scrypt_commands)
 HAS_ROOM := $(shell [ $$(nproc) -ge 4 ] && awk '/^MemAvailable/ && $$2 > 12000000 { print "yes" }' /proc/meminfo)
 PROVE = $(MAKE) --no-print-directory -j$(if $(HAS_ROOM),2,1)
@@ -63,7 +63,7 @@ lib: kit
 	$(or $(BUILD_$(PRESET)),python3 -m bindings.cross $(PRESET) scrypt_c scrypt_tool)
 	@$(MAKE) --no-print-directory linked
 	@$(if $(BUILD_$(PRESET)),,bindings/cli/build.sh)
-linked: # compiles and links what was proved
+linked: # compiles and links the proved code
 	@cd bindings/c && cmake --preset $(PRESET) > /dev/null
 	@cmake --build build/$(PRESET) -- --quiet
 js: kit

@@ -1,17 +1,17 @@
-# The tasks of the gate. Each prints one line (tools/gate/step.sh) and fails alone; `tools/gate/run.sh`
-# runs all. A task that needs a proved crate waits for build/gate/proved/NAME, which `proofs` makes when
-# `rt ci` has left the library of that crate in crates/NAME/out/rlib.
-# Two groups are useful alone: `make documents` needs nothing built, and `make suites` calls what
-# `make lib`, `make js` and `make run` have built (with BUILT=1).
+# The tasks of the gate. Each prints one line (tools/gate/step.sh), and its failure does not stop the
+# others; `tools/gate/run.sh` runs all. A task that needs a proved crate waits for
+# build/gate/proved/NAME, which `proofs` makes when `rt ci` has written the library of that crate to
+# crates/NAME/out/rlib. Two groups are useful separately: `make documents` needs nothing built, and
+# `make suites` calls the files that `make lib`, `make js` and `make run` have built (with BUILT=1).
 TASK = @NICE=$(or $(NICE),10) tools/gate/step.sh $@
 PY = python3 -B -m
 
-# What the gate builds of the crate scrypt_c by clang, and the kept proofs.
+# The output of building the crate scrypt_c by clang, and the kept proofs.
 LLVM = build/gate/llvm
 KEPT = build/gate/kept
 PROGRAM = crates/scrypt_tool/out/scrypt_tool
 LIBRARY = build/lib/libscrypt_c.so
-# Other machines: those that the kit proves for, and Windows.
+# Other machines: targets that the kit proves for, and Windows.
 CROSS := $(shell $(PY) tools.presets proved)
 MACHINES := $(shell $(PY) tools.presets names)
 FOR = --needs $(shell $(PY) tools.presets needs $1) env -u CC
@@ -23,7 +23,7 @@ else
 proved = $1
 endif
 
-# What takes longest, or what others wait for, stands first.
+# The longest tasks, and tasks that others wait for, are first.
 BUILDS = library module program $(CROSS:%=program-%) $(MACHINES:%=library-%)
 WRONG_BODIES = $(patsubst %,wrong-bodies-%,scrypt scrypt_kernel scrypt_commands password_hash scrypt_c scrypt_examples)
 DOCUMENTS = pages lint links version fit promises formats cores
@@ -52,7 +52,7 @@ $(PROVED)/scrypt: $(PROVED)/scrypt_kernel
 $(PROVED)/scrypt_commands: $(PROVED)/scrypt
 $(PROVED)/scrypt_tool: $(PROVED)/scrypt_commands
 
-# ---- What the prover or the compiler has to refuse ----
+# ---- Mutants that the prover or the compiler has to reject ----
 $(WRONG_BODIES): wrong-bodies-%:
 	$(TASK) $(PY) tools.gate.wrong_bodies $*
 wrong-bodies-scrypt: $(PROVED)/scrypt_kernel

@@ -1,6 +1,7 @@
-/* The decisions of the queue in every order: five calls enter, form batches, finish and time out in
- * two slots, and the hasher is closed, without threads. After each event the states are compared
- * with those of a model, which has no links, and the invariants of hasher.c are checked. */
+/* A model checker of the queue: explores every interleaving of its events, without threads. Five
+ * calls enter, form batches, finish and time out in two slots, and the hasher is closed. After each
+ * event the states are compared with a model without links, and the invariants of hasher.c are
+ * checked. */
 #define _GNU_SOURCE
 #ifdef _WIN32
 #include "windows.c"
