@@ -1,5 +1,6 @@
-/* Preloaded into a program: the allocation of number FAIL_AT fails, counted from 1 over malloc and realloc, and no
-   random bytes are available. If SIZES is set, each allocation's size is printed on standard error, and that bytes were drawn. */
+/* Preloaded into a program: allocation number FAIL_AT fails, counted from 1 over malloc and realloc, and no random
+   bytes are available. If SIZES is set, the size of each allocation, and each draw of random bytes, is printed on
+   standard error. */
 #include <stdio.h>
 #include <stdlib.h>
 #include <unistd.h>
