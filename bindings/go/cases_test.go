@@ -16,12 +16,12 @@ var statuses = map[string]error{
 	"KEY_TOO_SHORT": ErrKeyTooShort,
 }
 
-// rows returns the lines of a table without its first, each as its words.
+// rows returns the lines of a table, without the header, each split into words.
 func rows(t *testing.T, path string) (found [][]string) {
 	t.Helper()
 	file, err := os.ReadFile(path)
 	if err != nil {
-		t.Skip(err) // the module of a release is without it
+		t.Skip(err) // a release's module does not have it
 	}
 	for _, line := range strings.Split(strings.TrimSuffix(string(file), "\n"), "\n")[1:] {
 		found = append(found, strings.Split(line, "\t"))
@@ -29,8 +29,8 @@ func rows(t *testing.T, path string) (found [][]string) {
 	return found
 }
 
-// TestCases makes the verifications of bindings/cases.tsv. The errors of a text alone come without
-// waiting, which takes forever here.
+// TestCases makes the verifications of bindings/cases.tsv. A text that is rejected returns its
+// error without waiting; here a wait would not end.
 func TestCases(t *testing.T) {
 	ctx, hasher, full := context.Background(), newHasher(t, Options{}), newHasher(t, Options{})
 	full.of.inside = nil

@@ -3,22 +3,22 @@ package scrypt
 // #include "library.h"
 import "C"
 
-// Error is the reason why a call failed: a status of scrypt_c.h, or a negative number that C does
-// not have.
+// An Error is the reason why a call failed: a status of scrypt_c.h, or a negative number that is
+// only defined here.
 type Error int
 
 const (
-	// ErrRefused matches (errors.Is) each error of a stored hash that is refused, whatever the
-	// password is: ErrTooCostly, ErrKeyTooShort, and those that ErrInvalidHash matches. A login logs
-	// it, and answers as for a wrong password.
+	// ErrRefused matches (errors.Is) each error that rejects a stored hash, whatever the password
+	// is: ErrTooCostly, ErrKeyTooShort, and all that ErrInvalidHash matches. A login should log it,
+	// and respond as to a wrong password.
 	ErrRefused Error = -3
 	// ErrInvalidOption is for an option of a Hasher that is out of range.
 	ErrInvalidOption Error = -2
-	// ErrInvalidHash matches (errors.Is) ErrAlgorithm to ErrVersion, those of a text that is not a
-	// hash that this package reads.
+	// ErrInvalidHash matches (errors.Is) ErrAlgorithm to ErrVersion: the text is not a hash that
+	// this package can read.
 	ErrInvalidHash Error = -1
 
-	// ErrMismatch: the password is not that of the hash.
+	// ErrMismatch: the password does not match the hash.
 	ErrMismatch Error = C.SCRYPT_MISMATCH
 	// ErrInvalidParams: N, r and p, or the length of a hash's key, are not accepted.
 	ErrInvalidParams Error = C.SCRYPT_INVALID_PARAMS
@@ -46,11 +46,11 @@ const (
 	ErrNoRandomBytes Error = C.SCRYPT_NO_RANDOM_BYTES
 	// ErrKeyTooShort: the key in the hash is shorter than is allowed.
 	ErrKeyTooShort Error = C.SCRYPT_KEY_TOO_SHORT
-	// ErrClosed: the Hasher is closed, or was not made by NewHasher.
+	// ErrClosed: the Hasher is closed, or was not created by NewHasher.
 	ErrClosed Error = C.SCRYPT_CLOSED
 )
 
-// Error returns the error in words.
+// Error returns the message of the error.
 func (e Error) Error() string {
 	switch e {
 	case ErrRefused:

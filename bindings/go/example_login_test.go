@@ -12,7 +12,7 @@ import (
 	"nilomafy.example/scrypt"
 )
 
-// users stands for a table; the comments have its statements.
+// users stands for a database table; the comments are its SQL statements.
 type users struct {
 	sync.Mutex
 	hashes map[string]string
@@ -49,7 +49,7 @@ func (s *service) logIn(ctx context.Context, name, password string) error {
 	// Unknown name: without a hash, Verify takes the time of a wrong password.
 	text := s.hash(name)
 	err := s.Verify(ctx, text, []byte(password))
-	// Refused hash: it is logged, and looks like a wrong password, also by its time.
+	// Refused hash: it is logged, and looks like a wrong password, with the same time.
 	if errors.Is(err, scrypt.ErrRefused) {
 		log.Printf("the hash of %q is refused: %v", name, err)
 		err = s.Verify(ctx, "", []byte(password))
@@ -57,7 +57,7 @@ func (s *service) logIn(ctx context.Context, name, password string) error {
 	if err != nil {
 		return err
 	}
-	// Rehash by compare-and-swap: a password that was changed meanwhile is not overwritten.
+	// Rehash by compare-and-swap: a password that was changed in between is not overwritten.
 	if weak, _ := s.NeedsRehash(text); weak {
 		if stronger, err := s.Hash(ctx, []byte(password)); err == nil {
 			s.compareAndSwap(name, text, stronger)

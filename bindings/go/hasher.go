@@ -13,49 +13,50 @@ import (
 	"unsafe"
 )
 
-// mostInside is how many goroutines may be in C, whatever the options are: Go ends a program that
-// has 10,000 threads.
+// mostInside is the maximum number of goroutines in C, whatever the options are: Go ends a program
+// that has 10,000 threads.
 const mostInside = 4096
 
-// Which tests can't name by C.
+// Names for tests, which cannot use cgo.
 type (
 	milliseconds = C.int64_t
 	status       = C.int
 )
 
-// Options are the options of a Hasher. For an option that is zero, and for each zero field of
-// Params, the default is used that its comment names.
+// Options are the options of a Hasher. A zero option, or a zero field of Params, means the default
+// that its comment names.
 type Options struct {
 	Params       // the parameters of new hashes: by default those of Recommended()
-	MCF     bool // whether new hashes are $7$ texts of crypt(3), by default PHC texts
+	MCF     bool // whether new hashes are $7$ hashes of crypt(3); by default they are PHC strings
 	SaltLen int  // the length of a new hash's salt, 1 to 64 bytes: by default 16
 
-	// How many tables may exist at the same time: by default two for each processor, or as many of
-	// MostBytes as the machine and its control group have room for.
+	// The maximum number of tables: by default two for each processor, or as many tables of
+	// MostBytes as fit in the memory of the machine and of its control group.
 	AtOnce int
 
-	// How many derivations may run at the same time: by default one for each processor that the
-	// process may use, by its affinity and its CPU quota, or runtime.GOMAXPROCS(0) if that was set
-	// to less than runtime.NumCPU().
+	// The number of slots, that is, of concurrent derivations: by default the number of processors
+	// that the affinity and the CPU quota of the process allow, or runtime.GOMAXPROCS(0) if that
+	// was set to less than runtime.NumCPU().
 	Processors int
 
-	// The greatest Params.Memory and Params.Work of a hash that is not refused with ErrTooCostly: by
-	// default the constants of the same names, or what new hashes need if that is more.
+	// The limits on Params.Memory and Params.Work, above which a hash returns ErrTooCostly: by
+	// default the constants of the same names, or the cost of new hashes if that is more.
 	MostBytes, MostWork uint64
 }
 
-// A Hasher makes password hashes, and verifies passwords against hashes of either format. Any
-// number of goroutines may use it; at most one for each processor derives at a time, and the others
-// wait, first come, first served. Waiting verifications with the same LogN, R and P are derived in
-// one batch if there are tables for them, which takes less time on some processors. No error or
-// context of one affects another.
+// A Hasher makes password hashes, and verifies passwords against hashes of either format. It is
+// safe for concurrent use by multiple goroutines. Calls wait in FIFO order for one of Processors
+// slots. Waiting verifications with the same LogN, R and P are derived in one batch if there are
+// tables for them, which takes less time on some processors. An error or a context of one call does
+// not affect the others.
 //
-// A call whose context ends returns the context's error immediately. If it has begun to derive, or
-// is among the next eight of a processor, its derivation goes on over a copy of the password, which
-// is wiped; after the deadline of the context none begins.
+// A call whose context is done returns the context's error immediately. If the call derives, or is
+// among the next eight of a processor, its derivation continues with a copy of the password, which
+// is wiped. After the deadline of the context no derivation begins.
 //
 // A Hasher holds at most AtOnce tables, whatever P is, and keeps their memory for later calls until
-// Close. Create one with NewHasher: on the zero value every method but Close returns ErrClosed.
+// Close. Create a Hasher with NewHasher: all methods of the zero value that return an error return
+// ErrClosed, except Close.
 type Hasher struct {
 	of *hasher
 }
@@ -63,13 +64,13 @@ type Hasher struct {
 // A hasher is freed when no Hasher and no call refers to it.
 type hasher struct {
 	c       *C.scrypt_hasher
-	inside  chan struct{} // one for each goroutine that is in C, where it takes a thread of the system
-	calls   atomic.Int64  // how many wait or derive
-	refused atomic.Uint64 // how many found no memory, or waited until their context ended
+	inside  chan struct{} // a counting semaphore: each goroutine in C takes a system thread
+	calls   atomic.Int64  // how many calls wait or derive
+	refused atomic.Uint64 // how many calls failed: out of memory, or their context ended
 }
 
-// NewHasher returns a Hasher. Its errors name the options, and match (errors.Is) ErrInvalidParams,
-// ErrSaltInvalid, ErrInvalidOption, ErrTooCostly if new hashes need more than the bounds, or
+// NewHasher returns a Hasher. Its errors show the options, and match (errors.Is) ErrInvalidParams,
+// ErrSaltInvalid, ErrInvalidOption, ErrTooCostly if new hashes exceed the limits, or
 // ErrOutOfMemory.
 func NewHasher(options Options) (*Hasher, error) {
 	usual := Recommended()
@@ -97,8 +98,8 @@ func NewHasher(options Options) (*Hasher, error) {
 	if of.c == nil {
 		return nil, fmt.Errorf("%w: %v: %+v", Error(status), options.Params.needs(), options)
 	}
-	// For each that derives up to four are derived together, and as many wait in C, where the next
-	// group forms.
+	// For each slot a batch of up to four is derived, and as many calls wait in C, where they form
+	// the next batch.
 	derive := C.scrypt_hasher_options(of.c).processors
 	if atOnce := C.scrypt_hasher_options(of.c).at_once; atOnce < derive {
 		derive = atOnce
@@ -111,8 +112,8 @@ func NewHasher(options Options) (*Hasher, error) {
 	return &Hasher{of}, nil
 }
 
-// Options returns the options of the Hasher, each default replaced by its value; those of the zero
-// value are zero.
+// Options returns the options of the Hasher, with each default replaced by its value. For the zero
+// value of a Hasher all are zero.
 func (h *Hasher) Options() Options {
 	if h.of == nil {
 		return Options{}
@@ -127,19 +128,19 @@ func (h *Hasher) Options() Options {
 	}
 }
 
-// Stats are what a Hasher does.
+// Stats are the statistics of a Hasher.
 type Stats struct {
-	Waiting, Deriving int    // how many calls wait for a processor, and derive, now
-	Refused           uint64 // how many found no memory until now, or returned when their context ended
+	Waiting, Deriving int    // how many calls wait for a slot, and derive, now
+	Refused           uint64 // how many calls ran out of memory, or whose context ended
 }
 
-// Stats returns what the Hasher does now, for metrics; that of the zero value is zero.
+// Stats returns the current statistics, for metrics. For the zero value of a Hasher all are zero.
 func (h *Hasher) Stats() Stats {
 	var now C.scrypt_stats
 	if h.of == nil || C.scrypt_hasher_stats(h.of.c, &now) != C.SCRYPT_OK {
 		return Stats{}
 	}
-	waiting := h.of.calls.Load() - int64(now.deriving) // also those that are not in C
+	waiting := h.of.calls.Load() - int64(now.deriving) // includes calls that are not in C
 	if waiting < 0 {
 		waiting = 0
 	}
@@ -147,7 +148,7 @@ func (h *Hasher) Stats() Stats {
 }
 
 // Close frees the memory that the Hasher keeps; the memory of a running derivation is freed when it
-// ends. Calls that wait, and later ones, return ErrClosed. Close returns nil.
+// ends. Waiting and later calls return ErrClosed. Close always returns nil.
 func (h *Hasher) Close() error {
 	if h.of != nil {
 		C.scrypt_hasher_close(h.of.c)
@@ -156,19 +157,19 @@ func (h *Hasher) Close() error {
 	return nil
 }
 
-// Hash returns the text of a new hash, with a random salt from the system. The errors are the
-// context's, ErrOutOfMemory, ErrNoRandomBytes and ErrClosed.
+// Hash returns a new hash, with a random salt from the system. Its errors are the context's error,
+// ErrOutOfMemory, ErrNoRandomBytes and ErrClosed.
 func (h *Hasher) Hash(ctx context.Context, password []byte) (string, error) {
 	return h.hash(ctx, password, nil)
 }
 
-// HashWithSalt does what Hash does, with the caller's salt. It returns ErrSaltInvalid if the salt
+// HashWithSalt is like Hash, with the caller's salt. It returns ErrSaltInvalid if the salt
 // of a PHC hash does not have 1 to 64 bytes.
 func (h *Hasher) HashWithSalt(ctx context.Context, password, salt []byte) (string, error) {
 	return h.hash(ctx, password, append([]byte{}, salt...))
 }
 
-// hash draws a salt if it is nil.
+// hash generates a salt if salt is nil.
 func (h *Hasher) hash(ctx context.Context, password, salt []byte) (string, error) {
 	var at unsafe.Pointer
 	if salt != nil {
@@ -185,8 +186,8 @@ func (h *Hasher) hash(ctx context.Context, password, salt []byte) (string, error
 	return C.GoString(chars(text)), nil
 }
 
-// Key returns the key of keyLen bytes of a password and a salt, with the parameters of new hashes.
-// The errors are those of Hash, and ErrInvalidOutputLen.
+// Key derives a key of keyLen bytes from a password and a salt, with the parameters of new hashes.
+// It returns the errors of Hash, and ErrInvalidOutputLen.
 func (h *Hasher) Key(ctx context.Context, password, salt []byte, keyLen int) ([]byte, error) {
 	key, err := newKey(keyLen)
 	if err != nil {
@@ -203,14 +204,15 @@ func (h *Hasher) Key(ctx context.Context, password, salt []byte, keyLen int) ([]
 	return key, nil
 }
 
-// Verify returns nil if the password is that of the hash, and ErrMismatch if it is not, or if the
-// hash has no salt or no key. With "" in place of a hash, for a name that doesn't exist, it derives
-// as for a new hash and returns ErrMismatch, so that the time doesn't tell whether there is such a
-// name.
+// Verify returns nil if the password matches the hash, and ErrMismatch if it does not, or if the
+// hash has no salt or no key. For a user who does not exist, pass "" as the text: Verify derives as
+// for a new hash and returns ErrMismatch, so that its time does not reveal whether there is such a
+// user.
 //
-// Other errors match (errors.Is) the context's, ErrClosed or ErrOutOfMemory; or, without waiting,
-// ErrRefused: ErrInvalidHash, ErrTooCostly if the hash needs more than the bounds, or
-// ErrKeyTooShort if its key has fewer than LeastKeyLen bytes, or than new keys if that is less.
+// Other errors match (errors.Is) the context's error, ErrClosed or ErrOutOfMemory. If the hash is
+// rejected, Verify returns, without waiting, an error that matches ErrRefused: ErrInvalidHash,
+// ErrTooCostly if the hash exceeds the limits, or ErrKeyTooShort if its key has fewer than
+// LeastKeyLen bytes, or fewer than new keys if that is less.
 func (h *Hasher) Verify(ctx context.Context, text string, password []byte) error {
 	if h.of == nil {
 		return ErrClosed
@@ -228,7 +230,7 @@ func (h *Hasher) Verify(ctx context.Context, text string, password []byte) error
 	})
 }
 
-// refusal returns the error of a text alone, with what it needs; there is none of no text.
+// refusal returns why a hash is rejected, with its cost; nil if it is not, or if the text is empty.
 func (h *Hasher) refusal(text []byte) error {
 	if len(text) == 0 {
 		return nil
@@ -246,9 +248,9 @@ func (h *Hasher) refusal(text []byte) error {
 	return failed(status)
 }
 
-// NeedsRehash reports whether one of the parameters of the hash, or its key's length, is below that
-// of new hashes. Its errors match ErrInvalidHash (errors.Is). It needs no memory, so it also works
-// on a closed Hasher.
+// NeedsRehash reports whether a parameter of the hash, or the length of its key, is smaller than in
+// new hashes. Its errors match ErrInvalidHash (errors.Is). It needs no memory, so it also works on
+// a closed Hasher.
 func (h *Hasher) NeedsRehash(text string) (bool, error) {
 	if h.of == nil {
 		return false, ErrClosed
@@ -262,9 +264,8 @@ func (h *Hasher) NeedsRehash(text string) (bool, error) {
 	return false, failed(status)
 }
 
-// run makes a call when there is room for it in C, where it waits until the deadline of the
-// context. When the context ends, it returns, and the call goes on over its own copy of the
-// password.
+// run acquires the semaphore and makes a call in C, which waits until the deadline of the context.
+// When the context is done, run returns, and the call continues with its own copy of the password.
 func (h *Hasher) run(ctx context.Context, password []byte,
 	call func(password []byte, ms milliseconds) status) error {
 	if h.of == nil {
@@ -273,7 +274,7 @@ func (h *Hasher) run(ctx context.Context, password []byte,
 	if err := ctx.Err(); err != nil {
 		return err
 	}
-	// The context is asked before anything is taken, which a panic of its own would leave so.
+	// The context's methods, which can panic, are called before anything is acquired.
 	of, done := h.of, ctx.Done()
 	end, isBounded := ctx.Deadline()
 	of.calls.Add(1)
@@ -282,7 +283,7 @@ func (h *Hasher) run(ctx context.Context, password []byte,
 		if isInside {
 			<-of.inside
 		}
-		of.calls.Add(-1) // which also keeps it alive
+		of.calls.Add(-1) // also keeps it alive
 	}
 	select {
 	case of.inside <- struct{}{}:
@@ -317,7 +318,7 @@ func (h *Hasher) run(ctx context.Context, password []byte,
 	}
 }
 
-// left returns for how many milliseconds a call may wait in C: without a bound if it is negative.
+// left returns the timeout of a call in C, in milliseconds; a negative one means no timeout.
 func left(end time.Time, isBounded bool) milliseconds {
 	if !isBounded {
 		return -1
@@ -328,7 +329,7 @@ func left(end time.Time, isBounded bool) milliseconds {
 	return 0
 }
 
-// wipe writes zeros.
+// wipe overwrites the secret with zeros.
 func wipe(secret []byte) {
 	for i := range secret {
 		secret[i] = 0
@@ -343,7 +344,7 @@ func orUsual(n, usual int) int {
 	return n
 }
 
-// needs returns in words what a derivation needs, or that there is none.
+// needs describes the cost of a derivation, or says that the parameters are not accepted.
 func (params Params) needs() string {
 	needs, err := params.within(math.MaxUint64)
 	if err == nil {

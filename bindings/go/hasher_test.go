@@ -63,7 +63,7 @@ func TestHashes(t *testing.T) {
 	}
 }
 
-// What is refused, with words of the error. Some are numbers that C's types would cut off to
+// Rejected arguments, with words of the error. C's types would truncate some of these numbers to
 // accepted ones.
 func TestRefusedOptions(t *testing.T) {
 	for _, it := range []struct {
@@ -117,7 +117,7 @@ func TestOptions(t *testing.T) {
 	}
 }
 
-// What a text needs is in its error.
+// The error has the cost of the hash.
 func TestRefusedTexts(t *testing.T) {
 	ctx, most := context.Background(), uint64(math.MaxUint64)
 	for _, it := range []struct {

@@ -11,18 +11,18 @@ import (
 	"time"
 )
 
-type mixes = C.size_t // which tests can't name by C
+type mixes = C.size_t // a name for tests, which cannot use cgo
 
-// stepTime is how long a step of KeyContext takes, if one block mix doesn't take longer.
+// stepTime is the duration of a step of KeyContext, unless one block mix takes longer.
 const stepTime = 10 * time.Millisecond
 
-// several is how many bytes the buffers may have together if there are several tables, as in Key.
+// several is the maximum size in bytes of all buffers if there are several tables, as in Key.
 const several = 129 << 20
 
-// Key returns the key of keyLen bytes of a password and a salt. N is a power of two. If keyLen comes
-// from a file, bound it; what N, r and p cost is Params.Memory and Params.Work. To errors.Is the errors
-// are ErrInvalidParams, ErrInvalidOutputLen, and ErrOutOfMemory if the memory for the table or for the
-// key is not available.
+// Key derives a key of keyLen bytes from a password and a salt. N must be a power of two. Limit
+// keyLen if it comes from a file; Params.Memory and Params.Work return the cost of N, r and p. The
+// errors match (errors.Is) ErrInvalidParams, ErrInvalidOutputLen, and ErrOutOfMemory if the memory
+// for the table or for the key is not available.
 func Key(password, salt []byte, N, r, p, keyLen int) ([]byte, error) {
 	return made(N, r, p, keyLen, func(needs C.scrypt_needs, key []byte) error {
 		return failed(C.scrypt_key(pointer(password), size(password), pointer(salt), size(salt),
@@ -30,15 +30,16 @@ func Key(password, salt []byte, N, r, p, keyLen int) ([]byte, error) {
 	})
 }
 
-// KeyContext does what Key does, in steps of about 10 ms. Between two of them it looks at the context,
-// whose error it returns if that has ended, and calls progress, if that is not nil, with the part that
-// is done, from 0 to 1. The PBKDF2 at either end, of 128 * r * p bytes, is a step of its own.
+// KeyContext is like Key, but derives the key in steps of about 10 ms. Between two steps it returns
+// the context's error if the context is done, and calls progress, if that is not nil, with the
+// fraction that is done, from 0 to 1. PBKDF2 at the beginning and at the end, of 128 * r * p bytes,
+// is one step each.
 func KeyContext(ctx context.Context, password, salt []byte, N, r, p, keyLen int,
 	progress func(done float64)) ([]byte, error) {
 	return keyInSteps(ctx, password, salt, N, r, p, keyLen, progress, nextMixes)
 }
 
-// keyInSteps has the number of block mixes of each step but the first from next.
+// keyInSteps calls next for the number of block mixes of each step after the first.
 func keyInSteps(ctx context.Context, password, salt []byte, N, r, p, keyLen int,
 	progress func(done float64), next func(mixes, time.Duration) mixes) ([]byte, error) {
 	return made(N, r, p, keyLen, func(needs C.scrypt_needs, key []byte) error {
@@ -66,7 +67,7 @@ func keyInSteps(ctx context.Context, password, salt []byte, N, r, p, keyLen int,
 	})
 }
 
-// nextMixes returns how many block mixes the next step does, after one that took so long.
+// nextMixes returns the number of block mixes in the next step, from the last step's and its time.
 func nextMixes(last mixes, took time.Duration) mixes {
 	if took < stepTime/2 {
 		return 2 * last
@@ -97,8 +98,8 @@ func made(N, r, p, keyLen int, derive func(C.scrypt_needs, []byte) error) ([]byt
 	return key, nil
 }
 
-// newKey returns n bytes, or ErrInvalidOutputLen. As elsewhere in Go, the process ends if memory runs
-// out.
+// newKey returns n bytes, or ErrInvalidOutputLen. As elsewhere in Go, the process ends if it runs
+// out of memory.
 func newKey(n int) ([]byte, error) {
 	if n < 1 || n > C.SCRYPT_MAX_OUTPUT_LEN {
 		return nil, ErrInvalidOutputLen

@@ -12,8 +12,8 @@ import (
 	"time"
 )
 
-// Keys in steps of random lengths are those of one call. As many as STEPS says are printed, to be
-// compared by ../compare_keys.py.
+// Keys derived in steps of random lengths equal the keys of one call. STEPS is the number of keys,
+// which are printed for ../compare_keys.py.
 func TestKeysInSteps(t *testing.T) {
 	count, err := strconv.Atoi(os.Getenv("STEPS"))
 	if err != nil {
@@ -42,7 +42,7 @@ func TestKeysInSteps(t *testing.T) {
 	}
 }
 
-// A derivation of seconds ends with its context.
+// A derivation that takes seconds ends with its context.
 func TestKeyContext(t *testing.T) {
 	for i := 0; i < 3; i++ {
 		ctx, cancel := context.WithCancel(context.Background())

@@ -16,8 +16,8 @@ func failed(status C.int) error {
 	return Error(status)
 }
 
-// number returns n, or the greatest number of 32 bits if n is not one of them. The library accepts
-// that for no parameter.
+// number returns n, or math.MaxUint32 if n does not fit in 32 bits. The library does not accept
+// that for any parameter.
 func number(n int) C.uint32_t {
 	if n < 0 || n > math.MaxUint32 {
 		return math.MaxUint32
@@ -27,7 +27,7 @@ func number(n int) C.uint32_t {
 
 var none [1]byte
 
-// bytes returns where the bytes begin, which is never NULL: that would mean a random salt.
+// bytes returns a pointer to the first byte. It is never NULL, which would mean a random salt.
 func bytes(b []byte) *C.uint8_t {
 	if len(b) == 0 {
 		b = none[:]

@@ -1,4 +1,4 @@
-/* What the package includes of the library. */
+/* The library's header, and the C code of the package. */
 #if !__has_include(<scrypt_c.h>)
 #error "scrypt_c.h is not in the package's folder: make lib puts it there, with the library; or make install and -tags scrypt_system. README.md names the systems."
 #else
@@ -10,7 +10,7 @@
 #include <sys/mman.h>
 #endif
 
-/* Enough for a text of either format. */
+/* A capacity that is enough for a hash of either format. */
 static inline size_t text_capacity(size_t salt_len) {
   return SCRYPT_PHC_CAPACITY + SCRYPT_MCF_CAPACITY(salt_len);
 }
@@ -43,7 +43,7 @@ static inline int steps_map(scrypt_steps *it, const scrypt_needs *needs) {
   return 1;
 }
 
-/* Gives them back to the system, which wipes them. */
+/* Unmaps the buffers; the system wipes the pages before it reuses them. */
 static inline void steps_unmap(scrypt_steps *it) {
 #ifdef _WIN32
   VirtualFree(it->table, 0, MEM_RELEASE);
@@ -52,7 +52,7 @@ static inline void steps_unmap(scrypt_steps *it) {
 #endif
 }
 
-/* The part of a derivation that is done, from 0 to 1. */
+/* The fraction of a derivation that is done, from 0 to 1. */
 static inline double steps_done(const scrypt_steps *it) {
   double of_each = (double)it->at.mixes / (double)((uint64_t)2 << it->log_n);
   return ((double)it->at.chunks + (double)it->at.at_once * of_each) / it->p;

@@ -12,11 +12,12 @@ import (
 	"unicode/utf8"
 )
 
-// StoredText returns a text that Verify reads, of the salt and the key of another program: a PHC
-// text if the lengths allow it, otherwise a $7$ text. Of a PHC text's key only the first 64 bytes
-// are kept, which are the key of that length. N is a power of two, at least 64: a smaller one may
-// be its logarithm, and then no password would match. To errors.Is the errors are ErrInvalidParams,
-// ErrInvalidOutputLen without a key, and ErrSaltInvalid if neither format can store the salt.
+// StoredText returns a hash that Verify reads, from the salt and the key of another program: a PHC
+// string if the lengths allow it, otherwise a $7$ hash. A PHC string keeps only the first 64 bytes
+// of the key, which are the key of that length. N must be a power of two and at least 64: a smaller
+// number may be the logarithm of N, and then no password would match. The errors match (errors.Is)
+// ErrInvalidParams, ErrInvalidOutputLen if there is no key, and ErrSaltInvalid if neither format
+// can store the salt.
 func StoredText(salt, key []byte, N, r, p int) (string, error) {
 	if N >= 1 && N < 64 {
 		const words = "%w: N is at least 64, and %d may be its logarithm, LogN: %d is N = 2^%d"
@@ -25,7 +26,7 @@ func StoredText(salt, key []byte, N, r, p int) (string, error) {
 	return storedText(salt, key, N, r, p)
 }
 
-// storedText returns what StoredText does, with any N.
+// storedText is like StoredText, but accepts N below 64.
 func storedText(salt, key []byte, N, r, p int) (string, error) {
 	if N < 1 || N&(N-1) != 0 {
 		return "", fmt.Errorf("%w: N is %d, and has to be a power of two", ErrInvalidParams, N)
@@ -61,7 +62,7 @@ func storedText(salt, key []byte, N, r, p int) (string, error) {
 	return text, nil
 }
 
-// mcfDigits returns a number in the letters of $7$ texts, the low ones first.
+// mcfDigits encodes a number in the alphabet of $7$ hashes, the least significant digit first.
 func mcfDigits(number, count int) string {
 	const letters = "./0123456789ABCDEFGHIJKLMNOPQRSTUVWXYZabcdefghijklmnopqrstuvwxyz"
 	text := make([]byte, count)
@@ -72,8 +73,8 @@ func mcfDigits(number, count int) string {
 }
 
 // FromSimpleScrypt converts a hash of github.com/elithrar/simple-scrypt, N$r$p$salt$key with the
-// last two in hexadecimal, to one that Verify reads, also if N is below 64. Its errors are those of
-// StoredText, and ErrEncodingInvalid for another text.
+// last two in hexadecimal, to a hash that Verify reads. N may be below 64. It returns the errors of
+// StoredText, and ErrEncodingInvalid if the text is not such a hash.
 func FromSimpleScrypt(stored string) (string, error) {
 	fault := fmt.Errorf("%w: this is not a hash of simple-scrypt", ErrEncodingInvalid)
 	parts := strings.Split(stored, "$")

@@ -10,7 +10,7 @@ import (
 	"testing"
 )
 
-// TestStoredText makes the texts of bindings/stored.tsv.
+// TestStoredText makes the hashes of bindings/stored.tsv.
 func TestStoredText(t *testing.T) {
 	for _, words := range rows(t, "../stored.tsv") {
 		salt, _ := hex.DecodeString(words[0])

@@ -1,6 +1,7 @@
 // Package scrypt derives keys with scrypt (RFC 7914), and makes and verifies scrypt password
-// hashes, on top of the library libscrypt_c over proved code. The package calls it through cgo, and
-// is tested, not proved.
+// hashes, on top of the library libscrypt_c. That library's calls that derive keys and read and
+// verify hashes are proved correct. Its hasher, which is C, and this package, which calls it
+// through cgo, are tested, not proved.
 //
 //	hasher, err := scrypt.NewHasher(scrypt.Options{})
 //	..
@@ -8,7 +9,7 @@
 //	..
 //	err = hasher.Verify(ctx, text, password)       // nil, or scrypt.ErrMismatch
 //
-// Key has the arguments of golang.org/x/crypto/scrypt.
+// Key has the same arguments as Key of golang.org/x/crypto/scrypt.
 //
 // The static library and its header are in the folder of the package, where make lib puts them.
 // With the build tag scrypt_system, the installed library that pkg-config finds is linked instead.
@@ -22,8 +23,9 @@ import (
 	"time"
 )
 
-// The default bounds on a hash: on its memory, on its work, which is four times that of the
-// recommended parameters, and on the length of its key, or that of new keys if that is less.
+// The default limits on a hash: the maximum of its memory, the maximum of its work, which is four
+// times the work of the recommended parameters, and the minimum length of its key, or the length of
+// new keys if that is less.
 const (
 	MostBytes   uint64 = C.SCRYPT_MOST_BYTES
 	MostWork    uint64 = C.SCRYPT_MOST_WORK
@@ -31,8 +33,8 @@ const (
 )
 
 // Params are the parameters of a hash: N = 2^LogN, the block size R, the parallelization P, and the
-// length of the hash's key, 10 to 64 bytes. They are of type int so that no conversion truncates a
-// number from elsewhere: one that is out of range gives ErrInvalidParams.
+// length of the hash's key, 10 to 64 bytes. They are of type int so that no conversion truncates
+// them; a number that is out of range gives ErrInvalidParams.
 type Params struct {
 	LogN, R, P, KeyLen int
 }
@@ -47,10 +49,10 @@ func Recommended() Params {
 	}
 }
 
-// Calibrate finds parameters by measuring this machine, now: the greatest LogN whose table has at
-// most mostBytes bytes, and then the greatest P, with which one derivation takes at most the
-// target; R is 8, and KeyLen 32. It takes some four times the target. ErrTooCostly if even a LogN
-// of 10 takes longer, or needs more.
+// Calibrate measures this machine, and returns the most costly parameters whose derivation takes no
+// more time than the target: first the largest LogN whose table does not exceed mostBytes, and then
+// the largest P. R is 8, and KeyLen is 32. It takes about four times the target. It returns
+// ErrTooCostly if even a LogN of 10 takes more time or memory.
 func Calibrate(target time.Duration, mostBytes uint64) (Params, error) {
 	var logN, r, p C.uint32_t
 	err := failed(C.scrypt_calibrate(C.double(target.Seconds()), C.size_t(mostBytes), &logN, &r, &p))
@@ -72,15 +74,15 @@ func ParamsOf(text string) (Params, error) {
 	return Params{LogN: int(logN), R: int(r), P: int(p), KeyLen: int(keyLen)}, nil
 }
 
-// Memory returns the number of bytes of a derivation's buffers, at most math.MaxUint64, or
+// Memory returns the size of a derivation's buffers in bytes, up to math.MaxUint64, or
 // ErrInvalidParams if LogN, R and P are not accepted.
 func (params Params) Memory() (uint64, error) {
 	needs, err := params.within(math.MaxUint64)
 	return uint64(needs.bytes), err
 }
 
-// within returns what a derivation needs, with the tables that it may have within so many bytes, or
-// ErrInvalidParams.
+// within returns the cost of a derivation with as many tables as fit in the given number of bytes,
+// or ErrInvalidParams.
 func (params Params) within(bytes uint64) (needs C.scrypt_needs, err error) {
 	status := C.scrypt_params_need(number(params.LogN), number(params.R), number(params.P),
 		C.size_t(bytes), math.MaxUint64, &needs)
@@ -90,9 +92,9 @@ func (params Params) within(bytes uint64) (needs C.scrypt_needs, err error) {
 	return needs, err
 }
 
-// Work returns the work of a derivation, which Options.MostWork bounds: 4 * (N + 32) * R * P
-// Salsa20/8 cores, where 32 stands for PBKDF2. It is math.MaxUint64 if it would be more, or if the
-// parameters are not accepted.
+// Work returns the work of a derivation, which Options.MostWork limits: 4 * (N + 32) * R * P
+// Salsa20/8 cores, where 32 accounts for PBKDF2. It returns math.MaxUint64 if the work is larger,
+// or if the parameters are not accepted.
 func (params Params) Work() uint64 {
 	needs, err := params.within(math.MaxUint64)
 	if err != nil {

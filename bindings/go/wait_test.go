@@ -34,8 +34,8 @@ func busy(t *testing.T, hasher *Hasher) chan struct{} {
 	return ended
 }
 
-// A call returns when its context ends: outside of C, waiting there, and deriving. Its password may be
-// overwritten then, and its own copy is wiped.
+// A call returns when its context is done: outside of C, waiting in C, and deriving. The caller may
+// overwrite the password then, and the call's own copy is wiped.
 func TestEndsOfContexts(t *testing.T) {
 	for _, it := range []struct {
 		why      string
@@ -113,8 +113,8 @@ func TestDeadlines(t *testing.T) {
 	}
 }
 
-// Contexts end at any time, until the hasher is closed: each call has its verdict, or says why it
-// has none.
+// Contexts end at any time, until the hasher is closed: each call returns its verdict, or the
+// reason why it has no verdict.
 func TestAtAnyTime(t *testing.T) {
 	hasher := newHasher(t, Options{Params: small(), AtOnce: 3, Processors: 2})
 	var all sync.WaitGroup
@@ -136,7 +136,7 @@ func TestAtAnyTime(t *testing.T) {
 	time.Sleep(300 * time.Millisecond)
 	_ = hasher.Close()
 	all.Wait()
-	for len(hasher.of.inside) > 0 { // those whose contexts ended
+	for len(hasher.of.inside) > 0 { // calls whose contexts ended
 		time.Sleep(time.Millisecond)
 	}
 	if most := cap(hasher.of.inside); most != 16 {
@@ -144,7 +144,7 @@ func TestAtAnyTime(t *testing.T) {
 	}
 }
 
-// Calls that wait and derive, and contexts that end meanwhile.
+// Stats counts the calls that wait and derive, and those whose contexts end.
 func TestStats(t *testing.T) {
 	hasher := newHasher(t, Options{Params: small(), AtOnce: 1, MostWork: 4 * MostWork})
 	before, ended := busy(t, hasher), make(chan error)
@@ -161,7 +161,7 @@ func TestStats(t *testing.T) {
 			t.Error(i, err)
 		}
 	}
-	<-before // seven waited in C behind it, and derive now
+	<-before // seven calls waited in C after it, and derive now
 	for now := (Stats{}); now != (Stats{Refused: 20}); now = hasher.Stats() {
 		time.Sleep(time.Millisecond)
 	}
@@ -170,8 +170,7 @@ func TestStats(t *testing.T) {
 	}
 }
 
-// Options that mean no bound: neither do they overflow, nor may a goroutine never wait in C, nor
-// too many.
+// Options without a limit do not overflow; goroutines can wait in C, but not too many of them.
 func TestManyProcessors(t *testing.T) {
 	for _, n := range []int{511, 512, 513, 1 << 60, 1 << 61, math.MaxInt64} {
 		want := map[bool]int{true: 4088, false: 4096}[n == 511]
@@ -181,7 +180,7 @@ func TestManyProcessors(t *testing.T) {
 	}
 }
 
-// One that is closed, also twice, and one that NewHasher did not make.
+// A Hasher that is closed, also twice, and a Hasher that NewHasher did not create.
 func TestClosedHashers(t *testing.T) {
 	for _, hasher := range []*Hasher{newHasher(t, Options{Params: small()}), {}} {
 		got := [3]error{hasher.Close(), hasher.Close(), hasher.Verify(context.Background(), noHash, nil)}
@@ -192,7 +191,7 @@ func TestClosedHashers(t *testing.T) {
 	}
 }
 
-// A call whose context has ended uses its Hasher until its derivation ends, whoever else does.
+// A call whose context has ended keeps its Hasher alive until its derivation ends.
 func TestLeftCalls(t *testing.T) {
 	before := runtime.NumGoroutine()
 	for i := 0; i < 3; i++ {
@@ -210,13 +209,13 @@ func TestLeftCalls(t *testing.T) {
 	}
 }
 
-// A Hasher has as many tables as AtOnce, whatever P and Processors are, and they are given back when
-// nothing refers to it.
+// A Hasher has at most AtOnce tables, whatever P and Processors are, and frees them when nothing
+// refers to it.
 func TestMemory(t *testing.T) {
 	resident := func() (kib int) {
 		data, err := os.ReadFile("/proc/self/status")
 		if err != nil {
-			t.Skip(err) // Windows has none
+			t.Skip(err) // Windows does not have it
 		}
 		_, after, _ := strings.Cut(string(data), "VmRSS:")
 		_, _ = fmt.Sscan(after, &kib)
@@ -232,7 +231,7 @@ func TestMemory(t *testing.T) {
 	hashers = nil
 	left, until := held, time.Now().Add(time.Minute)
 	for left > held-192<<10 && time.Now().Before(until) {
-		time.Sleep(10 * time.Millisecond) // finalizers have a goroutine of their own
+		time.Sleep(10 * time.Millisecond) // finalizers run in their own goroutine
 		runtime.GC()
 		left = resident()
 	}
