@@ -1,24 +1,24 @@
-//! Finds the library libscrypt_c: the file that SCRYPT_C_LIBRARY names, or the one in the folder
-//! that it names, or else the static one that this crate has for the target, or else what
-//! pkg-config finds. It takes nothing from the folders around the crate, where another user may
-//! have put anything. For a target that the library isn't made for, it says so.
+//! Finds the library libscrypt_c: first the file that SCRYPT_C_LIBRARY names, or the library in the
+//! folder that it names; then the static library that this crate has for the target; then the
+//! library that pkg-config finds. It takes nothing from the folders around the crate, where another
+//! user may have put anything. For a target without a library it prints an error.
 
 use std::path::Path;
 use std::process::Command;
 
-/// What cargo knows of the target by this name.
+/// The property of the target with this name, from cargo.
 fn target_has(name: &str) -> String {
     std::env::var(format!("CARGO_CFG_TARGET_{name}")).unwrap_or_default()
 }
 
-/// Links the library of this folder, or this file: the static one, if both are there.
+/// Links the library in a folder, or a file. If a folder has both, links the static library.
 fn link(place: &Path) -> Result<(), String> {
     let folder = if place.is_dir() { place } else { place.parent().unwrap_or(Path::new(".")) };
     let is_static = if place.is_dir() {
         folder.join("libscrypt_c.a").exists()
     } else {
         let name = place.to_string_lossy();
-        name.ends_with(".a") && !name.ends_with(".dll.a") // which is MinGW's library of a DLL
+        name.ends_with(".a") && !name.ends_with(".dll.a") // a .dll.a is MinGW's import library
     };
     let name = match (is_static, target_has("OS").as_str()) {
         (true, _) => "libscrypt_c.a",
@@ -53,13 +53,13 @@ fn link_named(folder: &Path, name: &str) -> Result<(), String> {
     Ok(())
 }
 
-/// The name of the library that the crate has for a system and a processor.
+/// The name of the crate's library for the target's system and processor.
 fn bundled() -> String {
     format!("libscrypt_c_{}_{}.a", target_has("OS"), target_has("ARCH"))
 }
 
-/// Links what pkg-config finds: that of the machine for its own programs, and for another target
-/// one that the caller names.
+/// Links the library that pkg-config finds. For a target other than the machine's own, the caller
+/// has to name a pkg-config.
 fn link_by_pkg_config() -> Result<(), String> {
     let (host, target) = (std::env::var("HOST"), std::env::var("TARGET"));
     let program = match std::env::var("PKG_CONFIG") {

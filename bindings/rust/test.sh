@@ -1,6 +1,6 @@
 #!/bin/sh
-# Tests the Rust crate over the library of build/lib, and its package in a folder of its own. With
-# PRESET=windows, in Wine, by Debian's compiler, which has Rust's own library for that.
+# Tests the Rust crate with the library of build/lib, and its package in a separate folder. With
+# PRESET=windows, tests it in Wine, by Debian's compiler, which has Rust's own library for Windows.
 set -eu
 unset CDPATH
 cd "$(dirname "$0")/../.."
@@ -40,7 +40,7 @@ crate cargo doc --quiet --all-features --no-deps
 if has rustfmt rustfmt; then crate cargo fmt --check; fi
 echo "called from Rust"
 
-# The package, built elsewhere by its own library; without one the build says what it needs.
+# The package, built elsewhere with its own library; without one the build prints what is missing.
 crate cargo package --quiet --allow-dirty --no-verify
 tar -xzf "$room"/target/package/scrypt_c-*.crate -C "$room"
 crate=$(echo "$room"/scrypt_c-*/)

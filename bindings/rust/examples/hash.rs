@@ -1,4 +1,4 @@
-//! Makes a hash of a password, and verifies the password by it.
+//! Hashes a password, and verifies the password against the hash.
 
 use scrypt_c::{Error, Hasher};
 

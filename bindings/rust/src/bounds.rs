@@ -1,48 +1,48 @@
-//! Bounds on the cost of a hash.
+//! Limits on the cost of a hash.
 
 use crate::calls::{self, scrypt_params_need, RawNeeds, OK};
 use crate::Params;
 use std::fmt;
 
-/// The bounds above which a derivation is refused: an untrusted hash chooses its own cost, which
-/// may be days of work.
+/// The limits above which a derivation is rejected. Without limits an untrusted hash, which chooses
+/// its own cost, can demand days of work.
 #[derive(Clone, Copy, Debug, PartialEq, Eq)]
 pub struct Bounds {
-    /// The most bytes of its buffers, as [`Params::memory`] counts them.
+    /// The maximum size of its buffers in bytes, as [`Params::memory`] counts them.
     pub most_bytes: usize,
-    /// The most work, as [`Params::work`] counts it.
+    /// The maximum work, as [`Params::work`] counts it.
     pub most_work: u64,
 }
 
 impl Bounds {
-    /// The default bounds of the library, which admit four times the work of the recommended
+    /// The default limits of the library, which allow four times the work of the recommended
     /// parameters.
     pub const USUAL: Bounds =
         Bounds { most_bytes: calls::MOST_BYTES as usize, most_work: calls::MOST_WORK };
 
-    /// The least length of the key in a hash that a [`Hasher`](crate::Hasher) verifies, unless new
-    /// keys are shorter.
+    /// The minimum key length in a hash that a [`Hasher`](crate::Hasher) verifies, in bytes, unless
+    /// new keys are shorter.
     pub const LEAST_KEY_LEN: usize = calls::LEAST_KEY_LEN as usize;
 
-    /// Whether a derivation with these parameters is within the bounds.
+    /// Returns whether a derivation with these parameters is within the limits.
     pub fn allow(&self, params: &Params) -> bool {
         let (log_n, r, p) = (params.log_n(), params.r(), params.p());
         let (bytes, work, mut needs) = (self.most_bytes, self.most_work, RawNeeds::default());
-        // SAFETY: the place is this function's own.
+        // SAFETY: `needs` is a local variable.
         unsafe { scrypt_params_need(log_n.into(), r, p, bytes, work, &mut needs) == OK }
     }
 }
 
-/// What a derivation needs, and the bounds that it exceeds.
+/// The cost of a derivation, and the limits that it exceeds.
 #[derive(Clone, Copy, Debug, PartialEq, Eq)]
 pub struct Cost {
     /// Its parameters.
     pub params: Params,
-    /// The number of bytes of its buffers, as [`Params::memory`] counts them.
+    /// The size of its buffers in bytes, as [`Params::memory`] counts them.
     pub memory: u64,
     /// Its work, as [`Params::work`] counts it.
     pub work: u64,
-    /// What is allowed.
+    /// The limits.
     pub bounds: Bounds,
 }
 
@@ -67,13 +67,13 @@ impl Default for Bounds {
     }
 }
 
-/// The constants are those of a hasher that is made without options, which is not freed, so that
-/// they can be read.
+/// The constants equal the options of a hasher that is created without options. It is not freed, so
+/// that its options stay valid.
 #[cfg(test)]
 #[test]
 fn usual_bounds_of_the_library() {
     use crate::calls::*;
-    // SAFETY: the status is this function's own, and NULL stands for the default options.
+    // SAFETY: the status is a local variable, and NULL means the default options.
     let of = unsafe { &*scrypt_hasher_options(scrypt_hasher_new(std::ptr::null(), &mut -1)) };
     let bounds = Bounds { most_bytes: of.most_bytes, most_work: of.most_work };
     assert_eq!((bounds, of.least_key_len), (Bounds::USUAL, Bounds::LEAST_KEY_LEN));

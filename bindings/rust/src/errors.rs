@@ -1,4 +1,4 @@
-//! Why calls fail.
+//! The errors of this crate.
 
 use crate::calls::*;
 use crate::Cost;
@@ -24,15 +24,15 @@ pub enum DeriveError {
     Status(i32),
 }
 
-/// The errors of making hashes and of verifying passwords.
+/// The errors of hashing and of verifying passwords.
 #[derive(Clone, Copy, Debug, PartialEq, Eq)]
 #[non_exhaustive]
 pub enum Error {
-    /// The password is not that of the hash, or the hash has no salt or no key.
+    /// The password does not match the hash, or the hash has no salt or no key.
     PasswordInvalid,
     /// The parameters, or the length of the key, are not accepted.
     InvalidParams,
-    /// The output has no byte, or more than scrypt allows.
+    /// The output is empty, or longer than scrypt allows.
     InvalidOutputLen,
     /// The memory is not available.
     OutOfMemory,
@@ -52,12 +52,12 @@ pub enum Error {
     Version,
     /// The parameters need more memory or more work than is allowed. Nothing was derived.
     TooCostly(Cost),
-    /// The key in the hash has fewer bytes than is allowed: too many wrong passwords match it.
+    /// The key in the hash is shorter than is allowed, so that too many wrong passwords match it.
     /// Nothing was derived.
     KeyTooShort {
-        /// How many bytes the key has.
+        /// The length of the key in bytes.
         len: usize,
-        /// How many it has at least in a hash that is verified.
+        /// The minimum length in bytes.
         min: usize,
     },
     /// No parameters take as little time and memory as [`calibrate`](crate::calibrate()) was given.
@@ -66,7 +66,7 @@ pub enum Error {
     NoRandomBytes,
     /// The hasher is closed.
     Closed,
-    /// The hasher did not begin with the call in its time.
+    /// The call did not get a slot of the hasher before its timeout expired.
     Timeout,
     /// The caller left the derivation.
     Cancelled,
@@ -74,7 +74,7 @@ pub enum Error {
     Status(i32),
 }
 
-// The errors that are a status and nothing else.
+// The errors without numbers, and their statuses.
 const BY_STATUS: [(c_int, Error); 14] = [
     (MISMATCH, Error::PasswordInvalid),
     (INVALID_PARAMS, Error::InvalidParams),
@@ -93,7 +93,7 @@ const BY_STATUS: [(c_int, Error); 14] = [
 ];
 
 impl DeriveError {
-    // The status of a derivation with accepted parameters, other than OK.
+    // The error of a derivation with accepted parameters, from its status, which is not OK.
     pub(crate) fn of(status: i32) -> DeriveError {
         match status {
             INVALID_OUTPUT_LEN => DeriveError::InvalidOutputLen,
@@ -104,7 +104,7 @@ impl DeriveError {
 }
 
 impl Error {
-    // What a call returns by its status.
+    // The result of a call, from its status.
     pub(crate) fn check(status: i32) -> Result<(), Error> {
         match status {
             OK => Ok(()),
@@ -112,13 +112,13 @@ impl Error {
         }
     }
 
-    // The status of a call, other than OK.
+    // The error of a call, from its status, which is not OK.
     pub(crate) fn of(status: i32) -> Error {
         let found = BY_STATUS.iter().find(|it| it.0 == status);
         found.map_or(Error::Status(status), |it| it.1)
     }
 
-    // The status whose words the error has.
+    // The status whose message the error has.
     fn status(&self) -> c_int {
         match self {
             Error::TooCostly(_) => TOO_COSTLY,
@@ -128,27 +128,27 @@ impl Error {
         }
     }
 
-    /// Whether the text is not a hash that this crate can read, so that neither the password nor
-    /// the memory is at fault.
+    /// Returns whether the text is not a hash that this crate can read, whatever the password and
+    /// the available memory are.
     pub fn is_invalid_hash(&self) -> bool {
-        // SAFETY: a status is a number, which it looks up.
+        // SAFETY: the function takes any number.
         unsafe { scrypt_status_is_invalid_hash(self.status()) != 0 }
     }
 
-    /// Whether a stored hash is refused, whatever the password is: `TooCostly`, `KeyTooShort`, and
-    /// the errors of [`Error::is_invalid_hash`]. A login logs it, and answers as for a wrong
-    /// password.
+    /// Returns whether the stored hash is rejected, whatever the password is: `TooCostly`,
+    /// `KeyTooShort`, and the errors of [`Error::is_invalid_hash`]. A login should log it, and
+    /// respond as to a wrong password.
     pub fn is_refused(&self) -> bool {
         self.is_invalid_hash() || matches!(self.status(), TOO_COSTLY | KEY_TOO_SHORT)
     }
 }
 
-// What the library says of a status.
+// The library's message for a status.
 fn words_of(status: c_int) -> &'static str {
     if status == MISMATCH {
-        return "the password does not match the hash"; // which C has one text for, and for another
+        return "the password does not match the hash"; // in C two statuses share it
     }
-    // SAFETY: the text is one of the library's own, which ends with NUL and is never freed.
+    // SAFETY: the library returns a NUL-terminated string that is never freed.
     unsafe { CStr::from_ptr(scrypt_status_text(status)) }.to_str().unwrap_or_default()
 }
 
@@ -205,7 +205,7 @@ impl std::error::Error for Error {}
 mod tests {
     use super::*;
 
-    /// Each status of the header is an error with words, unless it cannot come.
+    /// Each status of the header has an error with a message, unless no call returns it.
     #[test]
     fn statuses_of_the_header() {
         for status in (0..256).filter(|it| !unsafe { scrypt_status_name(*it) }.is_null()) {

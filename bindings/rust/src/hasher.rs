@@ -7,7 +7,7 @@ use std::ptr::{null, NonNull};
 use std::sync::Arc;
 use std::time::Duration;
 
-/// The format of a hash's text.
+/// The format of a hash.
 #[derive(Clone, Copy, Debug, Default, PartialEq, Eq)]
 pub enum Format {
     /// `$scrypt$ln=..,r=..,p=..$..`, of the Password Hashing Competition.
@@ -26,18 +26,17 @@ pub struct Options {
     pub format: Format,
     /// The length of the salt of a new hash, 1 to 64 bytes.
     pub salt_len: usize,
-    /// How many tables may exist at the same time. 0, the default, means two for each processor, or
-    /// as many of the bound on bytes as the machine and its control group have room for.
+    /// The maximum number of tables. 0, the default, means two for each processor, or as many
+    /// tables of `most_bytes` as fit in the memory of the machine and of its control group.
     pub at_once: usize,
-    /// How many derivations may run at the same time. 0, the default, means one for each processor
-    /// that the process may use, by its affinity and its CPU quota.
+    /// The number of slots, that is, of concurrent derivations. 0, the default, means the number of
+    /// processors that the affinity and the CPU quota of the process allow.
     pub processors: usize,
-    /// How long a call waits for a free processor before it returns `Timeout`, rounded up to
-    /// milliseconds. `None`, the default, means without a bound. The time of a derivation does not
-    /// count.
+    /// How long a call waits for a slot before it returns `Timeout`, rounded up to milliseconds.
+    /// The time of the derivation does not count. `None`, the default, means no timeout.
     pub timeout: Option<Duration>,
-    /// The bounds above which a hash is refused: by default [`Bounds::USUAL`], or what new hashes
-    /// need if that is more.
+    /// The limits above which a hash is rejected: by default [`Bounds::USUAL`], or the cost of new
+    /// hashes if that is more.
     pub bounds: Option<Bounds>,
 }
 
@@ -55,31 +54,30 @@ impl Default for Options {
     }
 }
 
-/// What a [`Hasher`] does; in a child process, since the fork.
+/// Statistics of a [`Hasher`]. In a child process they begin at the fork.
 #[derive(Clone, Copy, Debug, PartialEq, Eq)]
 pub struct Stats {
-    /// How many calls wait for a processor now.
+    /// The number of calls that wait for a slot.
     pub waiting: usize,
-    /// How many derive now.
+    /// The number of calls that derive.
     pub deriving: usize,
-    /// How many returned `OutOfMemory` or `Timeout` until now.
+    /// The number of calls that have returned `OutOfMemory` or `Timeout`.
     pub refused: u64,
 }
 
 /// Makes password hashes, and verifies passwords against hashes of either format.
 ///
-/// Any number of threads may use it, and its clones are the same hasher. At most one thread for
-/// each processor derives at a time, and the others wait, first come, first served, at most for
-/// [`Options::timeout`]. Of those that wait, verifications with the same N, r and p are derived
-/// together if there are tables for them, which on some processors takes less time than one after
-/// another. No error of one affects another.
+/// A hasher is thread-safe, and a clone is the same hasher. Calls wait in FIFO order for one of
+/// [`Options::processors`] slots, and return `Timeout` after [`Options::timeout`]. Waiting
+/// verifications with the same N, r and p are derived in one batch if there are tables for them,
+/// which takes less time on some processors. An error of one call does not affect the others.
 ///
 /// A hasher holds at most [`Options::at_once`] tables, whatever p is, and keeps their memory for
-/// later calls until it is closed or dropped.  A hash that needs more than the bounds is refused
-/// without waiting, and so is one whose key has fewer than [`Bounds::LEAST_KEY_LEN`] bytes, or than
-/// new keys if that is less.
+/// later calls until it is closed or dropped. It rejects, without waiting, a hash that exceeds the
+/// limits, and a hash whose key has fewer than [`Bounds::LEAST_KEY_LEN`] bytes, or fewer than new
+/// keys if that is less.
 ///
-/// After a fork the hasher works in the child too, which has none of the parent's calls and memory.
+/// A hasher is fork-safe: the child can use it, without the calls and the memory of the parent.
 #[derive(Clone, Debug)]
 pub struct Hasher(Arc<Inner>);
 
@@ -89,42 +87,42 @@ struct Inner {
     options: Options,
 }
 
-// SAFETY: any thread may make any call of the library on a hasher, except to free it during another
-// call.
+// SAFETY: all calls of the library on a hasher are thread-safe, except that it must not be freed
+// during another call.
 unsafe impl Send for Inner {}
 unsafe impl Sync for Inner {}
 
 impl Drop for Inner {
     fn drop(&mut self) {
-        // SAFETY: no clone is left, so no call is running, and none follows.
+        // SAFETY: no clone is left, so no call is running, and no call follows.
         unsafe { scrypt_hasher_free(self.raw.as_ptr()) }
     }
 }
 
 impl Default for Hasher {
-    /// A hasher with the default options.
+    /// Creates a hasher with the default options.
     ///
     /// # Panics
     ///
-    /// On the errors of [`Hasher::new`] that no options have: `OutOfMemory`.
+    /// Panics if [`Hasher::new`] returns `OutOfMemory`, the only error for these options.
     fn default() -> Hasher {
         Hasher::new(Options::default()).expect("a hasher with the default options")
     }
 }
 
 impl Hasher {
-    /// A hasher with these options.
+    /// Creates a hasher with these options.
     ///
     /// # Errors
     ///
-    /// `SaltInvalid` unless the salt has 1 to 64 bytes, `TooCostly` if new hashes need more than
-    /// the bounds, and `OutOfMemory`.
+    /// `SaltInvalid` unless the salt has 1 to 64 bytes, `TooCostly` if new hashes exceed the
+    /// limits, and `OutOfMemory`.
     pub fn new(options: Options) -> Result<Hasher, Error> {
         let Options { params, format, salt_len, at_once, processors, bounds, .. } = options;
         if salt_len == 0 {
             return Err(Error::SaltInvalid);
         }
-        // 0 would mean the default, and no derivation is within 1.
+        // 0 would mean the default; no derivation has a cost of 1 or less.
         let bounds = bounds.map_or((0, 0), |it| (it.most_bytes.max(1), it.most_work.max(1)));
         let raw = RawOptions {
             size: std::mem::size_of::<RawOptions>(),
@@ -141,7 +139,7 @@ impl Hasher {
             processors,
         };
         let mut status = OK;
-        // SAFETY: both are this function's own, and the options have their size.
+        // SAFETY: both pointers are to local variables, and `size` is the size of the options.
         match NonNull::new(unsafe { scrypt_hasher_new(&raw, &mut status) }) {
             Some(raw) => Ok(Hasher(Arc::new(Inner { raw, options }))),
             None if status == TOO_COSTLY => {
@@ -156,30 +154,30 @@ impl Hasher {
         self.0.raw.as_ptr()
     }
 
-    // For how many milliseconds a call may wait: -1 is without a bound.
+    // The timeout in milliseconds; -1 means no timeout.
     fn most_ms(&self) -> i64 {
         let ms = |it: Duration| (it.as_nanos() + 999_999) / 1_000_000;
         self.0.options.timeout.map_or(-1, |it| i64::try_from(ms(it)).unwrap_or(i64::MAX))
     }
 
-    /// The options, each default replaced by its value.
+    /// Returns the options, with each default replaced by its value.
     pub fn options(&self) -> Options {
-        // SAFETY: the hasher is there until this returns, and its options do not change.
+        // SAFETY: the hasher lives until this returns, and its options do not change.
         let of = unsafe { &*scrypt_hasher_options(self.raw()) };
         let bounds = Some(Bounds { most_bytes: of.most_bytes, most_work: of.most_work });
         Options { at_once: of.at_once, processors: of.processors, bounds, ..self.0.options }
     }
 
-    /// What the hasher does now, for metrics.
+    /// Returns the current statistics, for metrics.
     pub fn stats(&self) -> Stats {
         let mut now = RawStats::default();
-        // SAFETY: the hasher is there until this returns, and the place is this function's own; so
-        // the status is OK.
+        // SAFETY: the hasher lives until this returns, and `now` is a local variable; so the status
+        // is OK.
         unsafe { scrypt_hasher_stats(self.raw(), &mut now) };
         Stats { waiting: now.waiting, deriving: now.deriving, refused: now.refused }
     }
 
-    /// The text of a new hash, with a random salt from the system.
+    /// Returns a new hash, with a random salt from the system.
     ///
     /// # Errors
     ///
@@ -188,7 +186,7 @@ impl Hasher {
         self.text(password.as_ref(), None)
     }
 
-    /// The text of a new hash, with the caller's salt.
+    /// Returns a new hash, with the caller's salt.
     ///
     /// # Errors
     ///
@@ -199,10 +197,10 @@ impl Hasher {
     }
 
     fn text(&self, password: &[u8], salt: Option<&[u8]>) -> Result<String, Error> {
-        // NULL asks for a random salt, of at most 64 bytes. The pointer of a slice is never NULL.
+        // NULL means a random salt, of up to 64 bytes. The pointer of a slice is never NULL.
         let (salt, salt_len) = salt.map_or((null(), 0), |it| (it.as_ptr(), it.len()));
-        // SAFETY: the hasher is there until this returns, and each pointer is that of a slice of
-        // the length after it.
+        // SAFETY: the hasher lives until this returns, and each pointer and the length after it are
+        // from one slice.
         #[rustfmt::skip]
         let write = |text: &mut [u8]| unsafe {
             scrypt_hasher_hash(self.raw(), password.as_ptr().cast(), password.len(),
@@ -224,8 +222,8 @@ impl Hasher {
         output: &mut [u8],
     ) -> Result<(), Error> {
         let password = password.as_ref();
-        // SAFETY: the hasher is there until this returns, and each pointer is that of a slice of
-        // the length after it.
+        // SAFETY: the hasher lives until this returns, and each pointer and the length after it are
+        // from one slice.
         #[rustfmt::skip]
         let status = unsafe {
             scrypt_hasher_key(self.raw(), password.as_ptr().cast(), password.len(),
@@ -234,35 +232,35 @@ impl Hasher {
         Error::check(status)
     }
 
-    /// Ok if the password is that of the hash, in either format.
+    /// Verifies a password against a hash of either format.
     ///
     /// # Errors
     ///
-    /// `PasswordInvalid` for a wrong password, and for a hash without salt or key. Those of
-    /// [`Error::is_refused`], without waiting: `TooCostly` if the hash needs more than the bounds,
-    /// `KeyTooShort` if its key is shorter than they allow, and others if the text is not a hash.
+    /// `PasswordInvalid` for a wrong password, and for a hash without a salt or a key. If the hash
+    /// is rejected ([`Error::is_refused`]), without waiting: `TooCostly` if the hash exceeds the
+    /// limits, `KeyTooShort` if its key is too short, and other errors if the text is not a hash.
     /// `Closed`, `Timeout` and `OutOfMemory`.
     pub fn verify(&self, text: &str, password: impl AsRef<[u8]>) -> Result<(), Error> {
         self.verify_optional(Some(text), password)
     }
 
-    /// Like [`Hasher::verify`], with `None` for a name that doesn't exist: this derives as for a
-    /// new hash, and returns `PasswordInvalid`, so that the time doesn't tell whether there is such
-    /// a name.
+    /// Like [`Hasher::verify`], with `None` for a user who does not exist: this derives as for a
+    /// new hash, and returns `PasswordInvalid`, so that the time does not reveal whether there is
+    /// such a user.
     ///
     /// # Errors
     ///
-    /// Those of [`Hasher::verify`].
+    /// The errors of [`Hasher::verify`].
     pub fn verify_optional(
         &self,
         text: Option<&str>,
         password: impl AsRef<[u8]>,
     ) -> Result<(), Error> {
         let password = password.as_ref();
-        // NULL stands for no hash. The pointer of a text is never NULL.
+        // NULL means no hash. The pointer of a `str` is never NULL.
         let (at, len) = text.map_or((null(), 0), |it| (it.as_ptr(), it.len()));
-        // SAFETY: the hasher is there until this returns, and each pointer is that of a slice of
-        // the length after it.
+        // SAFETY: the hasher lives until this returns, and each pointer and the length after it are
+        // from one slice.
         #[rustfmt::skip]
         let status = unsafe {
             scrypt_hasher_verify(self.raw(), password.as_ptr().cast(), password.len(),
@@ -274,11 +272,11 @@ impl Hasher {
         }
     }
 
-    // The error of one of these two statuses, with its numbers.
+    // The error of `TOO_COSTLY` or `KEY_TOO_SHORT`, with its numbers.
     fn refusal(&self, status: c_int, text: &str) -> Error {
         let mut needs = RawNeeds::default();
-        // SAFETY: the hasher is there until this returns, its options do not change, and the
-        // pointer is that of a text of this length.
+        // SAFETY: the hasher lives until this returns, its options do not change, and the pointer
+        // and the length are from one `str`.
         let of = unsafe {
             let of = &*scrypt_hasher_options(self.raw());
             let (bytes, work, min) = (of.most_bytes, of.most_work, of.least_key_len);
@@ -293,31 +291,31 @@ impl Hasher {
         }
     }
 
-    /// Whether one of the parameters of the hash, or its key's length, is below that of new hashes.
-    /// This also works on a closed hasher.
+    /// Returns whether a parameter of the hash, or the length of its key, is smaller than in new
+    /// hashes. This also works on a closed hasher.
     ///
     /// # Errors
     ///
-    /// Those of [`Error::is_invalid_hash`].
+    /// The errors of [`Error::is_invalid_hash`].
     pub fn needs_rehash(&self, text: &str) -> Result<bool, Error> {
         let (hasher, text, len) = (self.raw(), text.as_ptr().cast(), text.len());
-        // SAFETY: the hasher is there until this returns, and the pointer is that of a text of this
-        // length.
+        // SAFETY: the hasher lives until this returns, and the pointer and the length are from one
+        // `str`.
         match unsafe { scrypt_hasher_needs_rehash(hasher, text, len) } {
             NEEDS_REHASH => Ok(true),
             other => Error::check(other).map(|()| false),
         }
     }
 
-    /// Frees the memory that the hasher and its clones keep. Calls that wait, and later ones,
-    /// return `Closed`; a derivation that has begun goes on.
+    /// Frees the memory that the hasher and its clones keep. Waiting and later calls return
+    /// `Closed`; a derivation that has begun runs to completion.
     pub fn close(&self) {
-        // SAFETY: the hasher is there until this returns.
+        // SAFETY: the hasher lives until this returns.
         unsafe { scrypt_hasher_close(self.raw()) }
     }
 }
 
-// The text of a hash with a salt of so many bytes at most, which the library writes.
+// The hash that `write` writes, with a salt of up to `salt_len` bytes.
 pub(crate) fn text_by(
     write: impl FnOnce(&mut [u8]) -> i32,
     salt_len: usize,

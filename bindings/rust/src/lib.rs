@@ -1,5 +1,6 @@
-//! scrypt (RFC 7914) and its password hashes, on top of the library libscrypt_c over proved code.
-//! This crate is tested, not proved.
+//! scrypt (RFC 7914) and its password hashes, on top of the library libscrypt_c. That library's
+//! calls that derive keys and read and verify hashes are proved correct. Its hasher, which is C,
+//! and this crate are tested, not proved.
 //!
 //! ```
 //! use scrypt_c::{Error, Hasher};
@@ -15,11 +16,11 @@
 //! ```
 //!
 //! [`scrypt()`] and [`Params`] have the names of the crate `scrypt`. With the feature
-//! `password-hash`, the type `Scrypt` implements the traits of the crate `password-hash` 0.4, as
-//! that of `scrypt` 0.10 does.
+//! `password-hash`, the type `Scrypt` implements the traits of the crate `password-hash` 0.4, like
+//! the type of the same name in `scrypt` 0.10.
 #![warn(missing_docs)]
 
-// README's examples are tested as those above.
+// The examples of README are tested too.
 #[cfg(doctest)]
 #[doc = include_str!("../README.md")]
 struct Readme;
@@ -46,7 +47,8 @@ pub use traits_0_4::{Scrypt, ALG_ID};
 
 use calls::{scrypt_draw_salt, scrypt_key, OK};
 
-/// Writes the scrypt key of `password` and `salt` to `output`. The length in `params` is ignored.
+/// Derives a key from `password` and `salt`, and writes it to `output`. The key length in `params`
+/// is ignored.
 ///
 /// ```
 /// # fn main() -> Result<(), Box<dyn std::error::Error>> {
@@ -69,8 +71,8 @@ pub fn scrypt(
     output: &mut [u8],
 ) -> Result<(), DeriveError> {
     let Params { log_n, r, p, .. } = *params;
-    // SAFETY: each pointer is that of a slice of the length after it, and the output is borrowed
-    // for this call alone.
+    // SAFETY: each pointer and the length after it are from one slice, and only this call borrows
+    // the output.
     let status = unsafe {
         scrypt_key(
             password.as_ptr().cast(),
@@ -90,12 +92,12 @@ pub fn scrypt(
     }
 }
 
-/// Fills `salt` with random bytes from the system; 16 are enough for a key or a hash.
+/// Fills `salt` with random bytes from the system; 16 bytes are enough for a key or a hash.
 ///
 /// # Errors
 ///
 /// `NoRandomBytes` if the system has none; do not use the salt then.
 pub fn draw_salt(salt: &mut [u8]) -> Result<(), Error> {
-    // SAFETY: the pointer is that of a slice of this length.
+    // SAFETY: the pointer and the length are from one slice.
     Error::check(unsafe { scrypt_draw_salt(salt.as_mut_ptr(), salt.len()) })
 }

@@ -1,19 +1,19 @@
-//! Converts hashes of other programs to texts that a [`Hasher`](crate::Hasher) verifies, without
+//! Converts hashes of other programs to hashes that a [`Hasher`](crate::Hasher) verifies, without
 //! the passwords.
 
 use crate::{params_of, Error, Params};
 
 const BASE64: &[u8; 64] = b"ABCDEFGHIJKLMNOPQRSTUVWXYZabcdefghijklmnopqrstuvwxyz0123456789+/";
-// Of `$7$` texts.
+// The alphabet of `$7$` hashes.
 const LETTERS: &[u8; 64] = b"./0123456789ABCDEFGHIJKLMNOPQRSTUVWXYZabcdefghijklmnopqrstuvwxyz";
 
-/// A text of a salt and a key: a PHC text if the lengths allow it, otherwise a `$7$` text. Of a PHC
-/// text's key only the first 64 bytes are kept, which are the key of that length. The length in
-/// `params` is ignored.
+/// Returns a hash from a salt and a key: a PHC string if the lengths allow it, otherwise a `$7$`
+/// hash. A PHC string keeps only the first 64 bytes of the key, which are the key of that length.
+/// The key length in `params` is ignored.
 ///
 /// # Errors
 ///
-/// `InvalidOutputLen` without a key, and `SaltInvalid` if neither format can store the salt.
+/// `InvalidOutputLen` if there is no key, and `SaltInvalid` if neither format can store the salt.
 pub fn stored_text(salt: &[u8], key: &[u8], params: &Params) -> Result<String, Error> {
     if key.is_empty() {
         return Err(Error::InvalidOutputLen);
@@ -40,7 +40,8 @@ pub fn stored_text(salt: &[u8], key: &[u8], params: &Params) -> Result<String, E
 ///
 /// # Errors
 ///
-/// `EncodingInvalid` for another text, `InvalidParams`, and those of [`stored_text`].
+/// `EncodingInvalid` if the text is not such a hash, `InvalidParams`, and the errors of
+/// [`stored_text`].
 pub fn from_simple_scrypt(stored: &str) -> Result<String, Error> {
     let parts: Vec<&str> = stored.split('$').collect();
     let (n, r, p, salt, key) = match parts[..] {
@@ -55,7 +56,7 @@ pub fn from_simple_scrypt(stored: &str) -> Result<String, Error> {
     stored_text(&from_hex(salt)?, &from_hex(key)?, &params)
 }
 
-// Digits alone: `parse` takes a plus too.
+// Only digits: `parse` also accepts a plus sign.
 fn decimal<T: std::str::FromStr>(digits: &str) -> Result<T, Error> {
     if !digits.bytes().all(|it| it.is_ascii_digit()) {
         return Err(Error::EncodingInvalid);
@@ -63,7 +64,7 @@ fn decimal<T: std::str::FromStr>(digits: &str) -> Result<T, Error> {
     digits.parse().map_err(|_| Error::EncodingInvalid)
 }
 
-// The number in the letters of `$7$` texts, the low ones first.
+// The number in the alphabet of `$7$` hashes, the least significant digit first.
 fn digits(number: u32, count: usize) -> String {
     (0..count).map(|place| char::from(LETTERS[(number >> (6 * place) & 63) as usize])).collect()
 }

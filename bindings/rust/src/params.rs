@@ -42,11 +42,11 @@ impl Params {
         params.needs().map(|_| params)
     }
 
-    // What a derivation needs without bounds.
+    // The cost of a derivation, without limits.
     fn needs(&self) -> Result<RawNeeds, InvalidParams> {
         let (log_n, r, p) = (self.log_n.into(), self.r, self.p);
         let mut needs = RawNeeds::default();
-        // SAFETY: the place is this function's own.
+        // SAFETY: `needs` is a local variable.
         match unsafe { scrypt_params_need(log_n, r, p, usize::MAX, u64::MAX, &mut needs) } {
             INVALID_PARAMS => Err(InvalidParams),
             _ => Ok(needs),
@@ -57,11 +57,11 @@ impl Params {
         Params::new(u8::try_from(log_n).map_err(|_| InvalidParams)?, r, p)
     }
 
-    /// The same, with the length of a hash's key.
+    /// Creates parameters like [`Params::new`], with the length of a hash's key.
     ///
     /// # Errors
     ///
-    /// `InvalidParams` also unless `len` is 10 to 64.
+    /// `InvalidParams` as for `new`, and unless `len` is 10 to 64.
     pub fn new_with_output_len(
         log_n: u8,
         r: u32,
@@ -91,12 +91,12 @@ impl Params {
         self.r
     }
 
-    /// The parallelization: how many chunks are mixed.
+    /// The parallelization: the number of chunks that are mixed.
     pub const fn p(&self) -> u32 {
         self.p
     }
 
-    /// The number of bytes of the buffers of a derivation, at most `u64::MAX`.
+    /// The size of the buffers of a derivation in bytes, up to `u64::MAX`.
     pub fn memory(&self) -> u64 {
         self.needs().map_or(u64::MAX, |it| it.bytes)
     }
@@ -106,8 +106,8 @@ impl Params {
         (4 * u128::from(self.r) * u128::from(self.p)) << self.log_n
     }
 
-    /// The work, which [`Bounds`](crate::Bounds) limit, at most `u64::MAX`: `4 * (N + 32) * r * p`
-    /// Salsa20/8 cores, where 32 stands for PBKDF2.
+    /// The work, which [`Bounds`](crate::Bounds) limit: `4 * (N + 32) * r * p` Salsa20/8 cores,
+    /// where 32 accounts for PBKDF2, up to `u64::MAX`.
     pub fn work(&self) -> u64 {
         self.needs().map_or(u64::MAX, |it| it.work)
     }
@@ -127,15 +127,16 @@ impl Default for Params {
     }
 }
 
-/// The parameters of a hash of either format, and the length of its key in bytes, 0 if it has none.
+/// Returns the parameters of a hash of either format, and the length of its key in bytes, which is
+/// 0 if it has no key.
 ///
 /// # Errors
 ///
-/// Those of [`Error::is_invalid_hash`].
+/// The errors of [`Error::is_invalid_hash`].
 pub fn params_of(text: &str) -> Result<(Params, usize), Error> {
     let (mut log_n, mut r, mut p, mut key_len) = (0, 0, 0, 0);
-    // SAFETY: the pointer is that of a text of this length, and the four places are this function's
-    // own.
+    // SAFETY: the pointer and the length are from one `str`, and the four references are to local
+    // variables.
     let status = unsafe {
         let text_at = text.as_ptr().cast();
         scrypt_hash_params(text_at, text.len(), &mut log_n, &mut r, &mut p, &mut key_len)
@@ -144,16 +145,16 @@ pub fn params_of(text: &str) -> Result<(Params, usize), Error> {
     Ok((Params::of_library(log_n, r, p)?, key_len))
 }
 
-/// Finds parameters by measuring this machine, now: the greatest `log_n` whose table has at most
-/// `most_bytes` bytes, and then the greatest `p`, with which one derivation takes at most the
-/// target; `r` is 8. It takes some four times the target.
+/// Measures this machine, and returns the most costly parameters whose derivation takes no more
+/// time than the target: first the largest `log_n` whose table does not exceed `most_bytes`, and
+/// then the largest `p`; `r` is 8. It takes about four times the target.
 ///
 /// # Errors
 ///
-/// `NoParams` if even a `log_n` of 10 takes longer, or needs more; `OutOfMemory`.
+/// `NoParams` if even a `log_n` of 10 takes more time or memory; `OutOfMemory`.
 pub fn calibrate(target: Duration, most_bytes: usize) -> Result<Params, Error> {
     let (mut log_n, mut r, mut p) = (0, 0, 0);
-    // SAFETY: the three places are this function's own.
+    // SAFETY: the three references are to local variables.
     let status =
         unsafe { scrypt_calibrate(target.as_secs_f64(), most_bytes, &mut log_n, &mut r, &mut p) };
     if status == TOO_COSTLY {

@@ -1,4 +1,4 @@
-//! A derivation in steps, between which its progress is told, and it can be left.
+//! A derivation in steps: it reports its progress after each, and can be cancelled.
 
 use crate::calls::*;
 use crate::{DeriveError, Params};
@@ -7,15 +7,15 @@ use std::os::raw::{c_int, c_void};
 use std::ptr::null_mut;
 use std::time::{Duration, Instant};
 
-/// How long a step takes, if one block mix doesn't take longer.
+/// The duration of a step, unless one block mix takes longer.
 const STEP: Duration = Duration::from_millis(10);
 
-/// How many bytes the buffers may have together if there are several tables, as in `scrypt`.
+/// The maximum size in bytes of all buffers if there are several tables, as in `scrypt`.
 const SEVERAL: usize = 129 << 20;
 
-/// Does what [`scrypt`](crate::scrypt()) does, in steps of about 10 ms. After each it calls
-/// `progress` with the part that is done, from 0 to 1, which leaves the derivation by
-/// `ControlFlow::Break`. The PBKDF2 at either end, of `128 * r * p` bytes, is a step of its own.
+/// Derives a key like [`scrypt`](crate::scrypt()), in steps of about 10 ms. After each step it
+/// calls `progress` with the fraction that is done, from 0 to 1; `ControlFlow::Break` cancels the
+/// derivation. PBKDF2 at the beginning and at the end, of `128 * r * p` bytes, is one step each.
 ///
 /// ```
 /// use std::ops::ControlFlow;
@@ -32,7 +32,7 @@ const SEVERAL: usize = 129 << 20;
 ///
 /// # Errors
 ///
-/// `Cancelled` if `progress` returned `Break`, and those of `scrypt`. All leave the output
+/// `Cancelled` if `progress` returned `Break`, and the errors of `scrypt`. All leave the output
 /// unchanged.
 pub fn scrypt_in_steps(
     password: &[u8],
@@ -44,7 +44,7 @@ pub fn scrypt_in_steps(
     by_steps(password, salt, params, output, progress, next_mixes)
 }
 
-// The number of block mixes of each step but the first is that of `next`.
+// `next` returns the number of block mixes of each step after the first.
 fn by_steps(
     password: &[u8],
     salt: &[u8],
@@ -58,8 +58,8 @@ fn by_steps(
     }
     let mut steps = Steps::new(params)?;
     let (it, password_at) = (&mut steps.0, password.as_ptr().cast());
-    // SAFETY: the buffers have the lengths that `it` states until this returns, and each other
-    // pointer is that of a slice of the length after it.
+    // SAFETY: until this returns the buffers have the lengths in `it`, and each other pointer and
+    // the length after it are from one slice.
     check(unsafe {
         scrypt_key_begin(it, password_at, password.len(), salt.as_ptr().cast(), salt.len())
     })?;
@@ -95,15 +95,15 @@ fn check(status: c_int) -> Result<(), DeriveError> {
     }
 }
 
-// A derivation with its buffers, one after another in a mapping, which goes back to the system in
-// the end: so nothing of them is left in the process.
+// A derivation with its buffers, one after another in one mapping. Dropping it unmaps them, so that
+// no secret is left in the process.
 struct Steps(RawSteps);
 
 impl Steps {
     fn new(params: &Params) -> Result<Steps, DeriveError> {
         let (log_n, r, p) = (params.log_n().into(), params.r(), params.p());
         let mut needs = RawNeeds::default();
-        // SAFETY: the place is this function's own. It is written also if one table is too much.
+        // SAFETY: `needs` is a local variable. It is written even if one table is too large.
         unsafe { scrypt_params_need(log_n, r, p, SEVERAL, u64::MAX, &mut needs) };
         let (table_len, scratch_len) =
             (needs.tables * needs.table_len, needs.tables * needs.scratch_len);
@@ -114,10 +114,10 @@ impl Steps {
             _ => return Err(DeriveError::OutOfMemory),
         };
         let table: *mut u32 = map(len).ok_or(DeriveError::OutOfMemory)?.cast();
-        // SAFETY: both are within the mapping.
+        // SAFETY: both pointers are within the mapping.
         let (scratch, chunks) =
             unsafe { (table.add(table_len), table.add(table_len + scratch_len).cast()) };
-        // SAFETY: numbers and raw pointers may be 0.
+        // SAFETY: all fields are numbers and raw pointers, for which zeros are valid.
         let mut steps: RawSteps = unsafe { std::mem::zeroed() };
         (steps.log_n, steps.r, steps.p) = (log_n, r, p);
         (steps.chunks, steps.table, steps.scratch) = (chunks, table, scratch);
@@ -143,7 +143,7 @@ fn map(len: usize) -> Option<*mut c_void> {
     const READ_WRITE: c_int = 3;
     const PRIVATE_ANONYMOUS: c_int = 0x22;
     const HUGEPAGE: c_int = 14;
-    // SAFETY: a new mapping is nobody else's.
+    // SAFETY: this makes a new mapping, and no other code uses it.
     unsafe {
         let at = mmap(null_mut(), len, READ_WRITE, PRIVATE_ANONYMOUS, -1, 0);
         if at as isize == -1 {
@@ -159,7 +159,7 @@ fn unmap(at: *mut c_void, len: usize) {
     extern "C" {
         fn munmap(at: *mut c_void, len: usize) -> c_int;
     }
-    // SAFETY: it is a whole mapping, which nobody uses any more.
+    // SAFETY: this is a whole mapping, which is no longer used.
     unsafe { munmap(at, len) };
 }
 
@@ -173,7 +173,7 @@ extern "system" {
 fn map(len: usize) -> Option<*mut c_void> {
     const RESERVE_COMMIT: u32 = 0x3000;
     const READ_WRITE: u32 = 4;
-    // SAFETY: a new mapping is nobody else's.
+    // SAFETY: this makes a new mapping, and no other code uses it.
     let at = unsafe { VirtualAlloc(null_mut(), len, RESERVE_COMMIT, READ_WRITE) };
     (!at.is_null()).then_some(at)
 }
@@ -181,7 +181,7 @@ fn map(len: usize) -> Option<*mut c_void> {
 #[cfg(windows)]
 fn unmap(at: *mut c_void, _: usize) {
     const RELEASE: u32 = 0x8000;
-    // SAFETY: it is a whole mapping, which nobody uses any more.
+    // SAFETY: this is a whole mapping, which is no longer used.
     unsafe { VirtualFree(at, 0, RELEASE) };
 }
 
@@ -205,8 +205,8 @@ mod tests {
         bytes.iter().map(|it| format!("{it:02x}")).collect()
     }
 
-    /// Keys in steps of random lengths are those of one call. As many as STEPS says are printed, to
-    /// be compared by ../compare_keys.py.
+    /// Keys derived in steps of random lengths equal the keys of one call. STEPS is the number of
+    /// keys, which are printed for ../compare_keys.py.
     #[test]
     fn keys_in_steps() {
         let count = std::env::var("STEPS").map_or(100, |it| it.parse().unwrap());

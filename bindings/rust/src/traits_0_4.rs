@@ -6,13 +6,13 @@ use password_hash_0_4::{
     Decimal, Error, Ident, Output, ParamsString, PasswordHash, PasswordHasher, Result, Salt,
 };
 
-/// The identifier of scrypt in a PHC text.
+/// The identifier of scrypt in a PHC string.
 pub const ALG_ID: Ident<'static> = Ident::new_unwrap("scrypt");
 
-/// scrypt with the parameters of new hashes, as the type of the crate `scrypt`.
+/// scrypt with the parameters of new hashes, like the type of the same name in the crate `scrypt`.
 ///
 /// It allocates memory for each derivation. A [`Hasher`](crate::Hasher) keeps its memory, limits
-/// how many derivations run at the same time, and has bounds that the caller sets.
+/// the number of concurrent derivations, and lets the caller set limits on hashes.
 #[derive(Clone, Copy, Debug, Default, PartialEq, Eq)]
 pub struct Scrypt {
     params: Params,
@@ -75,7 +75,7 @@ impl PasswordHasher for Scrypt {
         })
     }
 
-    // The provided one takes the recommended parameters, whatever those of this value are.
+    // The provided method ignores `self.params` and takes the recommended parameters.
     fn hash_password<'a, S>(&self, password: &[u8], salt: &'a S) -> Result<PasswordHash<'a>>
     where
         S: AsRef<str> + ?Sized,
@@ -85,8 +85,8 @@ impl PasswordHasher for Scrypt {
     }
 }
 
-/// The parameters of a hash, which verifying reads: `ParamValueInvalid(TooLong)` if they need more
-/// than [`Bounds::USUAL`]. The key may have 10 bytes, as in the format, since the length of new
+/// The parameters of a hash, for verifying it: `ParamValueInvalid(TooLong)` if their cost exceeds
+/// [`Bounds::USUAL`]. The minimum key length is the format's 10 bytes, because the length of new
 /// keys is not known here.
 impl TryFrom<&PasswordHash<'_>> for Params {
     type Error = Error;
@@ -99,8 +99,8 @@ impl TryFrom<&PasswordHash<'_>> for Params {
         if hash.version.is_some() {
             return Err(Error::Version);
         }
-        // What a text without these parameters or without a key means, whatever is recommended for
-        // new hashes.
+        // The values if the text has no such parameter or no key. They do not follow the
+        // recommended parameters of new hashes.
         let (mut log_n, mut r, mut p, implied_len) = (17, 8, 1, 32);
         for (name, value) in hash.params.iter() {
             match name.as_str() {

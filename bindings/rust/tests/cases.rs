@@ -4,7 +4,7 @@ use scrypt_c::{params_of, Error, Hasher};
 
 #[test]
 fn cases() {
-    // The crate of a release is without the table.
+    // A release's crate does not have the table.
     let table = std::fs::read_to_string("../cases.tsv").unwrap_or_default();
     let hasher = Hasher::default();
     for line in table.lines().skip(1) {

@@ -1,4 +1,4 @@
-//! Makes hashes in both formats, and verifies passwords by them. cases.rs has the errors of texts.
+//! Makes hashes in both formats, and verifies passwords. cases.rs has the errors of invalid hashes.
 
 use scrypt_c::{params_of, scrypt, Bounds, Cost, Error, Format, Hasher, Options, Params};
 use std::time::{Duration, Instant};
@@ -7,7 +7,7 @@ fn small() -> Options {
     Options { params: Params::new(4, 8, 1).unwrap(), ..Options::default() }
 }
 
-// With the keys of Python's hashlib.
+// The keys are from Python's hashlib.
 const PHC: &str = "$scrypt$ln=4,r=8,p=1$c2FsdHNhbHQ$yOVfN10vCbapyacuiMl8thX8XXJctr2I/8vR9ni8ehI";
 const MCF: &str = "$7$26..../....$fQQtT8CamUzif3mWSfaXAN/SUnYR6iHSdkE.XUbEX/7";
 
@@ -65,7 +65,7 @@ fn options() {
     assert_eq!(Hasher::new(given).unwrap().options(), given);
 }
 
-/// Each bound is passed on as it is, and 0 is not the default. The error has the numbers.
+/// Each limit is passed on unchanged, and 0 does not mean the default. The error has the numbers.
 #[test]
 fn bounds() {
     let params = Params::new_with_output_len(6, 3, 5, 15).unwrap();
@@ -102,7 +102,7 @@ fn bounds() {
     assert_eq!(Hasher::new(large).unwrap().hash("").err(), Some(Error::OutOfMemory));
 }
 
-/// In words, for a log.
+/// The messages, for a log.
 #[test]
 fn refusals() {
     let hasher = Hasher::default();

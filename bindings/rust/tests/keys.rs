@@ -1,4 +1,4 @@
-//! Derives a key, and tries each refusal.
+//! Derives a key, and tests each error.
 
 use scrypt_c::{calibrate, draw_salt, scrypt, scrypt_in_steps};
 use scrypt_c::{DeriveError, Error, InvalidParams, Params};
@@ -31,7 +31,7 @@ fn refused_keys() {
     assert_eq!(key, [7; 4], "an error leaves the output");
 }
 
-/// A derivation of seconds is left between two steps, also by a panic.
+/// A derivation that takes seconds is cancelled between two steps, also by a panic.
 #[test]
 fn left_between_steps() {
     let (mut key, begun) = ([0; 32], Instant::now());
@@ -53,8 +53,8 @@ fn left_between_steps() {
     assert!(panicked.is_err());
 }
 
-/// Some numbers are such that a narrower type, or a product without a check, would cut them off to
-/// accepted ones.
+/// A narrower type, or an unchecked product, would truncate some of these numbers to accepted
+/// ones.
 #[test]
 fn params() {
     let params = Params::new(17, 8, 1).unwrap();
@@ -101,7 +101,7 @@ fn calibrated() {
     }
 }
 
-/// Each converts to an `Error`, with the same words.
+/// Each error converts to an `Error` with the same message.
 #[test]
 fn errors() {
     for (error, words) in [

@@ -1,17 +1,17 @@
-//! The memory of hashers, in a process of its own: threads of other tests map tables meanwhile.
+//! The memory of hashers, in a separate process, because threads of other tests map tables too.
 #![cfg(target_os = "linux")]
 
 use scrypt_c::{Hasher, Options, Params};
 
-/// How many KiB of this process are in memory.
+/// The resident memory of this process in KiB.
 fn resident() -> usize {
     let status = std::fs::read_to_string("/proc/self/status").unwrap();
     let line = status.lines().find(|it| it.starts_with("VmRSS")).unwrap();
     line.split_whitespace().nth(1).unwrap().parse().unwrap()
 }
 
-/// A hasher has `at_once` tables, whatever p and the processors are, and gives them back when its
-/// last clone is dropped.
+/// A hasher has `at_once` tables, whatever p and the processors are, and frees them when its last
+/// clone is dropped.
 #[test]
 fn memory() {
     let params = Params::new(16, 8, 4).unwrap();

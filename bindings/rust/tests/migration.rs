@@ -1,4 +1,4 @@
-//! Hashes of other programs: each is converted to a text that its password opens, or refused.
+//! Hashes of other programs: each is converted to a hash that its password matches, or rejected.
 
 use scrypt_c::migration::{from_simple_scrypt, stored_text};
 use scrypt_c::{Error, Hasher, Params};
@@ -37,13 +37,13 @@ fn stored() {
         let byte = |at| u8::from_str_radix(&text[at..at + 2], 16).unwrap();
         (0..text.len()).step_by(2).map(byte).collect()
     };
-    // The crate of a release is without the table.
+    // A release's crate does not have the table.
     let table = std::fs::read_to_string("../stored.tsv").unwrap_or_default();
     for line in table.lines().skip(1) {
         let words: Vec<&str> = line.split('\t').collect();
         let [n, r, p] = [2, 3, 4].map(|it| words[it].parse::<u64>().unwrap());
         if n != 64 {
-            continue; // which is refused where N is a number
+            continue; // a function that takes N rejects it
         }
         let made = Params::new(6, r as u32, p as u32)
             .map_err(Error::from)

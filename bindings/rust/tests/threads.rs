@@ -18,8 +18,7 @@ fn types() {
     anywhere::<(Error, DeriveError, InvalidParams)>();
 }
 
-/// A hasher that is dropped goes on for its clones, in other threads too, and closing one closes
-/// all.
+/// Dropping a hasher does not affect its clones, also in other threads; closing one closes all.
 #[test]
 fn clones() {
     let (hasher, other) = (with(4, 1, 1), with(4, 1, 1));
@@ -33,7 +32,7 @@ fn clones() {
     assert_eq!((clone.needs_rehash(&text), other.verify(&text, "pw")), (Ok(false), Ok(())));
 }
 
-/// While another derives, a call waits for as long as the options say.
+/// While another call derives, a call waits until the timeout of its options.
 #[test]
 fn timeouts() {
     let params = Params::new(4, 8, 1).unwrap();
