@@ -1,5 +1,5 @@
 #!/usr/bin/env python3
-"""Runs the examples of README, of Python's and Go's own pages, and those in C of bindings/README.md, over build/lib.
+"""Runs the examples of README, of HASHER, of Python's and Go's own pages, and in C of bindings/README.md, over build/lib.
 
 Only Go's has code around it. The example of Rust's page is run by `cargo test`, and that of JavaScript's by
 tools/release/test.sh. What is not installed is named by its Debian package. The script fails if an example fails or is missing.
@@ -63,7 +63,7 @@ def run(command, **more):
 
 def run_python(room):
     paths = {"PYTHONPATH": os.path.join(TOP, "bindings", "python"), "SCRYPT_C_LIBRARY": LIBRARY}
-    for page in ["README.md", "bindings/python/README.md"]:
+    for page in ["README.md", "docs/HASHER.md", "bindings/python/README.md"]:
         for example in examples("python", page):
             run([sys.executable, "-B", written(room, "login.py", example)], env=os.environ | paths)
 
