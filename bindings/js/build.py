@@ -26,7 +26,8 @@ MODULE = TOP / "bindings/js/scrypt.wasm"
 # The calls that the package makes. Others are left out: those that allocate have no allocator on this target.
 CALLS = set("""
 scrypt_hash_mcf_with_buffers scrypt_hash_needs scrypt_hash_params scrypt_hash_phc_with_buffers scrypt_kdf_with_buffers
-scrypt_key_begin scrypt_key_finish scrypt_key_step scrypt_limits_for_new scrypt_needs_rehash scrypt_params_need scrypt_verify_within_with_buffers
+scrypt_key_begin scrypt_key_finish scrypt_key_step scrypt_limits_for_new scrypt_needs_rehash scrypt_params_need
+scrypt_verify_begin scrypt_verify_finish scrypt_verify_within_with_buffers
 """.split())
 
 # The kit compiles for the oldest processor of this target, which has no vectors. Every engine has them by now, and with them a

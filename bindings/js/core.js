@@ -6,7 +6,7 @@ import { SALT_LEN } from './declared.js';
 import { ScryptError, errorFor, errorOfHash } from './errors.js';
 import { Instance, places } from './instance.js';
 import { MEMORY } from './machine.js';
-import { keyInSteps, turn } from './steps.js';
+import { keyInSteps, turn, verdictInSteps } from './steps.js';
 
 // Limits on memory that are left out are no more than there is.
 const ofMachine = (bytes) => (bytes < MEMORY ? bytes : BigInt(MEMORY));
@@ -84,6 +84,19 @@ export class Scrypt {
       const buffers = it.buffersOf(slices[1], limits);
       return it.isOk('scrypt_verify_within_with_buffers', ...slices, ...limits, ...buffers);
     });
+  }
+
+  /** The same in steps, between which this thread goes on. */
+  async verifyAsync(password, text, given) {
+    const { onProgress, signal, ...options } = optionsOf(given, 'verify', 'steps');
+    const wanted = verifyOptions(options);
+    const values = isNone(text) ? { password } : { password, text };
+    return this.#runInSteps(values, function* work(it, passwordSlice, textSlice) {
+      if (textSlice === undefined) return yield* ofNobodyInSteps(it, passwordSlice, wanted);
+      const limits = limitsOf(it, wanted);
+      const buffers = it.buffersOf(textSlice, limits);
+      return yield* verdictInSteps(it, passwordSlice, textSlice, limits, buffers);
+    }, onProgress, signal);
   }
 
   needsRehash(text, given) {
@@ -179,5 +192,10 @@ function nobodyPlaces(it, wanted) {
 function ofNobody(it, password, wanted) {
   const [salt, params, key, buffers] = nobodyPlaces(it, wanted);
   it.call('scrypt_kdf_with_buffers', password, salt, ...params, key, ...buffers);
+  return false;
+}
+
+function* ofNobodyInSteps(it, password, wanted) {
+  yield* keyInSteps(it, password, ...nobodyPlaces(it, wanted));
   return false;
 }

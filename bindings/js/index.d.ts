@@ -71,7 +71,7 @@ export interface VerifyOptions extends PartialParams {
 
 export interface CallOptions {
   /**
-   * Ends the call while it waits, and a key between two steps: the promise is
+   * Ends the call while it waits, and a key or a verification between two steps: the promise is
    * rejected with the signal's reason.
    */
   signal?: AbortSignal | undefined;
@@ -175,7 +175,7 @@ export function hash(password: Bytes, options?: HashOptions & CallOptions): Prom
  */
 export function verify(
   password: Bytes, text: Bytes | null | undefined,
-  options?: VerifyOptions & CallOptions,
+  options?: VerifyOptions & StepOptions & CallOptions,
 ): Promise<boolean>;
 /** Whether the hash of the text is weaker than one with these options. */
 export function needsRehash(text: Bytes, options?: PartialParams): Promise<boolean>;
@@ -210,6 +210,10 @@ export interface Scrypt {
   scryptAsync(password: Bytes, salt: Bytes, options: KeyOptions & StepOptions): Promise<Uint8Array>;
   hash(password: Bytes, options?: HashOptions): string;
   verify(password: Bytes, text: Bytes | null | undefined, options?: VerifyOptions): boolean;
+  /** The same in steps. */
+  verifyAsync(
+    password: Bytes, text: Bytes | null | undefined, options?: VerifyOptions & StepOptions,
+  ): Promise<boolean>;
   needsRehash(text: Bytes, options?: PartialParams): boolean;
   params(text: Bytes): ReadParams;
   /**

@@ -28,7 +28,7 @@ export async function hash(password, given) {
 /** Whether the password is that of the text, in a worker. Without a text it is not, after the work
  * of a new hash. */
 export async function verify(password, text, given) {
-  const [how, options] = parted(optionsOf(given, 'verify', 'worker'));
+  const [how, options] = parted(optionsOf(given, 'verify', 'steps', 'worker'));
   const [copy, textCopy] = copiesOf(isNone(text) ? { password } : { password, text });
   return call('verify', [copy, textCopy, options], how);
 }

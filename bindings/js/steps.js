@@ -1,4 +1,6 @@
-// Keys in steps of some 10 ms.
+// Keys and verdicts in steps of some 10 ms.
+import { places } from './instance.js';
+
 const STEP_MS = 10;
 
 /** A turn of the event loop: a page paints, and messages come in. A timer would wait longer. */
@@ -46,4 +48,14 @@ export function* keyInSteps(it, password, salt, params, key, buffers) {
   it.call('scrypt_key_begin', password, salt, ...params, ...buffers, progress.at);
   yield* mixedInSteps(it, params, buffers, progress);
   it.call('scrypt_key_finish', password, ...params, buffers[0], progress.at, key);
+}
+
+/** Whether the password is that of the text, in buffers that nothing else changes meanwhile. */
+export function* verdictInSteps(it, password, text, limits, buffers) {
+  const [words, progress] = [it.words(3), takeProgress(it)];
+  const given = [password, text, ...limits, ...places(words), ...buffers, progress.at];
+  if (!it.isOk('scrypt_verify_begin', ...given)) return false;
+  const params = [it.number(words[0]), it.number(words[1]), it.number(words[2])];
+  yield* mixedInSteps(it, params, buffers, progress);
+  return it.isOk('scrypt_verify_finish', password, text, buffers[0], progress.at);
 }

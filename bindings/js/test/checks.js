@@ -29,6 +29,11 @@ function ownChecks(open, { keys, hashes }, lines) {
       const limit = { minKeyLength: 10 };
       equal(own.verify(password, text, limit), true, text);
       equal(own.verify(`${password}x`, text, limit), false, text);
+      for (const it of [password, `${password}x`]) {
+        const found = await inRandomSteps(() => own.verifyAsync(it, text, limit));
+        equal(found, it === password, `in steps: ${text}`);
+        isWiped();
+      }
       equal(JSON.stringify(own.params(text)), JSON.stringify(of));
       equal(own.needsRehash(text, of), false, text);
       equal(own.needsRehash(text, { ...of, N: 2 * of.N }), true, text);
@@ -38,6 +43,7 @@ function ownChecks(open, { keys, hashes }, lines) {
   list['the verifications of bindings/cases.tsv'] = async () => {
     const { own, isWiped } = await open();
     await verifies(own, lines, isWiped);
+    await verifies({ verify: (...given) => own.verifyAsync(...given) }, lines, isWiped);
     await refused('ENCODING_INVALID', () => own.verify('', Uint8Array.of(0xff, 0xfe)));
   };
   list.limits = async () => {
@@ -48,6 +54,7 @@ function ownChecks(open, { keys, hashes }, lines) {
     const reason = ': 11282432 bytes (maxmem is 16777216), '
       + 'a work of 16896000 (maxwork is 16895999), a key of 32 bytes (minKeyLength is 16)';
     await refused('TOO_COSTLY', () => own.verify('', costly, limits), 'the work', reason);
+    await refused('TOO_COSTLY', () => own.verifyAsync('', costly, limits), 'in steps', reason);
     const { memory } = own;
     const long = { N: 2 ** 17, r: 8, p: 1, maxmem: 2 ** 20, dkLen: 2 ** 31 };
     const bytes = ': 134220800 bytes (maxmem is 1048576)';
