@@ -2,8 +2,7 @@
 //! it has come, or leave it.
 
 ghost use Rattle.std.specs.Prelude.{◌≡◌, ◌≢◌, ◌↔◌, ℕ, ◌+◌, ◌-◌, ◌*◌, ◌^◌, ◌<◌, ◌≤◌, List, length};
-ghost use Rattle.std.specs.Prelude.{min, false, true};
-ghost use Rattle.std.specs.Prelude.{IfOk, IsErrOf, IsTrue, OnErr, OnOk};
+ghost use Rattle.std.specs.Prelude.{min, false, true, IsErrOf, IsTrue, OnErr, OnOk};
 ghost use Rattle.scrypt_kernel.specs.Count.{AreCounted, AreCountedAs, AreHashed};
 ghost use Rattle.scrypt_kernel.specs.Diagonal.{pivot};
 ghost use Rattle.scrypt_kernel.specs.Pbkdf2.{pbkdf2};
@@ -13,21 +12,15 @@ ghost use Rattle.scrypt.specs.Accepted.{is_output_len};
 ghost use Rattle.scrypt.specs.Cost.{chunks_bytes, cost, hash_cost, pbkdf2_cost, scratch_words};
 ghost use Rattle.scrypt.specs.Cost.{table_words};
 ghost use Rattle.scrypt.specs.Key.{derived_key};
-ghost use Rattle.scrypt.specs.Reading.{mapped, verdict, with_refusal};
-ghost use Rattle.scrypt.specs.StoredHash.{reading};
 ghost use Rattle.scrypt.specs.Stepping.{AreMixable, AreMixed, IsUnderWay, IsWithin, first_b};
 ghost use Rattle.scrypt.specs.Stepping.{lacking, mixes_done, words_from};
-ghost use Rattle.scrypt.specs.declared.stepping.FinishError.TheVariants.{};
 ghost use Rattle.scrypt.specs.declared.stepping.FinishError.TheVariants.{InvalidOutputLen as BadLength};
 ghost use Rattle.scrypt.specs.declared.stepping.FinishError.TheVariants.{Unfinished};
 
 use crate::buffers::chunks_at_once;
-use crate::comparing::is_derived_key;
 use crate::derivation::mixing::group_by;
 use crate::derivation::{derive_chunks, output_len_ok};
-use crate::verifying::verdict;
-use crate::{CoreCount, Mixer, Params, StoredHash};
-use password_hash::Error;
+use crate::{CoreCount, Mixer, Params};
 use scrypt_kernel::order::diagonal::{Both, Diagonal, Scalars};
 use scrypt_kernel::pbkdf2::pbkdf2_counted;
 use scrypt_kernel::steps::{begin_chunks, end_chunks, step_chunks};
@@ -266,49 +259,6 @@ pub fn scrypt_in_steps<W: Mixer, F: FnMut(u128) -> bool>(
         unreachable!();
     };
     Ok(())
-}
-
-impl<'a> StoredHash<'a> {
-    /// Returns the salt of the hash, for [`begin`]. That of a `$7$` text is its letters.
-    ///
-    /// Returns the errors of [`StoredHash::verify`] before it allocates.
-    pub fn salt(&self) -> Result<&[u8], Error>
-        ensures value { mapped (λ salt. salt.now) (with_refusal result)
-            ≡ mapped (λ s. s.salt) (reading self.now) }
-    {
-        match self.parts() {
-            Ok(parts) => Ok(parts.salt.as_bytes()),
-            Err(error) => Err(error),
-        }
-    }
-
-    /// Finishes a verification in steps, which [`begin`] began with [`StoredHash::params`] and
-    /// [`StoredHash::salt`]: the verdict of [`StoredHash::verify`], once all chunks are mixed. The
-    /// buffers are the caller's to wipe.
-    pub fn finish(
-        &self,
-        password: &[u8],
-        at: Progress,
-        chunks: &mut [u8],
-        cores: &mut CoreCount,
-    ) -> Result<(), Error>
-        requires ended { IfOk (reading self.now) (λ s. at.chunks ≡ s.params.p) }
-        requires chunks { IfOk (reading self.now) (λ s. length chunks.old
-            ≡ chunks_bytes s.params.r s.params.p) }
-        ensures verdict { (table : List ℕ) → (scratch : List ℕ)
-            → IfOk (reading self.now) (λ s. IsUnderWay password.now s.salt s.params at chunks.old
-            table scratch)
-            → with_refusal result ≡ verdict password.now (reading self.now) }
-        ensures counted { IfOk (reading self.now) (λ s. AreHashed
-            (pbkdf2_cost (length password.now) (chunks_bytes s.params.r s.params.p) (length s.key)) cores.old cores.new) }
-        ensures kept { chunks.new ≡ chunks.old }
-        ensures uncounted { OnErr (reading self.now) (cores.new ≡ cores.old) }
-    {
-        match self.parts() {
-            Ok(parts) => verdict(is_derived_key(password, chunks, parts, cores)),
-            Err(refused) => Err(refused),
-        }
-    }
 }
 
 // Does `count` more mixes of each of `n` chunks, of which `done` are done, or all that are left.

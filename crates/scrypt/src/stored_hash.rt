@@ -10,6 +10,7 @@ ghost use Rattle.scrypt.specs.StoredHash.{formatted, is_mcf_text, is_stored_text
 ghost use Rattle.scrypt.specs.StoredParts.{IsReadAs, stored};
 ghost use Rattle.scrypt.specs.Workspace.{IsLeft, hashed_in, verdict_in, workspace_of};
 
+mod in_steps;
 mod within;
 
 use crate::mcf::reading::parts_of_mcf;

@@ -1,0 +1,57 @@
+// Verifying in steps.
+
+ghost use Rattle.std.specs.Prelude.{◌≡◌, ℕ, List, length, IfOk, OnErr};
+ghost use Rattle.scrypt_kernel.specs.Count.{AreHashed};
+ghost use Rattle.scrypt.specs.Cost.{chunks_bytes, pbkdf2_cost};
+ghost use Rattle.scrypt.specs.Reading.{mapped, verdict, with_refusal};
+ghost use Rattle.scrypt.specs.StoredHash.{reading};
+ghost use Rattle.scrypt.specs.Stepping.{IsUnderWay};
+
+use super::StoredHash;
+use crate::comparing::is_derived_key;
+use crate::verifying::verdict;
+use crate::{CoreCount, Progress};
+use password_hash::Result;
+
+impl<'a> StoredHash<'a> {
+    /// Returns the salt of the hash, for [`begin`](crate::begin). That of a `$7$` text is its letters.
+    ///
+    /// Returns the errors of [`StoredHash::verify`] before it allocates.
+    pub fn salt(&self) -> Result<&[u8]>
+        ensures value { mapped (λ salt. salt.now) (with_refusal result)
+            ≡ mapped (λ s. s.salt) (reading self.now) }
+    {
+        match self.parts() {
+            Ok(parts) => Ok(parts.salt.as_bytes()),
+            Err(error) => Err(error),
+        }
+    }
+
+    /// Finishes a verification in steps, which [`begin`](crate::begin) began with [`StoredHash::params`] and
+    /// [`StoredHash::salt`]: the verdict of [`StoredHash::verify`], once all chunks are mixed. The
+    /// buffers are the caller's to wipe.
+    pub fn finish(
+        &self,
+        password: &[u8],
+        at: Progress,
+        chunks: &mut [u8],
+        cores: &mut CoreCount,
+    ) -> Result<()>
+        requires ended { IfOk (reading self.now) (λ s. at.chunks ≡ s.params.p) }
+        requires chunks { IfOk (reading self.now) (λ s. length chunks.old
+            ≡ chunks_bytes s.params.r s.params.p) }
+        ensures verdict { (table : List ℕ) → (scratch : List ℕ)
+            → IfOk (reading self.now) (λ s. IsUnderWay password.now s.salt s.params at chunks.old
+            table scratch)
+            → with_refusal result ≡ verdict password.now (reading self.now) }
+        ensures counted { IfOk (reading self.now) (λ s. AreHashed (pbkdf2_cost (length password.now)
+            (chunks_bytes s.params.r s.params.p) (length s.key)) cores.old cores.new) }
+        ensures kept { chunks.new ≡ chunks.old }
+        ensures uncounted { OnErr (reading self.now) (cores.new ≡ cores.old) }
+    {
+        match self.parts() {
+            Ok(parts) => verdict(is_derived_key(password, chunks, parts, cores)),
+            Err(refused) => Err(refused),
+        }
+    }
+}
