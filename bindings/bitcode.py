@@ -1,15 +1,15 @@
 #!/usr/bin/env python3
-"""Compiles the crate scrypt_c for Windows, a target that the kit doesn't have, from what the kit gave its clang for
-Linux: the same text of LLVM, by the same clang, with the same options. What it makes is in crates/scrypt_c/out/windows,
-for each level of x86-64.
+"""Compiles the crate scrypt_c for Windows, a target that the kit doesn't have, from the input of the
+kit's clang for Linux: the same LLVM IR, by the same clang, with the same options. The output is in
+crates/scrypt_c/out/windows, for each level of x86-64.
 
 usage: python3 -m bindings.bitcode MADE
 
-MADE is a folder that tools/gate/library.py has made: the library of the kit for each level, and beside it the folder
-`given` with what its clang was given.
+MADE is a folder that tools/gate/library.py has made: the kit's library for each level, and next to it
+the folder `given` with the input of its clang.
 
-First each text is compiled for Linux, and has to give the object of the kit byte by byte. For Windows the text differs
-in two attributes of functions. It needs the kit.
+First each text is compiled for Linux, and has to equal the kit's object byte for byte. For Windows
+the text differs in two attributes of functions. It needs the kit.
 """
 
 import os
@@ -24,15 +24,15 @@ from tools import copies, kit
 TARGET = "x86_64-w64-mingw32"
 OUT = Path("crates/scrypt_c/out/windows")
 
-# Where the library of each level is, in a folder like crates/scrypt_c/out.
+# The path of the library of each level, in a folder like crates/scrypt_c/out.
 LEVELS = {"x86-64-v2": "libscrypt_c.a", "x86-64-v3": "x86-64-v3/libscrypt_c.a"}
 
-# What the kit's clang is given for Linux, by the names that the kit gives its own files.
+# The input and the output of the kit's clang for Linux, with the kit's names for its files.
 SOURCE, OBJECT = "module.bc", "module.o"
 
-# No section for each function: of two with one name, for two levels, the linker would keep one. No table of addresses
-# that are compared, which names symbols by their numbers: those change where they are renamed. That the target isn't
-# the one of the text is meant.
+# No section for each function: of two functions with the same name, for two levels, the linker would keep one. No
+# table of significant addresses, which refers to symbols by number: the numbers change when symbols are renamed. The
+# target differs from the text's on purpose.
 FOR_WINDOWS = ["-fno-function-sections", "-fno-addrsig", "-Wno-override-module"]
 
 # The attributes of functions with code. `nounwind` they keep.
@@ -45,7 +45,7 @@ def tool(name):
 
 
 def compile_as_given(given, text, made, *options):
-    """Compiles a text as the kit has its own compiled, with further options."""
+    """Compiles a text as the kit does, with further options."""
     words = (given / "options").read_text("utf-8").splitlines()
     if [words.count(it) for it in (SOURCE, OBJECT)] != [1, 1]:
         sys.exit(f"{given}: not one {SOURCE} and one {OBJECT}")
@@ -53,8 +53,8 @@ def compile_as_given(given, text, made, *options):
 
 
 def for_windows(text):
-    """The text, in which each function with code has an entry in the table by which Windows unwinds the stack
-    (uwtable), and calls for a large frame what Windows calls, in place of instructions for Linux."""
+    """The text for Windows: each function with code has an entry in the table for unwinding the stack (uwtable), and
+    probes a large frame by Windows's function instead of instructions for Linux."""
     changed = {it[1] for it in ATTRIBUTES.finditer(text)}
     for line in DEFINED.findall(text):
         found = re.search(r" #(\d+) \{$", line)
@@ -64,7 +64,7 @@ def for_windows(text):
 
 
 def printed(given, room):
-    """The text of what the kit's clang was given, in a file. It has the order of uses too, by which clang compiles."""
+    """The input of the kit's clang as text, in a file. It includes the order of uses, on which clang's output depends."""
     text = room / "linux.ll"
     options = ["-S", "-emit-llvm", "-Xclang", "-disable-llvm-passes", "-Xclang", "-emit-llvm-uselists", "-x", "ir"]
     copies.run(tool("clang"), *options, given / SOURCE, "-o", text)
@@ -72,14 +72,14 @@ def printed(given, room):
 
 
 def check(archive, given, text, room):
-    """Ends unless the text compiled for Linux is the object that the kit made."""
+    """Fails unless the text compiled for Linux equals the kit's object."""
     compile_as_given(given, text, room / "linux.o")
     if (room / "linux.o").read_bytes() != subprocess.check_output([tool("llvm-ar"), "p", archive]):
         sys.exit(f"{given}: compiled for Linux, this isn't the object in {archive}")
 
 
 def build(archive, output, room):
-    """Makes the archive for Windows of that for Linux."""
+    """Makes the archive for Windows from the archive for Linux."""
     given = archive.parent / "given"
     text = printed(given, room)
     check(archive, given, text, room)

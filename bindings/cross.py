@@ -1,14 +1,14 @@
 #!/usr/bin/env python3
-"""Proves and compiles the crate scrypt_c and the program scrypt_tool for another processor than the kit's own, with the mixer for
-that (tools/copies.py). What it makes is in crates/NAME/out/PRESET.
+"""Proves and compiles the crate scrypt_c and the program scrypt_tool for a processor other than the
+kit's, with its mixer, the backend (tools/copies.py). The output is in crates/NAME/out/PRESET.
 
 usage: python3 -m bindings.cross PRESET NAME[=KEPT] ..
 
-PRESET is one of bindings/c/CMakePresets.json with a target of the kit. NAME is scrypt_c or scrypt_tool, and KEPT a folder of proofs of
-the crate that are kept.
+PRESET is one of bindings/c/CMakePresets.json with a target of the kit. NAME is scrypt_c or
+scrypt_tool, and KEPT a folder with kept proofs of the crate.
 
-It needs the kit, and the libraries below, which `make lib` and `make run` prove: they are the same for each processor. Without KEPT it
-begins with what it kept itself, or a check of the crate did.
+It needs the kit, and the libraries below, which `make lib` and `make run` prove: they are the same
+for each processor. Without KEPT it starts with the proofs that it, or a check of the crate, has kept.
 """
 
 import os
@@ -26,7 +26,7 @@ IS_GATE = "PROVED_LIBRARIES" in os.environ
 
 
 def begin(name, preset, given):
-    """The folder of kept proofs to begin with, or none."""
+    """The folder of kept proofs to start with, if any."""
     own = [] if IS_GATE else [f"crates/{name}/out/{preset}/kept", f"crates/{name}/out/incremental"]
     return next((it for it in [given, *own] if os.path.isdir(it)), None)
 
@@ -44,7 +44,7 @@ def build(room, preset, name, given):
 
 
 def main(preset, *words):
-    # Not in the repository, in which rt refuses sources that are of no crate.
+    # Outside the repository, in which rt rejects sources that belong to no crate.
     with tempfile.TemporaryDirectory() as room:
         for name, _, given in (it.partition("=") for it in words):
             build(Path(room), preset, name, given)

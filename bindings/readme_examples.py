@@ -1,5 +1,6 @@
 #!/usr/bin/env python3
-"""Runs the examples of README, of HASHER, of Python's and Go's own pages, and in C of bindings/README.md, over build/lib.
+"""Runs the examples of README, of HASHER, of Python's and Go's pages, and the C examples of
+bindings/README.md, over build/lib.
 
 Only Go's has code around it. The example of Rust's page is run by `cargo test`, and that of JavaScript's by
 tools/release/test.sh. What is not installed is named by its Debian package. The script fails if an example fails or is missing.
@@ -50,7 +51,7 @@ def examples(language, page="README.md"):
 
 
 def written(room, name, text):
-    """A file of this text in the room."""
+    """Writes a file with this text, and returns its path."""
     path = os.path.join(room, name)
     with open(path, "w", encoding="utf-8") as file:
         file.write(text)

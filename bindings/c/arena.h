@@ -1,4 +1,4 @@
-/* Memory for derivations, which is kept from one to the next. */
+/* Memory for derivations, which is kept between derivations. */
 #ifndef ARENA_H
 #define ARENA_H
 
@@ -13,22 +13,22 @@ struct buffers {
 #define ALL_OF(it) \
   it.chunks, it.chunks_len, it.table, it.table_len, it.scratch, it.scratch_len
 
-/* Zeros are its initial state. */
+/* Its initial state is all zeros. */
 struct arena {
   uint8_t *mapping; /* a huge page longer than its room, which begins at a multiple of one */
   size_t room;      /* in bytes; 0 if nothing is mapped */
 };
 
-/* Makes room for `max` derivations in a table each, or for as many as the system grants, and
- * returns how many: 0 if not even one. What it held is lost. A child of a fork doesn't have the
- * mapping, so the arena is in memory that is zeros there. */
+/* Reserves memory for `max` derivations with a table each, or for fewer if the system has less, and
+ * returns their number, possibly 0. The old content is lost. A forked child doesn't have the mapping,
+ * so the arena is in memory that is zeros there. */
 size_t arena_reserve(struct arena *arena, const scrypt_needs *one, size_t max);
 
-/* Buffers for `logins` with the same needs, in `tables`, for which there is room. */
+/* Buffers for `logins` with the same needs, in `tables` reserved tables. */
 struct buffers arena_buffers(const struct arena *arena, const scrypt_needs *one, size_t tables,
                              size_t logins);
 
-/* Wipes it, and gives it back to the system. */
+/* Wipes and unmaps it. */
 void arena_free(struct arena *arena);
 
 #endif

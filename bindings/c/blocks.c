@@ -1,5 +1,5 @@
-/* The memory that proved calls ask for, by kit_heap.c: not proved. It is overwritten before it is
- * freed, or given back to the system, which wipes it (SECURITY.md, row "freed memory"). Compiled
+/* The memory that proved calls allocate, through kit_heap.c. Not proved. It is wiped before it is
+ * freed, or unmapped; the system wipes unmapped memory (SECURITY.md, row "freed memory"). Compiled
  * with -fno-plt: a linker that binds malloc at its first call saves registers in the stack. */
 #define _GNU_SOURCE
 #include "system.h"
@@ -11,22 +11,22 @@
 #define MAX_PREFAULTED ((size_t)129 << 20) /* the tables of scrypt_key, if there are several */
 #define CACHE_LINE ((size_t)64)
 
-/* From this size on a block is a mapping of its own, as the usual malloc makes one too: to give it
- * back is faster than to overwrite it. */
+/* Blocks of this size or more get their own mapping, as malloc does too: unmapping is faster than
+ * overwriting. */
 #define LARGE ((size_t)32 << 20)
 
-/* Before a block, in malloc's or in the mapping: where that begins, and how long the block is.
- * malloc_usable_size isn't asked: it knows nothing of the blocks of a program's own malloc. */
+/* Precedes a block: the start of malloc's block or of the mapping, and the length of the block.
+ * malloc_usable_size would not know the blocks of a program's own malloc. */
 struct head {
   void *start;
   size_t len;
 };
 static struct head *head_of(void *block) { return (struct head *)block - 1; }
 
-/* What is mapped beside the block: the head, and what is left out before a huge page. */
+/* The rest of the mapping: the head, and the gap before a huge page. */
 #define BESIDE (LARGEST_PAGE + HUGE_PAGE)
 
-/* Writes zeros, in a way that the compiler may not optimize away. Whole cache lines are written
+/* Writes zeros, in a way that the compiler must not optimize away. Whole cache lines are written
  * through the cache, where the next call finds them: memset takes a third longer for the table of
  * (14, 8, 1). */
 static void overwrite(uint8_t *block, size_t len) {
@@ -68,7 +68,7 @@ static uint8_t *with_head(uint8_t *block, uint8_t *start, size_t len) {
   return block;
 }
 
-/* Whether the first page, to which this writes, is a huge one: then its end is in memory too. */
+/* Whether the first page, to which this writes, is a huge page: then its end is in memory too. */
 static int is_huge(uint8_t *block) {
   *(volatile uint8_t *)block = 0;
   return is_resident(block + HUGE_PAGE - LARGEST_PAGE);
@@ -82,15 +82,15 @@ static void *map_block(size_t len) {
   block = start + LARGEST_PAGE;
   block += (HUGE_PAGE - (uintptr_t)block % HUGE_PAGE) % HUGE_PAGE;
   with_head(block, start, len);
-  /* Huge pages take longer at once. */
+  /* Huge pages take longer to prefault in one call. */
   if (len <= MAX_PREFAULTED && !is_huge(block)) prefault(block, len);
   return block;
 }
 
-/* A block begins at a cache line, and a large one at a huge page, for which it asks: rows are read
- * in random order. The memory of one below 32 MiB is malloc's, which reuses it; to map it for each
- * call takes longer if the system has no huge pages. Nothing of a block above 129 MiB is touched
- * before it is used: the next one may be refused. */
+/* A block begins at a cache line, and a large block at a huge page, which it asks for, because rows
+ * are read in random order. A block below 32 MiB is malloc's, which reuses it: mapping it for each
+ * call takes longer if the system has no huge pages. A block above 129 MiB is not touched before its
+ * use, because the next allocation may fail. */
 void *clearing_malloc(size_t len) {
   size_t unit = len < 2 * HUGE_PAGE ? CACHE_LINE : HUGE_PAGE, more = sizeof(struct head) + unit - 1;
   uint8_t *start;

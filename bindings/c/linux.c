@@ -1,4 +1,4 @@
-/* What system.h declares, on Linux: not proved. */
+/* Implements system.h for Linux. Not proved. */
 #define _GNU_SOURCE
 #include "system.h"
 
@@ -28,8 +28,8 @@ void mutex_lock(mutex *it) { (void)pthread_mutex_lock(it); }
 
 void mutex_unlock(mutex *it) { (void)pthread_mutex_unlock(it); }
 
-/* Not by pthread_cond_t, which asks for glibc 2.34 if it is to wait by the monotonic clock, and is
- * a cancellation point. */
+/* A futex instead of pthread_cond_t, which needs glibc 2.34 to wait by the monotonic clock, and is a
+ * cancellation point. */
 void condition_wait(condition *it, mutex *with, int64_t deadline_ns) {
   const struct timespec deadline = {.tv_sec = (time_t)(deadline_ns / NS_OF_SECOND),
                                     .tv_nsec = (long)(deadline_ns % NS_OF_SECOND)};
@@ -56,10 +56,11 @@ void *map_zeros(size_t size) {
 
 int unmap(void *at, size_t size) { return munmap(at, size) == 0; }
 
-/* Refused by Linux before 4.14. */
+/* Fails on Linux before 4.14. */
 void wipe_on_fork(void *at, size_t size) { (void)madvise(at, size, MADV_WIPEONFORK); }
 
-/* What is refused is left, so that a child has both a table and its address, or neither. */
+/* If memory cannot be wiped on a fork, tables stay in the child: a child has both a table and its
+ * address, or neither. */
 void drop_on_fork(void *at, size_t size) {
   if (madvise(at, size, MADV_WIPEONFORK) == 0) (void)madvise(at, size, MADV_DONTFORK);
 }
@@ -102,8 +103,8 @@ int random_bytes(uint8_t *bytes, size_t len) {
 #define ROOT ""
 #endif
 
-/* What a file of a control group allows, which may be "max" or, of version 1, -1; SIZE_MAX if it
- * does not limit. A quota is rounded up to processors. */
+/* The limit in a file of a control group, which may be "max" or, in version 1, -1; SIZE_MAX if there
+ * is no limit. A quota is rounded up to processors. */
 static size_t limit_of(const char *folder, const char *name, const char *period_name) {
   char path[1024];
   long number = 0, period = 0;
@@ -121,9 +122,9 @@ static size_t limit_of(const char *folder, const char *name, const char *period_
 
 static size_t least(size_t one, size_t other) { return one < other ? one : other; }
 
-/* The least limit of the control group of this process, and of those around it: of version 2, whose
- * path is in the line "0::PATH". In a container the path may be one of the host; then what is
- * mounted is the group of the container. */
+/* The minimum of the limits of this process's control group and of its ancestors, in version 2, whose
+ * path is in the line "0::PATH". In a container the path may be the host's; then the mounted group is
+ * the container's. */
 static size_t least_of_groups(const char *name) {
   char line[1024] = "", *path = line + 3, *slash;
   size_t most = limit_of("", name, NULL);

@@ -1,8 +1,8 @@
 #!/bin/sh
-# Makes the object of which only these calls are seen: of an archive that the kit built (its calls get a prefix, one for each level of
-# the processor), or of an object, with the names of a list.
+# Makes an object that exports only these calls: from an archive that the kit built (its calls get a
+# prefix, one for each level of the processor), or from an object, with the names in a list.
 # usage: seal.sh OUTPUT ARCHIVE PREFIX    or    seal.sh OUTPUT OBJECT -- NAME..
-# NM, OBJCOPY and AR are those of the target.
+# NM, OBJCOPY and AR are the target's.
 set -eu
 names=$(mktemp)
 trap 'rm -f "$names" "$names.o"' EXIT

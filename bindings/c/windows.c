@@ -1,4 +1,4 @@
-/* What system.h declares, on Windows 8 and later, which has no forks: not proved. */
+/* Implements system.h for Windows 8 and later, which has no fork. Not proved. */
 #include "system.h"
 
 #include <bcrypt.h>
@@ -16,16 +16,14 @@ int64_t now_ns(void) {
          now.QuadPart % each_second.QuadPart * NS_OF_SECOND / each_second.QuadPart;
 }
 
-/* A sleep ends with a tick of the system, of which there are 64 in a second unless the process asks
- * for more. */
+/* A sleep ends with a tick of the system: 64 in a second, unless the process asks for more. */
 int can_sleep_briefly(void) { return 0; }
 
 void mutex_lock(mutex *it) { AcquireSRWLockExclusive(it); }
 
 void mutex_unlock(mutex *it) { ReleaseSRWLockExclusive(it); }
 
-/* For a day at most, in whole milliseconds, of which there is one at least: with none a thread
- * would spin. */
+/* For 1 ms to a day, in whole milliseconds: with 0 a thread would spin. */
 void condition_wait(condition *it, mutex *with, int64_t deadline_ns) {
   int64_t day = 86400000;
   int64_t ms = deadline_ns == NO_DEADLINE ? day : (deadline_ns - now_ns()) / NS_OF_MILLISECOND + 1;
@@ -38,8 +36,8 @@ void yield_processor(void) { (void)SwitchToThread(); }
 
 /* ---- Memory ---- */
 
-/* The system promises all of it now, so that no write finds too little; each page is taken when it
- * is first used. */
+/* The system commits all of it now, so that no write can fail; each page is taken at its first
+ * use. */
 void *map_zeros(size_t size) {
   return VirtualAlloc(NULL, size, MEM_RESERVE | MEM_COMMIT, PAGE_READWRITE);
 }
@@ -50,7 +48,7 @@ void wipe_on_fork(void *at, size_t size) { (void)at, (void)size; }
 
 void drop_on_fork(void *at, size_t size) { (void)at, (void)size; }
 
-/* Large pages are for those alone who may lock memory, and are locked themselves. */
+/* Large pages need the privilege to lock memory, and are locked. */
 void ask_for_huge_pages(void *at, size_t size) { (void)at, (void)size; }
 
 int is_resident(void *page) { return (void)page, 0; }
@@ -71,8 +69,8 @@ int random_bytes(uint8_t *bytes, size_t len) {
 
 static size_t all_processors(void) { return GetActiveProcessorCount(ALL_PROCESSOR_GROUPS); }
 
-/* Those of its affinity. A mask is of one group, of at most 64 processors; in several groups a
- * process may use all of them. */
+/* The processors of its affinity. A mask is for one group of up to 64 processors; a process in
+ * several groups may use all of them. */
 static size_t processors_of_affinity(void) {
   USHORT groups[64] = {0}, count = sizeof groups / sizeof *groups;
   DWORD_PTR of_process, of_system;
@@ -86,8 +84,7 @@ static size_t processors_of_affinity(void) {
   return all;
 }
 
-/* What the job of this process, or of its container, says; of those around it nothing can be
- * asked. */
+/* The limits of the job of this process, or of its container; outer jobs cannot be queried. */
 static int is_in_job(JOBOBJECTINFOCLASS which, void *limits, DWORD size) {
   return QueryInformationJobObject(NULL, which, limits, size, NULL) != 0;
 }
@@ -111,7 +108,7 @@ size_t processors_of_process(void) {
   return count > 0 ? count : 1;
 }
 
-/* Also at most what the system would promise. */
+/* Also limited by the memory that the system could commit. */
 size_t memory_of_process(void) {
   MEMORYSTATUSEX status = {.dwLength = sizeof status};
   JOBOBJECT_EXTENDED_LIMIT_INFORMATION job = {0};

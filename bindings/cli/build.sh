@@ -1,8 +1,8 @@
 #!/bin/sh
-# Links the program that is installed: the proved one, whose reads of the standard input go by terminal.c.
-# usage: build.sh                   links build/bin/scrypt_tool; for the machine that PRESET names
-#                                   (c/CMakePresets.json), whose library is built, into its folder
-#        build.sh PROGRAM OUTPUT    PROGRAM is crates/scrypt_tool/out/scrypt_tool, with its object beside it
+# Links the installed program: the proved program, whose reads of the standard input go through terminal.c.
+# usage: build.sh                   links build/bin/scrypt_tool; with PRESET (c/CMakePresets.json), for that
+#                                   machine, whose library is built, into its folder
+#        build.sh PROGRAM OUTPUT    PROGRAM is crates/scrypt_tool/out/scrypt_tool, with its object next to it
 set -eu
 unset CDPATH
 cd "$(dirname "$0")/../.."
@@ -20,7 +20,7 @@ program=${1:-crates/scrypt_tool/$proved/scrypt_tool} output=${2:-$build/bin/scry
 room=$(mktemp -d)
 trap 'rm -r "$room"' EXIT
 "$objcopy" --redefine-sym read=read_or_ask "$program.o" "$room/program.o"
-# Of libbsd this one object: others would take the place of glibc's functions, such as getentropy.
+# Only this object of libbsd: others would replace glibc's functions, such as getentropy.
 (cd "$room" && ar x "$($CC -print-file-name=libbsd.a)" readpassphrase.o)
 mkdir -p "$(dirname "$output")"
 # shellcheck disable=SC2086 # words without spaces
