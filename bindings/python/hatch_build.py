@@ -1,9 +1,9 @@
 """Puts the library into the package, with the licences.
 
-It is the file that SCRYPT_C_LIBRARY names, or that of a known name in the folder that it names, or
-else the one that `make lib` put into build/lib of the repository; a source archive has it in the
-package already, and takes no file from outside of itself, where another user may have put anything.
-What SCRYPT_C_PROVED names, if it is said, is a text about its proof, and goes beside the licences.
+SCRYPT_C_LIBRARY names the library's file or its folder. If it is not set, the library is taken from
+build/lib of the repository, where `make lib` puts it. A source archive already has the library in
+the package, and takes no file from outside the archive, where another user may have put anything.
+SCRYPT_C_PROVED, if it is set, names a text about the proof, which is added to the licences.
 SCRYPT_C_MACHINE is the processor of a library for another machine.
 """
 
@@ -18,13 +18,13 @@ NAMES = ["libscrypt_c.so.0", "scrypt_c.dll"]
 
 
 def found(folder):
-    """The library in a folder, or None."""
+    """Returns the library in a folder, or None."""
     return next((folder / name for name in NAMES if (folder / name).exists()), None)
 
 
 def tag_of(library):
-    """The tag of a wheel with this library. The newest name that it takes from glibc is of 2.14, or
-    of 2.17 for arm64, and the tags for glibc ask for 2.17; linked with musl it is for 1.2."""
+    """Returns the tag of a wheel with this library. Its newest symbol from glibc is of version
+    2.14, or 2.17 on arm64, and the tags for glibc require 2.17; the tag for musl requires 1.2."""
     if library[:2] == b"MZ":
         return "py3-none-win_amd64"
     machine = os.environ.get("SCRYPT_C_MACHINE") or platform.machine()

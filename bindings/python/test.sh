@@ -1,6 +1,6 @@
 #!/bin/sh
-# Tests the Python package over the library of build/lib, with Debian's Django and passlib, and as
-# pip installs it. For Windows, for which Debian has no Python, it builds the wheel.
+# Tests the Python package with the library of build/lib, with Debian's Django and passlib, and as
+# pip installs it. For Windows it only builds the wheel, because Debian has no Python for Windows.
 set -eu
 unset CDPATH
 cd "$(dirname "$0")/../.."

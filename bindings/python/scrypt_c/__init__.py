@@ -1,4 +1,7 @@
-"""scrypt (RFC 7914) and its password hashes, on top of the library libscrypt_c over proved code.
+"""scrypt (RFC 7914) and its password hashes, on top of the library libscrypt_c.
+
+That library's calls that derive keys and read and verify hashes are proved correct. Its hasher,
+which is C, and this package are tested, not proved.
 
     from scrypt_c import PasswordHasher, VerifyMismatchError
 
@@ -11,15 +14,15 @@
     if hasher.check_needs_rehash(text):
         ...                                   # store hasher.hash(password) in its place
 
-An untrusted hash chooses its own cost: one that needs more than MOST_BYTES of memory, or more work
-than MOST_WORK, four times the recommended work, raises TooCostlyError before any work. Both bounds
-are arguments of PasswordHasher. A hash with a key of fewer than LEAST_KEY_LEN bytes raises
-KeyTooShortError. RefusedHashError is above both of them, and above InvalidHashError.
+An untrusted hash chooses its own cost. A hash that needs more than MOST_BYTES of memory, or more
+work than MOST_WORK, four times the recommended work, raises TooCostlyError before any work. Both
+limits are arguments of PasswordHasher. A hash with a key of fewer than LEAST_KEY_LEN bytes raises
+KeyTooShortError. RefusedHashError is the base class of both, and of InvalidHashError.
 
 `scrypt` has the signature of hashlib.scrypt. The GIL is released while a key is derived.
 
-The environment variable SCRYPT_C_LIBRARY names the file of the library, or its folder. Without it,
-the library inside this package is used, or else the one that the system's loader finds.
+The environment variable SCRYPT_C_LIBRARY names the library's file or its folder. If it is not set,
+the library inside this package is used; if there is none, the one that the system's loader finds.
 """
 
 from .arguments import Bytes, Password

@@ -1,5 +1,5 @@
-"""Measures how long a verification takes on this machine, with the parameters that the options give
-or that fit a time."""
+"""Measures how long a verification takes on this machine, with the parameters of the options or
+with parameters that fit a time."""
 
 from __future__ import annotations
 

@@ -1,4 +1,4 @@
-"""Converts the arguments of callers to those of the library."""
+"""Converts the arguments of callers to arguments of the library."""
 
 from __future__ import annotations
 
@@ -12,8 +12,9 @@ Password = Union[str, bytes, bytearray, memoryview]
 
 
 def raw_bytes(data: Bytes, what: str, kinds: str = "bytes-like") -> bytes:
-    """The bytes of a bytes-like object, without a copy if it is bytes. `bytes` would take a number
-    for a length. A subclass is copied: its `len` may be another than that of its buffer."""
+    """Returns the bytes of a bytes-like object, without a copy if it is bytes. `bytes(data)` would
+    accept a number as a length. A subclass is copied, because its `len` can differ from the length
+    of its buffer."""
     if type(data) is bytes:
         return data
     try:
@@ -23,18 +24,18 @@ def raw_bytes(data: Bytes, what: str, kinds: str = "bytes-like") -> bytes:
 
 
 def raw_password(password: Password) -> bytes:
-    """The bytes of a password; those of a str are its UTF-8."""
+    """Returns the bytes of a password; a str is encoded as UTF-8."""
     if not isinstance(password, str):
         return raw_bytes(password, "a password", "a str or bytes-like")
     try:
         return str.encode(password)
     except UnicodeEncodeError:
-        pass  # It holds the whole password, so it is neither raised nor the context of what is.
+        pass  # The error has the whole password: do not raise it, nor an error with it as context.
     raise UnicodeError("a password has a lone surrogate, which UTF-8 cannot encode")
 
 
 def raw_text(text: Union[str, bytes]) -> bytes:
-    """The bytes of a hash's text. The library refuses characters outside ASCII where the format
+    """Returns the bytes of a hash. The library rejects characters outside ASCII if the format
     does."""
     if isinstance(text, str):
         return str.encode(text, errors="surrogatepass")
@@ -44,7 +45,7 @@ def raw_text(text: Union[str, bytes]) -> bytes:
 
 
 def number(value: int, what: str) -> int:
-    """An integer; 1.0 and "1" are not."""
+    """Returns an integer; 1.0 and "1" are not integers."""
     try:
         return operator.index(value)
     except TypeError:
@@ -52,13 +53,13 @@ def number(value: int, what: str) -> int:
 
 
 def in_64_bits(value: int, what: str) -> int:
-    """A bound as C's types hold it: one above 64 bits allows all, and one below 1 as little as 1.
-    In C a 0 is the default."""
+    """Clamps a limit to the range of C's types: a limit above 64 bits allows everything, and one
+    below 1 becomes 1, because 0 means the default in C."""
     return min(max(number(value, what), 1), (1 << 64) - 1)
 
 
 def seconds(value: Optional[float], what: str) -> Optional[float]:
-    """A time to wait, at most the longest that threading accepts; None means forever."""
+    """Returns a timeout, up to the maximum that threading accepts; None means no timeout."""
     if value is None:
         return None
     if not isinstance(value, (int, float)):

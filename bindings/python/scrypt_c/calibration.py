@@ -15,12 +15,13 @@ MOST_SECONDS = 1e9
 
 
 def calibrate(seconds: float, most_bytes: int = MOST_BYTES) -> Params:
-    """The parameters with which one derivation takes at most these seconds on this machine, now, in
-    a table of at most so many bytes. Raises TooCostlyError if even log_n=10 takes more. Run it on
-    an idle machine.
+    """Measures this machine, and returns the most costly parameters whose derivation takes no more
+    than the given seconds, in a table of up to `most_bytes`. Raises TooCostlyError if even log_n=10
+    takes more time or memory. Run it on an idle machine.
 
-    Memory comes first: N is as large as both bounds allow, and p takes the time that is left. It
-    takes some four times these seconds. `PasswordHasher(*calibrate(0.2))` makes hashes by them.
+    Memory comes first: N is the largest that both limits allow, and p uses the time that is left.
+    The call takes about four times the given seconds. `PasswordHasher(*calibrate(0.2))` makes
+    hashes with the result.
     """
     time_of(seconds, "seconds")
     if not 0 < seconds <= MOST_SECONDS:

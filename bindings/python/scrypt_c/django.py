@@ -1,16 +1,16 @@
 """Password hashers for Django, 3.2 and later.
 
     PASSWORD_HASHERS = [
-        "scrypt_c.django.PHCPasswordHasher",     # PHC texts, as other programs read them
-        "scrypt_c.django.ScryptPasswordHasher",  # reads those of Django's own ScryptPasswordHasher
+        "scrypt_c.django.PHCPasswordHasher",     # PHC strings, as other programs read them
+        "scrypt_c.django.ScryptPasswordHasher",  # hashes of Django's own ScryptPasswordHasher
         ...
     ]
 
-The first in the list makes new hashes; a hash that another one made is replaced at the next login.
+The first class in the list makes new hashes; a hash of another class is replaced at the next login.
 docs/MIGRATION.md of the repository has classes that hash the hashes of PBKDF2 and bcrypt once more,
 for users who don't log in.
 
-Parameters and bounds are attributes. Put a subclass of your own into the list to change them:
+Parameters and limits are attributes. To change them, put your own subclass into the list:
 
     class OurPasswordHasher(PHCPasswordHasher):
         hasher = PasswordHasher(log_n=16, most_bytes=1 << 30)
@@ -18,7 +18,7 @@ Parameters and bounds are attributes. Put a subclass of your own into the list t
     class OurDjangoHasher(ScryptPasswordHasher):
         work_factor, most_bytes = 2**16, 1 << 30
 
-For a hash that is damaged or above the bounds, check_password raises a RefusedHashError. Where no
+For a hash that is damaged or exceeds the limits, check_password raises a RefusedHashError. If no
 view catches it, put FalseIfRefused before the class: check_password returns False after the time of
 a wrong password, and the logger has the reason:
 
@@ -47,8 +47,8 @@ LOG = logging.getLogger(__name__)
 
 
 class FalseIfRefused:
-    """Before one of the hashers below: no password matches a hash that is refused, which takes the
-    time of a wrong password, and the log has the reason."""
+    """A base class to put before one of the hashers below: no password matches a rejected hash,
+    verifying takes the time of a wrong password, and the log has the reason."""
 
     def verify(self, password: str, encoded: str) -> bool:
         try:
@@ -86,7 +86,7 @@ class ScryptPasswordHasher(BasePasswordHasher):
             raise TypeError("password must be provided.")
         if not salt or "$" in salt:
             raise ValueError("salt must be provided and cannot contain $.")
-        n = self.work_factor if n is None else n  # a 0 is not the default: it is refused
+        n = self.work_factor if n is None else n  # 0 does not mean the default, and is rejected
         r = self.block_size if r is None else r
         p = self.parallelism if p is None else p
         params = Params(log_of(n), r, p)
@@ -96,7 +96,7 @@ class ScryptPasswordHasher(BasePasswordHasher):
 
     def decode(self, encoded: str) -> dict[str, Any]:
         try:
-            encoded.encode()  # refuses lone surrogates
+            encoded.encode()  # rejects lone surrogates
             algorithm, n, salt, r, p, key = encoded.split("$", 6)
             numbers = {"work_factor": int(n), "block_size": int(r), "parallelism": int(p)}
         except ValueError:
@@ -134,12 +134,12 @@ class ScryptPasswordHasher(BasePasswordHasher):
         }
 
     def harden_runtime(self, password: str, encoded: str) -> None:
-        """Does nothing: no further work gives a hash of smaller parameters the time of larger
-        ones."""
+        """Does nothing: additional work cannot give a hash with smaller parameters the time of a
+        hash with larger ones."""
 
 
 class PHCPasswordHasher(BasePasswordHasher):
-    """PHC texts after Django's name of the hasher: scrypt_c$scrypt$ln=..,r=..,p=..$SALT$KEY."""
+    """PHC strings, after the hasher's name in Django: scrypt_c$scrypt$ln=..,r=..,p=..$SALT$KEY."""
 
     algorithm = "scrypt_c"
     hasher = PasswordHasher()
@@ -156,10 +156,10 @@ class PHCPasswordHasher(BasePasswordHasher):
         return self.algorithm + self.hasher.hash(password, salt=salt.encode())
 
     def decode(self, encoded: str) -> dict[str, Any]:
-        """The parts, with the salt that `encode` was given; each byte of another program's salt is
-        a letter of Latin-1."""
+        """Returns the parts of a hash, with the salt that `encode` was given. A salt of another
+        program is decoded as Latin-1."""
         scheme, *parts = self._text(encoded).split("$")[1:]
-        if scheme == "7":  # crypt(3) has the salt itself, after eleven letters of parameters
+        if scheme == "7":  # the salt is not encoded, and follows eleven letters of parameters
             parts[:1] = parts[0][:11], parts[0][11:]
         if len(parts) != 3:
             raise _invalid("the text lacks its parameters, its salt or its key")
@@ -175,8 +175,8 @@ class PHCPasswordHasher(BasePasswordHasher):
             return False
 
     def must_update(self, encoded: str) -> bool:
-        """Whether a login replaces the hash: it is weaker than new ones, or its salt is shorter
-        than Django's 22 letters."""
+        """Returns whether a login should replace the hash: it is weaker than new hashes, or its
+        salt is shorter than Django's 22 letters."""
         try:
             weaker = self.hasher.check_needs_rehash(self._text(encoded))
         except InvalidHashError:
@@ -193,5 +193,5 @@ class PHCPasswordHasher(BasePasswordHasher):
         }
 
     def harden_runtime(self, password: str, encoded: str) -> None:
-        """Does nothing: no further work gives a hash of smaller parameters the time of larger
-        ones."""
+        """Does nothing: additional work cannot give a hash with smaller parameters the time of a
+        hash with larger ones."""

@@ -1,5 +1,5 @@
-"""The exceptions of this package. Others are Python's: MemoryError, TypeError for a wrong type,
-ValueError for a closed hasher, TimeoutError, and OSError if the system has no random bytes."""
+"""The exceptions of this package. It also raises Python's own: MemoryError, TypeError for a wrong
+type, ValueError for a closed hasher, TimeoutError, and OSError if there are no random bytes."""
 
 from __future__ import annotations
 
@@ -18,12 +18,12 @@ class ScryptError(Exception):
 
 
 class VerifyMismatchError(ScryptError):
-    """The password is not that of the hash."""
+    """The password does not match the hash."""
 
 
 class RefusedHashError(ScryptError, ValueError):
-    """The stored hash is refused, whatever the password is: one of the next three errors. A login
-    logs it, and answers as for a wrong password."""
+    """The stored hash is rejected, whatever the password is: one of the next three errors. A login
+    should log it, and respond as to a wrong password."""
 
 
 class InvalidHashError(RefusedHashError):
@@ -31,7 +31,7 @@ class InvalidHashError(RefusedHashError):
 
 
 class TooCostlyError(RefusedHashError):
-    """The parameters need more memory or more work than the bounds allow. Nothing was derived."""
+    """The parameters need more memory or more work than the limits allow. Nothing was derived."""
 
 
 class KeyTooShortError(RefusedHashError):
@@ -51,11 +51,11 @@ class InvalidOutputLenError(ScryptError, ValueError):
     """The key is empty, or longer than scrypt allows."""
 
 
-# Where C has one text for two statuses.
+# C has one message for this status and another.
 WORDS = {declared.MISMATCH: "the password does not match the hash"}
 
-# The exceptions of the statuses that a call of this package can return, but for those by which a
-# text is no hash.
+# The exceptions of the statuses that a call of this package can return, except the statuses of an
+# invalid hash.
 KINDS: dict[int, type[Exception]] = {
     declared.MISMATCH: VerifyMismatchError,
     declared.INVALID_PARAMS: InvalidParamsError,
@@ -71,8 +71,8 @@ KINDS: dict[int, type[Exception]] = {
 
 
 def check(status: int, about: str = "") -> None:
-    """Raises the error of a status that is not 0. `about` is what the call was given, without
-    secrets."""
+    """Raises the exception of a status that is not 0. `about` describes the call's arguments,
+    without secrets."""
     if status == 0:
         return
     is_invalid = library.status_is_invalid_hash(status)

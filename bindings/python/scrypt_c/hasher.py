@@ -1,5 +1,5 @@
-"""Password hashes, made and verified by the library's hasher: it has the queue, the bounds and the
-memory."""
+"""Password hashing and verification with the library's hasher, which has the wait queue, the limits
+and the memory."""
 
 from __future__ import annotations
 
@@ -25,7 +25,7 @@ from .params import Params, accepted, check_costs, needs_of
 
 
 class Options(NamedTuple):
-    """The options of a hasher, each default replaced by its value."""
+    """The options of a hasher, with each default replaced by its value."""
 
     mcf: bool
     salt_len: int
@@ -37,8 +37,8 @@ class Options(NamedTuple):
 
 
 class Stats(NamedTuple):
-    """How many calls wait and derive now, and how many failed until now for want of memory or of a
-    slot in time. A child process counts from its fork on."""
+    """The numbers of calls that wait and that derive, and of calls that failed because there was no
+    memory or no slot in time. In a child process they begin at the fork."""
 
     waiting: int
     deriving: int
@@ -49,20 +49,20 @@ class PasswordHasher:
     """Makes password hashes with these parameters, and verifies passwords against hashes with any
     parameters.
 
-    `mcf` makes `$7$` hashes of crypt(3) instead of PHC hashes. Any number of threads may share a
-    hasher. At most one for each processor derives at a time; the others wait in a queue, first
-    come, first served, and raise TimeoutError after `timeout` seconds. Waiting verifications with
-    the same N, r and p are derived in one batch, which takes less time on some processors. An
-    error, timeout or exception of one affects no other.
+    `mcf` makes `$7$` hashes of crypt(3) instead of PHC hashes. A hasher is thread-safe. At most one
+    call for each processor derives at a time, in a slot; the other calls wait in FIFO order, and
+    raise TimeoutError after `timeout` seconds. Waiting verifications with the same N, r and p are
+    derived in one batch, which takes less time on some processors. An error, timeout or exception
+    of one call does not affect the others.
 
     A hasher holds at most `at_once` tables, whatever p is. The default is two for each processor,
-    or as many of `most_bytes` as the machine and its control group have room for. It keeps their
-    memory for later calls until `close` or the end of a `with` block.
+    or as many tables of `most_bytes` as fit in the memory of the machine and of its control group.
+    It keeps their memory for later calls until `close` or the end of a `with` block.
 
     A hash that needs more than `most_bytes` of memory, or whose `Params.work` is above `most_work`,
-    is refused without waiting. By default these are MOST_BYTES, or 7/8 of the memory if that is
-    less, and MOST_WORK, or what new hashes need if that is more. A hash whose key has fewer than LEAST_KEY_LEN bytes, or than `key_len` if
-    that is less, is refused too.
+    is rejected without waiting. By default these are MOST_BYTES, or 7/8 of the memory if that is
+    less, and MOST_WORK, or the cost of new hashes if that is more. A hash is also rejected if its
+    key has fewer than LEAST_KEY_LEN bytes, or fewer than `key_len` if that is less.
     """
 
     def __init__(
@@ -89,7 +89,7 @@ class PasswordHasher:
         if at_once is not None and number(at_once, "at_once") < 1:
             raise ValueError(f"at_once is positive, not {at_once}")
         self._timeout = seconds(timeout, "timeout")
-        # As they were passed: a None depends on the machine, and a copy may be on another one.
+        # As they were passed: None depends on the machine, and a copy may be on another machine.
         most = {"most_bytes": most_bytes, "most_work": most_work, "at_once": at_once}
         own = {"salt_len": salt_len, "mcf": bool(mcf), "timeout": timeout}
         self._options: dict[str, Any] = {**own, **most}
@@ -107,12 +107,12 @@ class PasswordHasher:
 
     @property
     def options(self) -> Options:
-        """The options, each default replaced by its value."""
+        """The options, with each default replaced by its value."""
         it = library.hasher_options(self._c).contents
         return Options(bool(it.mcf), *(getattr(it, name) for name in Options._fields[1:]))
 
     def stats(self) -> Stats:
-        """What the hasher does now, for metrics."""
+        """Returns the current statistics, for metrics."""
         it = declared.Stats()
         check(library.hasher_stats(self._c, it))
         return Stats(it.waiting, it.deriving, it.refused)
@@ -129,8 +129,8 @@ class PasswordHasher:
         return _copied, (type(self), self._params, self._options), attributes
 
     def close(self) -> None:
-        """Frees the memory that is kept. Derivations that have begun go on; calls that wait, and
-        later ones, raise ValueError."""
+        """Frees the memory that is kept. Derivations that have begun run to completion; waiting and
+        later calls raise ValueError."""
         library.hasher_close(self._c)
 
     def __enter__(self) -> PasswordHasher:
@@ -140,7 +140,7 @@ class PasswordHasher:
         self.close()
 
     def hash(self, password: Password, *, salt: Optional[Bytes] = None) -> str:
-        """The text of a new hash, with this salt, or else with a random one from the system."""
+        """Returns a new hash, with this salt or with a random salt from the system."""
         secret = raw_password(password)
         given = None if salt is None else raw_bytes(salt, "a salt")
         salt_len = len(given or b"")
@@ -150,14 +150,13 @@ class PasswordHasher:
         return text.value.decode("ascii")
 
     def verify(self, text: Union[str, bytes, None], password: Password) -> Literal[True]:
-        """Returns True if the password is that of the hash, in either format.
+        """Returns True if the password matches the hash, in either format.
 
-        Otherwise raises VerifyMismatchError, also for a hash without a salt or a key; or, without
-        waiting, a RefusedHashError: InvalidHashError if the text is not a scrypt hash,
-        TooCostlyError if it needs more than the bounds allow, KeyTooShortError if its key is
-        shorter than they allow. With None in place of a hash, for a name that doesn't exist, it
-        derives as for a new hash, and raises VerifyMismatchError: so the time doesn't tell whether
-        there is such a name.
+        Otherwise raises VerifyMismatchError, also for a hash without a salt or a key. If the hash
+        is rejected, raises a RefusedHashError without waiting: InvalidHashError if the text is not
+        a scrypt hash, TooCostlyError if the hash exceeds the limits, KeyTooShortError if its key is
+        too short. For a user who does not exist, pass None: the call derives as for a new hash, and
+        raises VerifyMismatchError, so that its time does not reveal whether there is such a user.
         """
         raw, secret = None if text is None else raw_text(text), raw_password(password)
         arguments = secret, len(secret), raw, len(raw or b"")
@@ -167,18 +166,18 @@ class PasswordHasher:
     def verify_and_update(
         self, text: Union[str, bytes, None], password: Password
     ) -> tuple[bool, Optional[str]]:
-        """Whether the password is that of the hash, and a new hash to store in its place if it is
-        and the old one is weaker than new ones, or else None. Raises what `verify` raises, but for
-        VerifyMismatchError."""
+        """Returns whether the password matches the hash, and a new hash to store in its place if
+        the password matches and the hash is weaker than new hashes, otherwise None. Raises the
+        exceptions of `verify`, except VerifyMismatchError."""
         try:
             self.verify(text, password)
         except VerifyMismatchError:
             return False, None
-        assert text is not None  # which matches no password
+        assert text is not None  # None matches no password
         return True, self.hash(password) if self.check_needs_rehash(text) else None
 
     def check_needs_rehash(self, text: Union[str, bytes]) -> bool:
-        """Whether one of the parameters of the hash, or the length of its key, is below that of new
+        """Returns whether a parameter of the hash, or the length of its key, is smaller than in new
         hashes."""
         raw = raw_text(text)
         status = library.hasher_needs_rehash(self._c, raw, len(raw))
@@ -187,23 +186,23 @@ class PasswordHasher:
         return status == NEEDS_REHASH
 
     def _run(self, call: Callable[..., int], *arguments: object) -> int:
-        """The status of a call, which waits for at most `timeout` seconds. Python runs handlers of
-        signals when it has returned."""
+        """Makes a call, which waits for at most `timeout` seconds, and returns its status. Python
+        runs signal handlers after it has returned."""
         most = threading.TIMEOUT_MAX
         if self._timeout is not None:
             most = min(self._timeout, most)
         return call(self._c, *arguments, math.ceil(1000 * most))
 
     def _check(self, status: int, text: Optional[bytes] = None) -> None:
-        """Raises the error of a status for this hash, or for a new one. Only a message that has
-        parameters reads the hash."""
+        """Raises the error of a status for this hash, or for a new one. The hash is only read for a
+        message that has its parameters."""
         if status not in (KEY_TOO_SHORT, OUT_OF_MEMORY, TOO_COSTLY):
             check(status, f"timeout={self._timeout}" if status == TIMEOUT else "")
             return
         most = self.options
         bounds = most.most_bytes, most.most_work, most.least_key_len
         needs = needs_of(self._params)[1]
-        if text is not None:  # which can be read, so that this writes what it needs
+        if text is not None:  # the text is a valid hash, so this writes its cost
             library.hash_needs(text, len(text), *bounds, needs)
         if status == KEY_TOO_SHORT:
             least = f"at least {most.least_key_len} is required"
@@ -212,7 +211,7 @@ class PasswordHasher:
 
 
 def _copied(kind: type[PasswordHasher], params: Params, options: dict[str, Any]) -> PasswordHasher:
-    """As for other classes, the `__init__` of a subclass isn't called."""
+    """Copies a hasher. As for other classes, the `__init__` of a subclass is not called."""
     hasher = kind.__new__(kind)
     PasswordHasher.__init__(hasher, *params, **options)
     return hasher

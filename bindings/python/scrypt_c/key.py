@@ -12,11 +12,11 @@ from .errors import InvalidParamsError, TooCostlyError, check
 from .params import MOST, Params, accepted, check_costs, needs_of
 from .steps import derived
 
-# The Salsa20/8 cores from which on a key is made in steps: some 40 ms. Below that one call is faster
-# than to map memory anew.
+# The number of Salsa20/8 cores, about 40 ms, from which on a key is derived in steps. A smaller
+# derivation is faster in one call, which need not map new memory.
 LONG = 3 << 18
 
-# How many bytes several tables may have without a bound, as in the library's own call.
+# The maximum size in bytes of several tables if there is no limit, as in the library's own call.
 SEVERAL = 129 << 20
 
 
@@ -32,18 +32,17 @@ def scrypt(
     max_work: Optional[int] = None,
     progress: Optional[Callable[[float], object]] = None,
 ) -> bytes:
-    """The key of `dklen` bytes, like hashlib.scrypt; `n` is a power of two.
+    """Derives a key of `dklen` bytes, like hashlib.scrypt; `n` is a power of two.
 
-    If `n`, `r` and `p` are not your own, bound them: TooCostlyError, which is a ValueError, if the
-    derivation needs more than `maxmem` bytes, or if its `Params.work` is above `max_work`. With a
-    `maxmem` of 0 there is no bound on memory, where hashlib has one of 32 MiB. If p is 2 or more,
-    several tables make a derivation faster, as long as there is room for them in `maxmem`, or in
-    129 MiB without a bound.
+    Set limits if `n`, `r` and `p` are untrusted: TooCostlyError, which is a ValueError, is raised
+    if the derivation needs more than `maxmem` bytes, or if its `Params.work` is above `max_work`. A
+    `maxmem` of 0 means no limit on memory; in hashlib it means 32 MiB. If p is 2 or more, several
+    tables make a derivation faster, if they fit in `maxmem`, or in 129 MiB without a limit.
 
-    A long derivation is made in steps of about 10 ms. Between two of them Python runs handlers of
-    signals, so that Ctrl-C ends it, and calls `progress` with the part that is done, from 0 to 1.
-    What these raise leaves the derivation. The PBKDF2 at either end, of `128 * r * p` bytes, is a
-    step of its own.
+    A long derivation runs in steps of about 10 ms. Between two steps Python runs signal handlers,
+    so that Ctrl-C ends it, and calls `progress` with the fraction that is done, from 0 to 1. An
+    exception of either ends the derivation. PBKDF2 at the beginning and at the end, of
+    `128 * r * p` bytes, is one step each.
     """
     password, salt = raw_bytes(password, "a password"), raw_bytes(salt, "a salt")
     n, maxmem, dklen = number(n, "n"), number(maxmem, "maxmem"), number(dklen, "dklen")
@@ -52,7 +51,7 @@ def scrypt(
         raise ValueError(f"maxmem is not negative, as {maxmem} is")
     most_work = MOST if max_work is None else in_64_bits(max_work, "max_work")
     most_bytes = in_64_bits(maxmem or MOST, "maxmem")
-    status, needs = needs_of(params, most_bytes, most_work)  # refuses what is not accepted
+    status, needs = needs_of(params, most_bytes, most_work)  # raises if they are not accepted
     if status == TOO_COSTLY:
         words = f"n={n}, r={r}, p={p} need {needs.bytes} bytes and a work of {needs.work}"
         words += f", with maxmem={maxmem} and max_work={max_work}"
@@ -63,7 +62,7 @@ def scrypt(
 
 
 def log_of(n: int) -> int:
-    """The logarithm of a power of two. Raises InvalidParamsError."""
+    """Returns the logarithm of a power of two. Raises InvalidParamsError for other numbers."""
     if n < 1 or n & (n - 1):
         raise InvalidParamsError("SCRYPT_INVALID_PARAMS", f"n is a power of two, not {n}")
     return n.bit_length() - 1
@@ -72,8 +71,8 @@ def log_of(n: int) -> int:
 def derive_within(
     password: bytes, salt: bytes, params: Params, most_bytes: int, most_work: int, dklen: int
 ) -> bytes:
-    """The key, if the bounds allow a derivation with these parameters. Raises TooCostlyError, and
-    InvalidParamsError."""
+    """Derives a key if the limits allow a derivation with these parameters. Raises TooCostlyError
+    and InvalidParamsError."""
     bounds = in_64_bits(most_bytes, "most_bytes"), in_64_bits(most_work, "most_work")
     check_costs(*needs_of(params, *bounds), most_bytes, most_work)
     return _made(password, salt, params, bounds[0], dklen)
@@ -87,7 +86,8 @@ def _made(
     dklen: int,
     progress: Optional[Callable[[float], object]] = None,
 ) -> bytes:
-    """The key, with one table, or as many as `most_bytes` allows, or the library without that."""
+    """Derives a key with as many tables as fit in `most_bytes`, or as the library allows if it is
+    None, but at least one."""
     if progress is not None or params.cores >= LONG:
         return derived(password, salt, params, dklen, most_bytes or SEVERAL, progress)
     key = ctypes.create_string_buffer(dklen)

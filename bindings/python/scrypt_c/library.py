@@ -1,4 +1,4 @@
-"""Finds the library, and its calls."""
+"""Loads the library, and declares its calls."""
 
 from __future__ import annotations
 
@@ -36,7 +36,7 @@ _lib = _loaded()
 
 
 class Needs(declared.Needs):
-    """A scrypt_needs; as text, what the message of an error has."""
+    """A scrypt_needs; str() returns its part of an error message."""
 
     def __str__(self) -> str:
         costs = f"log_n={self.log_n}, r={self.r}, p={self.p}"
@@ -44,8 +44,8 @@ class Needs(declared.Needs):
 
 
 class Hasher(ctypes.c_void_p):
-    """A scrypt_hasher, which is freed with this object. As ctypes makes the object, no exception of
-    a signal handler can come before there is one."""
+    """A scrypt_hasher, which is freed with this object. ctypes creates the object, so that no
+    signal handler can raise an exception before it exists."""
 
     def __del__(self, free: Any = _lib.scrypt_hasher_free) -> None:
         free(self)
@@ -84,7 +84,7 @@ status_name = _declared("scrypt_status_name")
 status_is_invalid_hash = _declared("scrypt_status_is_invalid_hash")
 
 if sys.implementation.name == "cpython":
-    # The interpreter's own calls: on Windows they are in a DLL, and elsewhere in the program.
+    # The interpreter's own functions: on Windows they are in a DLL, elsewhere in the program.
     _interpreter = ctypes.PyDLL(None, handle=getattr(sys, "dllhandle", None))
     _untrack = _declared("PyObject_GC_UnTrack", _interpreter)
 
@@ -92,9 +92,9 @@ if sys.implementation.name == "cpython":
 def hasher_new(
     options: Optional[declared.Options], status: Optional[ctypes.c_int]
 ) -> Hasher:
-    """The garbage collector finalizes the objects of a cycle in any order, and would free a hasher
-    that the others still use. It refers to nothing, so the collector need not know it: then it is
-    freed when nothing refers to it."""
+    """Creates a hasher. The garbage collector finalizes the objects of a cycle in any order, so it
+    could free a hasher that other objects still use. A hasher refers to nothing, so it is
+    untracked: it is freed when its last reference is gone."""
     hasher: Hasher = _hasher_new(options, status)
     if sys.implementation.name == "cpython":
         _untrack(hasher)
@@ -102,5 +102,5 @@ def hasher_new(
 
 
 def text_capacity(salt_len: int) -> int:
-    """Enough for a text of either format."""
+    """Returns a capacity that is enough for a hash of either format."""
     return declared.PHC_CAPACITY + 2 * salt_len

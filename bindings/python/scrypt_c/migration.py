@@ -1,7 +1,7 @@
-"""Converts hashes of other programs to texts that this package verifies, without the passwords.
+"""Converts hashes of other programs to hashes that this package verifies, without the passwords.
 
-ValueError for a damaged hash, for one with a key of another length than its program writes, for one
-that no password matches, and for one that neither format can store. `n` is N, a power of two.
+Raises ValueError for a hash that is damaged, that has a key of a length which its program does not
+write, that no password matches, or that neither format can store. `n` is N, a power of two.
 """
 
 from __future__ import annotations
@@ -12,7 +12,7 @@ import re
 from .arguments import Bytes, number, raw_bytes
 from .params import Params, accepted, params_of
 
-# Of `$7$` texts, each by its value.
+# The alphabet of `$7$` hashes, in the order of the values.
 _LETTERS = "./0123456789ABCDEFGHIJKLMNOPQRSTUVWXYZabcdefghijklmnopqrstuvwxyz"
 
 
@@ -38,9 +38,9 @@ def _mcf_text(salt: bytes, key: bytes, log_n: int, r: int, p: int) -> str:
 
 
 def stored_text(salt: Bytes, key: Bytes, n: int, r: int, p: int) -> str:
-    """A PHC text if the lengths allow it, otherwise a `$7$` text. Of a PHC text's key only the
-    first 64 bytes are kept, which are the key of that length. An n below 64 is refused: it may be a
-    log_n, and then no password would match."""
+    """Returns a hash from a salt and a key: a PHC string if the lengths allow it, otherwise a `$7$`
+    hash. A PHC string keeps only the first 64 bytes of the key, which are the key of that length.
+    An n below 64 is rejected: it may be a log_n, and then no password would match."""
     if 1 <= number(n, "n") < 64:
         meant = f"{n} may be its logarithm, log_n: n={1 << n} is N = 2**{n}"
         raise ValueError(f"n is N, at least 64, and {meant}")
@@ -48,7 +48,8 @@ def stored_text(salt: Bytes, key: Bytes, n: int, r: int, p: int) -> str:
 
 
 def _text(salt: Bytes, key: Bytes, n: int, r: int, p: int, key_len: int = 0) -> str:
-    """What stored_text returns, with any N, of a key of this length, if it isn't 0."""
+    """Returns a hash like stored_text, for any N. If `key_len` is not 0, the key must have that
+    length."""
     salt, key, n = raw_bytes(salt, "a salt"), raw_bytes(key, "a key"), number(n, "n")
     if key_len and len(key) != key_len:
         raise ValueError(f"the key has {len(key)} bytes, where the program writes {key_len}")
@@ -62,13 +63,13 @@ def _text(salt: Bytes, key: Bytes, n: int, r: int, p: int, key_len: int = 0) -> 
         text = _phc_text(salt, key, *params)
     else:
         text = _mcf_text(salt, key, *params)
-    if params_of(text) != Params(*params, len(key)):  # as of an r that its five letters cannot hold
+    if params_of(text) != Params(*params, len(key)):  # such as an r above 2^30 - 1
         raise ValueError("neither format can store it")
     return text
 
 
 def _matched(pattern: str, stored: str, program: str) -> list[str]:
-    """The groups of a pattern that a whole hash has."""
+    """Returns the groups of a pattern, which has to match the whole hash."""
     found = re.fullmatch(pattern, stored, re.ASCII | re.DOTALL)
     if found is None:
         raise ValueError(f"this is not a hash of {program}")

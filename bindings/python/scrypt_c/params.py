@@ -1,4 +1,4 @@
-"""The parameters of a derivation, and what they cost."""
+"""The parameters of a derivation, and their cost."""
 
 from __future__ import annotations
 
@@ -10,13 +10,13 @@ from .arguments import number, raw_text
 from .declared import INVALID_PARAMS, TOO_COSTLY
 from .errors import check
 
-# No bound.
+# No limit.
 MOST = 2**64 - 1
 
 
 def accepted(log_n: int, r: int, p: int) -> tuple[int, int, int]:
-    """The three, if they fit C's types: ctypes would truncate them. r and p are never 0, which
-    could be a default in C."""
+    """Returns the parameters if they fit in C's types: ctypes would truncate them. r and p are
+    never 0, which could mean the default in C."""
     log_n, r, p = number(log_n, "log_n"), number(r, "r"), number(p, "p")
     if not (0 <= log_n <= 63 and 0 < r < 1 << 32 and 0 < p < 1 << 32):
         hint = "; log_n is the logarithm of N, and at most 63" if log_n > 63 else ""
@@ -41,20 +41,20 @@ class Params(NamedTuple):
 
     @property
     def work(self) -> int:
-        """The work that `most_work` bounds, at most 2**64 - 1: the Salsa20/8 cores, and for PBKDF2
-        those of 32 more rows in each chunk."""
+        """The work, which `most_work` limits: the number of Salsa20/8 cores, plus the cores of 32
+        rows in each chunk for PBKDF2, up to 2**64 - 1."""
         return int(needs_of(self)[1].work)
 
     @property
     def memory(self) -> int:
-        """The number of bytes of the buffers of a derivation, at most 2**64 - 1."""
+        """The size of the buffers of a derivation in bytes, up to 2**64 - 1."""
         return int(needs_of(self)[1].bytes)
 
 
 def needs_of(
     params: Params, most_bytes: int = MOST, most_work: int = MOST
 ) -> tuple[int, library.Needs]:
-    """Whether the bounds allow a derivation, OK or TOO_COSTLY, and what it needs. Raises
+    """Returns whether the limits allow a derivation, OK or TOO_COSTLY, and its cost. Raises
     InvalidParamsError."""
     log_n, r, p = accepted(*params[:3])
     needs = library.Needs()
@@ -72,22 +72,22 @@ def _usual() -> tuple[int, int, int]:
 
 RECOMMENDED = Params()
 
-# The default bounds on the cost of a hash, and on the length of its key.
+# The default limits on the cost of a hash, and on the length of its key.
 MOST_BYTES, MOST_WORK, LEAST_KEY_LEN = _usual()
 
 
 def check_costs(
     status: int, needs: library.Needs, most_bytes: Optional[int], most_work: Optional[int]
 ) -> None:
-    """Raises the error of a status of a derivation that needs this. A bound that is None is the
-    default."""
+    """Raises the exception of a status, for a derivation with this cost. A limit that is None means
+    the default."""
     bounds = f", with most_bytes={most_bytes} and most_work={most_work}"
     check(status, f"{needs}{bounds if status == TOO_COSTLY else ''}")
 
 
 def params_of(text: Union[str, bytes]) -> Params:
-    """The parameters of a hash; `key_len` is 0 if it has no key. Raises InvalidHashError if it is
-    not a scrypt hash."""
+    """Returns the parameters of a hash; `key_len` is 0 if it has no key. Raises InvalidHashError if
+    the text is not a scrypt hash."""
     raw = raw_text(text)
     found = ctypes.c_uint32(), ctypes.c_uint32(), ctypes.c_uint32(), ctypes.c_size_t()
     check(library.hash_params(raw, len(raw), *found))

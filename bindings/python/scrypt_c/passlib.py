@@ -1,12 +1,12 @@
-"""A handler for passlib: passlib.hash.scrypt with its keys derived by this library.
+"""A handler for passlib: passlib.hash.scrypt, with keys that this library derives.
 
     from passlib.context import CryptContext
     from scrypt_c.passlib import scrypt
 
     context = CryptContext(schemes=[scrypt])
 
-It reads and writes the texts of passlib.hash.scrypt, and has its options. A hash with fewer rounds
-than new ones needs an update, so verify_and_update replaces it, unless min_rounds allows fewer.
+It reads and writes the hashes of passlib.hash.scrypt, and has its options. A hash with fewer rounds
+than new hashes needs an update, so verify_and_update replaces it, unless min_rounds allows it.
 """
 
 from __future__ import annotations
@@ -20,7 +20,7 @@ from .params import MOST_BYTES, MOST_WORK, Params
 
 
 class scrypt(passlib.hash.scrypt):  # passlib names handlers as their scheme
-    """passlib.hash.scrypt by libscrypt_c."""
+    """passlib.hash.scrypt, with keys from libscrypt_c."""
 
     default_rounds = RECOMMENDED_LOG_N
     most_bytes = MOST_BYTES

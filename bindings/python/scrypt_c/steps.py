@@ -1,4 +1,4 @@
-"""A derivation in steps, between which Python runs handlers of signals and its progress is told."""
+"""A derivation in steps: between two steps Python runs signal handlers and reports the progress."""
 
 from __future__ import annotations
 
@@ -16,7 +16,7 @@ from .params import Params, needs_of
 
 STEP = 0.01  # seconds
 
-# The table begins at one, which the processor finds faster than small pages.
+# The table begins at a huge page, whose addresses the processor translates faster.
 HUGE_PAGE = 2 << 20
 
 
@@ -28,8 +28,8 @@ def derived(
     most_bytes: int,
     progress: Optional[Callable[[float], object]],
 ) -> bytes:
-    """The key, with as many tables as `most_bytes` allows, but one at least. An exception of a
-    handler or of `progress` leaves the derivation, and its memory goes back to the system."""
+    """Derives a key with as many tables as fit in `most_bytes`, but at least one. An exception of a
+    signal handler or of `progress` ends the derivation, and its memory is unmapped."""
     needs = needs_of(params, most_bytes)[1]
     it = declared.Steps(log_n=needs.log_n, r=needs.r, p=needs.p, chunks_len=needs.chunks_len)
     it.table_len, it.scratch_len = needs.tables * needs.table_len, needs.tables * needs.scratch_len
@@ -59,7 +59,7 @@ def derived(
 
 
 def _mapped(size: int, needs: library.Needs) -> mmap.mmap:
-    """Private memory of so many zeros, in huge pages where the system has them."""
+    """Returns private memory of `size` zeros, in huge pages if the system has them."""
     try:
         if sys.platform == "win32":
             return mmap.mmap(-1, size)

@@ -14,7 +14,7 @@ def rows(table):
 
 
 def outcome(call, *arguments):
-    """The name of the status, and the error."""
+    """Returns the name of the status, and the error."""
     try:
         call(*arguments)
         return "OK", None

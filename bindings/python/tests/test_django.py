@@ -27,7 +27,7 @@ import scrypt_c  # noqa: E402
 from scrypt_c.django import FalseIfRefused, PHCPasswordHasher, ScryptPasswordHasher  # noqa: E402
 from test_hasher import refuse_a_lone_surrogate  # noqa: E402
 
-# The classes of the page, as they stand there.
+# The classes of the page, unchanged.
 PAGE = pathlib.Path(__file__).parents[3] / "docs/MIGRATION.md"
 of_page = {}
 exec(re.search(r"(?ms)^```python\n(from django.*?)^```", PAGE.read_text("utf-8"))[1], of_page)
@@ -97,8 +97,8 @@ class Hashers(unittest.TestCase):
         self.assertEqual(hasher.safe_summary(stored)["work factor"], 1024)
 
     def test_an_old_hash_is_replaced(self):
-        """At a login Django stores a hash of the first hasher for another's and for a weaker
-        one."""
+        """At a login Django replaces a hash of another hasher, and a weaker hash, by a hash of the
+        first hasher."""
         weak = "scrypt_c" + scrypt_c.PasswordHasher(log_n=5).hash("lètmein")
         theirs = ScryptPasswordHasher().encode("lètmein", "seasalt", 1024)
         pbkdf2 = hashers.PBKDF2PasswordHasher().encode("lètmein", 22 * "s", 1000)
@@ -109,8 +109,8 @@ class Hashers(unittest.TestCase):
             self.assertEqual(new, is_replaced * ["lètmein"], old)
 
     def test_salts(self):
-        """decode has the salt that encode had, so that a hash of an old hash can be verified; and a
-        hash whose salt is shorter than Django's 22 letters is replaced."""
+        """decode returns the salt that encode was given, so that a hash of an old hash can be
+        verified. A hash whose salt is shorter than Django's 22 letters is replaced."""
         theirs = ScryptPasswordHasher()
         for it, encoded, salt, is_short in [
             (Small(), Small().encode("pw", "seasalt"), "seasalt", True),
@@ -125,7 +125,7 @@ class Hashers(unittest.TestCase):
             self.assertEqual(it.must_update(encoded), is_short, encoded)
 
     def test_over_pbkdf2(self):
-        """A hash of an old one is that of the same password, fits Django's column, and is replaced
+        """A hash of an old hash matches the same password, fits in Django's column, and is replaced
         at the next login."""
         encoded = OverPBKDF2().wrap(f"pbkdf2_sha256$1500000${22 * 's'}${43 * 'A'}=")
         self.assertLessEqual(len(encoded), 128, "Django's column, of the most iterations yet")
@@ -146,9 +146,8 @@ class Hashers(unittest.TestCase):
         )
 
     def test_refused_hashes(self):
-        """check_password raises, whichever hasher is preferred: a broken database is no wrong
-        password. With FalseIfRefused it is False, with one line in the log, and nothing new is
-        stored."""
+        """check_password raises, whichever hasher is preferred: a broken database is not a wrong
+        password. With FalseIfRefused it returns False, logs one line, and stores no new hash."""
         of_all = {it.algorithm: it for it in (SmallOrFalse(), DjangoOrFalse())}
         for stored, why in COSTLY + DAMAGED:
             is_costly = (stored, why) in COSTLY
@@ -167,7 +166,7 @@ class Hashers(unittest.TestCase):
                     self.assertNotIn("AAAA", log.output[0], "the key")
 
     def test_the_time_of_a_refused_hash(self):
-        """That of a wrong password, so that it doesn't tell whose hash is refused."""
+        """It is the time of a wrong password, so that it does not reveal whose hash is rejected."""
         ours, theirs = SmallOrFalse(), DjangoOrFalse()
         ours.hasher, theirs.work_factor = scrypt_c.PasswordHasher(log_n=14), 1 << 14
         for it in (ours, theirs):
@@ -180,7 +179,7 @@ class Hashers(unittest.TestCase):
             self.assertTrue(0.5 < times[1] / times[0] < 2, times)
 
     def test_what_is_no_fault_of_a_hash(self):
-        """It raises with FalseIfRefused too, as it says nothing of the password."""
+        """Other errors are raised with FalseIfRefused too: they do not depend on the password."""
         closed = type("Closed", (SmallOrFalse,), {"hasher": scrypt_c.PasswordHasher(log_n=6)})()
         stored = closed.encode("pw", closed.salt())
         self.assertTrue(closed.verify("pw", stored))

@@ -1,7 +1,6 @@
-"""PasswordHasher: formats, options, types, and what it refuses, by which error and with which
-words.
+"""PasswordHasher: formats, options, types, and rejected arguments, with their errors and messages.
 
-Many of the refused numbers are such that C's types would cut them off to accepted ones."""
+C's types would truncate many of the rejected numbers to accepted ones."""
 
 import copy
 import math
@@ -51,7 +50,7 @@ REFUSED = [
     (TooCostlyError, "log_n=17, r=8, p=1 need 134220800 bytes and a work of 4195328, with", made, [
         {"log_n": 17, "most_bytes": 134220799}, {"log_n": 17, "most_work": 4195327}]),
     (TooCostlyError, "need", made, [{name: it} for name in ("most_bytes", "most_work")
-                                    for it in (0, -1)]),  # neither a default, nor no bound
+                                    for it in (0, -1)]),  # neither the default nor no limit
     (ValueError, "at_once is positive", made, [{"at_once": 0}, {"at_once": 1 - B64}]),
     (ValueError, "timeout is not negative", made, [{"timeout": -1}, {"timeout": math.nan}]),
     (TypeError, "timeout is a number of seconds, not str", made, [{"timeout": "1"}]),
@@ -119,7 +118,7 @@ class Hashes(unittest.TestCase):
                 self.assertIn(words, str(caught.exception), named)
 
     def test_bounds(self):
-        """Those of bytes and of work are passed on exactly, and one of 2^64 + 1 is not cut to 1."""
+        """The limits on bytes and work are exact, and 2^64 + 1 is not truncated to 1."""
         text = PasswordHasher(6, 3, 5).hash("pw")
         of = scrypt_c.params_of(text)
         for bytes_, work, is_allowed in [
@@ -140,7 +139,7 @@ class Hashes(unittest.TestCase):
         self.assertTrue(PasswordHasher(log_n=19), "more than the default bounds, and asked for")
 
     def test_updates(self):
-        """As in passlib, there is a new hash if the old one is weak, and the password its own."""
+        """As in passlib, there is a new hash if the old hash is weak and the password matches."""
         weak, text = SMALL.hash("pw"), made(log_n=5).hash("pw")
         hasher = made(log_n=5)
         self.assertEqual(hasher.verify_and_update(text, "pw"), (True, None))
@@ -152,7 +151,7 @@ class Hashes(unittest.TestCase):
         self.assertRaises(scrypt_c.RefusedHashError, hasher.verify_and_update, "$7$", "pw")
 
     def test_no_hash(self):
-        """For a name that doesn't exist: the time of a wrong password, and its error."""
+        """For a user who does not exist: the time and the error of a wrong password."""
         hasher, times = PasswordHasher(log_n=14), {}
         text = hasher.hash("pw")
         for stored in (text, None, text, None):
@@ -166,7 +165,7 @@ class Hashes(unittest.TestCase):
         refuse_a_lone_surrogate(self, SMALL.hash, lambda password: SMALL.verify(text, password))
 
     def test_copies(self):
-        """Each argument is in the copy, which is open when the other is closed."""
+        """A copy has each argument, and stays open when the original is closed."""
         for options in [
             {"log_n": 4, "r": 3, "p": 2, "key_len": 33, "salt_len": 40, "mcf": True},
             {"log_n": 4, "at_once": 3, "timeout": 0.5, "most_bytes": 1 << 20, "most_work": 1 << 15},
@@ -186,7 +185,7 @@ class Hashes(unittest.TestCase):
 
 
 class Other(PasswordHasher):
-    """A subclass with an argument and an attribute of its own."""
+    """A subclass with an additional argument and attribute."""
 
     def __init__(self, tenant, **options):
         super().__init__(**options)
@@ -194,7 +193,7 @@ class Other(PasswordHasher):
 
 
 def refuse_a_lone_surrogate(test, *calls):
-    """The error has nothing of the password, and no other error that has is its context."""
+    """The error contains nothing of the password, and has no context that does."""
     for password in ("hunter\ud800", "\udc80hunter", "\ude00\ud83dhunter"):
         for call in calls:
             with test.assertRaises(UnicodeError) as caught:

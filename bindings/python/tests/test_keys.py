@@ -1,6 +1,6 @@
-"""scrypt: hashlib's keys, in steps too, its memory, interrupts, and what is refused.
+"""scrypt: the keys of hashlib, also in steps; memory, interrupts, and rejected arguments.
 
-With a number of keys as an argument, it compares only so many, of random sizes, with hashlib's."""
+With a number as an argument, only compares that number of random keys with hashlib."""
 
 import hashlib
 import math
@@ -52,7 +52,7 @@ REFUSED = [
 
 
 def random_keys(count):
-    """Keys by steps of random lengths, each as hashlib's."""
+    """Derives keys in steps of random lengths, and compares them with the keys of hashlib."""
     step = library.key_step
     library.key_step = lambda it, mixes: step(it, random.choice((mixes, random.randint(1, 99))))
     for _ in range(count):
@@ -67,7 +67,7 @@ def random_keys(count):
 
 
 def peak(of_now=True):
-    """The most bytes of this process, from now on or from the last call on."""
+    """Returns the peak memory of this process in bytes, from now on or since the last call."""
     if of_now:
         with open("/proc/self/clear_refs", "w", encoding="ascii") as file:
             file.write("5")
@@ -89,7 +89,7 @@ class Keys(unittest.TestCase):
                 self.assertIn(words, str(caught.exception), named)
 
     def test_bounds_as_hashlib(self):
-        """The least maxmem with which hashlib derives a key is ours too; max_work is exact."""
+        """The minimum maxmem is the same as in hashlib; max_work is exact."""
         for n, r, p in [(16, 1, 1), (1024, 8, 1), (256, 3, 5)]:
             params = Params(n.bit_length() - 1, r, p)
             costs = {"salt": b"salt", "n": n, "r": r, "p": p, "maxmem": params.memory}
@@ -101,9 +101,9 @@ class Keys(unittest.TestCase):
             self.assertRaises(TooCostlyError, key, **{**costs, "max_work": params.work - 1})
 
     def test_maxmem_is_kept(self):
-        """Of several tables as many are used as it has room for, and none is left."""
+        """As many tables are used as fit in maxmem, and all are freed."""
         costs, one = {"n": 1 << 15, "r": 8, "p": 4}, Params(15, 8, 4).memory
-        two = 2 * one - 128 * 8 * 4  # the chunks are there once
+        two = 2 * one - 128 * 8 * 4  # there is one buffer of chunks
         for progress in (None, lambda _: None):
             for bound, tables in [(one, 1), (two - 1, 1), (two, 2)]:
                 before = peak()
@@ -121,8 +121,8 @@ class Keys(unittest.TestCase):
             resource.setrlimit(resource.RLIMIT_AS, before)
 
     def test_interrupts(self):
-        """Ctrl-C ends a derivation of seconds at the end of a step, and what `progress` raises ends it
-        too."""
+        """Ctrl-C ends a derivation that takes seconds at the end of a step, and so does an
+        exception of `progress`."""
         for wait in (0.05, 0.1, 0.15):
             sent = []
 

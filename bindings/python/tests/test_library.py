@@ -1,4 +1,4 @@
-"""What the package exports, its command, where the library is looked for, and what a missing one says."""
+"""The names that the package exports, its command, and the search for the library."""
 
 import os
 import re
@@ -12,8 +12,8 @@ from scrypt_c import declared, errors, library
 
 TRY = "from scrypt_c import library; print(library._place())"
 
-# As on Windows: the library has another name, and the interpreter's calls are in a DLL. Only the names are those of
-# Windows here.
+# Imitates Windows, where the library has another name, and the interpreter's functions are in a
+# DLL. Only the names are from Windows.
 ON_WINDOWS = """
 import ctypes, sys
 opened, library = [], sys.argv[1]
@@ -42,7 +42,7 @@ class Library(unittest.TestCase):
             self.assertEqual(run.stdout.strip(), file, run.stderr)
 
     def test_names(self):
-        """What the package exports is there, with its version, and the types that callers annotate with."""
+        """The package has the names that it exports, its version, and the types for annotations."""
         for name in scrypt_c.__all__:
             self.assertTrue(hasattr(scrypt_c, name), name)
         self.assertEqual(typing.get_args(scrypt_c.Password), (str, bytes, bytearray, memoryview))
@@ -51,7 +51,7 @@ class Library(unittest.TestCase):
             self.assertEqual(scrypt_c.__version__, file.read().strip())
 
     def test_as_in_the_header(self):
-        """An exception for each status, except those that no call from here returns or lets through; and the defaults."""
+        """Each status that a call can return has an exception. The defaults are the library's."""
         never = {getattr(declared, name) for name in ("OK", "BUFFER_SIZE", "NULL_POINTER", "OPTIONS_SIZE",
                                                  "UNFINISHED", "INVALID_PROGRESS", "STOPPED")}
         known = {it for it in range(256) if library.status_name(it)}
@@ -61,12 +61,12 @@ class Library(unittest.TestCase):
             it = library.hasher_options(hasher).contents
             self.assertEqual((it.log_n, it.r, it.p, it.key_len), scrypt_c.RECOMMENDED)
             self.assertEqual((it.mcf, it.salt_len), (0, 16))
-            self.assertTrue(1 <= it.at_once <= 2 * it.processors)  # as many as the memory has room for
+            self.assertTrue(1 <= it.at_once <= 2 * it.processors)  # as many as fit in the memory
             ours = scrypt_c.MOST_BYTES, scrypt_c.MOST_WORK, scrypt_c.LEAST_KEY_LEN
             self.assertEqual((it.most_bytes, it.most_work, it.least_key_len), ours)
 
     def test_command(self):
-        """`python -m scrypt_c` prints what a hash costs, one, and how long it takes to verify; or what is wrong, in words."""
+        """`python -m scrypt_c` prints a hash, its cost and the time to verify it, or an error."""
         for arguments, code, words, why in [
             ("-n 2 --log-n 4 -r 3 -p 2 -l 20", 0, "log_n=4, r=3, p=2, key_len=20: 7680 bytes", "each option"),
             ("-n 1", 0, f"key_len=32: {scrypt_c.RECOMMENDED.memory} bytes", "the recommended parameters"),
@@ -81,7 +81,7 @@ class Library(unittest.TestCase):
             command = [sys.executable, "-m", "scrypt_c", *arguments.split()]
             run = subprocess.run(command, capture_output=True, text=True)
             self.assertEqual((run.returncode, words in run.stdout + run.stderr), (code, True), f"{why}: {run}")
-            if code < 2:  # a warning that the machine is busy, too
+            if code < 2:  # also with a warning that the machine is busy
                 self.assertEqual([it for it in run.stderr.splitlines() if not it.startswith("python -m scrypt_c: ")], [], why)
             if code == 0:
                 text, times = re.search(r"^a hash: (.*)\n\d+\.\d ms for a verification, of (\d)$", run.stdout, re.MULTILINE).groups()

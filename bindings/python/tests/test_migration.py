@@ -1,4 +1,4 @@
-"""Hashes of other programs: each is converted to a text that its password opens, or refused."""
+"""Hashes of other programs: each is converted to a hash that its password matches, or rejected."""
 
 import base64
 import hashlib
@@ -20,7 +20,7 @@ LIBSCRYPT = f"$s1$0a0801${SALT64}${B64}"
 # The hash of `password` with the salt `a$b`, by crypt(3).
 CRYPT = "$7$66..../....a$b$CGyY/8u9Q9D5eanoScbBcdq6lOSvHl8LkXgfxQONWH/"
 
-# Why, the function, and what it refuses.
+# Why, the function, and the hash that it rejects.
 REFUSED = [
     ("n is not a power of two", from_django, DJANGO.replace("1024", "1000")),
     ("n is 0", from_django, DJANGO.replace("1024", "0")),
@@ -64,7 +64,7 @@ REFUSED = [
     ("the key is cut", from_libscrypt, LIBSCRYPT[:-8]),
     ("no key", from_libscrypt, LIBSCRYPT[: -len(B64)]),
 ]
-# Why, and what is passed in place of an accepted argument.
+# Why, and the arguments that replace accepted ones.
 NOT_STORED = [
     ("n is negative", {"n": -1024}),
     ("log_n is 64", {"n": 1 << 64}),
@@ -95,7 +95,7 @@ class Migration(unittest.TestCase):
                 print(convert(stored))
 
     def test_a_log_n(self):
-        """In place of N it is refused by name. A hash that names its N may have a small one."""
+        """A log_n in place of N is rejected, with a hint. A hash may have a small N."""
         words = "^n is N, at least 64, and 14 may be its logarithm, log_n: n=16384 is"
         self.assertRaisesRegex(ValueError, words, stored_text, SALT, KEY, 14, 8, 1)
         key = hashlib.scrypt(b"pw", salt=SALT, n=16, r=8, p=1, dklen=64)

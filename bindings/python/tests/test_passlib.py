@@ -1,4 +1,4 @@
-"""The handler for passlib, beside passlib's own."""
+"""The handler for passlib, compared with passlib's own handler."""
 
 import time
 import unittest
@@ -56,7 +56,7 @@ class Handler(unittest.TestCase):
         refuse_a_lone_surrogate(self, ours.hash, lambda password: ours.verify(password, text))
 
     def test_refused(self):
-        """Numbers are refused and not cut off; a key has 32 bytes, by passlib's own rule."""
+        """Numbers are rejected, not truncated; a key has 32 bytes, as passlib requires."""
         for error, costs, key_len, why in [
             (scrypt_c.TooCostlyError, "ln=1,r=1,p=2000000", 43, "11 seconds of PBKDF2"),
             (scrypt_c.TooCostlyError, "ln=13,r=1,p=8192", 43, "16 times the recommended work"),

@@ -15,12 +15,12 @@ from concurrent.futures import ThreadPoolExecutor
 from scrypt_c import PasswordHasher, library
 from scrypt_c.declared import TIMEOUT
 
-WAIT = 60  # seconds, after which something is taken to wait for ever
+WAIT = 60  # seconds, after which something is considered to wait forever
 TEXT = PasswordHasher(log_n=4).hash("pw")
 
 
 def outcome(hasher, text, password):
-    """What verifying returns, or the type of what it raises."""
+    """Returns the result of verifying, or the type of the exception that it raises."""
     try:
         return hasher.verify(text, password)
     except (Exception, KeyboardInterrupt) as error:
@@ -29,7 +29,7 @@ def outcome(hasher, text, password):
 
 @contextlib.contextmanager
 def busy(hasher, p):
-    """Another thread has the only turn of this hasher, for at least 0.2 seconds times p."""
+    """Another thread has the only slot of this hasher, for at least 0.2 seconds times p."""
 
     def verify(text, most_ms):
         return library.hasher_verify(hasher._c, b"pw", 2, text.encode(), len(text), most_ms)
@@ -53,7 +53,7 @@ def on_alarm(handler):
 
 
 def resident():
-    """KiB of this process."""
+    """Returns the resident memory of this process in KiB."""
     with open("/proc/self/status", encoding="ascii") as file:
         return next(int(line.split()[1]) for line in file if line.startswith("VmRSS"))
 
@@ -75,9 +75,9 @@ time.sleep(random.uniform(0, 0.1))
 print("end")
 """
 
-# A program whose garbage is a cycle with a hasher, which uses it when the collector finalizes it: a
-# value with `__del__`, which may keep it, and a generator in a `with` block. They are made before
-# and after the hasher, as the collector begins with the oldest.
+# A program whose garbage is a cycle with a hasher, which the finalizers of the cycle still use: a
+# value with `__del__`, which may keep the hasher, and a generator in a `with` block. They are
+# created before and after the hasher, because the collector begins with the oldest object.
 FINALIZERS = """
 import gc, scrypt_c
 gc.disable()
@@ -113,8 +113,8 @@ print("end")
 
 class Signals(unittest.TestCase):
     def test_handlers_after_the_wait(self):
-        """They run when the call has returned, at the latest after the timeout, and what one raises
-        comes in place of its result."""
+        """Signal handlers run when the call has returned, at the latest after the timeout, and an
+        exception of a handler replaces the result."""
         for handler, result in [
             (signal.default_int_handler, KeyboardInterrupt),
             (lambda *_: None, TimeoutError),
@@ -127,7 +127,7 @@ class Signals(unittest.TestCase):
                 self.assertTrue(0.15 < time.monotonic() - began < 0.5, result)
 
     def test_milliseconds(self):
-        """For how many a call may wait: never fewer than the timeout, nor more than C counts."""
+        """A timeout is rounded up to milliseconds, and limited to the maximum of threading."""
         longest = math.ceil(1000 * threading.TIMEOUT_MAX)
         for timeout, wanted in [(0, 0), (0.1201, 121), (None, longest), (1e300, longest)]:
             hasher = PasswordHasher(log_n=4, timeout=timeout)
@@ -136,7 +136,7 @@ class Signals(unittest.TestCase):
 
 class Threads(unittest.TestCase):
     def test_memory(self):
-        """It is given back when a hasher is gone."""
+        """Memory is freed with its hasher."""
         before, hasher = resident(), PasswordHasher(log_n=16)
         hasher.hash("pw")
         self.assertGreater(resident() - before, 60 << 10)
@@ -144,15 +144,15 @@ class Threads(unittest.TestCase):
         self.assertLess(resident() - before, 8 << 10)
 
     def test_finalizers(self):
-        """Whatever the collector finalizes first, a hasher is freed last, also if one of them was
-        kept."""
+        """A hasher is freed last, whichever object the collector finalizes first, even if one of
+        them is kept."""
         run = program(FINALIZERS)
         wanted = [*6 * ["True"], "False", "end", ""]
         self.assertEqual((run.stdout.split("\n"), run.stderr, run.returncode), (wanted, "", 0))
         self.assertFalse(gc.is_tracked(PasswordHasher(log_n=4)._c))
 
     def test_stats(self):
-        """Calls that wait and derive, and those whose time is over."""
+        """Counts calls that wait, calls that derive, and calls whose timeout has expired."""
         hasher = PasswordHasher(log_n=4, at_once=1, timeout=0.3)
         self.assertEqual(hasher.stats(), (0, 0, 0))
         with busy(hasher, 4), ThreadPoolExecutor(1) as threads:
