@@ -20,8 +20,8 @@ struct arena {
 };
 
 /* Reserves memory for `max` derivations with a table each, or for fewer if the system has less, and
- * returns their number, possibly 0. The old content is lost. A forked child doesn't have the mapping,
- * so the arena is in memory that is zeros there. */
+ * returns their number, possibly 0. The old content is lost. A forked child doesn't have the
+ * mapping, so the arena is in memory that is zeros there. */
 size_t arena_reserve(struct arena *arena, const scrypt_needs *one, size_t max);
 
 /* Buffers for `logins` with the same needs, in `tables` reserved tables. */

@@ -1,6 +1,6 @@
-/* Our version of the kit's C functions of its crate libc (c/liblibc_c.a), which the kit has only for
- * x86-64. Not proved. Their contracts are in that crate, src/heap.rt. In the library, the blocks come
- * from blocks.c. */
+/* Our version of the kit's C functions of its crate libc (c/liblibc_c.a), which the kit has only
+ * for x86-64. Not proved. Their contracts are in that crate, src/heap.rt. In the library, the
+ * blocks come from blocks.c. */
 #include <stdbool.h>
 #include <stddef.h>
 #include <stdlib.h>
@@ -19,7 +19,8 @@ struct tried rattle_alloc(size_t n, size_t align);
 struct tried rattle_realloc(void *p, size_t kept, size_t n, size_t align);
 void rattle_dealloc(void *p);
 
-/* The address of an empty value is a multiple of its alignment, which divides 16, like malloc's addresses. */
+/* The address of an empty value is a multiple of its alignment, which divides 16, like malloc's
+ * addresses. */
 struct tried rattle_alloc(size_t n, size_t align) { return tried(clearing_malloc(n != 0 ? n : align)); }
 
 struct tried rattle_realloc(void *p, size_t kept, size_t n, size_t align) {

@@ -28,8 +28,8 @@ void mutex_lock(mutex *it) { (void)pthread_mutex_lock(it); }
 
 void mutex_unlock(mutex *it) { (void)pthread_mutex_unlock(it); }
 
-/* A futex instead of pthread_cond_t, which needs glibc 2.34 to wait by the monotonic clock, and is a
- * cancellation point. */
+/* A futex instead of pthread_cond_t, which needs glibc 2.34 to wait by the monotonic clock, and is
+ * a cancellation point. */
 void condition_wait(condition *it, mutex *with, int64_t deadline_ns) {
   const struct timespec deadline = {.tv_sec = (time_t)(deadline_ns / NS_OF_SECOND),
                                     .tv_nsec = (long)(deadline_ns % NS_OF_SECOND)};
@@ -103,8 +103,8 @@ int random_bytes(uint8_t *bytes, size_t len) {
 #define ROOT ""
 #endif
 
-/* The limit in a file of a control group, which may be "max" or, in version 1, -1; SIZE_MAX if there
- * is no limit. A quota is rounded up to processors. */
+/* The limit in a file of a control group, which may be "max" or, in version 1, -1; SIZE_MAX if
+ * there is no limit. A quota is rounded up to processors. */
 static size_t limit_of(const char *folder, const char *name, const char *period_name) {
   char path[1024];
   long number = 0, period = 0;
@@ -122,9 +122,9 @@ static size_t limit_of(const char *folder, const char *name, const char *period_
 
 static size_t least(size_t one, size_t other) { return one < other ? one : other; }
 
-/* The minimum of the limits of this process's control group and of its ancestors, in version 2, whose
- * path is in the line "0::PATH". In a container the path may be the host's; then the mounted group is
- * the container's. */
+/* The minimum of the limits of this process's control group and of its ancestors, in version 2,
+ * whose path is in the line "0::PATH". In a container the path may be the host's; then the mounted
+ * group is the container's. */
 static size_t least_of_groups(const char *name) {
   char line[1024] = "", *path = line + 3, *slash;
   size_t most = limit_of("", name, NULL);

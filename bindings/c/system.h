@@ -1,6 +1,6 @@
-/* The library's interface to the system: linux.c implements it for Linux, and windows.c for Windows.
- * Except for these types, no other file depends on the system. Define _GNU_SOURCE before including
- * this file. */
+/* The library's interface to the system: linux.c implements it for Linux, and windows.c for
+ * Windows. Except for these types, no other file depends on the system. Define _GNU_SOURCE before
+ * including this file. */
 #ifndef SYSTEM_H
 #define SYSTEM_H
 
