@@ -1,12 +1,12 @@
 #!/usr/bin/env python3
-"""Compiles the crate scrypt_c for Windows, a target that the kit doesn't have, from the input of the
-kit's clang for Linux: the same LLVM IR, by the same clang, with the same options. The output is in
-crates/scrypt_c/out/windows, for each level of x86-64.
+"""Compiles the crate scrypt_c for Windows, a target that the kit doesn't have, from the input of
+the kit's clang for Linux: the same LLVM IR, by the same clang, with the same options. The output is
+in crates/scrypt_c/out/windows, for each level of x86-64.
 
 usage: python3 -m bindings.bitcode MADE
 
-MADE is a folder that tools/gate/library.py has made: the kit's library for each level, and next to it
-the folder `given` with the input of its clang.
+MADE is a folder that tools/gate/library.py has made: the kit's library for each level, and next to
+it the folder `given` with the input of its clang.
 
 First each text is compiled for Linux, and has to equal the kit's object byte for byte. For Windows
 the text differs in two attributes of functions. It needs the kit.

@@ -8,7 +8,8 @@ PRESET is one of bindings/c/CMakePresets.json with a target of the kit. NAME is 
 scrypt_tool, and KEPT a folder with kept proofs of the crate.
 
 It needs the kit, and the libraries below, which `make lib` and `make run` prove: they are the same
-for each processor. Without KEPT it starts with the proofs that it, or a check of the crate, has kept.
+for each processor. Without KEPT it starts with the proofs that it, or a check of the crate, has
+kept.
 """
 
 import os

@@ -1,5 +1,5 @@
-"""A headless Chromium, driven by Debian's chromium-driver and python3-selenium: pages are opened, used by keys and
-pictured."""
+"""A headless Chromium, driven by Debian's chromium-driver and python3-selenium: pages are opened,
+used by keys and pictured."""
 
 import shutil
 

@@ -1,7 +1,7 @@
 """Copies of crates and of the kit's toolchain for another target, and their build.
 
-A copy is the crate with the mixer (the backend) of that target in `src/target.rt`. It is proved like
-the crate, over the same libraries.
+A copy is the crate with the mixer (the backend) of that target in `src/target.rt`. It is proved
+like the crate, over the same libraries.
 """
 
 import os

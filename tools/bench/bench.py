@@ -3,12 +3,12 @@
 usage: python3 -m tools.bench.bench LIBRARY [--worker NAME=PATH].. [--runs 15] [--cpu N] [--params 14,8,1:17,8,1]
 
 All libraries are called in one process: this library (LIBRARY is libscrypt_c.so) by
-scrypt_key_with_buffers, in buffers that are kept between calls, with one table per chunk, up to four,
-and by scrypt_key; libxcrypt, libsodium, libscrypt-kdf, and hashlib, which calls OpenSSL. A library
-that isn't installed is named and left out. Each round calls each library once, in a new random order,
-on one processor (--cpu, by default the last). The minimum and the median of the rounds are printed as
-a table in Markdown. An implementation has no figure if it returns an error or a key that differs from
-OpenSSL's.
+scrypt_key_with_buffers, in buffers that are kept between calls, with one table per chunk, up to
+four, and by scrypt_key; libxcrypt, libsodium, libscrypt-kdf, and hashlib, which calls OpenSSL. A
+library that isn't installed is named and left out. Each round calls each library once, in a new
+random order, on one processor (--cpu, by default the last). The minimum and the median of the
+rounds are printed as a table in Markdown. An implementation has no figure if it returns an error or
+a key that differs from OpenSSL's.
 
 Each call except the first kind allocates its table and frees it, so page faults are part of its
 time. This library asks for pages of 2 MiB; with GLIBC_TUNABLES=glibc.malloc.hugetlb=1 in the

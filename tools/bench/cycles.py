@@ -5,8 +5,8 @@ pipeline from LLVM's description. No caches are simulated, and nothing is measur
 usage: cycles.py LIBRARY [PROCESSOR..]
 
 LIBRARY is a library or an object for arm64. For each number of interleaved chunks it prints the
-minimum and maximum number of cycles per core of the loops that registers.py finds. It uses the newest
-llvm-mca that is installed, and names its version.
+minimum and maximum number of cycles per core of the loops that registers.py finds. It uses the
+newest llvm-mca that is installed, and names its version.
 """
 
 import collections

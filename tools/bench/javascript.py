@@ -1,4 +1,5 @@
-"""Measures the package for JavaScript for docs/PARAMETERS.md, with plain JavaScript and Node's crypto.
+"""Measures the package for JavaScript for docs/PARAMETERS.md, with plain JavaScript and Node's
+crypto.
 
 usage: python3 -m tools.bench.javascript [NAME=COMMAND..]    other browsers, whose command opens a page, as 'Firefox=firefox-esr --headless --profile FOLDER'
 

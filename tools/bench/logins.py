@@ -1,10 +1,11 @@
-"""Measures the throughput of a hasher in logins a second, and their latency, and prints a table in Markdown.
+"""Measures the throughput of a hasher in logins a second, and their latency, and prints a table in
+Markdown.
 
 usage: python3 -m tools.bench.logins LIBRARY [--clients 16:8] [--seconds 10] [--params 17,8,1] [--tables 1:2:4]
 
 LIBRARY is libscrypt_c.so. Each client is a thread that verifies one PHC hash repeatedly, on all
-processors, with a hasher that has --tables tables for each processor. The first tenth of the seconds
-isn't counted.
+processors, with a hasher that has --tables tables for each processor. The first tenth of the
+seconds isn't counted.
 """
 
 import argparse

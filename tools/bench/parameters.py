@@ -3,10 +3,10 @@
 usage: python3 -m tools.bench.parameters LIBRARY [RUNS [PICTURE]]
 
 LIBRARY is the shared C library of this repository. A login is one call of scrypt_verify on a PHC
-string. For each log_n, at r = 8 and p = 1, a separate process prints the seconds of its first login,
-the minimum of RUNS others (by default 7), and its peak memory. Seconds are processor time, so other
-work on the machine matters only if it slows memory down. With PICTURE, the minimum over the memory of
-the table is drawn there as SVG.
+string. For each log_n, at r = 8 and p = 1, a separate process prints the seconds of its first
+login, the minimum of RUNS others (by default 7), and its peak memory. Seconds are processor time,
+so other work on the machine matters only if it slows memory down. With PICTURE, the minimum over
+the memory of the table is drawn there as SVG.
 """
 
 import multiprocessing

@@ -4,9 +4,9 @@
 usage: registers.py [LIBRARY..]
 
 Each LIBRARY is a shared or static library, an object or a program, by default the libraries of
-build/lib. The compiler silently ignores `inline(always)` if a function grows too large. The keys stay
-the same, but each block then goes through memory, and one chunk takes up to 1.12 times as long, two
-up to 1.19 times.
+build/lib. The compiler silently ignores `inline(always)` if a function grows too large. The keys
+stay the same, but each block then goes through memory, and one chunk takes up to 1.12 times as
+long, two up to 1.19 times.
 
 A loop of the block mix has two cores of each interleaved chunk. It is recognized by its rotations,
 whose number gives the number of chunks. For each loop this counts the vector instructions, and the

@@ -2,9 +2,9 @@
 
 usage: python3 -m tools.bench.thin LIBRARY [RUNS]
 
-LIBRARY is the shared C library of this repository. The table keeps one row in 2^s. The time is the minimum of RUNS runs (by
-default 3). A step recomputes (2^s - 1) / 2 rows on average, so 2 * N * r * p * (2 + (2^s - 1) / 2) cores are expected. Each
-key is compared with hashlib's.
+LIBRARY is the shared C library of this repository. The table keeps one row in 2^s. The time is the
+minimum of RUNS runs (by default 3). A step recomputes (2^s - 1) / 2 rows on average, so 2 * N * r *
+p * (2 + (2^s - 1) / 2) cores are expected. Each key is compared with hashlib's.
 """
 
 import ctypes

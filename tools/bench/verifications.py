@@ -1,15 +1,16 @@
-"""Measures consecutive verifications, by each implementation as its users call it, and prints a table in Markdown.
+"""Measures consecutive verifications, by each implementation as its users call it, and prints a
+table in Markdown.
 
 usage: python3 -m tools.bench.verifications LIBRARY [NAME=WORKER..] [--runs 20] [--params 14,8,1:17,8,1:20,8,1] [--processes 1] [--picture FILE]
 
 This library (LIBRARY is libscrypt_c.so) verifies by scrypt_hasher_verify, in memory that is kept
 between calls, by scrypt_verify, and in batches of two or four by scrypt_verify_group_with_buffers:
 then the time of the batch is divided by its size. libsodium verifies by
-crypto_pwhash_scryptsalsa208sha256_str_verify, and libxcrypt by crypt_r, whose result is compared with
-the hash. OpenSSL, libscrypt-kdf and workers, which bench.py describes, have no call for it: they
-derive the key, and it is compared. All verify one $7$ hash, in one process (each worker in its own).
-In each run every implementation verifies once, in a new random order. Before that each has to accept
-the password and to reject another one.
+crypto_pwhash_scryptsalsa208sha256_str_verify, and libxcrypt by crypt_r, whose result is compared
+with the hash. OpenSSL, libscrypt-kdf and workers, which bench.py describes, have no call for it:
+they derive the key, and it is compared. All verify one $7$ hash, in one process (each worker in its
+own). In each run every implementation verifies once, in a new random order. Before that each has to
+accept the password and to reject another one.
 
 With --processes, several processes do this concurrently, each on its own processor and all with the
 same implementation. With --picture, the verifications a second of all processes, at each

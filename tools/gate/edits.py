@@ -2,13 +2,13 @@
 
 A crate's mutants are in its file `wrong-bodies.txt`, in the parts that `PARTS` names, each under a
 heading in brackets. A paragraph is about one file: a line `file: PATH`, relative to the crate's
-folder, and then edits. An edit is a line with its name, which says what is wrong, and pairs of lines
-`old: TEXT` and `new: TEXT`. A line `file: PATH` within an edit holds for the rest of that edit. Each
-old text occurs once in its file, or, after a line `after: TEXT`, whose text occurs once, is the
-first occurrence after that. A new text of several lines has a line `new: TEXT` for each. A mutant
-can also answer goals of its function that it makes false, by lines `answer: ANSWER`, perhaps after
-`unfolding: NAME`, and `use: NAMES`. A mutant that only tests kill can name all tests that fail by
-it, by lines `test: TEXT`, each a part of their names.
+folder, and then edits. An edit is a line with its name, which says what is wrong, and pairs of
+lines `old: TEXT` and `new: TEXT`. A line `file: PATH` within an edit holds for the rest of that
+edit. Each old text occurs once in its file, or, after a line `after: TEXT`, whose text occurs once,
+is the first occurrence after that. A new text of several lines has a line `new: TEXT` for each. A
+mutant can also answer goals of its function that it makes false, by lines `answer: ANSWER`, perhaps
+after `unfolding: NAME`, and `use: NAMES`. A mutant that only tests kill can name all tests that
+fail by it, by lines `test: TEXT`, each a part of their names.
 """
 
 import contextlib

@@ -2,10 +2,10 @@
 
 usage: python3 -m tools.gate.library OUT KEPT BACKEND
 
-OUT gets the files of crates/scrypt_c/out after `make lib`: libscrypt_c.a and x86-64-v3/libscrypt_c.a.
-Next to each is a folder `given` with clang's input, from which bindings/bitcode.py compiles the
-library for Windows. KEPT has the kept proofs, and can be empty. BACKEND is llvm, or rattle, the
-kit's own compiler. The libraries below the crate have to be proved.
+OUT gets the files of crates/scrypt_c/out after `make lib`: libscrypt_c.a and
+x86-64-v3/libscrypt_c.a. Next to each is a folder `given` with clang's input, from which
+bindings/bitcode.py compiles the library for Windows. KEPT has the kept proofs, and can be empty.
+BACKEND is llvm, or rattle, the kit's own compiler. The libraries below the crate have to be proved.
 """
 
 import os

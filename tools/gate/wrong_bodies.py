@@ -6,7 +6,8 @@ the proofs of other functions. The mutants of a crate are tried in rounds: a rou
 copy in which each function has one mutant or none, and the proofs of all other functions are holes.
 A mutant is killed if its function is rejected with an unproved goal of its own. It survives if only
 a callee is rejected, if the search gave up, or if a name no longer exists. The author has to check
-that the goal is false. A mutant of a constant, or of a type, has a separate round, with every proof.
+that the goal is false. A mutant of a constant, or of a type, has a separate round, with every
+proof.
 
 The prover takes long to fail to prove a false goal, and searches again at the end. So a mutant can
 come with the original proof of that goal, which the checker rejects immediately. With `all`, the

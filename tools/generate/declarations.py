@@ -1,7 +1,7 @@
 #!/usr/bin/env python3
-"""Generates code from bindings/c/scrypt_c.h and the functions of crates/scrypt_c: the declarations of
-the packages for Python, Rust and JavaScript, and two lists in C. `make lib` calls it; the repository
-has none of the generated files.
+"""Generates code from bindings/c/scrypt_c.h and the functions of crates/scrypt_c: the declarations
+of the packages for Python, Rust and JavaScript, and two lists in C. `make lib` calls it; the
+repository has none of the generated files.
 
 usage: python3 -m tools.generate.declarations            writes the files of the packages
        python3 -m tools.generate.declarations FOLDER     and the lists in C into this folder

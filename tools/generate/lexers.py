@@ -1,6 +1,8 @@
-"""Cuts code into tokens, colours it and puts links into it. A token is the class of its colour, or "", and its text.
+"""Cuts code into tokens, colours it and puts links into it. A token is the class of its colour, or
+"", and its text.
 
-antt has its own lexer, and Rattle uses Rust's in Debian's python3-pygments; without that it has no colours.
+antt has its own lexer, and Rattle uses Rust's in Debian's python3-pygments; without that it has no
+colours.
 """
 
 import re

@@ -1,4 +1,5 @@
-"""The content of the pages: the crates with their sources and definitions, and the targets of their names."""
+"""The content of the pages: the crates with their sources and definitions, and the targets of their
+names."""
 
 import glob
 import os

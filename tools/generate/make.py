@@ -1,10 +1,10 @@
 """Generates the pages for reading the proof: build/doc/index.html and the pages that it links to.
 
 It reads the sources, the specs, crates.txt and headline.json, and needs Debian's python3-jinja2 and
-python3-pygments, but not the kit. It fails if a name in a clause or in a definition has no target, if
-a public function, a clause of it or a definition has no comment, if a link has no target, if two
-targets of a page have the same name, or if the headline differs from PROMISES or names a clause that
-no longer exists.
+python3-pygments, but not the kit. It fails if a name in a clause or in a definition has no target,
+if a public function, a clause of it or a definition has no comment, if a link has no target, if two
+targets of a page have the same name, or if the headline differs from PROMISES or names a clause
+that no longer exists.
 
 usage: python3 -m tools.generate.make [FOLDER]    the folder of the pages, which is replaced: build/doc
 """

@@ -1,7 +1,8 @@
 """Reads the sources of the crates: their items, what is public, and the contracts.
 
-Sources are formatted: the lines of an item are indented deeper than its first one, unless they begin with a bracket.
-Lines that look like the beginning of a function, an implementation or a clause and are not read as one are in `unread`.
+Sources are formatted: the lines of an item are indented deeper than its first one, unless they
+begin with a bracket. Lines that look like the beginning of a function, an implementation or a
+clause and are not read as one are in `unread`.
 """
 
 import itertools

@@ -1,5 +1,6 @@
 #!/usr/bin/env python3
-"""Checks that all files that state the version agree with VERSION, and that CHANGELOG.md has a heading for it.
+"""Checks that all files that state the version agree with VERSION, and that CHANGELOG.md has a
+heading for it.
 
 usage: python3 -m tools.release.version        names the files that state another version
        python3 -m tools.release.version NEW    changes it in all of them

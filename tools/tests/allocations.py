@@ -1,5 +1,5 @@
-"""Makes each allocation of a run of the program fail in turn, and compares the number of allocations
-and the sizes for a derivation.
+"""Makes each allocation of a run of the program fail in turn, and compares the number of
+allocations and the sizes for a derivation.
 
 The program runs with failing_calls.c preloaded, which makes the n-th allocation fail, for each n.
 Each failure has to end with status 3, empty output and the fault line. The number of allocations is

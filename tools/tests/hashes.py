@@ -1,5 +1,5 @@
-"""Verifies and makes hashes by the built program: hashes of other programs, and changed, truncated or
-long ones.
+"""Verifies and makes hashes by the built program: hashes of other programs, and changed, truncated
+or long ones.
 
 The hashes are from tools/tests/known.py, and all other keys from Python's hashlib.
 `tools/tests/hostile.py` fuzzes the C library with more than a million texts.

@@ -3,12 +3,12 @@
 usage: python3 -m tools.tests.hostile LIBRARY [TEXTS [SEED]]
 
 LIBRARY is libscrypt_c.so. First come two long texts, all texts that are one character away from a
-text of each format, and all `$7$` hashes with a key of up to three letters. Then come random texts of
-both formats (by default a million): valid ones, and valid ones that are mutated, spliced, truncated,
-doubled, or random, from a seed that is printed. Their log_n is 0 to 4, or so large that the
-allocation of the table fails. Then the same texts, and texts with random parameters, are verified
-within limits, in buffers for a log_n of 4 and an r * p of 16. The script prints the number of texts
-for each verdict, and fails if a verdict differs, or if one has no text.
+text of each format, and all `$7$` hashes with a key of up to three letters. Then come random texts
+of both formats (by default a million): valid ones, and valid ones that are mutated, spliced,
+truncated, doubled, or random, from a seed that is printed. Their log_n is 0 to 4, or so large that
+the allocation of the table fails. Then the same texts, and texts with random parameters, are
+verified within limits, in buffers for a log_n of 4 and an r * p of 16. The script prints the number
+of texts for each verdict, and fails if a verdict differs, or if one has no text.
 """
 
 import collections

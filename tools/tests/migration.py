@@ -1,13 +1,13 @@
 #!/usr/bin/env python3
-"""Differential test against other programs: converts hashes and keys that they make now, and verifies
-them by the program.
+"""Differential test against other programs: converts hashes and keys that they make now, and
+verifies them by the program.
 
 usage: python3 -m tools.tests.migration PROGRAM [--seed N]
 
 Each part draws passwords, lets another program hash them, converts the hashes with Python's
-scrypt_c.migration (Go and Node with their packages), and lets PROGRAM verify each with the right and
-a wrong password. Hashes that only one of the two rejects are tried too. The library is in build/lib.
-Missing programs are named; the status is 1 if something differs.
+scrypt_c.migration (Go and Node with their packages), and lets PROGRAM verify each with the right
+and a wrong password. Hashes that only one of the two rejects are tried too. The library is in
+build/lib. Missing programs are named; the status is 1 if something differs.
 """
 
 import argparse

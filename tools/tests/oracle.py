@@ -4,8 +4,8 @@ usage: python3 -m tools.tests.oracle PROGRAM [--seed N] [--worker PATH]
 
 Each part prints the number of cases that agree. Parts whose library isn't installed, also where
 Debian puts it, are skipped and named. WORKER speaks the protocol that tools/bench/bench.py
-describes: with it, only 10,000 keys are compared, some with parameters and lengths that both have to
-reject.
+describes: with it, only 10,000 keys are compared, some with parameters and lengths that both have
+to reject.
 """
 
 import argparse

@@ -1,4 +1,5 @@
-"""Runs the built program on command lines whose results are known from elsewhere, and on each fault once.
+"""Runs the built program on command lines whose results are known from elsewhere, and on each fault
+once.
 
 A run writes one line, to standard output for the statuses 0 and 1, and otherwise to standard error;
 the other stream stays empty. The keys are from RFC 7914, section 12, and from Python's hashlib; the

@@ -1,4 +1,5 @@
-"""scrypt (RFC 7914) in plain Python, written from the standard, for parameters that OpenSSL rejects.
+"""scrypt (RFC 7914) in plain Python, written from the standard, for parameters that OpenSSL
+rejects.
 
 It is slow, and takes N = 1 and N from 2^(16*r) too. It also makes hashes, and compares which are
 weaker than wanted, as defined in docs/DECISIONS.md.
