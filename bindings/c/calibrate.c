@@ -5,12 +5,13 @@
 
 enum { LEAST_LOG_N = 10, MOST_LOG_N = 40, R = 8, TRIES = 3 };
 
-/* The chunks of more would need more than 1 MiB beside the table. */
+/* With a larger p the chunks would need more than 1 MiB in addition to the table. */
 #define MOST_P 1000
 
 static double now(void) { return (double)now_ns() * 1e-9; }
 
-/* Measures one derivation in one table, which a hasher keeps: the least time of several, of which the first maps it. */
+/* Measures one derivation in one table, which a hasher keeps: the minimum of several times; the
+ * first derivation maps it. */
 static int measure(uint32_t log_n, double *seconds) {
   scrypt_options with = {sizeof with, log_n, R, 1, 0, 0, 0, SIZE_MAX, UINT64_MAX, 0, 1, 1};
   uint8_t key[SCRYPT_KEY_LEN];

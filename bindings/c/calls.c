@@ -1,5 +1,5 @@
-/* The calls of the header over the proved ones: NULL is allowed for no bytes, and otherwise refused before anything else,
- * and a text ends with a NUL. Not proved. */
+/* The calls of the header over the proved ones: NULL is allowed for no bytes, and otherwise
+ * rejected before anything else, and a text ends with a NUL. Not proved. */
 #include "groups.h"
 
 /* The proved calls, with clearing.c. */
@@ -7,7 +7,7 @@
 #define PROVED_PROCEDURE(name, parameters, arguments) void cleared_##name parameters;
 #include "proved_calls.h"
 
-/* What several calls have: any pointers to bytes, and log_n of any size. */
+/* Arguments that several calls share: any pointers to bytes, and log_n of any size. */
 #define INPUTS \
   const void *password, size_t password_len, const void *salt, size_t salt_len, uint32_t log_n, uint32_t r, uint32_t p
 #define THE_INPUTS password, password_len, salt, salt_len, in_8_bits(log_n), r, p

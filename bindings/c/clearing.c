@@ -31,8 +31,8 @@ size_t tables_that_pay(void) { return BASE_PAYS; }
 #endif
 
 /* BELOW is more than any proved call uses of the stack (tests/test_clearing.c). Its frames begin
- * APART below those of clear_stack, so that they are overwritten whatever the compiler puts into
- * the frames here. */
+ * APART below those of clear_stack, so that they are wiped, whatever the compiler puts into the
+ * frames here. */
 enum { BELOW = 12800, APART = 256 };
 #define KEEP(array) __asm__ volatile("" ::"r"(array) : "memory")
 #if __has_attribute(zero_call_used_regs)
@@ -42,7 +42,7 @@ enum { BELOW = 12800, APART = 256 };
 #endif
 
 /* Nothing is promised of registers, but a dynamic linker that binds the next call of a program
- * saves them in the stack. The attribute leaves out those of which a call has to keep a part. */
+ * saves them in the stack. The attribute excludes registers of which a call has to keep a part. */
 #ifdef __x86_64__
 CLEARS __attribute__((target("avx"))) static void clear_ymm(void) { __asm__ volatile(""); }
 CLEARS static void clear_registers(void) {

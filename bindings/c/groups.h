@@ -1,4 +1,4 @@
-/* What the calls that are written in C share. */
+/* Definitions that the calls written in C share. */
 #ifndef GROUPS_H
 #define GROUPS_H
 
@@ -10,7 +10,8 @@ static inline const uint8_t *bytes_of(const void *bytes) {
   return bytes != NULL ? (const uint8_t *)bytes : (const uint8_t *)"";
 }
 
-/* For the proved calls, which accept no log_n above 56: a greater one mustn't become one that they accept. */
+/* For the proved calls, which accept no log_n above 56: a greater one mustn't become one that they
+ * accept. */
 static inline uint8_t in_8_bits(uint32_t log_n) { return log_n < 64 ? (uint8_t)log_n : UINT8_MAX; }
 
 /* How many tables pay on this processor, at most SCRYPT_MOST_LOGINS. */

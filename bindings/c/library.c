@@ -1,5 +1,5 @@
-/* The library in one translation unit, so that only the calls of the header are seen from outside. Without _FORTIFY_SOURCE, by
- * which snprintf would be a function that musl doesn't have. */
+/* The library in one translation unit, so that only the calls of the header are seen from outside.
+ * _FORTIFY_SOURCE is off, because it replaces snprintf by a function that musl doesn't have. */
 #undef _FORTIFY_SOURCE
 #define _GNU_SOURCE
 #include "calls.c"

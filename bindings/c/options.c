@@ -6,7 +6,7 @@
 
 #include <string.h>
 
-#define MAX_SLOTS 8192 /* as many processors as Linux can have */
+#define MAX_SLOTS 8192 /* the maximum number of processors of Linux */
 
 #define DEFAULT(field, value) \
   if (with->field == 0) with->field = (value)
@@ -57,7 +57,7 @@ int complete_options(const scrypt_options *given, scrypt_options *with, scrypt_n
   DEFAULT(most_bytes, default_most_bytes(most_bytes, needs));
   DEFAULT(most_work, most_work);
   DEFAULT(least_key_len, least_key_len);
-  /* Otherwise new hashes would be refused. */
+  /* Otherwise new hashes would be rejected. */
   if (with->least_key_len > with->key_len) return SCRYPT_INVALID_PARAMS;
   if (with->salt_len > MAX_SALT_LEN) return SCRYPT_SALT_INVALID;
   status = scrypt_params_need(with->log_n, with->r, with->p, with->most_bytes, with->most_work,

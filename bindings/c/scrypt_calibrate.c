@@ -1,5 +1,5 @@
-/* The program scrypt_calibrate: prints parameters that take so many seconds and so much memory on this machine, as scrypt_tool
-   takes them. Tested and not proved. */
+/* The program scrypt_calibrate: prints parameters for a time and a memory on this machine, in
+ * scrypt_tool's form. Tested and not proved. */
 #include "scrypt_c.h"
 
 #include <stdio.h>

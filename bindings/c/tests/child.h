@@ -1,4 +1,5 @@
-/* For tests that limit the process in which they run. Whoever includes this defines _DEFAULT_SOURCE. */
+/* For tests that limit the process in which they run. Define _DEFAULT_SOURCE before including this
+ * file. */
 #ifndef CHILD_H
 #define CHILD_H
 
@@ -16,7 +17,8 @@ static inline void in_a_child(int (*test)(void), const char *name) {
   check(child > 0 && waitpid(child, &status, 0) == child && WIFEXITED(status) && WEXITSTATUS(status) == 0, name);
 }
 
-/* The size of this process in bytes: which 0 is its address space, and 1 what of it is in memory. */
+/* The size of this process in bytes: which 0 is its address space, and 1 what of it is in memory.
+ * */
 static inline size_t process_size(int which) {
   unsigned long pages[2] = {0, 0};
   FILE *file = fopen("/proc/self/statm", "r");
@@ -25,7 +27,8 @@ static inline size_t process_size(int which) {
   return (size_t)pages[which] * (size_t)sysconf(_SC_PAGESIZE);
 }
 
-/* Limits the address space of this process to `more` bytes above what it has. Returns whether that succeeds. */
+/* Limits the address space of this process to `more` bytes above what it has. Returns whether that
+ * succeeds. */
 static inline int limit_space(size_t more) {
   const rlim_t size = process_size(0);
   const struct rlimit most = {size + more, size + more};

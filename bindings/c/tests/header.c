@@ -1,4 +1,5 @@
-/* Includes the header alone and uses its macros: compiled with every warning as an error, in C and in C++. */
+/* Includes only the header and uses its macros: compiled with every warning as an error, in C and
+ * in C++. */
 #include "scrypt_c.h"
 
 int main(void) {

@@ -1,5 +1,5 @@
-/* How much memory the calls ask for, and what they give back: in a program whose malloc, mmap and munmap write that down, and
- * refuse what they are told to refuse. */
+/* The memory that the calls allocate and free: in a program whose malloc, mmap and munmap record
+ * it, and fail on request. */
 #define _GNU_SOURCE
 #include "check.h"
 #include "scrypt_c.h"
@@ -130,7 +130,7 @@ static void one_derivation(void) {
   check(status == SCRYPT_MISMATCH, "a verdict");
 }
 
-/* What exceeds a limit is refused before anything is derived. */
+/* A hash that exceeds a limit is rejected before any derivation. */
 static void no_table_of_what_is_refused(void) {
   int status;
   check(tables_of(14, scrypt_key(SECRETS, 14, R, 4, key, 0)) == 0, "a key of no bytes");
@@ -145,7 +145,8 @@ static void no_table_of_what_is_refused(void) {
   check(status == SCRYPT_KEY_TOO_SHORT, "a short key is named");
 }
 
-/* A table that the system does not take back is overwritten: what is left are where it begins, its length and a mark. */
+/* A table that the system does not take back is overwritten: what is left are where it begins, its
+ * length and a mark. */
 static void not_unmapped(void) {
   size_t at, left = 0;
   keeps = 1;

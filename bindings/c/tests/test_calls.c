@@ -1,5 +1,5 @@
-/* Calls the library from C and from C++: RFC 7914's keys, both formats, and every refusal. With the word small it
- * leaves out the key of 1 GiB and the hashes of 128 MiB. */
+/* Calls the library from C and from C++: RFC 7914's keys, both formats, and every error. With the
+ * word small it leaves out the key of 1 GiB and the hashes of 128 MiB. */
 #include "check.h"
 #include "scrypt_c.h"
 #include "test_chunks.h"
@@ -8,7 +8,8 @@
 #include <stdlib.h>
 #include <string.h>
 
-/* What the version begins with, and all of it if the processor is known that the library is built for. */
+/* What the version begins with, and all of it if the processor is known that the library is built
+ * for. */
 #ifdef PROCESSOR
 #define VERSION SCRYPT_VERSION_STRING " " PROCESSOR
 #else
@@ -58,7 +59,8 @@ static void new_hash(void) {
 
 static const char *const SHORT[] = {"short chunks", "a short table", "a short scratch"};
 
-/* Verifies in buffers of this program, which may be longer than needed, and are refused if they are shorter. */
+/* Verifies in buffers of this program, which can be longer than needed, and are rejected if they
+ * are shorter. */
 static void verify_in_buffers(const char *text) {
   uint8_t chunks[2048];
   uint32_t *table = (uint32_t *)malloc(4 * 5000), scratch[600];
@@ -81,8 +83,9 @@ static void verify_in_buffers(const char *text) {
   free(table);
 }
 
-/* Verifies one to four at once, in buffers for one to four, and leaves what is after them: each is right, another password, or
- * no text at all, whatever the others are. */
+/* Verifies batches of one to four, in buffers for one to four, and leaves the bytes after them
+ * unchanged: each password is right or wrong, or its text is missing, independently of the others.
+ * */
 static void verify_group_in_buffers(const char *text) {
   static const char *const PASSWORDS[] = {"pw", "PW", "pw"};
   static uint8_t chunks[4097];
@@ -112,8 +115,8 @@ static void verify_group_in_buffers(const char *text) {
       }
 }
 
-/* Memory for several tables is used for them: each row changes, but for those of a second one where one is used for two chunks.
- * Twelve chunks leave no rest, whatever the number of tables. */
+/* Memory for several tables is used for them: each row changes, but for those of a second one where
+ * one is used for two chunks. Twelve chunks leave no rest, whatever the number of tables. */
 static void several_tables_are_used(void) {
   static uint8_t chunks[128 * 12], key[16];
   static uint32_t table[4 * 32 * 64], scratch[4 * 64];
@@ -127,8 +130,8 @@ static void several_tables_are_used(void) {
   }
 }
 
-/* scrypt_hash_phc_with_buffers or scrypt_hash_mcf_with_buffers: the same text as without buffers, zeros in chunks and
- * scratch after it, and refusals that leave what they should. */
+/* scrypt_hash_phc_with_buffers or scrypt_hash_mcf_with_buffers: the same text as without buffers,
+ * zeros in chunks and scratch after it, and refusals that leave what they should. */
 static void hash_in_buffers(int is_mcf, const char *made) {
   static uint8_t chunks[2048];
   static uint32_t table[5000], scratch[600];
@@ -238,7 +241,7 @@ static void hashes(void) {
   check(mcf[0] == '$', "a refusal leaves the text");
 }
 
-/* Whether a long password is that of this text. */
+/* Whether a long password matches this text. */
 static int is_of_long(const char *password, size_t len, const char *text) {
   return scrypt_verify(password, len, text, strlen(text)) == SCRYPT_OK &&
          scrypt_verify_within(password, len, text, strlen(text), SIZE_MAX, UINT64_MAX, 0) == SCRYPT_OK;
@@ -269,7 +272,7 @@ static void texts_of_other_bytes(void) {
 
 static int has_words(int status) { return strcmp(scrypt_status_text(status), "unknown status") != 0; }
 
-/* Each status has words of its own and a name, and says whether a text is refused. */
+/* Each status has its own message and name, and says whether a text is rejected. */
 static void words_of_statuses(void) {
   int status, other;
   for (status = SCRYPT_OK; has_words(status); status++)

@@ -90,7 +90,7 @@ __attribute__((noinline)) static void check_stack(const char *name, int (*call)(
 #include "each_call.h"
 #undef CALL
 
-/* Nobody derives in so little time, scrypt_key_thin takes one table, and the chunks that
+/* No key can be derived in so little time, scrypt_key_thin takes one table, and the chunks that
  * scrypt_verify_finish is given are zeros. */
 static int wanted_of(int (*call)(void)) {
   size_t chunks_len, table_len, scratch_len;

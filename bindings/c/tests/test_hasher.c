@@ -1,9 +1,9 @@
-/* The hasher in threads: order, batches, timeouts, closing, memory that is refused, and forks.
- * test_queue.c tries its decisions in every order, test_hasher_parts.c has its options, errors and
+/* The hasher in threads: order, batches, timeouts, closing, failed allocations, and forks.
+ * test_queue.c is a model checker of its decisions, test_hasher_parts.c has its options, errors and
  * numbers, and test_hasher_load.c what happens at any time. */
 #include "test_hasher.h"
 
-/* What a call derives: keys, and verifications with these parameters. */
+/* The derivation of a call: keys, and verifications with these parameters. */
 enum kind { NONE, KEYS, A, B, P2, P4, P16, R16, SLOW, SLOW2 };
 static const struct { uint8_t log_n; uint32_t r, p; } PARAMS[] = {
     [KEYS] = {4, 8, 1}, [A] = {4, 8, 1},    [B] = {5, 8, 1},

@@ -11,7 +11,7 @@
 
 static char texts[3][SCRYPT_PHC_CAPACITY];
 
-/* Each call has the verdict that it has alone, or none. */
+/* Each call has the verdict that it has without the others, or no verdict. */
 static int running;
 static void *verify_until_closed(void *hasher) {
   unsigned seed = (unsigned)(uintptr_t)&seed >> 12;

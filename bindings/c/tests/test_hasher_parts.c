@@ -58,7 +58,7 @@ static void defaults(void) {
   WRITE(max_mapped, SIZE_MAX);
 }
 
-/* ---- What is refused: nothing of it waits for the slot, which is taken ---- */
+/* ---- Errors: none of these calls waits for the slot, which is taken ---- */
 
 #define TEXT_OF(params, more) "$scrypt$ln=" params "$c2FsdHNhbHQ$AAAAAAAAAAAAAAAAAAAA" more
 static void refused_verifications(void) {
@@ -183,7 +183,7 @@ static void decoy(void) {
   }
 }
 
-/* Who derives alone takes no room for others, which is kept. */
+/* A call in a batch of one takes no further tables, which would be kept. */
 static void room_for_one(void) {
   scrypt_hasher *hasher = new_hasher(1, 4, 4);
   struct arena *arena = &hasher->queue->slots[0].arena;

@@ -1,4 +1,5 @@
-/* For test_calls.c: the keys of RFC 7914 in one call, in buffers, with smaller and with longer tables, and what is refused. */
+/* For test_calls.c: the keys of RFC 7914 in one call, in buffers, with smaller and with longer
+ * tables, and the errors. */
 #ifndef TEST_KEYS_H
 #define TEST_KEYS_H
 
@@ -87,8 +88,8 @@ static void keys_in_buffers(size_t i, uint8_t s) {
   free(scratch);
 }
 
-/* The key of vector 1, which has 16 chunks, in buffers that are longer than needed: how many tables are used of them, and
- * nothing after those is written. */
+/* The key of vector 1, which has 16 chunks, in buffers that are longer than needed: how many tables
+ * are used of them, and nothing after those is written. */
 static const struct {
   size_t table_more, scratch_more; /* than one of each */
   size_t used;

@@ -1,6 +1,6 @@
-/* What kit_heap.c and kit_os.c have in place of the kit's C, against the contracts that it has there: libc/src/heap.rt and
- * os/src/c.rt. The kit's own archives for x86-64 pass this too.
- * usage: test_kit four '' words   with these words */
+/* Tests kit_heap.c and kit_os.c, our version of the kit's C, against the kit's contracts:
+ * libc/src/heap.rt and os/src/c.rt. The kit's own archives for x86-64 pass this too. usage:
+ * test_kit four '' words   with these words */
 #include "check.h"
 
 #include <errno.h>

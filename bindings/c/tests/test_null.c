@@ -1,4 +1,5 @@
-/* NULL: for each pointer of each call it is an error before any other, or nothing with length 0. Nothing is written. */
+/* NULL: for each pointer of each call it is an error before any other, or nothing with length 0.
+ * Nothing is written. */
 #include "arguments.h"
 #include "check.h"
 
@@ -9,7 +10,8 @@ static void check_null(int status, int wanted, const char *why) {
   check(memcmp(&made, before, sizeof made) == 0, why);
 }
 
-/* How often a call was made before, the pointers that it is given now, and the one of them that is NULL. */
+/* How often a call was made before, the pointers that it is given now, and the one of them that is
+ * NULL. */
 static int turn, pointers;
 static const char *null = "";
 
@@ -19,10 +21,10 @@ static int is_null(const char *pointer) {
   return 1;
 }
 
-/* Compilers refuse NULL for scrypt_buffer_lens. */
+/* Compilers reject NULL for scrypt_buffer_lens. */
 static int has_pointers(const char *call) { return strcmp(call, "scrypt_buffer_lens") != 0; }
 
-/* Each pointer that may not be NULL, in a turn of its own. */
+/* Each pointer that must not be NULL, one at a time. */
 static void each_pointer(void) {
 #undef P
 #define P(pointer) (is_null(#pointer) ? NULL : pointer)

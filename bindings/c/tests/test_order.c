@@ -1,11 +1,11 @@
-/* The order of things: each argument of each call is where the header has it, shown by a known key and known texts with
- * arguments that all differ; and where two refusals meet, the first in the comment of the call is returned, and outputs
- * are written as it says. */
+/* The order of things: each argument of each call is where the header has it, shown by a known key
+ * and known texts with arguments that all differ; and where two refusals meet, the first in the
+ * comment of the call is returned, and outputs are written as it says. */
 #include "arguments.h"
 #include "check.h"
 
-/* Of the password pw and the salt saltsalt, with (4, 2, 3) and 20 bytes, by hashlib.scrypt. In a $7$ hash the salt is
- * the letters in its text. */
+/* Of the password pw and the salt saltsalt, with (4, 2, 3) and 20 bytes, by hashlib.scrypt. In a
+ * $7$ hash the salt is the letters in its text. */
 static const uint8_t KEY[20] = {0x94, 0x1e, 0xd0, 0x24, 0x78, 0x9a, 0xbd, 0xd7, 0x17, 0x96,
                                 0x66, 0x34, 0x27, 0x71, 0xb1, 0xa0, 0x55, 0xdc, 0x53, 0x3e};
 static const char PHC[] = "$scrypt$ln=4,r=2,p=3$c2FsdHNhbHQ$lB7QJHiavdcXlmY0J3GxoFXcUz4";
@@ -15,7 +15,7 @@ static const char MCF[] = "$7$20....1....n34PoBLMgF5$Z8J2bfek1wDXI7xhu6YDEbhVlE3
 #define PARAMS 4, 2, 3
 #define OF(known) known, sizeof known - 1
 
-/* What a call has to make of the case. */
+/* The expected result of a call for the case. */
 static int nothing(void) { return 1; }
 static int a_key(void) { return memcmp(made.output, KEY, sizeof KEY) == 0; }
 static int is_begun(void) { return made.steps->at.chunks == 0 && made.steps->at.mixes == 0; }
@@ -263,7 +263,7 @@ static void texts_with_two_faults(void) {
   }
 }
 
-/* N in place of log_n: refused by each call, also where its last 8 bits are a log_n. */
+/* N in place of log_n: rejected by each call, even if its last 8 bits are a log_n. */
 static void n_in_place_of_log_n(void) {
   static const uint32_t NUMBERS[] = {64, 256, 260, 16384, UINT32_MAX};
   size_t i, lens[3], least;

@@ -1,5 +1,6 @@
-/* A table that the system refuses is refused before anything is written: with p of 2^24 the chunks alone are 2 GiB, for
- * which the limits of this test have room, and not for the table. Each call that allocates touches little memory then. */
+/* A failed allocation of the table is an error before anything is written: with p of 2^24 the
+ * chunks have 2 GiB, which the limits of this test allow, but not the table. Each call that
+ * allocates touches little memory then. */
 #define _DEFAULT_SOURCE
 #include "check.h"
 #include "child.h"
@@ -7,7 +8,8 @@
 
 #include <string.h>
 
-/* What the limits allow beyond what the process has, what a call may touch, and the seconds of processor for all. */
+/* What the limits allow beyond what the process has, what a call may touch, and the seconds of
+ * processor for all. */
 enum { MORE_GIB = 4, TOUCHED_KIB = 4096, SECONDS = 5 };
 
 #define SECRETS "pw", 2, "saltsalt", 8
@@ -87,14 +89,14 @@ static int within_limits(void) {
   return failed;
 }
 
-/* In a child: no room for the recommended table of 128 MiB. */
+/* In a child: too little memory for the recommended table of 128 MiB. */
 static int new_within_limits(void) {
   if (!limit_seconds() || !limit_space((size_t)64 << 20)) return 2;
   check_refused("scrypt_hash_new", hash_new);
   return failed;
 }
 
-/* In a child: room for one table of 16 MiB, and not for two, which are faster. */
+/* In a child: memory for one table of 16 MiB, and not for two, which are faster. */
 static int one_table_within_limits(void) {
   uint8_t same[32];
   if (scrypt_key(SECRETS, 14, 8, 2, same, 32) != SCRYPT_OK || !limit_space((size_t)28 << 20)) return 2;

@@ -23,7 +23,7 @@ static void note_signal(condition *it);
 
 enum { CALLS = 5, SLOTS = 2, CLASSES = 3, ROUNDS = 2, ABSENT = DONE + 1, MAX_SEEN = 1 << 22 };
 
-/* All that events change. What the model says is in `wanted` and `statuses`. */
+/* All that events change. The model's state is in `wanted` and `statuses`. */
 static struct world {
   scrypt_hasher hasher;
   union {
@@ -83,7 +83,7 @@ static void extend(int slot) {
   check(batch->count == count, "a batch of another size");
 }
 
-/* Each call has a status of its own. */
+/* Each call has its own status. */
 static void finish_batch(int slot) {
   struct batch batch = now.batches[slot];
   int statuses[SCRYPT_MOST_LOGINS];
@@ -107,7 +107,7 @@ static void close_all(void) {
   scrypt_hasher_close(&now.hasher);
 }
 
-/* Event number `event`, or 0 if it can't happen now. A key is alone. */
+/* Event number `event`, or 0 if it can't happen now. A key is never in a batch. */
 enum { EVENTS = CLASSES + CALLS + 2 * SLOTS + 1 };
 static int happens(int event) {
   int call = event - CLASSES, slot = call - CALLS, is_finish = slot >= SLOTS;
@@ -161,7 +161,7 @@ static void check_queue(void) {
 static uint64_t seen[MAX_SEEN];
 static size_t states, events, ends;
 
-/* What the next events depend on: the order of the queue is that of the calls. */
+/* The state on which the next events depend: the queue has the order of the calls. */
 static int is_new(void) {
   uint64_t key = (uint64_t)(now.hasher.is_closed != 0) << 1 | 1;
   for (int i = 0; i < CALLS; i++)

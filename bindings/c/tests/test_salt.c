@@ -1,5 +1,5 @@
-/* scrypt_draw_salt: fills exactly the bytes that it is given, with others each time. It reports a system that refuses, and so
- * does scrypt_hash_new. */
+/* scrypt_draw_salt: fills exactly the bytes that it is given, with others each time. It reports a
+ * failing system call, and so does scrypt_hash_new. */
 #define _DEFAULT_SOURCE
 #include "check.h"
 #include "scrypt_c.h"

@@ -1,6 +1,6 @@
 /* Keys and verdicts in steps: RFC 7914's keys and others, in steps of any size; a derivation that
- * is left; a function between steps; and each refusal, which leaves everything as it was. With the
- * word small it leaves out the key of 1 GiB. */
+ * is abandoned; a function between steps; and each error, which leaves everything unchanged. With
+ * the word small it leaves out the key of 1 GiB. */
 #include "check.h"
 #include "scrypt_c.h"
 #include "test_keys.h"
@@ -14,7 +14,7 @@ static size_t draw(size_t below) {
   return (size_t)(state >> 33) % below;
 }
 
-/* A derivation in buffers with room for so many tables, which hold anything. */
+/* A derivation in buffers for `tables` tables, with any content. */
 static scrypt_steps new_steps(uint32_t log_n, uint32_t r, uint32_t p, size_t tables) {
   scrypt_steps it = {log_n, r, p, {0, 0, 0}, NULL, NULL, NULL, 0, 0, 0};
   check(scrypt_buffer_lens(log_n, r, p, 0, &it.chunks_len, &it.table_len, &it.scratch_len) ==
@@ -35,7 +35,7 @@ static void free_steps(scrypt_steps *it) {
   free(it->chunks), free(it->table), free(it->scratch);
 }
 
-/* The key by steps of so many mixes, or of drawn sizes for 0. */
+/* The key by steps of `mixes` mixes, or of random sizes if that is 0. */
 static void in_steps(scrypt_steps *it, const char *password, const char *salt, size_t mixes,
                      uint8_t *key, size_t len) {
   int status = scrypt_key_begin(it, password, strlen(password), salt, strlen(salt));

@@ -1,4 +1,5 @@
-/* What system.h promises, of the sources for this system, which are included. What it draws, test_salt.c tests. */
+/* Tests the promises of system.h, on the included sources for this system. test_salt.c tests the
+ * random bytes. */
 #define _GNU_SOURCE
 #ifdef _WIN32
 #include "windows.c"

@@ -1,4 +1,4 @@
-/* For test_system.c: what linux.c promises alone. */
+/* For test_system.c: the promises of linux.c only. */
 #include "child.h"
 
 #ifndef ROOT

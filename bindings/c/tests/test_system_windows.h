@@ -1,5 +1,5 @@
-/* For test_system.c: what windows.c promises alone. Once in a job a process stays in it, so the jobs come last, each within the one
- * before. */
+/* For test_system.c: the promises of windows.c only. Once in a job a process stays in it, so the
+ * jobs come last, each within the one before. */
 
 static void while_mapped(void) {}
 

@@ -1,5 +1,5 @@
-/* How many tables scrypt_key has at once, by the most memory that the process had: as many as pay on PROCESSOR, which the code of
- * the library is for. */
+/* The number of tables that scrypt_key uses, by the peak memory of the process: the number that
+ * pays on PROCESSOR, for which the library is compiled. */
 #include "check.h"
 #include "machine.h"
 #include "scrypt_c.h"

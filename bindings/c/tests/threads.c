@@ -1,5 +1,5 @@
-/* Calls the library from four threads at once, which it has no state for: each derives a key of RFC 7914, in memory of the
- * library and in memory of its own, and makes and verifies hashes. */
+/* Calls the library, which has no shared state, from four threads concurrently: each derives a key
+ * of RFC 7914, in the library's memory and in its own, and makes and verifies hashes. */
 #include "scrypt_c.h"
 
 #include <pthread.h>
