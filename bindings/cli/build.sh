@@ -10,7 +10,7 @@ if [ "${PRESET:-native}" = native ]; then
   build=build proved=out CC=${CC:-cc} objcopy=objcopy
   kit=$(dirname "$(rt doc)")
   kit_c="$kit/c/libos_c.a $kit/c/liblibc_c.a"
-else # the kit has its C for x86-64 alone
+else # the kit has its C only for x86-64
   . bindings/preset.sh
   proved=out/$PRESET
   kit_c="bindings/cli/kit_os.c bindings/c/kit_heap.c -Dclearing_malloc=malloc -Dclearing_realloc=realloc"

@@ -1,5 +1,5 @@
-/* Runs PROGRAM in EMULATOR, which finds libraries below LIBRARIES, with the words that it is given. It is linked statically, so
- * that what tests preload is preloaded into PROGRAM alone. */
+/* Runs PROGRAM in EMULATOR, which finds libraries below LIBRARIES, with the given arguments. It is
+ * linked statically, so that libraries which tests preload are only loaded into PROGRAM. */
 #include <stdio.h>
 #include <stdlib.h>
 #include <string.h>

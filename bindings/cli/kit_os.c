@@ -1,5 +1,6 @@
-/* What the kit has in C of its crate os and the program calls, as in its file c/libos_c.a, which is for x86-64 alone: not
- * proved. The contracts are in that crate, src/c.rt. build.sh compiles this for other processors. */
+/* The C functions of the kit's crate os that the program calls. The kit has them in c/libos_c.a,
+ * only for x86-64; build.sh compiles this file for other processors. Not proved; the contracts are
+ * in src/c.rt of that crate. */
 #include <errno.h>
 #include <stddef.h>
 #include <string.h>
@@ -8,13 +9,14 @@
 static size_t count;
 static char **words;
 
-/* glibc hands a constructor the arguments of main. */
+/* glibc passes the arguments of main to a constructor. */
 __attribute__((constructor)) static void keep(int argc, char **argv) {
   count = (size_t)argc;
   words = argv;
 }
 
-/* Writes the bytes of argument i: their number, -1 if there is no such argument, or -2 if they don't fit. */
+/* Writes the bytes of argument i, and returns their number, -1 if there is no such argument, or -2
+ * if they do not fit. */
 ssize_t rattle_arg(size_t i, char *room, size_t len);
 ssize_t rattle_arg(size_t i, char *room, size_t len) {
   size_t needed;

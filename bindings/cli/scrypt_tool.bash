@@ -1,7 +1,7 @@
-# Completes the words of scrypt_tool in bash.
+# Bash completions for scrypt_tool.
 _scrypt_tool() {
   local word=${COMP_WORDS[COMP_CWORD]} first=1 choices=""
-  # Bash takes an equals sign, and what comes after it, for words of their own.
+  # Bash treats an equals sign, and the text after it, as separate words.
   while [[ $first -lt $COMP_CWORD && ${COMP_WORDS[first]} == --* ]]; do
     [[ ${COMP_WORDS[first + 1]} == "=" ]] && first=$((first + 2))
     first=$((first + 1))

@@ -1,5 +1,5 @@
-/* Asks for the password of scrypt_tool at a terminal, without echo. The proved program reads its standard
- * input by a function of this name: build.sh renames it. This file is tested and not proved. */
+/* Asks for the password of scrypt_tool at a terminal, without echo. build.sh makes the proved
+ * program call read_or_ask in place of read. This file is tested, not proved. */
 #include <bsd/readpassphrase.h>
 #include <errno.h>
 #include <poll.h>
@@ -8,18 +8,20 @@
 
 ssize_t read_or_ask(int fd, void *buffer, size_t len);
 
-enum { LINE = 4096, INPUT_FAILED = 4 }; /* Linux cuts a line of a terminal to that; the program's status */
+/* Linux truncates a line from a terminal to LINE bytes; INPUT_FAILED is the exit status. */
+enum { LINE = 4096, INPUT_FAILED = 4 };
 
-static int is_hash; /* whether the command is `hash`, whose password is asked for twice */
+static int is_hash; /* whether the command is `hash`, which asks for the password twice */
 
-/* glibc hands a constructor the arguments of main, after which is NULL. Options come before the command. */
+/* glibc passes the arguments of main, which end with NULL, to a constructor. Options come before
+ * the command. */
 __attribute__((constructor)) static void find_command(int argc, char **argv) {
   char **word = argv + (argc > 0);
   while (*word && strncmp(*word, "--", 2) == 0) word++;
   is_hash = *word && strcmp(*word, "hash") == 0;
 }
 
-/* As read(2), but waits for input if another program has set the pipe to non-blocking. */
+/* Like read(2), but waits for input if another program has set the pipe to non-blocking. */
 static ssize_t read_blocking(int fd, void *buffer, size_t len) {
   struct pollfd input = {fd, POLLIN, 0};
   for (;;) {
@@ -30,38 +32,39 @@ static ssize_t read_blocking(int fd, void *buffer, size_t len) {
 }
 
 static void say(const char *text) {
-  if (write(STDERR_FILENO, text, strlen(text)) < 0) return; /* the status says it too */
+  if (write(STDERR_FILENO, text, strlen(text)) < 0) return; /* the exit status reports it too */
 }
 
-/* Reads a line, and returns its length, or -1. An empty one may be the end of the input, which readpassphrase
- * does not tell from it, so it is refused: a pipe can give an empty password. */
+/* Reads a line, and returns its length, or -1. An empty line is rejected, because readpassphrase
+ * does not distinguish it from the end of the input; an empty password can come from a pipe. */
 static ssize_t line_of(const char *prompt, char line[LINE]) {
   ssize_t len = readpassphrase(prompt, line, LINE, RPP_REQUIRE_TTY) ? (ssize_t)strlen(line) : 0;
   if (len == LINE - 1) say("The password may have been cut.\n");
   if (len > 0 && len < LINE - 1) return len;
-  errno = EIO; /* not EINTR, which a reader may try again */
+  errno = EIO; /* not EINTR, after which a reader may try again */
   return -1;
 }
 
-/* Before a signal ends or stops the program readpassphrase restores the echo, and it asks again when the
- * program goes on. */
+/* If a signal ends or stops the program, readpassphrase restores the echo first, and asks again
+ * when the program continues. */
 static ssize_t ask(char line[LINE]) {
   char again[LINE];
   ssize_t len = line_of("Password: ", line);
   if (len < 0 || !is_hash) return len;
   if (line_of("The same again: ", again) < 0) return -1;
   if (strcmp(line, again) != 0) {
-    say("The passwords differ.\n"); /* where the proved program would say that its input failed */
+    say("The passwords differ.\n"); /* the proved program would print that its input failed */
     _exit(INPUT_FAILED);
   }
   explicit_bzero(again, sizeof again);
   return len;
 }
 
-/* The first read from a terminal asks for the password and returns it, and later ones return its end. */
+/* The first read from a terminal asks for the password and returns it. Later reads return the
+ * rest. */
 ssize_t read_or_ask(int fd, void *buffer, size_t len) {
   static char line[LINE];
-  static ssize_t at, rest = -2; /* how much of the line is left; -2 before it was asked for, and -1 if that failed */
+  static ssize_t at, rest = -2; /* rest of the line; -2 before asking for it, -1 if that failed */
   if (fd != STDIN_FILENO || (rest == -2 && !isatty(fd))) return read_blocking(fd, buffer, len);
   if (rest == -2) rest = ask(line);
   if (rest < 0) return -1;

@@ -1,4 +1,4 @@
-"""Compares the words that bash completes with the commands and the options of the program's help."""
+"""Compares bash completions with the commands and options in the program's help."""
 
 import re
 import sys

@@ -1,6 +1,6 @@
-/* For programs that are linked with libscrypt-kdf, libscrypt or libsodium: their names, over this
- * library, with libsodium's own limits and its own choice of N, r and p. Not proved. As there, no
- * pointer may be NULL where bytes are read or written. */
+/* For programs that are linked with libscrypt-kdf, libscrypt or libsodium: their functions, on top
+ * of this library, with libsodium's limits and its choice of N, r and p. Not proved. As in these
+ * libraries, a pointer to bytes that are read or written must not be NULL. */
 #define _GNU_SOURCE
 #include "scrypt_c.h"
 
@@ -31,7 +31,7 @@ static int overlap(const uint8_t *a, size_t a_len, const uint8_t *b, size_t b_le
   return a_len > 0 && b_len > 0 && (uintptr_t)a < (uintptr_t)b + b_len && (uintptr_t)b < (uintptr_t)a + a_len;
 }
 
-/* In one table, as the libraries of these names have, and not more that might not be there. */
+/* Derives a key in one table, as these libraries do: memory for several might not be available. */
 static int derive_in_one(const uint8_t *password, size_t password_len, const uint8_t *salt, size_t salt_len, uint8_t log_n,
                          uint32_t r, uint32_t p, uint8_t *output, size_t output_len) {
   scrypt_needs needs;
@@ -40,8 +40,8 @@ static int derive_in_one(const uint8_t *password, size_t password_len, const uin
   return scrypt_key_within(password, password_len, salt, salt_len, log_n, r, p, needs.bytes, UINT64_MAX, output, output_len);
 }
 
-/* The key, if the parameters are within the limits of these libraries, which take an output of 0 bytes, and one that
- * overlaps the password or the salt. */
+/* Derives a key, if the parameters are within the limits of these libraries. Like them, it accepts
+ * an output of 0 bytes, and an output that overlaps the password or the salt. */
 static int derive_key(const uint8_t *password, size_t password_len, const uint8_t *salt, size_t salt_len,
                       uint8_t log_n, uint32_t r, uint32_t p, uint8_t *output, size_t output_len) {
   uint8_t one_byte;
@@ -65,7 +65,7 @@ static int derive(const uint8_t *password, size_t password_len, const uint8_t *s
   if (r == 0 || p == 0) return refused(EINVAL);
   if (n > most_n) return refused(EFBIG);
   if (n < 2 || (n & (n - 1)) != 0) return refused(EINVAL);
-  /* What is still refused is a table larger than memory. */
+  /* The remaining error is a failed allocation. */
   if (derive_key(password, password_len, salt, salt_len, log_of(n), r, p, output, output_len) != SCRYPT_OK)
     return refused(ENOMEM);
   return 0;
@@ -85,8 +85,8 @@ API int libscrypt_scrypt(const uint8_t *password, size_t password_len, const uin
 
 /* The rest are libsodium's functions. */
 
-/* N, r and p for limits of work and of memory: r is 8, N is as large as both limits let it be, and p takes
- * the work that is left. */
+/* Chooses N, r and p for limits on work and memory: r is 8, N is the largest that both limits
+ * allow, and p uses the work that is left. */
 static void choose(unsigned long long work, size_t memory, uint8_t *log_n, uint32_t *r, uint32_t *p) {
   uint64_t most_rows, most_rp;
   if (work < 32768) work = 32768;
@@ -121,7 +121,7 @@ API int crypto_pwhash_scryptsalsa208sha256(unsigned char *output, unsigned long 
                 p, output, (size_t)output_len);
 }
 
-/* The letters of $7$ texts, each with the value of its place. */
+/* The alphabet of $7$ hashes, in the order of the values. */
 static const char LETTERS[] = "./0123456789ABCDEFGHIJKLMNOPQRSTUVWXYZabcdefghijklmnopqrstuvwxyz";
 
 static void put_letters(char *to, int count, uint32_t number) {
@@ -129,7 +129,7 @@ static void put_letters(char *to, int count, uint32_t number) {
   for (i = 0; i < count; i++) to[i] = LETTERS[number >> (6 * i) & 63];
 }
 
-/* The text has the length of those of .._str, and eleven letters for its costs. */
+/* Whether the text has the length of a hash of .._str, and eleven letters for its parameters. */
 static int has_costs(const char *text) {
   if (strnlen(text, TEXT_LEN + 1) != TEXT_LEN) return 0;
   return strncmp(text, "$7$", 3) == 0 && strspn(text + 3, LETTERS) >= 11;
@@ -146,7 +146,7 @@ API int crypto_pwhash_scryptsalsa208sha256_str(char text[TEXT_LEN + 1], const ch
   if (log_n > MOST_LOG_N) return refused(EINVAL);
   if (scrypt_draw_salt(salt, sizeof salt) != SCRYPT_OK) return refused(EIO);
   if (scrypt_hash_mcf(password, (size_t)password_len, salt, SALT_LEN, log_n, r, p, KEY_LEN, made, sizeof made) != SCRYPT_OK)
-    return refused(EINVAL); /* if memory ran out too, as libsodium does */
+    return refused(EINVAL); /* also if memory ran out, as in libsodium */
   memcpy(text, made, sizeof made);
   return 0;
 }
@@ -160,7 +160,7 @@ API int crypto_pwhash_scryptsalsa208sha256_str_verify(const char text[TEXT_LEN +
   return scrypt_verify(password, (size_t)password_len, text, TEXT_LEN) == SCRYPT_OK ? 0 : -1;
 }
 
-/* Whether the costs of the text are others than these limits ask for, greater ones too. */
+/* Whether the parameters of the hash differ from the choice for these limits, even if larger. */
 API int crypto_pwhash_scryptsalsa208sha256_str_needs_rehash(const char text[TEXT_LEN + 1],
                                                             unsigned long long work, size_t memory) {
   char costs[14] = {'$', '7', '$'};

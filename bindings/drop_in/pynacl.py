@@ -1,5 +1,5 @@
-"""PyNaCl as a client of libsodium's names: `make` prints a derived key and made hashes, and `check`
-reads what another run printed, and verifies it.
+"""PyNaCl as a client of libsodium's symbols: `make` prints a derived key and hashes, and `check`
+verifies the output of another run.
 """
 
 import sys

@@ -1,6 +1,6 @@
 #!/bin/sh
-# Calls the drop-in names of build/lib beside the libraries whose names they are, and by programs
-# that know only these.
+# Tests the drop-in symbols of build/lib against the original libraries, and with programs that are
+# made for these.
 set -eu
 unset CDPATH
 cd "$(dirname "$0")/../.."
@@ -11,7 +11,7 @@ python=/usr/bin/python3 # which has Debian's packages
 nm -D --defined-only "$ours" | awk '{ print $3 }' | sort | diff bindings/drop_in/symbols -
 $python -B bindings/drop_in/test_drop_in.py "$ours"
 
-# Fails unless the command calls this name in the library of drop-in names.
+# Fails unless the command calls this symbol in the drop-in library.
 binds() {
   name=$1
   shift
@@ -23,7 +23,7 @@ binds() {
 }
 scheme=crypto_pwhash_scryptsalsa208sha256
 
-# PyNaCl, whose library is the system's libsodium, verifies what it made by either library.
+# PyNaCl, which uses the system's libsodium, verifies hashes that it made with either library.
 if $python -c 'import nacl' 2> /dev/null; then
   client="$python -B bindings/drop_in/pynacl.py"
   $client make > "$room/theirs"
@@ -33,7 +33,7 @@ if $python -c 'import nacl' 2> /dev/null; then
   echo "called by PyNaCl, with hashes of libsodium and of this library"
 else echo "PyNaCl is not installed (package python3-nacl): not run"; fi
 
-# minisign makes a key with a password by libsodium and signs by this library, and refuses another
+# minisign makes a key with a password with libsodium, signs with this library, and rejects another
 # password.
 if has minisign minisign; then
   echo letter > "$room/letter"

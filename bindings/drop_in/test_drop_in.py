@@ -1,5 +1,5 @@
-"""Compares the drop-in names of the library that is given with hashlib, and with the libraries
-whose names they are, if those are installed. The answers in the tables are theirs.
+"""Compares the symbols of the drop-in library with hashlib, and with the original libraries if they
+are installed. The results in the tables are from the original libraries.
 """
 
 import ctypes
@@ -28,7 +28,7 @@ BY_COSTS = {"crypto_scrypt": loaded("scrypt-kdf"), "libscrypt_scrypt": loaded("s
 
 
 def call(library, name, types, *args):
-    """The answer, and the name of the error, if it is -1."""
+    """Returns the result of a call, or the name of the error if the result is -1."""
     function = getattr(library, name)
     function.argtypes = types
     ctypes.set_errno(0)
@@ -40,7 +40,7 @@ def both(theirs):
     return [it for it in (ours, theirs) if it]
 
 
-# Why, n, r, p, the length of the output, and the answer; libsodium's, if it differs.
+# Why, n, r, p, the length of the output, and the result, with libsodium's result if it differs.
 REFUSED = [
     ("one row", 1, 1, 1, 8, "EINVAL"),
     ("no power of two", 3, 1, 1, 8, "EINVAL"),
@@ -75,7 +75,7 @@ def keys():
 
 
 def overlapping():
-    """An output that begins in the password, in the salt, or in neither."""
+    """Tests outputs that begin in the password, in the salt, or in neither."""
     for name, theirs in BY_COSTS.items():
         for library in both(theirs):
             for place in (0, 3, 8, 15, 16):
@@ -88,8 +88,8 @@ def overlapping():
 
 
 def chosen(work, memory):
-    """log_n and p for libsodium's limits, with r of 8, as its documentation and its answers have
-    them."""
+    """Returns log_n and p for libsodium's limits, with r = 8, according to its documentation and
+    results."""
     work = max(work, 32768)
     few = work < memory // 32
     most = work // 32 if few else memory // 1024
@@ -123,7 +123,7 @@ def rehashed(library, text, work, memory):
 
 
 def choices():
-    """What is chosen for limits of each size."""
+    """Compares the parameters that are chosen for limits of each size."""
     drawn = random.Random(7914)
     for _ in range(3000):
         work, memory = drawn.getrandbits(drawn.randint(0, 64)), drawn.getrandbits(drawn.randint(0, 64))
@@ -159,14 +159,13 @@ def limits():
         text = ctypes.create_string_buffer(b"\7" * 102, 102)
         answer = call(library, PWHASH + "_str", [P, P, U64, U64, Z], text, b"pw", 2, MANY << 20, MANY << 20)
         assert (answer, text.raw) == ("EINVAL", b"\0" * 102), "too many rows; the text is cleared"
-    # libsodium 1.0.18 clears the password with the output, and takes what is left for the password.
+    # libsodium 1.0.18 clears the password with the output, and then uses the zeros as the password.
     same = ctypes.create_string_buffer(b"p" * 16, 16)
     assert call(ours, PWHASH, [P, U64, P, U64, P, U64, Z], same, 16, same, 16, b"s" * 32, 0, 0) == "EINVAL"
 
 
 GOOD = text_of(10, 8, 1)
-# Why, the text, whether it verifies, and what the check whether it needs a new hash answers for
-# (32768, 2^20).
+# Why, the text, whether it verifies, and the result of .._str_needs_rehash for (32768, 2^20).
 TEXTS = [
     ("a text of libsodium's", GOOD, True, 0),
     ("other costs", text_of(9, 3, 5), True, 1),
@@ -193,7 +192,7 @@ def texts():
 
 
 def one_table():
-    """As the libraries of these names, each call has one table, whatever p is."""
+    """As in the original libraries, each call has one table, whatever p is."""
     text = text_of(14, 8, 4)
     for name, derive in (
         ("crypto_scrypt", lambda: by_costs(ours, "crypto_scrypt", b"pw", b"salt", 1 << 14, 8, 4, 64)[0] == 0),
