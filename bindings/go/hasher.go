@@ -98,8 +98,8 @@ func NewHasher(options Options) (*Hasher, error) {
 	if of.c == nil {
 		return nil, fmt.Errorf("%w: %v: %+v", Error(status), options.Params.needs(), options)
 	}
-	// For each slot a batch of up to four is derived, and as many calls wait in C, where they form
-	// the next batch.
+	// Each slot derives a batch of up to four calls, and four more wait in C to form the next
+	// batch.
 	derive := C.scrypt_hasher_options(of.c).processors
 	if atOnce := C.scrypt_hasher_options(of.c).at_once; atOnce < derive {
 		derive = atOnce
@@ -230,7 +230,7 @@ func (h *Hasher) Verify(ctx context.Context, text string, password []byte) error
 	})
 }
 
-// refusal returns why a hash is rejected, with its cost; nil if it is not, or if the text is empty.
+// refusal returns the error of a hash that is rejected, with its cost; nil for an empty text.
 func (h *Hasher) refusal(text []byte) error {
 	if len(text) == 0 {
 		return nil

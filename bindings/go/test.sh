@@ -1,6 +1,6 @@
 #!/bin/sh
-# Tests the Go module with the library of build/lib, and takes it from a proxy as go get does. With
-# PRESET=windows, its own tests in Wine.
+# Tests the Go module with the library of build/lib, and fetches it from a proxy with go get. With
+# PRESET=windows, runs only the module's tests, in Wine.
 set -eu
 unset CDPATH
 cd "$(dirname "$0")/../.."
@@ -24,7 +24,7 @@ in_module go test -count=1 -timeout 5m -race -v .
 python3 bindings/compare_keys.py < "$room/log"
 echo "called from Go, with no report by go vet, gofmt and the race detector"
 
-# A program in a module of its own, linked statically, as it runs in an empty image.
+# A program in a separate module, linked statically, as for an empty image.
 mkdir "$room/program"
 cp bindings/go/example_test.go "$room/program"
 cd "$room/program"
