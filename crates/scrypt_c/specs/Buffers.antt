@@ -6,7 +6,7 @@ use Rattle.scrypt.specs.Cost.{chunks_bytes, scratch_words, table_words, thin_scr
 abbrev pub IsSpacing : ℕ → ℕ → Type 0
 IsSpacing log_n s = s ≤ log_n
 
--- the words of the scratch: a table that keeps every row needs no room to recompute one
+-- the words of the scratch: no row is recomputed if the table keeps every row
 abbrev pub scratch_len : ℕ → ℕ → ℕ
 scratch_len s r = if nat_eq s 0 then scratch_words r else thin_scratch_words r
 

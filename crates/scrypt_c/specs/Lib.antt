@@ -4,15 +4,15 @@
 pub mod Buffers
 -- how the texts of hashes are read, as bytes
 pub mod Texts
--- the statuses of what was read, of verdicts and of errors
+-- the statuses of readings, verdicts and errors
 pub mod Statuses
--- the statuses of what a call needs within limits
+-- the statuses of a cost within limits
 pub mod Limits
--- what a derivation needs
+-- the cost of a derivation
 pub mod Needs
 -- the parameters of new hashes, and how their texts are copied to the caller
 pub mod Made
--- what is left in the caller's buffers
+-- several verdicts in the caller's buffers
 pub mod InBuffers
 -- keys in steps
 pub mod Steps

@@ -1,4 +1,4 @@
--- The status of what parameters need within limits.
+-- The status of a cost within limits.
 use Rattle.std.specs.Prelude.{◌≡◌, ◌⊎◌, ◌↔◌, ℕ, ℤ, ◌+◌, ◌*◌, ◌^◌, if◌then◌else◌, min, nat_lt, pos, IsTrue, None}
 use Rattle.scrypt.specs.Accepted.{are_accepted, Parameters}
 use Rattle.scrypt.specs.Cost.{chunks_bytes, scratch_words, table_words}
@@ -14,15 +14,16 @@ limits_of most_bytes most_work least_key_len =
 abbrev pub params_of : ℕ → ℕ → ℕ → Parameters
 params_of log_n r p = record { log_n = log_n; r = r; p = p; output_len = None }
 
--- The bytes that the buffers of a key may have together: those with as many tables as fit into `most_bytes`, at most
--- `most_tables`. A table of fewer than 2 ^ 14 words is mixed faster alone: then 0, which is one table.
+-- The size limit for the buffers of a key, in bytes: the size with all tables that fit into
+-- `most_bytes`, up to `most_tables`. If a table has fewer than 2 ^ 14 words, interleaving is
+-- slower: then the limit is 0, which selects one table.
 unfoldable pub bytes_that_pay : ℕ → ℕ → Parameters → ℕ
 bytes_that_pay most_tables most_bytes c =
     let tables = min (tables_within most_bytes c) most_tables in
     if nat_lt (table_words c.log_n c.r) (2 ^ 14) then 0
     else min (chunks_bytes c.r c.p + 4 * (tables * table_words c.log_n c.r) + 4 * (tables * scratch_words c.r)) most_bytes
 
--- the status of what parameters need: 0, or that they aren't accepted, or not within limits
+-- the status of a cost: 0, or that the parameters are not accepted or exceed the limits
 pub record IsNeedStatus (most_bytes most_work log_n r p : ℕ) (status : ℤ) : Type 0 where
   pub params : (status ≡ pos 2) ↔ (¬ IsTrue (are_accepted log_n r p))
   pub costly : (status ≡ pos 13)

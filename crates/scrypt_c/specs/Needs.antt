@@ -1,11 +1,12 @@
--- What a derivation needs.
+-- The cost of a derivation.
 use Rattle.std.specs.Prelude.{ℕ, ◌-◌, ◌^◌, min}
 use Rattle.scrypt.specs.Accepted.{Parameters}
 use Rattle.scrypt.specs.Cost.{chunks_bytes, scratch_words, table_words}
 use Rattle.scrypt.specs.Limits.{buffers_bytes, tables_within, work}
 use Rattle.scrypt_c.specs.declared.needs.Needs.{Needs}
 
--- what a derivation with these parameters, and a key of so many bytes, needs in buffers of at most so many bytes
+-- the cost of a derivation with these parameters and a key of `key_len` bytes, in buffers of up to
+-- `most_bytes` bytes
 abbrev pub needs_of : ℕ → Parameters → ℕ → Needs
 needs_of most_bytes c key_len = record {
   log_n = c.log_n;

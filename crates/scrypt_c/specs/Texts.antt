@@ -10,6 +10,6 @@ use Rattle.scrypt.specs.StoredHash.{params_reading, reading}
 unfoldable pub bytes_reading : List ℕ → Result Stored Refusal
 bytes_reading bytes = if is_utf8 bytes then reading bytes else Err EncodingInvalid
 
--- the parameters that are read of bytes, and the length of the key
+-- the parameters that are read from bytes, and the length of the key
 unfoldable pub bytes_params : List ℕ → Result (Parameters × ℕ) Refusal
 bytes_params bytes = if is_utf8 bytes then params_reading bytes else Err EncodingInvalid

@@ -1,4 +1,4 @@
-//! Hashes: writing their texts, and verifying passwords by them.
+//! Hashes: making their texts, and verifying passwords against them.
 
 ghost use Rattle.std.specs.Prelude.{◌≡◌, ◌≢◌, ◌⊎◌, ◌↔◌, length};
 ghost use Rattle.password_hash.specs.Refusal.{with_refusal};
@@ -137,12 +137,13 @@ pub extern "C" fn scrypt_hash_params(
     }
 }
 
-/// Verifies the password by the text of a hash, with the parameters, the salt and the length of the
-/// key in the text. All bytes of the two keys are compared.
+/// Verifies the password against the text of a hash, with the parameters, the salt and the key
+/// length that the text encodes. All bytes of the two keys are compared.
 ///
 /// A text that is `$7` or begins with `$7$` is read as a `$7$` text, and any other as a PHC text.
-/// Returns `OK` if the key of the password is that of the hash, and otherwise `ENCODING_INVALID` if
-/// the bytes are not UTF-8, or the status of the error of `StoredHash::read` or `StoredHash::verify`.
+/// Returns `OK` if the password has the same key as the hash, and otherwise `ENCODING_INVALID` if
+/// the bytes are not UTF-8, or the status of the error of `StoredHash::read` or
+/// `StoredHash::verify`.
 #[unsafe(no_mangle)]
 pub extern "C" fn scrypt_verify(alloc: Global, password: &[u8], text: &[u8]) -> i32
     ensures status { IsVerifyStatus password.now (bytes_reading text.now) result }
@@ -157,12 +158,14 @@ pub extern "C" fn scrypt_verify(alloc: Global, password: &[u8], text: &[u8]) -> 
     }
 }
 
-/// Does what `scrypt_verify` does, if the hash is within the limits: a hash that is not the caller's own chooses its cost.
+/// Does what `scrypt_verify` does if the hash is within the limits, because an untrusted hash
+/// chooses its own cost.
 ///
-/// Returns the errors of `scrypt_verify` for a hash that cannot be read, `MISMATCH` for one without a salt or a key among
-/// them; then `TOO_COSTLY` if the buffers with one table have more than `most_bytes` bytes together, or if the work,
-/// `4 * (2^log_n + 32) * r * p`, is above `most_work`; `KEY_TOO_SHORT` if the key has fewer than `least_key_len` bytes;
-/// `OUT_OF_MEMORY`; and `MISMATCH` if it is another key.
+/// Returns the errors of `scrypt_verify` for a hash that cannot be read, including `MISMATCH` if it
+/// has no salt or no key; then `TOO_COSTLY` if the buffers with one table have more than
+/// `most_bytes` bytes in total, or if the work, `4 * (2^log_n + 32) * r * p`, exceeds `most_work`;
+/// `KEY_TOO_SHORT` if the key has fewer than `least_key_len` bytes; `OUT_OF_MEMORY`; and `MISMATCH`
+/// if the keys differ.
 #[unsafe(no_mangle)]
 pub extern "C" fn scrypt_verify_within(
     alloc: Global,
@@ -194,12 +197,12 @@ pub extern "C" fn scrypt_verify_within(
     }
 }
 
-/// Compares the hash of a text with wanted parameters: it is weaker if `log_n`, `r`, `p` or the
-/// length of its key is below the wanted one, and one of the four is enough. Nothing is allocated.
+/// Compares the hash in a text with the wanted parameters. The hash is weaker if at least one of
+/// `log_n`, `r`, `p` and the length of its key is below the wanted value. Nothing is allocated.
 ///
 /// Returns the first of these: `INVALID_PARAMS` unless `log_n`, `r` and `p` are accepted and the
-/// wanted key has 10 to 64 bytes, whatever the text is; the first error of `scrypt_verify` before it
-/// allocates, of which `MISMATCH`, for no salt or no key, is the same number as `NEEDS_REHASH`;
+/// wanted key has 10 to 64 bytes, whatever the text is; the first error of `scrypt_verify` before
+/// it allocates, where `MISMATCH`, for a missing salt or key, is the same number as `NEEDS_REHASH`;
 /// `NEEDS_REHASH` if the hash is weaker; and `OK` if it is not.
 #[unsafe(no_mangle)]
 pub extern "C" fn scrypt_needs_rehash(text: &[u8], log_n: u8, r: u32, p: u32, key_len: usize) -> i32

@@ -1,5 +1,5 @@
-//! Keys and verdicts in steps, in the caller's buffers: between two of them the caller can show how
-//! far they have come, or leave them.
+//! Keys and verdicts in steps, in the caller's buffers: between two steps the caller can show
+//! progress or cancel.
 
 ghost use Rattle.std.specs.Prelude.{◌≡◌, ◌≢◌, ◌⊎◌, ◌↔◌, ◌≤◌, ◌<◌, ◌+◌, ◌-◌, ◌*◌, ℕ, List, length};
 ghost use Rattle.std.specs.Prelude.{min};
@@ -30,14 +30,14 @@ use scrypt::{
     is_within, step,
 };
 
-/// Begins a key in steps. It runs no core yet: `scrypt_key_step` does, and `scrypt_key_finish` writes
-/// the key. As many chunks are mixed at a time as have a table and a scratch, at most four.
+/// Begins a key in steps. It runs no core yet: `scrypt_key_step` does, and `scrypt_key_finish`
+/// writes the key. Up to four chunks are interleaved, one for each table and scratch.
 ///
 /// Returns `OK`, or the first of these, and then nothing has changed: `INVALID_PARAMS`; and
-/// `BUFFER_SIZE` unless the chunks have the length of `scrypt_buffer_lens` with `s` of 0, and the
-/// others at least theirs. What the buffers hold does not matter. After `OK` they and the progress
-/// are for the other two calls alone. A key that is not to be finished needs nothing but that the
-/// buffers are wiped.
+/// `BUFFER_SIZE` unless the chunks have exactly the length that `scrypt_buffer_lens` returns with
+/// `s = 0`, and the table and the scratch have its lengths or more. The initial contents of the
+/// buffers do not matter. After `OK` pass the buffers and the progress only to the other two calls.
+/// To cancel a key, wipe the buffers: nothing else is needed.
 #[unsafe(no_mangle)]
 pub extern "C" fn scrypt_key_begin(
     password: &[u8],
@@ -78,14 +78,14 @@ pub extern "C" fn scrypt_key_begin(
     OK
 }
 
-/// Goes on with a key: `count` block mixes of each chunk that is mixed now, of its `2^(log_n + 1)`,
-/// or all that they lack. A block mix takes `2 * r` Salsa20/8 cores. All `p` chunks are mixed when
+/// Continues a key: runs `count` block mixes of each chunk that is mixed now, or all that remain of
+/// its `2^(log_n + 1)`. A block mix takes `2 * r` Salsa20/8 cores. All `p` chunks are mixed when
 /// `at.chunks` is `p`.
 ///
 /// Returns `OK`, or the first of these, and then nothing has changed: `INVALID_PARAMS`;
-/// `BUFFER_SIZE` unless the chunks have their length, and the others at least that for
-/// `at.at_once` chunks; and `INVALID_PROGRESS` unless the progress is that of a key with these
-/// parameters, on this processor.
+/// `BUFFER_SIZE` unless the chunks have exactly their length and the table and the scratch have
+/// capacity for `at.at_once` chunks; and `INVALID_PROGRESS` unless a key with these parameters can
+/// have this progress on this processor.
 #[unsafe(no_mangle)]
 pub extern "C" fn scrypt_key_step(
     log_n: u8,
@@ -180,12 +180,12 @@ pub extern "C" fn scrypt_key_finish(
     }
 }
 
-/// Begins verifying a password with the text of a hash, in steps, if what that needs is within the
-/// limits: `scrypt_key_step` with the parameters that are written goes on, and
+/// Begins verifying a password against the text of a hash, in steps, if the cost of the hash is
+/// within the limits. Continue with `scrypt_key_step`, with the parameters that this call writes;
 /// `scrypt_verify_finish` returns the verdict.
 ///
-/// Returns `OK`, or the first of these, and then nothing has changed: what `scrypt_hash_needs`
-/// returns; and `BUFFER_SIZE` as `scrypt_key_begin` does.
+/// Returns `OK`, or the first of these, and then nothing has changed: the error that
+/// `scrypt_hash_needs` returns; and `BUFFER_SIZE` as `scrypt_key_begin` does.
 #[unsafe(no_mangle)]
 pub extern "C" fn scrypt_verify_begin(
     password: &[u8],
@@ -256,7 +256,8 @@ pub extern "C" fn scrypt_verify_begin(
     OK
 }
 
-/// Finishes verifying a password with the text of a hash: the verdict of `scrypt_verify`.
+/// Finishes verifying a password against the text of a hash: returns the verdict of
+/// `scrypt_verify`.
 ///
 /// Returns `OK`, or the first of these: the errors of `scrypt_verify` for a hash that cannot be
 /// read; `BUFFER_SIZE` unless the chunks have the length of `scrypt_buffer_lens`; `UNFINISHED` unless
@@ -314,7 +315,7 @@ fn whole_params(hash: &StoredHash<'_>) -> Result<Params>
     }
 }
 
-// Whether the chunks have their length, and the others room for so many tables and scratches.
+// Whether the chunks have their length, and the table and the scratch fit `tables` chunks.
 fn are_for_steps(
     params: &Params,
     tables: usize,
@@ -326,7 +327,7 @@ fn are_for_steps(
         ↔ AreForSteps params.now.log_n params.now.r params.now.p tables chunks.now table.now
         scratch.now }
 {
-    // Proof hint: r is not 0, so no length is.
+    // Proof hint: r is not 0, so neither is any length.
     let _ = params.r();
     let lens = BufferLens::of(params);
     chunks.len() == lens.chunks
@@ -334,7 +335,7 @@ fn are_for_steps(
         && fits(tables, lens.scratch, scratch.len())
 }
 
-// Whether so many of this length fit.
+// Whether `len` has capacity for `tables` buffers of length `one`.
 fn fits(tables: usize, each: usize, len: usize) -> bool
     requires some { 0 < each }
     ensures exact { IsTrue result ↔ (tables * each ≤ len) }

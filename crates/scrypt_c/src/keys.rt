@@ -1,4 +1,4 @@
-//! Keys, in memory that is allocated, and in the caller's buffers.
+//! Keys, derived in allocated memory or in the caller's buffers.
 
 ghost use Rattle.std.specs.Prelude.{◌≡◌, ◌≢◌, ◌⊎◌, ◌↔◌, ◌≤◌, length, take, None, IsSome, IfSome, IsTrue};
 ghost use Rattle.scrypt.specs.Accepted.{are_accepted, is_output_len};
@@ -21,10 +21,13 @@ use scrypt::{
 };
 use std::alloc::Global;
 
-/// Writes the scrypt key of `password` and `salt` to `output` (RFC 7914, section 6), in memory that is allocated.
+/// Writes the scrypt key of `password` and `salt` to `output` (RFC 7914, section 6), and allocates
+/// the memory for it.
 ///
-/// Takes as many tables as pay: at most `most_tables`, four and `p`, and several only if they are not tiny, and if all
-/// buffers together have at most `most_bytes` bytes. If the system refuses them, it takes one.
+/// Takes several tables, to interleave chunks, if that is faster: up to four, and no more than
+/// `most_tables` or `p`. It takes several only if a table has at least 2^14 words, and if all
+/// buffers together do not exceed `most_bytes` bytes. If the allocation of several tables fails, it
+/// uses one.
 ///
 /// Returns `OK`, or the first of these: `INVALID_PARAMS` unless `log_n`, `r` and `p` are accepted,
 /// `INVALID_OUTPUT_LEN` unless the output has 1 to 137438953440 bytes, and `OUT_OF_MEMORY` if an
@@ -66,9 +69,10 @@ pub extern "C" fn scrypt_kdf(
 
 /// Does what `scrypt_kdf` does, if the parameters are within the limits.
 ///
-/// Returns `OK`, or the first of these: `INVALID_PARAMS`; `TOO_COSTLY` if the buffers with one table have more than
-/// `most_bytes` bytes together, or if the work, `4 * (2^log_n + 32) * r * p`, is above `most_work`; `INVALID_OUTPUT_LEN`;
-/// and `OUT_OF_MEMORY`. On an error the output is unchanged.
+/// Returns `OK`, or the first of these: `INVALID_PARAMS`; `TOO_COSTLY` if the buffers with one
+/// table have more than `most_bytes` bytes in total, or if the work, `4 * (2^log_n + 32) * r * p`,
+/// exceeds `most_work`; `INVALID_OUTPUT_LEN`; and `OUT_OF_MEMORY`. On an error the output is
+/// unchanged.
 #[unsafe(no_mangle)]
 pub extern "C" fn scrypt_kdf_within(
     alloc: Global,
@@ -117,10 +121,10 @@ pub extern "C" fn scrypt_kdf_within(
     )
 }
 
-// A table of fewer words is mixed faster alone.
+// With fewer words in a table, interleaving is slower than one chunk at a time.
 const LEAST_OF_SEVERAL: usize = 1 << 14;
 
-// Returns the bytes of the buffers with as many tables as pay, or 0 if that is one.
+// Returns the bytes of the buffers with all tables that are worth using, or 0 to select one table.
 #[tactic(auto, unfolding(crate::specs::Limits::bytes_that_pay))]
 fn bytes_that_pay(params: &Params, most_tables: usize, most_bytes: usize) -> usize
     ensures exact { result ≡ bytes_that_pay most_tables most_bytes params.now }
@@ -133,12 +137,12 @@ fn bytes_that_pay(params: &Params, most_tables: usize, most_bytes: usize) -> usi
     bytes.min(most_bytes as u128) as usize
 }
 
-/// Writes the lengths of the buffers that a derivation with these parameters works on: those of
-/// `scrypt_kdf_with_buffers` if `s` is 0, and those of `scrypt_kdf_thin` with this `s`. The chunks
-/// are counted in bytes, and the table and the scratch in words of 4 bytes.
+/// Writes the lengths of the buffers of a derivation with these parameters: for
+/// `scrypt_kdf_with_buffers` if `s` is 0, and otherwise for `scrypt_kdf_thin` with this `s`. The
+/// chunks are counted in bytes, and the table and the scratch in words of 4 bytes.
 ///
-/// Returns `OK`, or `INVALID_PARAMS` unless `log_n`, `r` and `p` are accepted and `s` is at most
-/// `log_n`. On an error the three are unchanged.
+/// Returns `OK`, or `INVALID_PARAMS` unless `log_n`, `r` and `p` are accepted and `s` does not
+/// exceed `log_n`. On an error the three lengths are unchanged.
 #[unsafe(no_mangle)]
 pub extern "C" fn scrypt_buffer_lens(
     log_n: u8,
@@ -167,12 +171,15 @@ pub extern "C" fn scrypt_buffer_lens(
 /// Does what `scrypt_kdf` does, in the caller's buffers, and allocates nothing.
 ///
 /// Returns `OK`, or the first of these: `INVALID_PARAMS`, `INVALID_OUTPUT_LEN`, and `BUFFER_SIZE`
-/// unless each buffer is at least as long as `scrypt_buffer_lens` returns with `s` of 0. Only so many
-/// elements at the front of each buffer are used, or as many times as many of the table and the
-/// scratch as chunks are mixed at a time: at most four, at most `p`, and as many as both have room
-/// for. On arm64 two use the place of one. What the buffers hold before the call does not matter.
-/// After `OK` the chunks hold B after step 2, what was used of the others is unspecified, and nothing
-/// after it has changed. On an error the buffers and the output are unchanged.
+/// if a buffer is shorter than `scrypt_buffer_lens` returns with `s = 0`.
+///
+/// Chunks are interleaved if the buffers are longer: up to four, no more than `p`, and no more than
+/// both the table and the scratch have capacity for. The derivation uses a prefix of each buffer:
+/// the length that `scrypt_buffer_lens` returns, which for the table and the scratch is multiplied
+/// by the number of interleaved chunks. On arm64 two chunks are not interleaved: one table and one
+/// scratch serve both. The initial contents of the buffers do not matter. After `OK` the chunks
+/// hold B after step 2, the used prefix of the others is unspecified, and nothing after it has
+/// changed. On an error the buffers and the output are unchanged.
 #[unsafe(no_mangle)]
 pub extern "C" fn scrypt_kdf_with_buffers(
     password: &[u8],
@@ -208,13 +215,15 @@ pub extern "C" fn scrypt_kdf_with_buffers(
     }
 }
 
-/// Does what `scrypt_kdf_with_buffers` does, with a table that keeps one row in `2^s`: it has `2^s` times
-/// fewer words, and any other row is recomputed whenever it is needed.
+/// Does what `scrypt_kdf_with_buffers` does, with a time-memory trade-off: the table keeps one row
+/// in `2^s`, so it has `2^s` times fewer words, and any other row is recomputed whenever it is
+/// needed.
 ///
 /// Returns `OK`, or the first of these: `INVALID_PARAMS`, also if `s` is above `log_n`,
 /// `INVALID_OUTPUT_LEN`, and `BUFFER_SIZE` unless the three buffers have exactly the lengths of
-/// `scrypt_buffer_lens` with this `s`. After `OK` the chunks hold B after step 2, and what the others hold
-/// is unspecified. On an error they and the output are unchanged.
+/// `scrypt_buffer_lens` with this `s`. After `OK` the chunks hold B after step 2, and the contents
+/// of the table and the scratch are unspecified. On an error all three buffers and the output are
+/// unchanged.
 #[unsafe(no_mangle)]
 pub extern "C" fn scrypt_kdf_thin(
     password: &[u8],

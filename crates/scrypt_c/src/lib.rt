@@ -1,8 +1,8 @@
-//! What C calls: a static library over the crate `scrypt`.
+//! The C interface: a static library over the crate `scrypt`.
 //!
-//! It is not for callers from Rattle, and it trusts the pointers and the lengths that it is passed.
-//! Each call returns a status: 0 on success, otherwise an error code. A slice is a pointer and a
-//! length in C.
+//! It is not meant for callers in Rattle, because it trusts the pointers and the lengths that it is
+//! passed. Each call returns a status: 0 on success, otherwise an error code. A slice is a pointer
+//! and a length in C.
 #![tactic(auto)]
 
 pub mod hashes;

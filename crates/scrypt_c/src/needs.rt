@@ -1,4 +1,4 @@
-//! What a call needs, within limits, before it allocates.
+//! The memory and work that a call needs, checked against limits before anything is allocated.
 
 ghost use Rattle.std.specs.Prelude.{◌≡◌, ◌≢◌, ◌↔◌, ◌⊎◌, IfOk, OnErr, IsTrue, length};
 ghost use Rattle.scrypt.specs.Accepted.{are_accepted};
@@ -14,9 +14,10 @@ use crate::texts::stored_hash;
 use scrypt::laws::{parameters_are_those_of_the_reading, reading_names_no_password};
 use scrypt::{BufferLens, LimitedError, Limits, Params};
 
-/// What a derivation needs: its parameters, and the length of the key if it is that of a hash; how many tables and scratches
-/// it can use, which is 1 to 4 and at most `p`; the lengths of the chunks in bytes, and of one table and one scratch in words; and
-/// how many bytes its buffers have with one table, and its work, each at most `2^64 - 1`.
+/// The cost of a derivation: its parameters; the length of the key if it is the key of a hash; the
+/// number of tables and scratches that it can use, from 1 to 4 and not above `p`; the length of the
+/// chunks in bytes, and of one table and one scratch in words; the size of its buffers in bytes,
+/// with one table; and its work. Size and work are capped at `2^64 - 1`.
 #[repr(C)]
 #[derive(Clone, Copy)]
 pub struct Needs {
@@ -32,14 +33,15 @@ pub struct Needs {
     pub work: u64,
 }
 
-/// Returns in `needs` what verifying with the text of a hash needs, if the buffers may have `most_bytes` bytes together. Does
-/// not allocate.
+/// Writes to `needs` what verifying with the text of a hash needs, if the buffers may have
+/// `most_bytes` bytes in total. Does not allocate.
 ///
-/// Returns `OK`, or the first of these: the errors of `scrypt_verify` for a hash that cannot be read, `MISMATCH` for one
-/// without a salt or a key among them, and then nothing is written; `TOO_COSTLY` if the buffers have more than
-/// `most_bytes` bytes together, or if the work, `4 * (2^log_n + 32) * r * p`, is above `most_work`; and
-/// `KEY_TOO_SHORT` if the key has fewer than `least_key_len` bytes. On these two the same is written as on `OK`, with
-/// `tables` 1 if even one table is too much.
+/// Returns `OK`, or the first of these: the errors of `scrypt_verify` for a hash that cannot be
+/// read, including `MISMATCH` if it has no salt or no key, and then nothing is written;
+/// `TOO_COSTLY` if the buffers with one table have more than `most_bytes` bytes in total, or if the
+/// work, `4 * (2^log_n + 32) * r * p`, exceeds `most_work`; and `KEY_TOO_SHORT` if the key has
+/// fewer than `least_key_len` bytes. These two write the same as `OK`; `tables` is 1 if even one
+/// table does not fit.
 #[unsafe(no_mangle)]
 pub extern "C" fn scrypt_hash_needs(
     text: &[u8],
@@ -75,11 +77,12 @@ pub extern "C" fn scrypt_hash_needs(
     status
 }
 
-/// Returns in `needs` what a derivation with these parameters needs, if the buffers may have `most_bytes` bytes together. Does
-/// not allocate.
+/// Writes to `needs` what a derivation with these parameters needs, if the buffers may have
+/// `most_bytes` bytes in total. Does not allocate.
 ///
-/// Returns `OK`, or the first of these: `INVALID_PARAMS` if the parameters are not accepted, and then nothing is written;
-/// and `TOO_COSTLY` as `scrypt_hash_needs` does, and then the same is written as on `OK`.
+/// Returns `OK`, or the first of these: `INVALID_PARAMS` if the parameters are not accepted, and
+/// then nothing is written; and `TOO_COSTLY` as `scrypt_hash_needs` does, which writes the same as
+/// `OK`.
 #[unsafe(no_mangle)]
 pub extern "C" fn scrypt_params_need(
     log_n: u8,
@@ -127,10 +130,12 @@ fn needs_of(params: &Params, key_len: usize, most_bytes: usize) -> Needs
     }
 }
 
-/// Returns the default limits of a hasher that makes hashes with these parameters and keys of `key_len` bytes: the usual
-/// ones, except that they admit such hashes. Does not allocate.
+/// Returns the default limits of a hasher that makes hashes with these parameters and keys of
+/// `key_len` bytes: `Limits::USUAL`, raised where necessary to admit such hashes. Does not
+/// allocate.
 ///
-/// Returns `OK`, or `INVALID_PARAMS` if the parameters are not accepted, and then no limit is written.
+/// Returns `OK`, or `INVALID_PARAMS` if the parameters are not accepted, and then no limit is
+/// written.
 #[unsafe(no_mangle)]
 pub extern "C" fn scrypt_limits_for_new(
     log_n: u8,

@@ -1,4 +1,4 @@
-//! What the calls return.
+//! The statuses that the calls return.
 
 ghost use Rattle.std.specs.Prelude.{◌≡◌};
 ghost use Rattle.password_hash.specs.Refusal.{refusal};
@@ -8,10 +8,10 @@ ghost use Rattle.scrypt_c.specs.Statuses.{refusal_status};
 use password_hash::Error;
 use scrypt::LimitedError;
 
-/// The call succeeded; of `scrypt_verify`: the key of the password is that of the hash.
+/// The call succeeded; from `scrypt_verify`: the password has the same key as the hash.
 pub const OK: i32 = 0;
 
-/// `scrypt_verify`: the key of the password is not that of the hash, or the hash has none.
+/// `scrypt_verify`: the password has another key than the hash, or the hash has no key.
 pub const MISMATCH: i32 = 1;
 
 /// `scrypt_needs_rehash`: the hash is weaker than wanted.
@@ -44,10 +44,10 @@ pub const HASH_PARAMS_INVALID: i32 = 9;
 /// The salt has a length that is not allowed.
 pub const SALT_INVALID: i32 = 10;
 
-/// The hash names a version, and scrypt has none.
+/// The hash has a version field; scrypt hashes have no version.
 pub const VERSION: i32 = 11;
 
-/// A buffer does not have its length, or the text does not fit its capacity.
+/// A buffer has the wrong length, or the text does not fit its buffer.
 pub const BUFFER_SIZE: i32 = 12;
 
 /// The parameters exceed the limit on memory or the limit on work.
@@ -59,10 +59,10 @@ pub const KEY_TOO_SHORT: i32 = 15;
 /// `scrypt_key_finish`: not all chunks are mixed.
 pub const UNFINISHED: i32 = 20;
 
-/// `scrypt_key_step`: a key with these parameters can't have come so far.
+/// `scrypt_key_step`: the progress is impossible for a key with these parameters.
 pub const INVALID_PROGRESS: i32 = 21;
 
-// Clauses use the names of the statuses, and callers in C their numbers.
+// Clauses use the names of the statuses; callers in C see their numbers.
 const _: () = prove!(OK == 0 && MISMATCH == 1 && NEEDS_REHASH == 1 && INVALID_PARAMS == 2);
 
 const _: () = prove!(INVALID_OUTPUT_LEN == 3 && OUT_OF_MEMORY == 4 && ALGORITHM == 5);

@@ -1,4 +1,4 @@
-//! Hashes in the caller's buffers.
+//! Hashes, made and verified in the caller's buffers.
 
 ghost use Rattle.std.specs.Prelude.{◌≡◌, ◌≢◌, ◌↔◌, ◌⊎◌, ◌<◌, ◌≤◌, [], ◌∷◌, length, replicate, IsTrue};
 ghost use Rattle.password_hash.specs.Refusal.{refusal};
@@ -28,13 +28,15 @@ use scrypt::{
 /// Does what `scrypt_hash_phc` does, in the caller's buffers, and allocates nothing.
 ///
 /// Returns `OK`, or the first of these: `INVALID_PARAMS` and `SALT_INVALID` as there; `BUFFER_SIZE`
-/// unless each buffer is at least as long as `scrypt_buffer_lens` returns for `log_n`, `r` and `p`,
-/// with `s` of 0, and then `text_len` is unchanged, however short `text` is; and `BUFFER_SIZE` if the
-/// new text is longer than `text`, and then `text_len` is its length. On any other error `text_len`
-/// is unchanged, and on every error `text` is. Only so many elements at the front of each buffer are
-/// used. After the derivation, with `OK` or a text that is too long, those of the chunks and of the
-/// scratch are zeros, those of the table are unspecified, and nothing after them has changed;
-/// otherwise the buffers are unchanged.
+/// if a buffer is shorter than `scrypt_buffer_lens` returns for `log_n`, `r` and `p` with `s = 0`,
+/// and then `text_len` is unchanged, however short `text` is; and `BUFFER_SIZE` if the new text is
+/// longer than `text`, and then `text_len` is its length. On any other error `text_len` is
+/// unchanged, and `text` is unchanged on every error.
+///
+/// The derivation uses the same prefix of each buffer as `scrypt_kdf_with_buffers` does. After it,
+/// with `OK` or a text that is too long, the prefixes of the chunks and of the scratch are zeros,
+/// the prefix of the table is unspecified, and nothing after them has changed. Without it the
+/// buffers are unchanged.
 #[unsafe(no_mangle)]
 pub extern "C" fn scrypt_hash_phc_with_buffers(
     password: &[u8],
@@ -82,11 +84,13 @@ pub extern "C" fn scrypt_hash_phc_with_buffers(
 ///
 /// Returns `OK`, or the first of these: `INVALID_PARAMS` as there; `BUFFER_SIZE` if the new text is
 /// longer than `text`, and then `text_len` is its length, however short the buffers are; and
-/// `BUFFER_SIZE` unless each buffer is at least as long as `scrypt_buffer_lens` returns for `log_n`,
-/// `r` and `p`, with `s` of 0. Unless the text is too long, an error leaves `text_len` unchanged, and
-/// every error leaves `text` and the buffers unchanged. Only so many elements at the front of each
-/// buffer are used. After `OK` those of the chunks and of the scratch are zeros, those of the table
-/// are unspecified, and nothing after them has changed.
+/// `BUFFER_SIZE` if a buffer is shorter than `scrypt_buffer_lens` returns for `log_n`, `r` and `p`
+/// with `s = 0`. Unless the text is too long, an error leaves `text_len` unchanged, and every error
+/// leaves `text` and the buffers unchanged.
+///
+/// The derivation uses the same prefix of each buffer as `scrypt_kdf_with_buffers` does. After `OK`
+/// the prefixes of the chunks and of the scratch are zeros, the prefix of the table is unspecified,
+/// and nothing after them has changed.
 #[unsafe(no_mangle)]
 pub extern "C" fn scrypt_hash_mcf_with_buffers(
     password: &[u8],
@@ -134,11 +138,13 @@ pub extern "C" fn scrypt_hash_mcf_with_buffers(
 /// Does what `scrypt_verify` does, in the caller's buffers, and allocates nothing.
 ///
 /// Returns `OK` as there, or the first of these: the first error of `scrypt_verify` before it
-/// allocates; `BUFFER_SIZE` unless each buffer is at least as long as `scrypt_buffer_lens` returns
-/// for the parameters of the hash, with `s` of 0; and `MISMATCH` if it is another password. Only so
-/// many elements at the front of each buffer are used. If the keys are compared, those of the chunks
-/// and of the scratch are zeros afterwards, those of the table are unspecified, and nothing after
-/// them has changed; otherwise the buffers are unchanged.
+/// allocates; `BUFFER_SIZE` if a buffer is shorter than `scrypt_buffer_lens` returns for the
+/// parameters of the hash with `s = 0`; and `MISMATCH` if the keys differ.
+///
+/// The derivation uses the same prefix of each buffer as `scrypt_kdf_with_buffers` does. If the
+/// keys are compared, the prefixes of the chunks and of the scratch are zeros afterwards, the
+/// prefix of the table is unspecified, and nothing after them has changed; otherwise the buffers
+/// are unchanged.
 #[unsafe(no_mangle)]
 pub extern "C" fn scrypt_verify_with_buffers(
     password: &[u8],
@@ -158,11 +164,12 @@ pub extern "C" fn scrypt_verify_with_buffers(
     }
 }
 
-/// Does what `scrypt_verify_with_buffers` does, if the hash is within the limits: a hash that is not the caller's own chooses
-/// its cost.
+/// Does what `scrypt_verify_with_buffers` does if the hash is within the limits, because an
+/// untrusted hash chooses its own cost.
 ///
-/// Returns the errors of `scrypt_verify_within` before it allocates, however long the buffers are, and then those of
-/// `scrypt_verify_with_buffers`. A hash that is not within the limits leaves the buffers unchanged.
+/// Returns the errors of `scrypt_verify_within` before it allocates, however long the buffers are,
+/// and then the errors of `scrypt_verify_with_buffers`. A hash that exceeds the limits leaves the
+/// buffers unchanged.
 #[unsafe(no_mangle)]
 pub extern "C" fn scrypt_verify_within_with_buffers(
     password: &[u8],
@@ -194,7 +201,7 @@ pub extern "C" fn scrypt_verify_within_with_buffers(
     }
 }
 
-// Verifies a password with a hash that was read.
+// Verifies a password against a hash that was read.
 fn verify(
     password: &[u8],
     hash: &StoredHash<'_>,
@@ -212,15 +219,19 @@ fn verify(
     }
 }
 
-/// Verifies four passwords, each with its own hash, in the caller's buffers. Does not allocate. If there are fewer, the
-/// last texts have no bytes: such a hash is refused, and takes no time.
+/// Verifies up to four passwords, each against its own hash, in one batch in the caller's buffers.
+/// Each has its own verdict. Does not allocate. If there are fewer than four, pass empty texts for
+/// the last ones: an empty text is rejected without deriving a key.
 ///
-/// Writes to each status what `scrypt_verify_with_buffers` returns for that one alone in these buffers, whatever the
-/// others are. If `log_n` and `r` of all hashes that are not refused are those of the first, and each buffer is long enough
-/// for one derivation with as many chunks as all have, their keys are derived at once: as many chunks are mixed at a time as
-/// have a table and a scratch, at most four. Otherwise the first is verified alone, and then the others, likewise.
-/// Afterwards what was used of the chunks and of the scratch is zeros, what was used of the table is unspecified, and
-/// nothing after them has changed.
+/// Writes to each status what `scrypt_verify_with_buffers` returns for that password and hash in
+/// these buffers, whatever the others are. All keys are derived in one batch if all hashes that are
+/// not rejected have the same `log_n` and `r` as the first of them, and each buffer is long enough
+/// for one derivation with the chunks of all: up to four chunks are then interleaved, one for each
+/// table and scratch. Otherwise the first is verified on its own, and the rest are tried in the
+/// same way.
+///
+/// Afterwards the used prefixes of the chunks and of the scratch are zeros, the used prefix of the
+/// table is unspecified, and nothing after them has changed.
 #[unsafe(no_mangle)]
 pub extern "C" fn scrypt_verify_group_with_buffers<'a>(
     password: &'a [u8],
@@ -248,7 +259,7 @@ pub extern "C" fn scrypt_verify_group_with_buffers<'a>(
         login(password_3, text_3),
         login(password_4, text_4),
     ];
-    // No place says that a password is right before its keys are compared.
+    // Initialized to a mismatch, so that no entry accepts a password before its keys are compared.
     let mut verdicts = [Err(LimitedError::Hash(Error::PasswordInvalid)); 4];
     let mut cores = CoreCount::new();
     verify_logins::<Target>(&logins, &mut verdicts, chunks, table, scratch, &mut cores);
@@ -256,7 +267,7 @@ pub extern "C" fn scrypt_verify_group_with_buffers<'a>(
     *statuses = [status(a), status(b), status(c), status(d)];
 }
 
-// Reads the hash that a password is verified with.
+// Reads the hash that a password is verified against.
 fn login<'p, 't>(password: &'p [u8], text: &'t [u8]) -> Login<'p, 't>
     ensures password { result.password.now ≡ password.now }
     ensures reading { reading_of result ≡ bytes_reading text.now }
@@ -289,7 +300,7 @@ fn short_status_of(error: Error) -> i32
     }
 }
 
-// Returns that a buffer is too short, and writes how long `text` has to be if it is the one.
+// Returns `BUFFER_SIZE`, and writes the required length of `text` if `text` is too short.
 fn too_short(text: &[u8], len: usize, text_len: &mut usize) -> i32
     ensures status { result ≡ BUFFER_SIZE }
     ensures long { length text.now < len → text_len.new ≡ len }
