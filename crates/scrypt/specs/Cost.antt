@@ -1,6 +1,7 @@
--- The cost of a derivation: calls of the Salsa20/8 core, *cores* for short, and memory. One table and one scratch
--- are enough for all p chunks, which are mixed one after another. With more of each, so many chunks are mixed at a
--- time, at most four, by as many cores.
+-- The cost of a derivation: calls of the Salsa20/8 core, *cores* for short, and memory. One table
+-- and one scratch are enough for all p chunks, which are then mixed one after another. With w
+-- tables and w scratches, w at most four, w chunks are interleaved; the number of cores is the
+-- same.
 use Rattle.std.specs.Prelude.{ℕ, zero, suc, ◌+◌, ◌*◌, ◌/◌, ◌^◌, List}
 use Rattle.scrypt_kernel.specs.Words.{part, words_of}
 use Rattle.scrypt_kernel.specs.Pbkdf2.{pbkdf2}
@@ -31,10 +32,12 @@ thin_chunks_cost b log_n r p s = cost log_n r p + 2 * r * extra_rows_of_chunks b
 abbrev pub thin_cost : List ℕ → List ℕ → ℕ → ℕ → ℕ → ℕ → ℕ
 thin_cost password salt log_n r p s = thin_chunks_cost (pbkdf2 password salt (p * (128 * r))) log_n r p s
 
--- the blocks that SHA-256 compresses in a derivation of n bytes: PBKDF2 derives B (step 1), and DK with B as salt (step 3)
+-- the blocks that SHA-256 compresses in a derivation of n bytes: PBKDF2 derives B (step 1), and DK
+-- with B as salt (step 3)
 abbrev pub hash_cost : ℕ → ℕ → ℕ → ℕ → ℕ → ℕ
 hash_cost password_len salt_len r p n = pbkdf2_cost password_len salt_len (chunks_bytes r p) + pbkdf2_cost password_len (chunks_bytes r p) n
 
--- more blocks than SHA-256 compresses in it because of the lengths of the password, the salt and the key
+-- an upper bound on the blocks among these that are due to the lengths of the password, the salt
+-- and the key
 abbrev pub lengths_cost : ℕ → ℕ → ℕ → ℕ
 lengths_cost password_len salt_len n = 2 * key_cost password_len + 4 + salt_len / 64 + 2 * ((n + 31) / 32)

@@ -1,16 +1,17 @@
--- The texts that errors print.
+-- The messages of errors.
 use Rattle.std.specs.Prelude.{ℕ, List, codes, Option, None, Some}
 use Rattle.scrypt.specs.declared.errors.DeriveError.{DeriveError}
 use Rattle.scrypt.specs.declared.errors.DeriveError.TheVariants.{InvalidOutputLen, OutOfMemory}
 use Rattle.scrypt.specs.declared.errors.LimitedError.{LimitedError}
 use Rattle.scrypt.specs.declared.errors.LimitedError.TheVariants.{Hash, KeyTooShort, TooCostly}
 
--- what a failed derivation prints
+-- the message of an error from deriving a key
 abbrev pub derive_error_text : DeriveError → List ℕ
 derive_error_text InvalidOutputLen = codes "invalid output buffer length"
 derive_error_text OutOfMemory = codes "out of memory"
 
--- what a failed verification within limits prints; the text of an error of verifying is not specified
+-- the message of an error from verifying within limits; the message of an error of verifying is not
+-- specified
 abbrev pub limited_error_text : LimitedError → Option (List ℕ)
 limited_error_text (Hash e) = None
 limited_error_text (TooCostly bytes work) = Some (codes "the parameters need more than is allowed")

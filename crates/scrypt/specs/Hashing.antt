@@ -9,7 +9,7 @@ use Rattle.scrypt.specs.Accepted.{Parameters}
 abbrev pub key_len_or_default : Parameters → ℕ
 key_len_or_default c = unwrap_or c.output_len 32
 
--- the caller named no algorithm but this one
+-- the caller named this algorithm or none
 abbrev pub IsNamedOrNone : List ℕ → Option (List ℕ) → Type 0
 IsNamedOrNone name alg_id = IfSome alg_id (λ id. id ≡ name)
 

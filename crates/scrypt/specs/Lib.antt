@@ -17,47 +17,47 @@ pub use Rattle.scrypt_kernel.specs.Steps
 pub mod Key
 -- the derived key by a table that keeps some rows
 pub mod ThinKey
--- the chunks mixed in another order
+-- the chunks of B mixed in another order
 pub mod ChunkOrder
 -- RFC 7914, section 6: which parameters and output lengths are accepted
 pub mod Accepted
 -- what a derivation costs in cores, in blocks that SHA-256 compresses, and in memory
 pub mod Cost
--- what a derivation may need
+-- limits on the memory and the work of a derivation
 pub mod Limits
--- the texts of errors
+-- the messages of errors
 pub mod ErrorText
--- the key of parameters, as a `Kdf` gives it, and which lengths it refuses
+-- the key of parameters, as a `Kdf` derives it, and the lengths that it rejects
 pub mod KeyOfParams
 -- the errors of making a hash, in every format
 pub mod Hashing
--- what reading a stored hash gives, and the verdict, in every format
+-- the result of reading a stored hash, and the verdict, in every format
 pub mod Reading
 -- the caller's buffers: long enough, wiped, and written to
 pub mod InBuffers
--- the workspace of one derivation: the verdict in it, and what is left in it
+-- the workspace of one derivation: the verdict in it, and its contents afterwards
 pub mod Workspace
 -- parameters read from a PHC text
 pub mod PhcParams
--- PHC hashes: which are made, and how they are read
+-- PHC hashes: how they are made and read
 pub mod PhcHash
 -- the results of the conversions between parameters and PHC values
 pub mod PhcConversions
 -- five-letter numbers, and the parameters of a `$7$` text
 pub mod McfParams
--- `$7$` hashes: how their texts are read, and which are made
+-- `$7$` hashes: how they are read and made
 pub mod McfHash
 -- stored hashes of either format, by their texts
 pub mod StoredHash
 -- verifying within limits
 pub mod WithinLimits
--- verifying several passwords in one memory
+-- verifying several passwords in one workspace
 pub mod Logins
--- a derivation in steps: what its buffers hold between two of them
+-- a derivation in steps: the contents of its buffers between two steps
 pub mod Stepping
--- private: in which groups the chunks of B are mixed, and the memory for it
+-- private: the groups in which the chunks of B are mixed, and the memory for them
 pub mod Mixing
 -- private: the salt and the key of a hash
 pub mod StoredKey
--- private: what a stored hash holds
+-- private: the contents of a stored hash
 pub mod StoredParts

@@ -1,4 +1,4 @@
--- `$7$` hashes of crypt(5): how their texts are read, and which are made.
+-- `$7$` hashes of crypt(5): how they are read and made.
 use Rattle.std.specs.Prelude.{◌≡◌, ℕ, ◌+◌, ◌<◌, List, [], ◌∷◌, ◌++◌, All, length, drop, codes, if◌then◌else◌, IsTrue}
 use Rattle.std.specs.Prelude.{Option, None, ok_or, Result, Ok, Err, ⊤}
 use Rattle.std.specs.Str.{bytes_eq}
@@ -16,13 +16,14 @@ use Rattle.scrypt.specs.Reading.{◌and_then◌, Stored}
 abbrev pub mcf_id : List ℕ
 mcf_id = codes "7"
 
--- the key in crypt Base64 that one field encodes, of an accepted output length
+-- the key that a single field encodes in crypt Base64, of an accepted output length
 abbrev pub read_key : List (List ℕ) → Result (List ℕ) Refusal
 read_key (letters ∷ []) =
     ok_or (decoded letters) EncodingInvalid and_then λ key. if is_output_len (length key) then Ok key else Err OutputSize
 read_key _ = Err EncodingInvalid
 
--- the first field encodes parameters, and after them is the salt; one more field encodes the key
+-- the first field encodes the parameters, followed by the salt; the second and last field encodes
+-- the key
 abbrev pub read_fields : List (List ℕ) → Result Stored Refusal
 read_fields (field ∷ after) = field_params field and_then λ c. read_key after and_then λ key.
     Ok (record { params = c; salt = drop 11 field; key = key })
@@ -62,15 +63,15 @@ made_hash c password salt = record { params = without_len c; salt = crypt64_of s
 abbrev pub IsMadeHash : Parameters → List ℕ → List ℕ → List ℕ → Type 0
 IsMadeHash c password salt text = read_mcf text ≡ Ok (made_hash c password salt)
 
--- the length of its text, for a salt of n bytes: the parameters, the letters of the salt, `$` and those
--- of the key
+-- the length of the text, for a salt of n bytes: the parameters, the letters of the salt, `$`, and
+-- the letters of the key
 abbrev pub made_text_len : Parameters → ℕ → ℕ
 made_text_len c n = 14 + encoded_len n + (1 + encoded_len (key_len_or_default c))
 
--- the caller named no algorithm but `7`
+-- the caller named the algorithm `7` or none
 abbrev pub IsMcfOrNone : Option (List ℕ) → Type 0
 IsMcfOrNone = IsNamedOrNone mcf_id
 
--- the errors of hashing: every salt fits
+-- the errors of hashing, in a format that allows every salt
 abbrev pub HashIsRefused : Option (List ℕ) → Option ℕ → Refusal → Type 0
 HashIsRefused = HashingIsRefused mcf_id ⊤

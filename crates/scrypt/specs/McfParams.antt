@@ -1,4 +1,5 @@
--- Five-letter numbers, and the parameters with which the first field of a `$7$` text of crypt(5) begins.
+-- Five-letter numbers, and the parameters at the front of the first field of a `$7$` text of
+-- crypt(5).
 use Rattle.std.specs.Prelude.{ℕ, nat_lt, if◌then◌else◌, List, ◌∷◌, ◌++◌, codes, length, slice_index, take, drop}
 use Rattle.std.specs.Prelude.{Option, None, ok_or, unwrap_or, Result, Err}
 use Rattle.password_hash.specs.Crypt64.{letter, letter_value, letters_of, number_of}
@@ -6,8 +7,8 @@ use Rattle.password_hash.specs.Refusal.{Refusal, EncodingInvalid}
 use Rattle.scrypt.specs.Accepted.{Parameters}
 use Rattle.scrypt.specs.Reading.{◌and_then◌, checked}
 
--- the five-letter number at the front of a text, the lowest letter first: none if there are fewer
--- than five bytes, or one of the five is not a letter
+-- the five-letter number at the front of a text, the lowest letter first, or `None` if there are
+-- fewer than five bytes or one of the five is not a letter
 abbrev pub five_letter_number : List ℕ → Option ℕ
 five_letter_number text = if nat_lt (length text) 5 then None else number_of (take 5 text)
 

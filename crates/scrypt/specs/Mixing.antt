@@ -1,4 +1,4 @@
--- Private: in which groups the chunks of B are mixed, and the memory for it.
+-- Private: the groups in which the chunks of B are mixed, and the memory for them.
 use Rattle.std.specs.Prelude.{◌≡◌, Bool, ℕ, ◌+◌, ◌-◌, ◌*◌, ◌<◌, ◌≤◌, ◌&&◌, nat_eq, nat_lt, min, if◌then◌else◌, List, length, replicate, take}
 use Rattle.scrypt_kernel.specs.Count.{AreCounted}
 use Rattle.scrypt.specs.Accepted.{Parameters}
@@ -6,8 +6,8 @@ use Rattle.scrypt.specs.Cost.{chunks_bytes, cost, scratch_words, table_words, th
 use Rattle.scrypt.specs.Workspace.{IsRestKept, Workspace, chunks_at_once}
 use Rattle.scrypt.specs.declared.buffers.InUse.{InUse}
 
--- Room, in words, for w tables and w scratches, in which w chunks are mixed at a time. A table keeps one row in 2 ^ s, and
--- there is one unless s is 0.
+-- Memory, in words, for w tables and w scratches, with which w chunks are interleaved. A table
+-- keeps one row in 2 ^ s, and w is 1 unless s is 0.
 pub record HasTables (log_n s r w room scratch : ℕ) : Type 0 where
   pub some : 0 < w
   pub few : w ≤ 4
@@ -17,33 +17,34 @@ pub record HasTables (log_n s r w room scratch : ℕ) : Type 0 where
   pub scratches : w * scratch_words r ≤ scratch
   pub spare : 0 < s → thin_scratch_words r ≤ scratch
 
--- How many of the chunks that are left are mixed next, w at a time: as many as can be, or one fewer if that leaves one
--- alone and three or more can be mixed at a time.
+-- The number of chunks in the next group, if w can be interleaved and `left` are left: as many as
+-- possible, or one fewer if a single chunk would remain and w is at least three.
 unfoldable pub next_group : ℕ → ℕ → ℕ
 next_group w left = if nat_lt 2 w && nat_eq left (w + 1) then w - 1 else min w left
 
--- The same of a mixer that mixes `most` at a time at most, where there are so many tables. In words, two are mixed one
--- after the other.
+-- The number of chunks in the next group of a mixer that interleaves at most `most` chunks, with
+-- this number of tables. Scalar code mixes two chunks one after the other.
 unfoldable pub group_by : ℕ → Bool → ℕ → ℕ → ℕ
 group_by most in_words tables left =
     let n = next_group (min tables most) left in
     if nat_eq n 2 && in_words then 1 else n
 
--- of n chunks in these buffers, which are long enough for them, w are mixed at a time, also in the part of them that is used
+-- w of n chunks are interleaved in these buffers, which are long enough for them, and also in the
+-- part of the buffers that is used
 pub record IsWidth (log_n r n w : ℕ) (chunks table scratch : List ℕ) : Type 0 where
   pub is : w ≡ chunks_at_once log_n r n (length table) (length scratch)
   pub is_in_part : w ≡ chunks_at_once log_n r n (w * table_words log_n r) (w * scratch_words r)
   pub chunks_fit : chunks_bytes r n ≤ length chunks
   pub memory : HasTables log_n 0 r w (length table) (length scratch)
 
--- what a derivation of n chunks of this N and r uses, with a table that keeps one row in 2 ^ s: as many of them are mixed at
--- a time as have a table and a scratch
+-- the memory of a derivation of n chunks with this N and r, with a table that keeps one row in 2 ^ s;
+-- the width is the number of chunks that are interleaved in this memory
 pub record IsReady {M : Type 0} (room_of : M → ℕ) (log_n s r n : ℕ) (used : InUse M) : Type 0 where
   pub chunks_len : length used.chunks.now ≡ chunks_bytes r n
   pub memory : HasTables log_n s r used.width (room_of used.rows.now) (length used.scratch.now)
   pub width : used.width ≡ chunks_at_once (log_n - s) r n (room_of used.rows.now) (length used.scratch.now)
 
--- the same memory, whatever is in it
+-- the same memory, with any contents
 pub record IsKept {M : Type 0} (room_of : M → ℕ) (before after : InUse M) : Type 0 where
   pub width : after.width ≡ before.width
   pub chunks : after.chunks.ghost_name ≡ before.chunks.ghost_name
@@ -61,8 +62,9 @@ pub record IsSpent {M : Type 0} (room_of : M → ℕ) (c : Parameters) (before a
   pub chunks : after.chunks.now ≡ replicate (length before.chunks.now) 0
   pub scratch : after.scratch.now ≡ replicate (length before.scratch.now) 0
 
--- A derivation with these parameters made `left` of `used`, the front of the buffers. The count went from that of `used` to
--- that of `left`, the front of the chunks is now that of `left`, and what is after the front of each buffer is unchanged.
+-- A derivation with these parameters turned `used`, the front of the buffers, into `left`. The
+-- count went from the count of `used` to the count of `left`, the front of the chunks now holds the
+-- chunks of `left`, and each buffer is unchanged after its front.
 pub record IsAtFront {M : Type 0} (c : Parameters) (used left : InUse M) (before after : Workspace) : Type 0 where
   pub counted_from : used.cores.now ≡ before.cores
   pub counted_to : after.cores ≡ left.cores.now

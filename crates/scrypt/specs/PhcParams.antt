@@ -1,4 +1,4 @@
--- Parameters of scrypt, read from the pairs of the PHC string format and written as such.
+-- Parameters of scrypt, read from the pairs of the PHC string format and written as such pairs.
 use Rattle.std.specs.Prelude.{ℕ, ◌^◌, if◌then◌else◌, List, [], ◌∷◌, codes, decimal, Result, Err, ok_or}
 use Rattle.std.specs.Str.{bytes_eq}
 use Rattle.password_hash.specs.Decimal.{decimal_below}
@@ -6,9 +6,9 @@ use Rattle.password_hash.specs.Refusal.{Refusal, ParamInvalid, ParamsInvalid}
 use Rattle.scrypt.specs.Accepted.{Parameters}
 use Rattle.scrypt.specs.Reading.{◌and_then◌, checked}
 
--- The pairs are read in order and replace log_n, r and p, and the first pair that is refused gives
--- the error. `ln` is a decimal of at most 255, `r` and `p` are decimals, and any other name is
--- refused. At the end the numbers have to be accepted.
+-- The pairs are read in order and replace log_n, r and p, and the first invalid pair gives the
+-- error. `ln` is a decimal of at most 255, `r` and `p` are decimals, and any other name is invalid.
+-- At the end log_n, r and p have to be accepted.
 unfoldable pub read_pairs : ℕ → ℕ → ℕ → List (List ℕ × List ℕ) → Result Parameters Refusal
 read_pairs log_n r p [] = checked log_n r p
 read_pairs log_n r p (pair ∷ pairs) =
@@ -18,8 +18,8 @@ read_pairs log_n r p (pair ∷ pairs) =
     else if bytes_eq pair.0 (codes "p") then (below (2 ^ 32) and_then λ n. read_pairs log_n r n pairs)
     else Err ParamsInvalid
 
--- The parameters that the pairs of a hash encode: log_n, r and p begin as 17, 8 and 1, which is what stored hashes without
--- these pairs mean, whatever is recommended for new ones.
+-- The parameters that the pairs of a hash encode: log_n, r and p begin as 17, 8 and 1. Stored
+-- hashes without these pairs have these values, whatever is recommended for new hashes.
 abbrev pub params_of_pairs : List (List ℕ × List ℕ) → Result Parameters Refusal
 params_of_pairs pairs = read_pairs 17 8 1 pairs
 

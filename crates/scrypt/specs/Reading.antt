@@ -35,7 +35,8 @@ chunks_of password s = pbkdf2 password s.salt (chunks_bytes s.params.r s.params.
 abbrev pub mixed_of : List ℕ → Stored → List ℕ
 mixed_of password s = mixed_chunks (chunks_of password s) s.params.log_n s.params.r s.params.p
 
--- the blocks that SHA-256 compresses in comparing its key with that of a password: as many as in deriving a key of this length
+-- the blocks that SHA-256 compresses when the key of the hash is compared with the key of a
+-- password: the same number as for deriving a key of this length
 abbrev pub verify_cost : List ℕ → Stored → ℕ
 verify_cost password s = hash_cost (length password) (length s.salt) s.params.r s.params.p (length s.key)
 
@@ -48,12 +49,12 @@ is_right password s = bytes_eq s.key (derived_key password s.salt s.params.log_n
 abbrev pub verdict : List ℕ → Result Stored Refusal → Result ⊤ Refusal
 verdict password reading = reading and_then λ s. if is_right password s then Ok tt else Err PasswordInvalid
 
--- `out` is the verdict, or `OutOfMemory`, which only a readable hash can give
+-- `out` is the verdict, or `OutOfMemory`, which is possible only if the hash can be read
 abbrev pub IsVerdict : List ℕ → Result Stored Refusal → Result ⊤ Refusal → Type 0
 IsVerdict password reading out = (out ≡ verdict password reading) ⊎ (IsOk reading × (out ≡ Err OutOfMemory))
 
--- Whether a verdict lets the password in. A wrong password is refused without an error, and so is every password of a
--- hash without a salt or a key.
+-- Whether a verdict accepts the password. A wrong password is rejected without an error, and so is
+-- every password of a hash without a salt or a key.
 abbrev pub let_in : Result ⊤ Refusal → Result Bool Refusal
 let_in (Ok u) = Ok true
 let_in (Err PasswordInvalid) = Ok false
@@ -72,11 +73,11 @@ is_below wanted c len =
 abbrev pub weaker : Parameters → Result Stored Refusal → Result Bool Refusal
 weaker wanted reading = mapped (λ s. is_below wanted s.params (length s.key)) reading
 
--- reading returns none of the errors that come after it
+-- reading never gives an error that comes after it
 abbrev pub IsOfText : {A : Type 0} → Result A Refusal → Type 0
 IsOfText reading = (reading ≢ Err OutOfMemory) × ((bytes work : ℕ) → reading ≢ Err (TooCostly bytes work))
     × ((key_len : ℕ) → reading ≢ Err (KeyTooShort key_len))
 
--- and not `PasswordInvalid` either
+-- reading gives neither an error that comes after it nor `PasswordInvalid`
 abbrev pub NamesNoPassword : {A : Type 0} → Result A Refusal → Type 0
 NamesNoPassword reading = (reading ≢ Err PasswordInvalid) × IsOfText reading

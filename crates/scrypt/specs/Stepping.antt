@@ -1,4 +1,4 @@
--- A derivation in steps: how far it has come, and what the caller's buffers hold between two steps.
+-- A derivation in steps: its progress, and the contents of the caller's buffers between two steps.
 use Rattle.std.specs.Prelude.{◌≡◌, ◌≢◌, Bool, true, ℕ, ◌+◌, ◌-◌, ◌*◌, ◌<◌, ◌≤◌, List, take, drop}
 use Rattle.scrypt_kernel.specs.Words.{part, words_of}
 use Rattle.scrypt_kernel.specs.Diagonal.{pivot}
@@ -9,7 +9,8 @@ use Rattle.scrypt.specs.Cost.{chunks_bytes}
 use Rattle.scrypt.specs.Key.{mixed_chunks}
 use Rattle.scrypt.specs.declared.stepping.Progress.{Progress}
 
--- the first i chunks of x are those of b after scryptROMix, and the others are those of b
+-- the first i chunks of x are the chunks of b after scryptROMix, and the others are unchanged from
+-- b
 pub record AreMixed (b : List ℕ) (log_n r i : ℕ) (x : List ℕ) : Type 0 where
   pub done : take (i * (128 * r)) x ≡ mixed_chunks b log_n r i
   pub rest : drop (i * (128 * r)) x ≡ drop (i * (128 * r)) b
@@ -18,12 +19,12 @@ pub record AreMixed (b : List ℕ) (log_n r i : ℕ) (x : List ℕ) : Type 0 whe
 abbrev pub mixes_done : Parameters → Progress → ℕ
 mixes_done c at = at.chunks * all_mixes c.log_n + at.at_once * at.mixes
 
--- the block mixes that each of the chunks that are mixed now lacks
+-- the block mixes left for each chunk of the current group
 abbrev pub lacking : Parameters → Progress → ℕ
 lacking c at = all_mixes c.log_n - at.mixes
 
--- At most the p chunks are mixed, or mixed now, of the latter at most four, and one unless all are mixed. Of these not all
--- mixes are done.
+-- At most p chunks are mixed or in the current group. The group has at most four chunks, and at
+-- least one unless all are mixed; not all of its block mixes are done.
 pub record IsWithin (c : Parameters) (at : Progress) : Type 0 where
   pub chunks : at.chunks + at.at_once ≤ c.p
   pub few : at.at_once ≤ 4
@@ -31,7 +32,8 @@ pub record IsWithin (c : Parameters) (at : Progress) : Type 0 where
   pub some : at.chunks < c.p → 0 < at.at_once
   pub ended : at.chunks ≡ c.p → at.mixes ≡ 0
 
--- a mixer that mixes `most` chunks at a time at most, and two one after the other if one is mixed in words, mixes so many
+-- a mixer that interleaves at most `most` chunks can mix n in one group: scalar code mixes two
+-- chunks one after the other
 pub record AreMixable (most : ℕ) (in_words : Bool) (n : ℕ) : Type 0 where
   pub few : n ≤ most
   pub alone : in_words ≡ true → n ≢ 2
@@ -44,7 +46,7 @@ first_b password salt c = pbkdf2 password salt (chunks_bytes c.r c.p)
 abbrev pub words_from : List ℕ → ℕ → ℕ → ℕ → List ℕ
 words_from b r i k = words_of (part (128 * r) b (i + k))
 
--- the derivation for this password and this salt has come so far in these buffers
+-- these buffers hold the derivation for this password and this salt at this progress
 pub record IsUnderWay (password salt : List ℕ) (c : Parameters) (at : Progress) (chunks table scratch : List ℕ) : Type 0 where
   pub mixed : AreMixed (first_b password salt c) c.log_n c.r at.chunks chunks
   pub next : IsMixing pivot at.at_once (words_from (first_b password salt c) c.r at.chunks) (32 * c.r) c.log_n at.mixes table scratch

@@ -1,4 +1,5 @@
--- Stored hashes of either format, by their texts: in which format a text is read, and with which result.
+-- Stored hashes of either format, by their texts: the format in which a text is read, and the
+-- result.
 use Rattle.std.specs.Prelude.{ℕ, ◌==◌, ◌&&◌, ◌||◌, Bool, if◌then◌else◌, List, length, slice_index}
 use Rattle.std.specs.Prelude.{Option, Some, is_some, ok_or, option_map, unwrap_or, Result}
 use Rattle.password_hash.specs.PhcReading.{read_hash}
@@ -18,11 +19,11 @@ pub data Formatted : Type 0 where
   McfText : List ℕ → Formatted
   PhcHash : PasswordHash → Formatted
 
--- a text in its format, if it is one of it
+-- a text in its format, or `None` if it does not have that format
 unfoldable pub formatted : List ℕ → Option Formatted
 formatted text = if is_mcf_text text then Some (McfText text) else option_map PhcHash (read_hash text)
 
--- the text is one of its format; the reading of any other text is `EncodingInvalid`
+-- the text has its format; the reading of any other text is `EncodingInvalid`
 unfoldable pub is_stored_text : List ℕ → Bool
 is_stored_text text = is_some (formatted text)
 
@@ -35,16 +36,16 @@ whole (PhcHash hash) = read_phc hash
 unfoldable pub reading : List ℕ → Result Stored Refusal
 reading text = ok_or (formatted text) EncodingInvalid and_then whole
 
--- the length of a key, 0 if there is none
+-- the length of a key, or 0 if there is no key
 abbrev pub key_len_or_zero : Option (List ℕ) → ℕ
 key_len_or_zero key = unwrap_or (option_map length key) 0
 
--- the parameters that are read of a text in its format, and the length of the key
+-- the parameters read from a text in its format, and the length of the key
 abbrev pub params_and_len : Formatted → Result (Parameters × ℕ) Refusal
 params_and_len (McfText text) = mapped (λ s. (s.params, length s.key)) (read_mcf text)
 params_and_len (PhcHash hash) = mapped (λ c. (c, key_len_or_zero hash.hash)) (phc_params hash)
 
--- The parameters that are read of a text, and the length of the key, which is 0 if there is none. A PHC hash without a
--- salt or a key has parameters too, though its reading is an error.
+-- The parameters read from a text, and the length of the key, which is 0 if there is no key. A PHC
+-- hash without a salt or a key has parameters too, though its reading is an error.
 unfoldable pub params_reading : List ℕ → Result (Parameters × ℕ) Refusal
 params_reading text = ok_or (formatted text) EncodingInvalid and_then params_and_len

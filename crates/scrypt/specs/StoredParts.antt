@@ -1,4 +1,4 @@
--- Private: what a stored hash of either format holds.
+-- Private: the contents of a stored hash of either format.
 use Rattle.std.specs.Prelude.{◌≡◌, ℕ, List, IsTrue, Result}
 use Rattle.password_hash.specs.declared.error.Error.{Error}
 use Rattle.scrypt.specs.Accepted.{Parameters}
@@ -11,7 +11,8 @@ use Rattle.scrypt.specs.declared.stored_parts.StoredParts.{StoredParts}
 abbrev pub stored : StoredParts → Stored
 stored parts = record { params = parts.params; salt = salt_bytes parts.salt; key = key_bytes parts.key }
 
--- the text is one of its format, and these are the parameters and the length of the key, and the parts, that are read of it
+-- the text has its format; `read` is the parameters and the length of the key, and `whole` the
+-- parts, that are read from it
 pub record IsReadAs (text : List ℕ) (read : Result (Parameters × ℕ) Error) (whole : Result StoredParts Error) : Type 0 where
   pub format : IsTrue (is_stored_text text)
   pub params : with_refusal read ≡ params_reading text

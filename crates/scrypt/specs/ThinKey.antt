@@ -1,5 +1,6 @@
--- The derived key by a table that keeps each row of V whose number is a multiple of 2 ^ s: the standard's
--- steps, with each row recomputed from the kept row below it.
+-- The derived key by a time-memory trade-off: a table keeps each row of V whose number is a
+-- multiple of 2 ^ s. The steps are the standard's, with each row recomputed from the kept row below
+-- it.
 use Rattle.std.specs.Prelude.{ℕ, zero, suc, ◌*◌, ◌/◌, ◌%◌, ◌^◌, List}
 use Rattle.std.specs.List.{flat_map, range_with_len}
 use Rattle.scrypt_kernel.specs.Words.{bytes_of, part, words_of, xor_words}
@@ -7,11 +8,11 @@ use Rattle.scrypt_kernel.specs.Pbkdf2.{pbkdf2}
 use Rattle.scrypt_kernel.specs.BlockMix.{block_mix}
 use Rattle.scrypt_kernel.specs.RoMix.{integerify, row}
 
--- row j: as many block mixes of the kept row below it as there are rows between them
+-- row j: j mod 2 ^ s block mixes of the kept row below it
 abbrev pub recomputed_row : List ℕ → ℕ → ℕ → List ℕ
 recomputed_row b s j = row (row b (j / 2 ^ s * 2 ^ s)) (j % 2 ^ s)
 
--- X after k steps of the walk over such rows
+-- X after k steps of the walk over these rows
 unfoldable pub thin_walk : List ℕ → ℕ → ℕ → ℕ → List ℕ
 thin_walk b log_n s zero = row b (2 ^ log_n)
 thin_walk b log_n s (suc k) =

@@ -7,8 +7,9 @@ use Rattle.scrypt.specs.declared.errors.LimitedError.{LimitedError}
 use Rattle.scrypt.specs.declared.errors.LimitedError.TheVariants as error
 use Rattle.scrypt.specs.declared.limits.Limits.{Limits}
 
--- The reading of a hash, within limits: the error of reading it is first, then that its parameters exceed the limit on
--- memory or the limit on work, and then that its key is too short.
+-- The reading of a hash, within limits. The first error is the error of reading it, then
+-- `TooCostly` if its parameters exceed the limit on memory or the limit on work, and then
+-- `KeyTooShort`.
 abbrev pub within : Limits → Result Stored Refusal → Result Stored Refusal
 within limits reading = reading and_then λ s.
     if are_within limits s.params
