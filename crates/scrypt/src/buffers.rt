@@ -1,5 +1,5 @@
-// The workspace of a derivation: the lengths of its buffers ([`BufferLens`]), the caller's, allocated ones ([`OwnBuffers`]), and
-// what is used of either ([`InUse`]).
+// The workspace of a derivation: the lengths of its buffers ([`BufferLens`]), the caller's buffers,
+// allocated ones ([`OwnBuffers`]), and the part of either that is used ([`InUse`]).
 
 ghost use Rattle.std.specs.Prelude.{◌≡◌, ◌⊎◌, ◌↔◌, ◌+◌, ◌-◌, ◌*◌, ◌<◌, ◌≤◌, length, IfOk, IfSome, IsSome, IsTrue, None};
 ghost use Rattle.scrypt_kernel.specs.Memory.{allocated_room, buffer_room};
@@ -13,7 +13,7 @@ use crate::{CoreCount, Params};
 use scrypt_kernel::memory::{Allocated, Buffer};
 use std::alloc::{AllocError, Global};
 
-/// The lengths of the buffers that a derivation works on.
+/// The lengths of the three buffers of a derivation.
 #[derive(Clone, Copy, Debug, PartialEq, Eq)]
 pub struct BufferLens {
     /// The length of the chunks in bytes: `128 * r * p`.
@@ -35,9 +35,9 @@ impl BufferLens {
         BufferLens::with_rows(params, params.log_n(), 2)
     }
 
-    /// Returns the lengths for so many chunks at a time, at most four: the table and the scratch are so
-    /// many times as long as those of [`BufferLens::of`]. With a `p` of 2 or more, more tables take less
-    /// time: on x86-64-v3 two take 0.56 of it, and four 0.41.
+    /// Returns the lengths for interleaving `tables` chunks, at most four: the table and the
+    /// scratch are `tables` times as long as those that [`BufferLens::of`] returns. With a `p` of 2
+    /// or more, more tables take less time: on x86-64-v3 two take 0.56 of the time, and four 0.41.
     pub fn for_tables(params: &Params, tables: usize) -> BufferLens
         requires few { tables ≤ 4 }
         ensures chunks { result.chunks ≡ chunks_bytes params.now.r params.now.p }
@@ -53,9 +53,9 @@ impl BufferLens {
         }
     }
 
-    /// Returns how many tables a derivation takes if its three buffers may have `most_bytes` bytes together:
-    /// at most four and at most `p`, and one even if it has more bytes. The lengths are those of
-    /// [`BufferLens::for_tables`].
+    /// Returns the number of tables for a derivation whose three buffers may have `most_bytes`
+    /// bytes together: as many as fit, at most four and at most `p`, but one even if it does not
+    /// fit. [`BufferLens::for_tables`] returns the lengths.
     #[tactic(auto, unfolding(crate::specs::Limits::tables_within))]
     pub fn tables_within(params: &Params, most_bytes: usize) -> usize
         ensures exact { result ≡ tables_within most_bytes params.now }
@@ -92,7 +92,7 @@ impl BufferLens {
         self.chunks as u128 + 4 * self.table as u128 + 4 * self.scratch as u128
     }
 
-    // The lengths with a table of `2^log_rows` rows, and with a scratch of so many rows.
+    // The lengths with a table of `2^log_rows` rows, and with a scratch of `scratch_rows` rows.
     #[tactic(auto, using(crate::proofs::AcceptedFacts::small_lens))]
     fn with_rows(params: &Params, log_rows: u8, scratch_rows: usize) -> BufferLens
         requires fewer { log_rows ≤ params.now.log_n }
@@ -110,8 +110,8 @@ impl BufferLens {
     }
 }
 
-/// Returns how many of `count` chunks are mixed at a time in a table and a scratch of so many words: at
-/// most four, and as many as have a table and a scratch there.
+/// Returns how many of `count` chunks are interleaved with a table and a scratch of these lengths
+/// in words: at most four, each with its own table and scratch.
 #[tactic(auto, using(crate::proofs::CostFacts::rooms), unfolding(crate::specs::Workspace::chunks_at_once))]
 pub(crate) fn chunks_at_once(params: &Params, count: usize, table: usize, scratch: usize) -> usize
     ensures exact { result ≡ chunks_at_once params.now.log_n params.now.r count table scratch }
@@ -127,7 +127,7 @@ pub(crate) fn chunks_at_once(params: &Params, count: usize, table: usize, scratc
         .min(scratch / one.scratch)
 }
 
-// Returns how many of `count` chunks are mixed at a time in these buffers, or `None` if a buffer is too
+// Returns how many of `count` chunks are interleaved in these buffers, or `None` if a buffer is too
 // short for them.
 #[tactic(auto, using(crate::proofs::CostFacts::width_of_part, std::proofs::lemmas::Bool::Decides::nat_tests), unfolding(crate::specs::InBuffers::are_enough))]
 fn width_in(
@@ -150,8 +150,8 @@ fn width_in(
     Some(width)
 }
 
-/// What derivations use: the chunks of all, memory for the rows of `width` tables and as many scratches, so that as
-/// many chunks are mixed at a time, and the count of cores.
+/// The memory that derivations use: all chunks, memory for the rows of `width` tables, `width`
+/// scratches, so that `width` chunks are interleaved, and the count of cores.
 #[derive(Drop)]
 pub(crate) struct InUse<'a, M> {
     pub(crate) width: usize,
@@ -187,8 +187,9 @@ impl<'a, M> InUse<'a, M> {
     }
 }
 
-/// Calls `derive` with the front of the caller's buffers, as much as a derivation of `count` chunks uses, and with `output`.
-/// Returns what it returns, or `None`, and then changes nothing, exactly if a buffer is too short.
+/// Calls `derive` with `output` and with the front of the caller's buffers, the part that a
+/// derivation of `count` chunks uses. Returns the result of `derive`, or `None`, and then changes
+/// nothing, exactly if a buffer is too short.
 pub(crate) fn at_front<V, T, F: FnOnce(&mut InUse<'_, Buffer<'_>>, &mut [V]) -> T>(
     params: &Params,
     count: u32,
@@ -260,8 +261,8 @@ impl OwnBuffers {
         })
     }
 
-    /// Allocates as many tables as [`BufferLens::tables_within`] returns, with as many scratches, and one
-    /// of each if that fails. Returns how many, too.
+    /// Allocates [`BufferLens::tables_within`] tables and the same number of scratches, or one of
+    /// each if that fails. Also returns this number.
     #[tactic(auto, using(crate::proofs::CostFacts::width_is), unfolding(crate::specs::Limits::tables_within))]
     pub(crate) fn allocate_within(
         alloc: Global,

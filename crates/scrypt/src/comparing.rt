@@ -10,12 +10,12 @@ use crate::CoreCount;
 use crate::stored_parts::StoredParts;
 use scrypt_kernel::pbkdf2::Blocks;
 
-/// The length of a piece in bytes. It is whole blocks of PBKDF2, and whole groups of crypt Base64.
+/// The length of a piece in bytes: a whole number of PBKDF2 blocks, and of crypt Base64 groups.
 const PIECE_LEN: usize = 96;
 
-/// Returns whether the stored key is the one that PBKDF2 derives from `password` with the mixed chunks
-/// as salt. Every piece is compared, also after a difference. PBKDF2 hashes the password and the chunks once, however
-/// long the key is. Does not allocate.
+/// Returns whether the stored key is the key that PBKDF2 derives from `password` with the mixed
+/// chunks as salt. Every piece is compared, also after a difference. PBKDF2 hashes the password and
+/// the chunks only once, whatever the length of the key. Does not allocate.
 pub(crate) fn is_derived_key(
     password: &[u8],
     mixed: &[u8],

@@ -20,7 +20,7 @@ use scrypt_kernel::memory::{Allocated, Buffer, TableMemory};
 use scrypt_kernel::pbkdf2::pbkdf2_counted;
 use std::alloc::Global;
 
-/// The greatest length of an output in bytes (RFC 7914, section 6: `dkLen`).
+/// The maximum length of an output in bytes (RFC 7914, section 6: `dkLen`).
 const MAX_OUTPUT_LEN: usize = ((1 << 32) - 1) * 32;
 
 /// Returns whether an output of `len` bytes can be derived: `len` is from 1 to `(2^32 - 1) * 32`,
@@ -57,7 +57,8 @@ pub fn scrypt(
     scrypt_counted(alloc, password, salt, params, output, &mut cores)
 }
 
-/// Does what [`scrypt`] does, and counts the `4 * N * r * p` Salsa20/8 cores and the blocks that SHA-256 compresses.
+/// Derives the key as [`scrypt`] does, and counts the `4 * N * r * p` Salsa20/8 cores and the
+/// blocks that SHA-256 compresses.
 ///
 /// On an error the count is unchanged too.
 pub fn scrypt_counted(
@@ -77,13 +78,13 @@ pub fn scrypt_counted(
     ensures refused { OnErr result (output.new ≡ output.old) }
     ensures uncounted { OnErr result (cores.new ≡ cores.old) }
 {
-    // In no bytes a derivation takes one table.
+    // A limit of 0 bytes selects one table.
     scrypt_in_groups::<Vectors>(alloc, password, salt, params, 0, output, cores)
 }
 
-/// Does what [`scrypt_counted`] does, in buffers that may have `most_bytes` bytes together: with as many
-/// tables as [`BufferLens::tables_within`] returns, so that as many chunks are mixed at a time. If
-/// the system refuses them, it takes one table.
+/// Derives the key as [`scrypt_counted`] does, in buffers that may have `most_bytes` bytes
+/// together: it allocates [`BufferLens::tables_within`] tables and interleaves that many chunks. If
+/// this allocation fails, it uses one table.
 ///
 /// Returns `OutOfMemory` if an allocation for one table fails.
 #[tactic(auto, using(crate::proofs::AcceptedFacts::most_output_len))]
@@ -123,12 +124,13 @@ pub fn scrypt_in_groups<W: Mixer>(
 /// Writes the scrypt key of `password` and `salt` to `output`, in the caller's buffers
 /// (RFC 7914, section 6).
 ///
-/// `chunks` has exactly the length of [`BufferLens::of`] in bytes, and `table` and `scratch` have at
-/// least its lengths in words. As many chunks are mixed at a time as have a table and a scratch
-/// there, at most four ([`BufferLens::for_tables`]). It does not matter what the buffers hold before the
-/// call. After it `chunks` holds B after step 2, with which passwords can be tried against the key without a core, and
-/// what the others hold is unspecified: [`wipe`](crate::wipe) them. `cores` counts the `4 * N * r * p` cores, and the
-/// blocks that SHA-256 compresses. Does not allocate.
+/// `chunks` has exactly the length of [`BufferLens::of`] in bytes, and `table` and `scratch` have
+/// at least its lengths in words. Up to four chunks are interleaved, each with its own part of the
+/// table and of the scratch, if these are long enough ([`BufferLens::for_tables`]). The contents of
+/// the buffers before the call do not matter. After it `chunks` holds B after step 2, which
+/// suffices to test passwords against the key without running a core, and the contents of the
+/// others are unspecified: [`wipe`](crate::wipe) all three. `cores` counts the `4 * N * r * p`
+/// cores, and the blocks that SHA-256 compresses. Does not allocate.
 ///
 /// Returns `InvalidOutputLen`, and changes nothing, exactly if the length of `output` is
 /// not allowed ([`output_len_ok`](crate::output_len_ok)).
@@ -166,9 +168,9 @@ pub fn scrypt_with_buffers(
     }
 }
 
-/// Does what [`scrypt_with_buffers`] does, by the mixer `W`, in buffers of any length. Only the first elements of each are
-/// used, as many as [`BufferLens::for_tables`] returns for the tables that have room there, at most four and at most `p`. Those
-/// after them are unchanged.
+/// Derives the key as [`scrypt_with_buffers`] does, by the mixer `W`, in buffers of any length. It
+/// uses only the front of each buffer, with the lengths of [`BufferLens::for_tables`] for the
+/// tables that fit, at most four and at most `p`. The rest of each buffer is unchanged.
 ///
 /// Returns `InvalidOutputLen` exactly if the length of `output` is not allowed, and otherwise `OutOfMemory` exactly if a
 /// buffer is too short. On an error nothing has changed.
@@ -219,13 +221,14 @@ pub fn scrypt_at_front<W: Mixer>(
 /// Writes the scrypt key of `password` and `salt` to `output`, with a smaller table
 /// (RFC 7914, section 6).
 ///
-/// The table keeps each row whose number is a multiple of `2^s`, and any other row is recomputed
-/// whenever it is needed. So the table has `2^s` times fewer words, and there may be more than
-/// `4 * N * r * p` cores: `cores` counts them, and the blocks that SHA-256 compresses. Does not allocate.
+/// This is a time-memory trade-off: the table keeps each row whose number is a multiple of `2^s`,
+/// and any other row is recomputed whenever it is needed. So the table has `2^s` times fewer words,
+/// and there may be more than `4 * N * r * p` cores: `cores` counts them, and the blocks that
+/// SHA-256 compresses. Does not allocate.
 ///
-/// The buffers have the lengths of [`BufferLens::thin`]: `chunks` in bytes, `table` and `scratch` in
-/// words. `s` is at most `log_n`. It does not matter what the buffers hold before the call. After it `chunks` holds
-/// B after step 2, and what the others hold is unspecified.
+/// The buffers have the lengths of [`BufferLens::thin`]: `chunks` in bytes, `table` and `scratch`
+/// in words. `s` is at most `log_n`. The contents of the buffers before the call do not matter.
+/// After it `chunks` holds B after step 2, and the contents of the others are unspecified.
 ///
 /// Returns `InvalidOutputLen`, and changes nothing, exactly if the length of `output` is
 /// not allowed ([`output_len_ok`](crate::output_len_ok)).
@@ -261,7 +264,7 @@ pub fn scrypt_thin(
     )
 }
 
-/// Does what [`scrypt_thin`] does, by the mixer `W`.
+/// Derives the key as [`scrypt_thin`] does, by the mixer `W`.
 #[tactic(auto, using(crate::proofs::AcceptedFacts::most_output_len))]
 pub fn scrypt_thin_by<W: Mixer>(
     password: &[u8],
@@ -300,7 +303,7 @@ pub fn scrypt_thin_by<W: Mixer>(
     Ok(())
 }
 
-/// Steps 1 to 3, in any memory, and a table that keeps one row in `2^s`.
+/// Steps 1 to 3, in any memory, with a table that keeps one row in `2^s`.
 #[tactic(auto, unfolding(crate::specs::Key::derived_key))]
 pub(crate) fn derive_in<M: TableMemory, W: Mixer>(
     password: &[u8],
@@ -325,7 +328,8 @@ pub(crate) fn derive_in<M: TableMemory, W: Mixer>(
     derive_chunks(password, salt, params, used.chunks, used.cores);
     let count = params.p() as usize;
     mix_all::<M, W>(params, s, count, used);
-    // Step 3: DK, with B as salt. It is borrowed mutably, since the prover covers no shared borrow beside that of the count.
+    // Step 3: DK, with B as salt. B is borrowed mutably, because the prover does not support a
+    // second shared borrow besides the borrow of the count.
     let mixed = &mut *used.chunks;
     pbkdf2_counted(password, mixed, output, used.cores);
 }

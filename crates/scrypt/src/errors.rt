@@ -85,22 +85,23 @@ impl From<InvalidOutputLen> for kdf::Error {
     }
 }
 
-/// An error from a call with [`Limits`](crate::Limits). It says what the hash needs.
+/// An error from a call with [`Limits`](crate::Limits), with the cost of the hash.
 #[derive(Clone, Copy, Debug, PartialEq, Eq)]
 pub enum LimitedError {
     /// An error from reading or verifying the hash.
     Hash(password_hash::Error),
     /// The hash can be read, and its parameters exceed the limit on memory or the limit on work.
     TooCostly {
-        /// The bytes of the three buffers together, as [`Limits::most_bytes`](crate::Limits) counts them.
+        /// The size of the three buffers in bytes, as [`Limits::most_bytes`](crate::Limits) limits
+        /// it.
         bytes: u128,
         /// The work, as [`Params::work`](crate::Params::work) returns it.
         work: u128,
     },
     /// The hash can be read and its parameters are within the limits, but its key is shorter than
-    /// they allow.
+    /// the limits allow.
     KeyTooShort {
-        /// The length of its key in bytes.
+        /// The length of the key in bytes.
         key_len: usize,
     },
 }

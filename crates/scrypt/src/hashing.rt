@@ -36,7 +36,7 @@ pub(crate) fn check_call(name: &str, alg_id: Option<&str>, version: Option<Versi
     Ok(())
 }
 
-// Returns whether no algorithm but `name` is named.
+// Returns whether the algorithm argument is `name` or missing.
 fn is_named_or_none(name: &str, alg_id: Option<&str>) -> bool
     ensures { IsTrue result ↔ IsNamedOrNone name.now (option_map (λ s. s.now) alg_id.entry) }
 {
@@ -46,8 +46,8 @@ fn is_named_or_none(name: &str, alg_id: Option<&str>) -> bool
     }
 }
 
-/// Derives the key that hashing with these parameters stores, in three buffers of its own: the chunks, the
-/// table and the scratch, allocated in this order and before the first core.
+/// Derives the key that hashing with these parameters stores, in three buffers that it allocates in
+/// this order and before the first core: the chunks, the table and the scratch.
 ///
 /// Returns `OutOfMemory` if an allocation fails.
 pub(crate) fn key_allocating<W: Mixer>(
@@ -59,7 +59,7 @@ pub(crate) fn key_allocating<W: Mixer>(
     ensures value { IfOk result (λ key. key ≡ key_by params.now password.now salt.now (key_len_or_default params.now)) }
     ensures memory { IfErr result (λ e. e ≡ OutOfMemory) }
 {
-    // In no bytes a derivation takes one table.
+    // A limit of 0 bytes selects one table.
     let (width, mut own) = OwnBuffers::allocate_within(alloc, params, 0)?;
     let mut cores = CoreCount::new();
     let mut used = InUse::new(
@@ -72,7 +72,8 @@ pub(crate) fn key_allocating<W: Mixer>(
     Ok(stored_key::<Allocated, W>(password, salt, params, &mut used))
 }
 
-/// Derives the same key in any memory. Afterwards the chunks and the scratch are zeros.
+/// Derives the same key as `key_allocating`, in any memory. Afterwards the chunks and the scratch
+/// are zeros.
 pub(crate) fn stored_key<M: TableMemory, W: Mixer>(
     password: &[u8],
     salt: &[u8],

@@ -1,4 +1,4 @@
-// Buffers that a caller keeps from call to call.
+// Buffers that a caller reuses from call to call.
 
 ghost use Rattle.std.specs.Prelude.{◌≡◌, ◌↔◌, length, replicate, IfOk, IsErrOf, IsOk, IsTrue, OnErr, OnOk};
 ghost use Rattle.scrypt.specs.Accepted.{is_output_len};
@@ -18,8 +18,8 @@ use crate::{
 };
 use std::alloc::{AllocError, Global};
 
-/// The three buffers of derivations, allocated once. A call works in the front of each, whatever
-/// parameters it has, if they are long enough.
+/// The three buffers of derivations, allocated once. Each call uses the front of each buffer, with
+/// any parameters for which the buffers are long enough.
 #[derive(Drop)]
 pub struct Buffers {
     /// The chunks, in bytes.
@@ -45,7 +45,7 @@ impl Buffers {
     }
 
     /// Allocates buffers that are long enough for every derivation within these limits: for the
-    /// usual ones 16 MiB of chunks, 257 MiB of table and 32 MiB of scratch.
+    /// default limits 16 MiB of chunks, 257 MiB of table and 32 MiB of scratch.
     pub fn for_limits(alloc: Global, limits: &Limits) -> Result<Buffers, AllocError>
         ensures enough { IfOk result (λ own.
             SufficeFor limits.now own.chunks.items own.table.items own.scratch.items) }
@@ -96,9 +96,9 @@ impl Buffers {
     /// Verifies `password`, as [`StoredHash::verify_with_buffers`] does in these buffers. Does not
     /// allocate.
     ///
-    /// Returns the errors of [`StoredHash::verify`] in the same order, `OutOfMemory` exactly if the
-    /// hash can be read and a buffer is too short for it: so not for a hash within limits, in the
-    /// buffers of [`Buffers::for_limits`].
+    /// Returns the errors of [`StoredHash::verify`] in the same order, and `OutOfMemory` exactly if
+    /// the hash can be read and a buffer is too short for it. So it never returns `OutOfMemory` for
+    /// a hash within limits, in the buffers of [`Buffers::for_limits`].
     pub fn verify(&mut self, hash: &StoredHash<'_>, password: &[u8]) -> password_hash::Result<()>
         ensures verdict { with_refusal result
             ≡ verdict_in (buffers self.old.chunks.items self.old.table.items self.old.scratch.items) password.now (reading hash.now) }

@@ -78,8 +78,9 @@ pub fn texts_have_one_reading()
     ensures crypt64_text { (bytes one other : List ℕ) → Crypt64 bytes one → Crypt64 bytes other → one ≡ other }
 {}
 
-/// A `$7$` text is read as the parts that it is the text of, if these are allowed, and as no others: it is `$7$`, the eleven
-/// letters of accepted parameters, a salt without a `$`, a `$`, and the crypt Base64 of a key of an accepted output length.
+/// A `$7$` text is read as the parts that it is the text of, if these are allowed, and as no other
+/// parts: it is `$7$`, the eleven letters of accepted parameters, a salt without a `$`, a `$`, and
+/// the crypt Base64 of a key of an accepted output length.
 pub fn mcf_texts_are_read()
     ensures exact { (text : List ℕ) (s : Stored) → (read_mcf text ≡ Ok s) ↔ IsMcfHashText text s }
 {}
@@ -103,8 +104,8 @@ pub fn made_hashes_are_accepted()
         → IsTrue (is_stored_len c.output_len) → IsMadeMcf c password salt (mcf_text (made_hash c password salt)) }
 {}
 
-/// A text that is `$7` or begins with `$7$` is read by its fields, the text of a PHC hash as this hash, and the reading of
-/// any other text is `EncodingInvalid`.
+/// A text that is `$7` or begins with `$7$` is read by its fields, and the text of a PHC hash as
+/// this hash. The reading of any other text is `EncodingInvalid`.
 pub fn texts_are_read_in_their_format()
     ensures mcf { (text : List ℕ) → is_mcf_text text ≡ true → reading text ≡ read_fields (fields_of text) }
     ensures phc { (text : List ℕ) (hash : PasswordHash) → is_mcf_text text ≡ false → IsHashText text hash
@@ -115,17 +116,19 @@ pub fn texts_are_read_in_their_format()
         → (reading text ≡ Err EncodingInvalid) × (params_reading text ≡ Err EncodingInvalid) }
 {}
 
-/// The parameters of a stored hash are those of its reading, and so is the length of its key. An error of its
-/// parameters is the error of its reading.
+/// The parameters and the length of the key of a stored hash are the same as in its reading. An
+/// error of its parameters is the error of its reading.
 #[tactic(auto, using(crate::proofs::StoredHashFacts::params_of_whole, crate::proofs::StoredHashFacts::params_refused))]
 pub fn parameters_are_those_of_the_reading()
     ensures whole { (text : List ℕ) (s : Stored) → reading text ≡ Ok s → params_reading text ≡ Ok (s.params, length s.key) }
     ensures refused { (text : List ℕ) (why : Refusal) → params_reading text ≡ Err why → reading text ≡ Err why }
 {}
 
-/// The text of a hash made from a password with accepted parameters verifies against that password, and is not weaker than
-/// these parameters ask for. A PHC text is read as the parameters, the salt and the key that it was made of, and it is within
-/// [`Limits::for_new`](crate::Limits::for_new), if 64 bits can say what its derivation needs. A key has the length asked for.
+/// The text of a hash made from a password with accepted parameters verifies against that password,
+/// and is not weaker than these parameters ask for. A PHC text is read as the parameters, the salt
+/// and the key that it was made of, and it is within [`Limits::for_new`](crate::Limits::for_new),
+/// if the bytes and the work of its derivation are below `2^64` each. A key has the requested
+/// length.
 #[tactic(auto, using(crate::proofs::PhcHashFacts::made_hashes, crate::proofs::StoredHashFacts::made_texts, crate::proofs::KeyFacts::lengths, crate::proofs::ReadingFacts::made_within))]
 pub fn made_texts_are_accepted()
     ensures phc { (c : Parameters) (password salt : List ℕ) (hash : PasswordHash) → IsTrue (are_accepted c.log_n c.r c.p)
@@ -143,7 +146,7 @@ pub fn made_texts_are_accepted()
         → (verdict password (reading text) ≡ Ok tt) × (weaker c (reading text) ≡ Ok false) }
 {}
 
-/// For refused arguments, hashing has only one possible error.
+/// For invalid arguments, hashing has only one possible error.
 #[tactic(auto, using(crate::proofs::HashingFacts::refused_once))]
 pub fn hashing_refusals_are_one()
     ensures phc { (salt : List ℕ) (alg_id : Option (List ℕ)) (version : Option ℕ) (one other : Refusal)
@@ -152,8 +155,9 @@ pub fn hashing_refusals_are_one()
         → McfHashIsRefused alg_id version one → McfHashIsRefused alg_id version other → one ≡ other }
 {}
 
-/// A password is accepted if and only if the stored key is the key of its length that the parameters and the salt of
-/// the hash derive from the password. `PasswordInvalid` means that the keys differ, or that the hash has no key or salt.
+/// A password is accepted if and only if the stored key is the key of its length that the
+/// parameters and the salt of the hash derive from the password. `PasswordInvalid` means that the
+/// keys differ, or that the hash has no key or no salt.
 #[tactic(auto, using(crate::proofs::ReadingFacts::verdict_right, crate::proofs::ReadingFacts::verdict_wrong))]
 pub fn verdicts_compare_keys()
     ensures right { (password : List ℕ) (reading : Result Stored Refusal) → (verdict password reading ≡ Ok tt)
@@ -163,8 +167,9 @@ pub fn verdicts_compare_keys()
         ⊎ (reading ≡ Err PasswordInvalid) }
 {}
 
-/// Reading a `$7$` text, or the parameters of a PHC hash or of a stored hash, never gives `PasswordInvalid`; and no
-/// reading gives `OutOfMemory`, `TooCostly` or `KeyTooShort`, which come after it.
+/// Reading a `$7$` text, or the parameters of a PHC hash or of a stored hash, never gives
+/// `PasswordInvalid`; and no reading gives `OutOfMemory`, `TooCostly` or `KeyTooShort`, which come
+/// after reading.
 #[tactic(auto, using(crate::proofs::StoredHashFacts::errors_of_reading))]
 pub fn reading_names_no_password()
     ensures mcf { (text : List ℕ) → NamesNoPassword (read_mcf text) }
@@ -211,15 +216,16 @@ pub fn thin_key_is_the_key()
 {}
 
 /// With a table that keeps one row in `2^s`, the `N` steps of the walk together recompute at most
-/// `N * (2^s - 1)` rows. With `s` of 0 the work is that of the whole table.
+/// `N * (2^s - 1)` rows. With `s` of 0 the work is the work with the whole table.
 #[tactic(auto, using(crate::proofs::ThinKeyFacts::extra_rows_at_most, crate::proofs::CostFacts::whole_table_cost))]
 pub fn extra_rows_are_bounded()
     ensures bound { (b : List ℕ) (log_n s : ℕ) → extra_rows b log_n s (2 ^ log_n) ≤ 2 ^ log_n * (2 ^ s - 1) }
     ensures whole { (password salt : List ℕ) (log_n r p : ℕ) → thin_cost password salt log_n r p 0 ≡ cost log_n r p }
 {}
 
-/// The work of a derivation bounds its cores together with nine for each block that SHA-256 compresses, except for the
-/// blocks of a long password, salt or key. So does the limit on work of all derivations within it.
+/// The work of a derivation bounds its cores together with nine for each block that SHA-256
+/// compresses, except for the blocks of a long password, salt or key. So does the limit on work,
+/// for all derivations within it.
 #[tactic(auto, using(crate::proofs::CostFacts::both_bounded, crate::proofs::CostFacts::both_within))]
 pub fn work_bounds_both_counts()
     ensures bounded { (password_len salt_len log_n r p n : ℕ) → cost log_n r p + 9 * hash_cost password_len salt_len r p n
@@ -258,8 +264,9 @@ pub fn hashers_are_accepted(hasher: &crate::Scrypt)
     params.expose_invariant();
 }
 
-/// Each condition that is computed, as the inequalities that it stands for: what calls require of parameters, of lengths, of
-/// buffers and of limits. With this law a caller shows them by arithmetic, of numbers too that are written out.
+/// Each computed condition, as the inequalities that it means: the preconditions of calls on
+/// parameters, lengths, buffers and limits. With this law a caller shows them by arithmetic, also
+/// for numeric literals.
 pub fn conditions_are_inequalities()
     ensures accepted { (log_n r p : ℕ) → IsTrue (are_accepted log_n r p)
         ↔ ((0 < r) × (0 < p) × (128 * r * 2 ^ log_n < 2 ^ 64) × (r * p < 2 ^ 30)) }

@@ -1,21 +1,22 @@
-// What a derivation may need.
+// Limits on the cost of verifying a stored hash.
 
 ghost use Rattle.std.specs.Prelude.{◌≡◌};
 ghost use Rattle.scrypt.specs.Limits.{admitting, are_within, limits_for_new};
 
 use crate::{BufferLens, Params};
 
-/// Limits on the memory and the work of verifying a stored hash, and on the length of its key: an
-/// untrusted hash sets its own cost, which may be days of work.
+/// Limits on the memory and the work of verifying a stored hash, and on the length of its key. An
+/// untrusted hash sets its own cost, which may be days of work: without limits this allows a denial
+/// of service.
 #[derive(Clone, Copy, Debug, PartialEq, Eq)]
 pub struct Limits {
-    /// The most bytes of the three buffers together, as [`BufferLens::of`] returns their lengths.
+    /// The maximum size of the three buffers in bytes ([`BufferLens::bytes`]).
     pub most_bytes: usize,
-    /// The most work, as [`Params::work`] returns it: the cores of a derivation, and nine for each block that SHA-256
-    /// compresses, except for the blocks of a long password, salt or key.
+    /// The maximum work ([`Params::work`]): the cores of a derivation, and nine for each block that
+    /// SHA-256 compresses, except for the blocks of a long password, salt or key.
     pub most_work: u64,
-    /// The least length of the key in bytes. A key of `n` bytes accepts about one wrong password in
-    /// `256^n`.
+    /// The minimum length of the key in bytes. A key of `n` bytes accepts about one wrong password
+    /// in `256^n`.
     pub least_key_len: usize,
 }
 
@@ -32,8 +33,8 @@ impl Limits {
         least_key_len: 16,
     };
 
-    /// Returns the default limits of a hasher that makes hashes with these parameters and keys of `key_len`
-    /// bytes: the usual ones, except that they admit such hashes.
+    /// Returns the default limits, raised (for the key, lowered) to admit hashes with these
+    /// parameters and keys of `key_len` bytes: the limits of a hasher that makes such hashes.
     pub fn for_new(params: &Params, key_len: usize) -> Limits
         ensures value { result ≡ limits_for_new Limits.USUAL params.now key_len }
     {
@@ -44,7 +45,8 @@ impl Limits {
         }
     }
 
-    /// Returns these limits, except that they admit a derivation with these parameters, if 64 bits can say what it needs.
+    /// Returns these limits, raised to admit a derivation with these parameters, but to at most
+    /// `2^64 - 1` each.
     pub fn admitting(self, params: &Params) -> Limits
         ensures value { result ≡ admitting self params.now }
     {
@@ -61,7 +63,7 @@ impl Limits {
         }
     }
 
-    /// Returns whether a derivation with these parameters is within both limits, on memory and on work.
+    /// Returns whether a derivation with these parameters is within the limits on memory and work.
     #[tactic(auto, unfolding(crate::specs::Limits::are_within))]
     pub fn allow(&self, params: &Params) -> bool
         ensures exact { result ≡ are_within self.now params.now }

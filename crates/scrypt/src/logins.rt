@@ -1,4 +1,4 @@
-// Verifying several passwords in one memory, at once if possible.
+// Verifying several passwords in one workspace, in one batch if possible.
 
 ghost use Rattle.std.specs.Prelude.{◌≡◌, ℕ, ◌∷◌, List, ◌+◌, ◌*◌, ◌<◌, length, map, IfSome, IsTrue, None, Some, true, false};
 ghost use Rattle.std.specs.List.{sum_by};
@@ -21,17 +21,17 @@ use crate::verifying::{verdict, verify_in_buffers};
 use crate::{BufferLens, CoreCount, Mixer, Params, StoredHash};
 use scrypt_kernel::memory::Buffer;
 
-/// A password and the stored hash that it is verified with.
+/// A password and the stored hash that it is verified against.
 #[derive(Drop)]
 pub struct Login<'p, 't> {
     /// The password.
     pub password: &'p [u8],
-    /// The hash, or why it is refused: the error of reading its text, or of [`StoredHash::within`].
+    /// The hash, or the error of reading its text or of [`StoredHash::within`].
     pub hash: Result<StoredHash<'t>, LimitedError>,
 }
 
 impl<'p, 't> Login<'p, 't> {
-    // Returns the parts of the hash, or why it is refused.
+    // Returns the parts of the hash, or the error in place of the hash or of reading it.
     fn parts(&self) -> Result<&StoredParts<'t>, LimitedError>
         ensures { mapped (λ parts. stored parts.now) (with_limited_refusal result) ≡ reading_of self.now }
     {
@@ -45,7 +45,7 @@ impl<'p, 't> Login<'p, 't> {
         }
     }
 
-    // Returns the parameters of its derivation, or `None` if the hash is refused.
+    // Returns the parameters of the derivation, or `None` if the hash is an error.
     fn params(&self) -> Option<Params>
         ensures { result ≡ params_of (reading_of self.now) }
     {
@@ -55,7 +55,8 @@ impl<'p, 't> Login<'p, 't> {
         }
     }
 
-    // Returns the number of its chunks and of `count` others, if it has this `N` and this `r`, or `count` if it is refused.
+    // Returns `count` plus the number of its chunks, if it has this `N` and this `r`, or `count` if
+    // the hash is an error.
     #[tactic(auto, unfolding(crate::specs::Logins::with_more))]
     fn count_with(&self, params: &Params, count: u32) -> Option<u32>
         ensures { (others : List Attempt) → count_of params.now others ≡ Some count
@@ -70,7 +71,7 @@ impl<'p, 't> Login<'p, 't> {
         own.p().checked_add(count)
     }
 
-    // Returns how many bytes its chunks have.
+    // Returns the length of its chunks in bytes.
     #[tactic(auto, using(crate::proofs::LoginFacts::lens_of_chunks))]
     fn chunks_len(&self) -> usize
         ensures value { result ≡ length (own chunks_of (attempt_of self.now)) }
@@ -119,7 +120,7 @@ impl<'p, 't> Login<'p, 't> {
         }
     }
 
-    // Verifies the password alone.
+    // Verifies this password separately.
     fn verify_alone<W: Mixer>(
         &self,
         chunks: &mut [u8],
@@ -147,15 +148,18 @@ impl<'p, 't> Login<'p, 't> {
     }
 }
 
-/// Verifies each password, as [`StoredHash::verify_with_buffers`] does it alone in these buffers, whatever the
-/// others are. The verdict of a hash that is refused is why. `verdicts` is as long as `logins`, and gets the
-/// verdict of each at its place. Does not allocate.
+/// Verifies each password as [`StoredHash::verify_with_buffers`] verifies it in these buffers, so
+/// each verdict is independent of the other logins. If a login has an error in place of its hash,
+/// the verdict is this error. `verdicts` has the length of `logins`, and gets the verdict of each
+/// at the same index. Does not allocate.
 ///
-/// If all hashes that are not refused have the `N` and the `r` of the first, and each buffer is long enough for one
-/// derivation with as many chunks as all have, their keys are derived at once: as many chunks are mixed at a time as
-/// have a table and a scratch there, at most four. Otherwise the first is verified alone, and then the others, likewise.
-/// Afterwards all that was used of `chunks` and `scratch` is zeros. `cores` counts the `4 * N * r * p` cores of each
-/// hash whose keys are compared, and the blocks that SHA-256 compresses, which are those of verifying each alone.
+/// If all hashes that are not errors have the `N` and the `r` of the first, and each buffer is long
+/// enough for one derivation with the chunks of all, their keys are derived in one batch: up to
+/// four chunks are interleaved, each with its own part of the table and of the scratch. Otherwise
+/// the first is verified separately, and then the rest in the same way. Afterwards the used parts
+/// of `chunks` and `scratch` are zeros. `cores` counts the `4 * N * r * p` cores of each hash whose
+/// keys are compared, and the blocks that SHA-256 compresses, the same number as for verifying each
+/// separately.
 pub fn verify_logins<W: Mixer>(
     logins: &[Login<'_, '_>],
     verdicts: &mut [Result<(), LimitedError>],
@@ -181,7 +185,8 @@ pub fn verify_logins<W: Mixer>(
     }
 }
 
-// Verifies all at once and returns true, or returns false if there is no room for that, or no login.
+// Verifies all in one batch and returns true, or returns false if a buffer is too short for that,
+// or there is no login.
 fn verified_at_once<W: Mixer>(
     logins: &[Login<'_, '_>],
     verdicts: &mut [Result<(), LimitedError>],
@@ -221,7 +226,8 @@ fn verified_at_once<W: Mixer>(
     }
 }
 
-// Returns the parameters of the first, and the number of all chunks, if all keys can be derived at once.
+// Returns the parameters of the first, and the number of all chunks, if all keys can be derived in
+// one batch.
 #[tactic(auto, unfolding(crate::specs::Logins::with_more))]
 fn shared_params(logins: &[Login<'_, '_>]) -> Option<(Params, u32)>
     ensures some { IfSome result (λ got. 0 < got.1) }
@@ -236,7 +242,7 @@ fn shared_params(logins: &[Login<'_, '_>]) -> Option<(Params, u32)>
     Some((params, count))
 }
 
-// Returns the number of the chunks of all, if each hash that is not refused has this `N` and this `r`.
+// Returns the number of chunks of all, if each hash that is not an error has this `N` and this `r`.
 fn count_of(params: &Params, logins: &[Login<'_, '_>]) -> Option<u32>
     ensures { result ≡ count_of params.now (attempts logins.now) }
 {
@@ -247,7 +253,7 @@ fn count_of(params: &Params, logins: &[Login<'_, '_>]) -> Option<u32>
     Some(count)
 }
 
-// Derives all keys at once and compares them. Afterwards the chunks and the scratch are zeros.
+// Derives all keys in one batch and compares them. Afterwards the chunks and the scratch are zeros.
 #[tactic(auto, using(crate::proofs::LoginFacts::chunks_together))]
 fn verify_at_once<W: Mixer>(
     logins: &[Login<'_, '_>],
@@ -266,7 +272,7 @@ fn verify_at_once<W: Mixer>(
     params.expose_invariant();
     derive_all_chunks(logins, used.chunks, used.cores);
     mix_all::<Buffer<'_>, W>(params, 0, count as usize, used);
-    // Borrowed mutably, as in `derive_in`.
+    // Borrowed mutably for the same reason as in `derive_in`.
     let mixed = &mut *used.chunks;
     compare(logins, mixed, verdicts, used.cores);
     used.chunks.fill(0);
@@ -288,7 +294,7 @@ fn derive_all_chunks(logins: &[Login<'_, '_>], chunks: &mut [u8], cores: &mut Co
     }
 }
 
-// Step 3: compares each key with the one that its mixed chunks give.
+// Step 3: compares each stored key with the key that its mixed chunks give.
 fn compare(
     logins: &[Login<'_, '_>],
     mixed: &[u8],
@@ -309,7 +315,7 @@ fn compare(
     }
 }
 
-// Returns a verdict as one of a call with limits.
+// Returns a verdict as the verdict of a call with limits.
 fn limited(verdict: password_hash::Result<()>) -> Result<(), LimitedError>
     ensures { with_limited_refusal result ≡ with_refusal verdict }
 {

@@ -17,9 +17,9 @@ use password_hash::phc::Output;
 use std::marker::Model;
 
 /// The parameters of a derivation: the work factor `N = 2^log_n`, the block size `r` and the
-/// parallelization `p` (RFC 7914, section 2), and perhaps the length of a key that is stored.
+/// parallelization `p` (RFC 7914, section 2), and optionally the length of a stored key.
 ///
-/// Equality compares the four of them, the optional length too.
+/// Equality compares all four, including the optional length.
 #[derive(Clone, Copy, Debug)]
 pub struct Params {
     log_n: u8,
@@ -64,8 +64,9 @@ impl Params {
 
     /// The parameters that are recommended for new hashes, with no length.
     ///
-    /// That they are accepted is computed wherever the constant is used. A function of another crate that uses it asks for
-    /// this by `#[tactic(auto, unfolding(scrypt::specs::Accepted::are_accepted, scrypt::specs::Accepted::is_stored_len))]`.
+    /// The prover computes that they are accepted wherever the constant is used. A function of
+    /// another crate that uses it needs
+    /// `#[tactic(auto, unfolding(scrypt::specs::Accepted::are_accepted, scrypt::specs::Accepted::is_stored_len))]`.
     /// `Params::default()` is the same value, and needs no attribute.
     pub const RECOMMENDED: Params = Params {
         log_n: Params::RECOMMENDED_LOG_N,
@@ -179,7 +180,8 @@ impl Params {
         }
     }
 
-    /// Returns whether `log_n`, `r`, `p` or the length of the key, which is `key_len`, is below the wanted one.
+    /// Returns whether `log_n`, `r`, `p` or the length of the key, which is `key_len`, is below the
+    /// wanted one.
     #[tactic(auto, unfolding(crate::specs::Reading::is_below))]
     pub(crate) fn is_below(&self, wanted: &Params, key_len: usize) -> bool
         ensures { result ≡ is_below wanted.now self.now key_len }
@@ -258,7 +260,7 @@ impl PartialEq for Params {
         (on_equiv (λ (c : Parameters). c.log_n) nat_eq_equiv))
         (and_equiv (on_equiv (λ (c : Parameters). c.r) nat_eq_equiv) (on_equiv (λ (c : Parameters). c.p) nat_eq_equiv))) };
 
-    /// Returns whether the four are equal: the optional length, `log_n`, `r` and `p`.
+    /// Returns whether all four are equal: the optional length, `log_n`, `r` and `p`.
     #[tactic(auto, using(crate::proofs::AcceptedFacts::parameters_decided))]
     fn eq(&self, other: &Params) -> bool
         ensures value { result ≡ parameters_eq self.now other.now }

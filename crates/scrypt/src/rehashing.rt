@@ -1,4 +1,4 @@
-// Which stored hashes are weaker than wanted.
+// Finding stored hashes that are weaker than wanted.
 
 ghost use Rattle.std.specs.Prelude.{◌≡◌};
 ghost use Rattle.password_hash.specs.McfViews.{borrowed_text};
@@ -14,9 +14,8 @@ use password_hash::{RehashCheck, Result, mcf, phc};
 impl RehashCheck<phc::PasswordHash> for Scrypt {
     ghost weaker = { λ scrypt hash. weaker_than scrypt (read_phc hash) };
 
-    /// Returns whether `log_n`, `r`, `p` or the length of the key is below that of this value's
-    /// parameters, which ask for a key of 32 bytes if they have no length. One of the four is
-    /// enough.
+    /// Returns whether `log_n`, `r`, `p` or the length of the key is below this value's parameters,
+    /// which ask for a key of 32 bytes if they have no length. One of the four suffices.
     ///
     /// Returns the same errors as verifying does before it allocates, in the same order.
     fn needs_rehash(&self, hash: &phc::PasswordHash) -> Result<bool> {
@@ -44,7 +43,7 @@ impl<'a> RehashCheck<mcf::PasswordHashRef<'a>> for Scrypt {
 impl RehashCheck<mcf::PasswordHash> for Scrypt {
     ghost weaker = { λ scrypt hash. weaker_than scrypt (read_mcf hash) };
 
-    /// Returns what it returns for the borrowed text.
+    /// Returns the same as for the borrowed text.
     fn needs_rehash(&self, hash: &mcf::PasswordHash) -> Result<bool> {
         self.needs_rehash(&hash.as_password_hash_ref())
     }

@@ -1,5 +1,5 @@
-//! A derivation in steps, in the caller's buffers: between two of them the caller can show how far
-//! it has come, or leave it.
+//! A derivation in steps, in the caller's buffers: between two steps the caller can show the
+//! progress, or abandon the derivation.
 
 ghost use Rattle.std.specs.Prelude.{◌≡◌, ◌≢◌, ◌↔◌, ℕ, ◌+◌, ◌-◌, ◌*◌, ◌^◌, ◌<◌, ◌≤◌, List, length};
 ghost use Rattle.std.specs.Prelude.{min, false, true, IsErrOf, IsTrue, OnErr, OnOk};
@@ -26,16 +26,17 @@ use scrypt_kernel::pbkdf2::pbkdf2_counted;
 use scrypt_kernel::steps::{begin_chunks, end_chunks, step_chunks};
 use std::simd::{u32x4, u32x8};
 
-/// How far a derivation in steps has come. Each of its `p` chunks takes `2 * N` block mixes, of
-/// `2 * r` cores each, and up to four are mixed at a time.
+/// The progress of a derivation in steps. Each of its `p` chunks takes `2 * N` block mixes, of
+/// `2 * r` cores each, and up to four chunks are interleaved.
 #[repr(C)]
 #[derive(Clone, Copy, Debug, PartialEq, Eq)]
 pub struct Progress {
-    /// How many chunks are mixed.
+    /// The number of chunks that are mixed.
     pub chunks: usize,
-    /// How many of the next chunks are mixed now, at a time. It is 0 once all are mixed.
+    /// The number of chunks in the current group, which are interleaved. It is 0 once all chunks
+    /// are mixed.
     pub at_once: usize,
-    /// How many block mixes of each of these are done.
+    /// The number of block mixes that are done for each chunk of this group.
     pub mixes: usize,
 }
 
@@ -48,18 +49,18 @@ pub enum FinishError {
     InvalidOutputLen,
 }
 
-/// A derivation in steps was left before its end.
+/// A derivation in steps was cancelled before its end.
 #[derive(Clone, Copy, Debug, PartialEq, Eq)]
 pub struct Cancelled;
 
 /// Begins a derivation in steps: step 1 (RFC 7914, section 6). No core is run yet.
 ///
 /// `chunks` has exactly the length of [`BufferLens::of`](crate::BufferLens::of) in bytes, and
-/// `table` and `scratch` have at least its lengths in words. As many chunks are mixed at a time as
-/// have a table and a scratch there, at most four
-/// ([`BufferLens::for_tables`](crate::BufferLens::for_tables)). It does not matter what the buffers
-/// hold. From here on they are for [`step`] and [`finish`] alone; a derivation that is not to be
-/// finished needs nothing but to be wiped.
+/// `table` and `scratch` have at least its lengths in words. Up to four chunks are interleaved,
+/// each with its own part of the table and of the scratch, if these are long enough
+/// ([`BufferLens::for_tables`](crate::BufferLens::for_tables)). The contents of the buffers before
+/// the call do not matter. From then on they are only for [`step`] and [`finish`]; to abandon the
+/// derivation, the caller only has to wipe them.
 pub fn begin<W: Mixer>(
     password: &[u8],
     salt: &[u8],
@@ -88,12 +89,12 @@ pub fn begin<W: Mixer>(
     begin_group::<W>(params, 0, chunks, table, scratch)
 }
 
-/// Goes on with a derivation: does `count` more block mixes of each chunk that is mixed now, or all
-/// that they lack, and counts their cores, `2 * r` each. Returns how far it has come then.
+/// Continues a derivation: does `count` more block mixes of each chunk of the current group, or all
+/// that are left, and counts their cores, `2 * r` each. Returns the new progress.
 ///
-/// The buffers are those of [`begin`], as it or the last step left them, `at` is what that returned,
-/// and the mixer is the same. With other buffers of these lengths this is safe too, and takes as
-/// long.
+/// The buffers are the buffers of [`begin`], as it or the last step left them, `at` is the progress
+/// that this call returned, and the mixer is the same. With other buffers of these lengths the call
+/// is safe too, and takes the same time.
 pub fn step<W: Mixer>(
     params: &Params,
     at: Progress,
@@ -139,9 +140,9 @@ pub fn step<W: Mixer>(
     begin_group::<W>(params, at.chunks + n, chunks, table, scratch)
 }
 
-/// Returns whether a derivation with these parameters and this mixer can have come so far, in
-/// buffers that have room: at most `p` chunks are mixed or mixed now, and of the latter fewer than
-/// `2 * N` block mixes are done.
+/// Returns whether a derivation with these parameters and this mixer can have this progress, in
+/// buffers that are long enough: at most `p` chunks are mixed or in the current group, and fewer
+/// than `2 * N` block mixes are done for the group.
 pub fn is_within<W: Mixer>(params: &Params, at: Progress) -> bool
     ensures exact { IsTrue result ↔ (IsWithin params.now at
         × AreMixable W.most W.in_words at.at_once) }
@@ -208,17 +209,18 @@ pub fn finish(
     if !output_len_ok(output.len()) {
         return Err(FinishError::InvalidOutputLen);
     }
-    // It is borrowed mutably, since the prover covers no shared borrow beside that of the count.
+    // B is borrowed mutably, because the prover does not support a second shared borrow besides the
+    // borrow of the count.
     pbkdf2_counted(password, chunks, output, cores);
     Ok(())
 }
 
-/// Does what [`scrypt_with_buffers`](crate::scrypt_with_buffers) does, by the mixer `W`, in steps of
-/// `count` block mixes of each chunk that is mixed at a time. After each step `go_on` is passed how
-/// many cores are done, of `4 * N * r * p` in all.
+/// Derives the key as [`scrypt_with_buffers`](crate::scrypt_with_buffers) does, by the mixer `W`,
+/// in steps of `count` block mixes of each chunk of a group. After each step it calls `go_on` with
+/// the number of cores that are done, of `4 * N * r * p` in all.
 ///
 /// Returns `Cancelled` as soon as `go_on` returns `false`, and then `output` is unchanged. The
-/// buffers are the caller's to wipe.
+/// caller has to wipe the buffers.
 pub fn scrypt_in_steps<W: Mixer, F: FnMut(u128) -> bool>(
     password: &[u8],
     salt: &[u8],
@@ -261,7 +263,7 @@ pub fn scrypt_in_steps<W: Mixer, F: FnMut(u128) -> bool>(
     Ok(())
 }
 
-// Does `count` more mixes of each of `n` chunks, of which `done` are done, or all that are left.
+// Does `count` more mixes of each of `n` chunks, after the first `done`, or all that are left.
 // Returns how many are done then.
 fn mix_more<W: Mixer>(
     params: &Params,
@@ -288,7 +290,8 @@ fn mix_more<W: Mixer>(
     params.expose_invariant();
     let r = params.r() as usize;
     let log_n = params.log_n();
-    // A mixer's answers are constants, so that the compiler leaves out the groups that it never mixes.
+    // A mixer's results are constants, so that the compiler leaves out the groups that it never
+    // mixes.
     match n {
         1 if W::is_in_words() => {
             step_chunks::<Diagonal<Scalars>>(r, table, scratch, log_n, done, count, cores)
@@ -311,8 +314,7 @@ fn mix_more<W: Mixer>(
     }
 }
 
-// Begins the next group after the first `i` chunks: as many as one call mixes at a time, if any is
-// left.
+// Begins the next group after the first `i` chunks, if any chunk is left.
 fn begin_group<W: Mixer>(
     params: &Params,
     i: usize,

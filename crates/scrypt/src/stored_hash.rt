@@ -48,8 +48,8 @@ impl<'a> StoredHash<'a> {
     /// Reads the text of a hash. The salt of a `$7$` text may have any characters but `$`. Does not
     /// allocate.
     ///
-    /// Returns `EncodingInvalid` if `text` is not one of its format. Errors of its parameters, its
-    /// salt and its key are returned later, by the calls below.
+    /// Returns `EncodingInvalid` if `text` does not have its format. Errors of the parameters, the
+    /// salt and the key are returned later, by the calls below.
     #[tactic(auto, unfolding(crate::specs::StoredHash::formatted, crate::specs::StoredHash::is_stored_text, crate::specs::StoredHash::reading, crate::specs::StoredHash::params_reading))]
     pub fn read(text: &'a str) -> Result<StoredHash<'a>>
         ensures exact { IsOk result ↔ IsTrue (is_stored_text text.now) }
@@ -126,8 +126,8 @@ impl<'a> StoredHash<'a> {
     }
 
     /// Verifies `password` with the parameters, the salt and the length of the key of the hash.
-    /// Returns `Ok` only if the key of `password` is that of the hash, and `PasswordInvalid` only if it
-    /// is not, or if the hash has no salt or no key.
+    /// Returns `Ok` only if the hash has the key of `password`, and `PasswordInvalid` only if it
+    /// does not, or if the hash has no salt or no key.
     ///
     /// Returns the errors of `Scrypt::verify_password` for the format, in the same order.
     pub fn verify(&self, alloc: Global, password: &[u8]) -> Result<()>
@@ -136,7 +136,8 @@ impl<'a> StoredHash<'a> {
         self.verify_counted::<Vectors>(alloc, password, &mut CoreCount::new())
     }
 
-    /// Returns whether the hash accepts `password`. A hash without a salt or a key accepts none.
+    /// Returns whether the hash accepts `password`. A hash without a salt or a key accepts no
+    /// password.
     ///
     /// Returns the other errors of [`StoredHash::verify`].
     pub fn accepts(&self, alloc: Global, password: &[u8]) -> Result<bool>
@@ -151,8 +152,9 @@ impl<'a> StoredHash<'a> {
         }
     }
 
-    /// Does what [`StoredHash::verify`] does, by the mixer `W`, and counts the `4 * N * r * p` cores of the hash's parameters,
-    /// and the blocks that SHA-256 compresses, which are those of deriving a key of the stored one's length.
+    /// Verifies as [`StoredHash::verify`] does, by the mixer `W`, and counts the `4 * N * r * p`
+    /// cores of the hash's parameters, and the blocks that SHA-256 compresses: the same number as
+    /// for deriving a key of the stored key's length.
     ///
     /// Unless the keys are compared, the count is unchanged.
     pub fn verify_counted<W: Mixer>(
@@ -175,8 +177,8 @@ impl<'a> StoredHash<'a> {
         }
     }
 
-    /// Returns whether `log_n`, `r`, `p` or the length of the key is below that of `wanted`, which
-    /// is 32 bytes if `wanted` has no length. One of the four is enough. Does not allocate.
+    /// Returns whether `log_n`, `r`, `p` or the length of the key is below the one of `wanted`,
+    /// whose length is 32 bytes if it has none. One of the four suffices. Does not allocate.
     ///
     /// Returns the same errors as [`StoredHash::verify`] does before it allocates, in the same
     /// order.
@@ -201,7 +203,7 @@ impl<'a> StoredHash<'a> {
         }) (params_reading self.now) }
         ensures missing { with_refusal result ≢ Err PasswordInvalid }
     {
-        // Proof hint: the text is one of its format.
+        // Proof hint: the text has its format.
         let _ = self.as_str();
         match self.params() {
             Ok(params) => Ok(BufferLens::of(&params)),
@@ -212,16 +214,16 @@ impl<'a> StoredHash<'a> {
     /// Verifies `password` as [`StoredHash::verify`] does, in the caller's buffers. Does not
     /// allocate.
     ///
-    /// Each buffer is at least as long as [`StoredHash::buffer_lens`] returns. As many chunks are
-    /// mixed at a time as have a table and a scratch there, at most four. Only the first elements of
-    /// each buffer are used, and those after them are unchanged. What they hold before
-    /// the call does not matter. Afterwards those of `chunks` and `scratch` are zeros, and those of
-    /// `table` are unspecified. `cores` counts the `4 * N * r * p` cores of the hash's parameters, and
-    /// the blocks that SHA-256 compresses.
+    /// Each buffer is at least as long as [`StoredHash::buffer_lens`] returns. Up to four chunks
+    /// are interleaved, each with its own part of the table and of the scratch, if these are long
+    /// enough. The call uses only the front of each buffer, and the rest is unchanged. The contents
+    /// of the buffers before the call do not matter. Afterwards the used parts of `chunks` and
+    /// `scratch` are zeros, and the used part of `table` is unspecified. `cores` counts the
+    /// `4 * N * r * p` cores of the hash's parameters, and the blocks that SHA-256 compresses.
     ///
-    /// Returns the same errors in the same order, `OutOfMemory` exactly if the hash can be read and
-    /// a buffer is too short for it. Unless the keys are compared, the buffers and the count are
-    /// unchanged.
+    /// Returns the same errors in the same order, and `OutOfMemory` exactly if the hash can be read
+    /// and a buffer is too short for it. Unless the keys are compared, the buffers and the count
+    /// are unchanged.
     pub fn verify_with_buffers<W: Mixer>(
         &self,
         password: &[u8],
@@ -243,7 +245,7 @@ impl<'a> StoredHash<'a> {
         }
     }
 
-    /// Returns what [`StoredHash::params`] and [`StoredHash::key_len`] return, read once.
+    /// Returns the results of [`StoredHash::params`] and [`StoredHash::key_len`], read once.
     pub fn params_and_key_len(&self) -> Result<(Params, usize)>
         ensures value { with_refusal result ≡ params_reading self.now }
     {
@@ -272,7 +274,7 @@ fn is_mcf_text(text: &[u8]) -> bool
     matches!(text, [b'$', b'7'] | [b'$', b'7', b'$', ..])
 }
 
-// Returns the length of the key of a hash, 0 if there is none.
+// Returns the length of the key of a hash, or 0 if it has no key.
 fn key_len(hash: &phc::PasswordHash) -> usize
     ensures { result ≡ key_len_or_zero hash.now.hash }
 {

@@ -1,4 +1,4 @@
-// What a stored hash of either format holds.
+// The contents of a stored hash of either format.
 
 ghost use Rattle.std.specs.Prelude.{◌≡◌, ◌↔◌, ◌≤◌, length, take, drop, IsTrue, Some};
 ghost use Rattle.password_hash.specs.Crypt64.{IsPiece};
@@ -10,7 +10,8 @@ use crate::Params;
 use password_hash::mcf::Field;
 use password_hash::phc;
 
-/// The salt of a hash of either format. That of a `$7$` text is part of the text, and is not decoded.
+/// The salt of a hash of either format. The salt of a `$7$` text is part of the text, and is not
+/// decoded.
 #[derive(Clone, Copy)]
 pub(crate) enum Salt<'a> {
     Mcf(&'a [u8]),
@@ -18,7 +19,7 @@ pub(crate) enum Salt<'a> {
 }
 
 impl<'a> Salt<'a> {
-    /// Returns its bytes.
+    /// Returns the bytes of the salt.
     pub(crate) fn as_bytes(&self) -> &[u8]
         ensures { result.now ≡ salt_bytes self.now }
     {
@@ -29,7 +30,8 @@ impl<'a> Salt<'a> {
     }
 }
 
-/// The key of a hash of either format. That of a `$7$` text is a field of the text, and is not decoded.
+/// The key of a hash of either format. The key of a `$7$` text is a field of the text, and is not
+/// decoded.
 #[derive(Clone, Copy)]
 pub(crate) enum Key<'a> {
     Mcf(Field<'a>),
@@ -37,8 +39,8 @@ pub(crate) enum Key<'a> {
 }
 
 impl<'a> Key<'a> {
-    /// Returns whether `bytes` are those of the key at byte `at`. Every byte is compared, also
-    /// after a difference.
+    /// Returns whether the key has `bytes` at byte `at`. Every byte is compared, also after a
+    /// difference.
     #[tactic(auto, using(password_hash::proofs::DecodedFacts::encoded_is))]
     pub(crate) fn matches_at(&self, at: usize, bytes: &[u8]) -> bool
         requires encoding { decoded_key self.now ≡ Some (key_bytes self.now) }
@@ -52,7 +54,7 @@ impl<'a> Key<'a> {
     }
 }
 
-/// The parameters, the salt and the key of a hash. They borrow from its text alone.
+/// The parameters, the salt and the key of a hash. They borrow only from its text.
 #[derive(Clone, Copy)]
 pub(crate) struct StoredParts<'a> {
     pub(crate) params: Params,
@@ -66,7 +68,7 @@ pub(crate) struct StoredParts<'a> {
 }
 
 impl<'a> StoredParts<'a> {
-    /// Proof hint: exposes that PBKDF2 can derive as many bytes as the key has.
+    /// Proof hint: exposes that the key is no longer than PBKDF2 can derive.
     #[tactic(auto, using(crate::proofs::AcceptedFacts::most_output_len))]
     pub(crate) fn expose_key_len(&self)
         ensures { self.now.key_len ≤ max_output_len }

@@ -18,11 +18,12 @@ use password_hash::phc::PasswordHash;
 use password_hash::{PasswordHasher, Result};
 use std::alloc::Global;
 
-/// Returns the text to store for `password`: the PHC text of a hash with these parameters, and with `salt`, which the
-/// caller has drawn at random.
+/// Returns the text to store for `password`: the PHC string of a hash with these parameters and
+/// with `salt`, which the caller has generated at random.
 ///
 /// The text accepts the password, is not weaker than `params`, and is within
-/// [`Limits::for_new`](crate::Limits::for_new) of these parameters, if 64 bits can say the bytes and the work that they need.
+/// [`Limits::for_new`](crate::Limits::for_new) of these parameters, if the bytes and the work of a
+/// derivation are below `2^64` each.
 ///
 /// Returns `OutOfMemory` if an allocation fails.
 pub fn hash_text(alloc: Global, password: &[u8], salt: [u8; 16], params: &Params) -> Result<String>

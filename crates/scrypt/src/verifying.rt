@@ -32,7 +32,7 @@ pub(crate) fn verdict(same: bool) -> Result<()>
     }
 }
 
-// Derives the key of the stored one's length, in any memory, and returns whether it is the stored
+// Derives a key of the stored key's length, in any memory, and returns whether it is the stored
 // key. Afterwards the chunks and the scratch are zeros.
 fn is_key_of<M: TableMemory, W: Mixer>(
     password: &[u8],
@@ -54,7 +54,7 @@ fn is_key_of<M: TableMemory, W: Mixer>(
     );
     let count = parts.params.p() as usize;
     mix_all::<M, W>(&parts.params, 0, count, used);
-    // Borrowed mutably, as in `derive_in`.
+    // Borrowed mutably for the same reason as in `derive_in`.
     let mixed = &mut *used.chunks;
     let same = is_derived_key(password, mixed, parts, used.cores);
     used.chunks.fill(0);
@@ -62,8 +62,8 @@ fn is_key_of<M: TableMemory, W: Mixer>(
     same
 }
 
-/// Verifies with the parts of a hash, in three buffers of its own: the chunks, the table and the
-/// scratch, allocated in this order.
+/// Verifies with the parts of a hash, in three buffers that it allocates in this order: the chunks,
+/// the table and the scratch.
 ///
 /// Returns `OutOfMemory` if an allocation fails, before the first core, and otherwise `PasswordInvalid` if the keys differ.
 pub(crate) fn verify_allocating<W: Mixer>(
@@ -79,7 +79,7 @@ pub(crate) fn verify_allocating<W: Mixer>(
     ensures hashed { (¬ IsErrOf result OutOfMemory)
         → cores.new.compressions ≡ cores.old.compressions + verify_cost password.now (stored parts.now) }
 {
-    // In no bytes a derivation takes one table.
+    // A limit of 0 bytes selects one table.
     let (width, mut own) = OwnBuffers::allocate_within(alloc, &parts.params, 0)?;
     let mut used = InUse::new(
         width,
@@ -93,8 +93,8 @@ pub(crate) fn verify_allocating<W: Mixer>(
 
 /// Verifies with the parts of a hash, in the caller's buffers. Does not allocate.
 ///
-/// Returns `OutOfMemory` exactly if a buffer is too short for its parameters, and changes nothing
-/// then, and otherwise `PasswordInvalid` if the keys differ.
+/// Returns `OutOfMemory`, and changes nothing, exactly if a buffer is too short for the parameters,
+/// and otherwise `PasswordInvalid` if the keys differ.
 #[tactic(auto, using(crate::proofs::ReadingFacts::not_enough))]
 pub(crate) fn verify_in_buffers<W: Mixer>(
     password: &[u8],

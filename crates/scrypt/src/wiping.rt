@@ -1,10 +1,10 @@
-// Overwriting what a derivation leaves in its buffers.
+// Wiping the buffers of a derivation.
 
 ghost use Rattle.std.specs.Prelude.{◌≡◌, length, replicate};
 
 /// Writes zeros to the buffers of a derivation.
 ///
-/// They may hold a padded password, the derived key, and blocks with which passwords can be tested
+/// They may hold a padded password, the derived key, and blocks that suffice to test passwords
 /// without the cost of scrypt.
 pub fn wipe(chunks: &mut [u8], table: &mut [u32], scratch: &mut [u32])
     ensures chunks { chunks.new ≡ replicate (length chunks.old) 0 }

@@ -17,8 +17,9 @@ use scrypt_kernel::order::diagonal::{Both, Diagonal, Scalars};
 use scrypt_kernel::romix;
 use std::simd::{u32x4, u32x8};
 
-/// Each of `count` chunks becomes its scryptROMix, at most `used.width` of them at a time, by `W`. They are those
-/// of one derivation or of several, all with the `N` and the `r` of `params`. The table keeps one row in `2^s`.
+/// Replaces each of `count` chunks by its scryptROMix, interleaving at most `used.width` of them,
+/// by the mixer `W`. The chunks belong to one derivation or to several, all with the `N` and the
+/// `r` of `params`. The table keeps one row in `2^s`.
 #[tactic(auto, unfolding(crate::specs::Cost::extra_rows_of_chunks))]
 pub(crate) fn mix_all<M: TableMemory, W: Mixer>(
     params: &Params,
@@ -40,7 +41,8 @@ pub(crate) fn mix_all<M: TableMemory, W: Mixer>(
     }
 }
 
-/// Returns how many of the chunks that are left are mixed next by `W`, where there are so many tables.
+/// Returns the number of chunks in the next group of `W`, given the number of tables and of chunks
+/// left.
 #[tactic(auto, unfolding(crate::specs::Mixing::group_by))]
 pub(crate) fn group_by<W: Mixer>(tables: usize, left: usize) -> usize
     requires some { 0 < tables }
@@ -56,8 +58,9 @@ pub(crate) fn group_by<W: Mixer>(tables: usize, left: usize) -> usize
     if n == 2 && W::is_in_words() { 1 } else { n }
 }
 
-// Returns how many of the chunks that are left are mixed next. None of several is mixed alone if three or more can be
-// mixed at a time: four and one would take longer than three and two.
+// Returns the number of chunks in the next group. If three or more can be interleaved, no group of
+// a single chunk is left over: groups of four and one would take longer than groups of three and
+// two.
 #[tactic(auto, unfolding(crate::specs::Mixing::next_group))]
 fn next_group(width: usize, left: usize) -> usize
     requires some { 0 < width }
@@ -76,7 +79,7 @@ fn next_group(width: usize, left: usize) -> usize
     }
 }
 
-// Mixes the `n` chunks from `i` on at once.
+// Mixes the `n` chunks from `i` on, interleaved.
 fn mix_at_once<M: TableMemory, W: Mixer>(
     params: &Params,
     s: u8,
@@ -94,7 +97,8 @@ fn mix_at_once<M: TableMemory, W: Mixer>(
     ensures counted { AreCountedAs true (n
         * thin_ro_mix_cost (words_of (part (128 * params.now.r) used.old.chunks.now i)) params.now.log_n s params.now.r) used.old.cores.now used.new.cores.now }
 {
-    // A mixer's answers are constants, so that the compiler leaves out the groups that it never mixes.
+    // A mixer's results are constants, so that the compiler leaves out the groups that it never
+    // mixes.
     match n {
         1 if W::is_in_words() => mix_group::<Diagonal<Scalars>, M>(params, s, n, i, used),
         1 => mix_group::<Diagonal<u32x4>, M>(params, s, n, i, used),
@@ -109,7 +113,8 @@ fn mix_at_once<M: TableMemory, W: Mixer>(
     }
 }
 
-// Mixes the `n` chunks from `i` on, as many as `O` holds blocks: B[i] = scryptROMix (r, B[i], N) for each.
+// Mixes the `n` chunks from `i` on, where `O` holds `n` blocks: B[i] = scryptROMix (r, B[i], N) for
+// each.
 fn mix_group<O: OrderedBlocks, M: TableMemory>(
     params: &Params,
     s: u8,
@@ -141,7 +146,8 @@ fn mix_group<O: OrderedBlocks, M: TableMemory>(
     );
 }
 
-// Returns `s`. For several chunks it is a constant, so that the compiler leaves out what a smaller table needs.
+// Returns `s`. For several chunks it is a constant, so that the compiler leaves out the code for a
+// smaller table.
 #[inline(always)]
 fn spacing<O: OrderedBlocks>(s: u8) -> u8
     requires alone { 0 < s → O.count ≡ 1 }

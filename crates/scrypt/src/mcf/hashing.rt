@@ -101,7 +101,8 @@ pub fn hash<W: Mixer>(
     Ok(hash_of_text(text))
 }
 
-// Derives the key of a hash. The letters of the salt are the salt of the derivation: they lie in `text` until it is written.
+// Derives the key of a hash. The letters of the salt are the salt of the derivation: they are in
+// `text` until it is written.
 #[tactic(auto, using(crate::proofs::McfTextFacts::key_fills))]
 fn key_by_letters<W: Mixer>(
     alloc: Global,
@@ -143,7 +144,7 @@ fn params_letters(params: &Params) -> [u8; PARAMS_LEN]
     letters
 }
 
-// Writes the text of a hash, all of which fills `out`.
+// Writes the text of a hash, which fills `out`.
 #[tactic(auto, using(crate::proofs::McfTextFacts::whole_texts))]
 fn write_text(out: &mut [u8], params: &Params, salt: &[u8], key: &Output)
     requires len { length out.old ≡ made_text_len params.now (length salt.now) }
@@ -193,10 +194,11 @@ fn hash_of_text(text: Vec<u8>) -> PasswordHash
 /// Hashes `password` as `Scrypt::hash_password_with_params` does, in the caller's buffers. Writes
 /// the text of the hash to the front of `text`, and returns its length. Does not allocate.
 ///
-/// `text` is at least as long as [`hash_len`](crate::mcf::hash_len) returns, and each other buffer as
-/// [`BufferLens::of`](crate::BufferLens::of) returns for `params`. These are used and
-/// left, and the cores are counted, as
-/// [`StoredHash::verify_with_buffers`](crate::StoredHash::verify_with_buffers) does it.
+/// `text` is at least as long as [`hash_len`](crate::mcf::hash_len) returns, and each other buffer
+/// as [`BufferLens::of`](crate::BufferLens::of) returns for `params`. These other buffers and the
+/// count are used and left as
+/// [`StoredHash::verify_with_buffers`](crate::StoredHash::verify_with_buffers) uses and leaves
+/// them.
 ///
 /// Returns `OutOfMemory` exactly if `text` or another buffer is too short, and then changes nothing.
 #[tactic(auto, using(crate::proofs::HashingFacts::errors))]

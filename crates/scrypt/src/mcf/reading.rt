@@ -12,8 +12,8 @@ use crate::stored_parts::{Key, Salt, StoredParts};
 use password_hash::mcf::{Fields, PasswordHashRef};
 use password_hash::{Error, Result};
 
-/// Returns the parts of a hash. Nothing is copied: the salt and the key are parts of the text, and the key is not
-/// decoded.
+/// Returns the parts of a hash. Nothing is copied: the salt and the key are parts of the text, and
+/// the key is not decoded.
 ///
 /// Returns the first of these errors: `Algorithm` if the id is not `7`, `EncodingInvalid` if the
 /// first field is missing, the errors of reading the first field, `EncodingInvalid` if the second

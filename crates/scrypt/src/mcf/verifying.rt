@@ -49,7 +49,7 @@ impl PasswordVerifier<PasswordHash> for Scrypt {
 
     ghost needs_memory = { λ hash. IsOk (read_mcf hash) };
 
-    /// Verifies the password as it does for the borrowed text.
+    /// Verifies the password as for the borrowed text.
     fn verify_password(&self, alloc: Global, password: &[u8], hash: &PasswordHash) -> Result<()> {
         self.verify_password(alloc, password, &hash.as_password_hash_ref())
     }

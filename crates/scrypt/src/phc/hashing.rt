@@ -106,8 +106,9 @@ fn hash_of(params: &Params, salt: Salt, key: Output) -> PasswordHash
 /// allocate.
 ///
 /// Each buffer is at least as long as [`BufferLens::of`](crate::BufferLens::of) returns for `params`.
-/// The buffers are used and left, and the cores are counted, as
-/// [`StoredHash::verify_with_buffers`](crate::StoredHash::verify_with_buffers) does it.
+/// The buffers and the count are used and left as
+/// [`StoredHash::verify_with_buffers`](crate::StoredHash::verify_with_buffers) uses and leaves
+/// them.
 ///
 /// Returns `SaltInvalid` if `salt` does not have 1 to 64 bytes, and otherwise `OutOfMemory` exactly
 /// if a buffer is too short. On an error the buffers and the count are unchanged.

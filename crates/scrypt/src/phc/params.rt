@@ -13,8 +13,8 @@ use crate::Params;
 use password_hash::phc::{ParamsString, PasswordHash, Value};
 use password_hash::{Error, Result};
 
-// What a text without `ln`, `r`, `p` or a key means. Stored hashes rest on it: it stays as it is if other parameters are
-// recommended for new ones.
+// The values of a missing `ln`, `r` or `p`, and the length of a missing key. Stored hashes rely on
+// them, so they must not change when other parameters are recommended for new hashes.
 const IMPLIED_LOG_N: u8 = 17;
 
 const IMPLIED_R: u32 = 8;

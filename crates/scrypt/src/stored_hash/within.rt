@@ -12,13 +12,13 @@ use crate::errors::LimitedError;
 use crate::{BufferLens, Limits, Params};
 
 impl<'a> StoredHash<'a> {
-    /// Returns this hash if no call on it needs more memory or work than `limits` allow and its key is long enough. Does
-    /// not allocate.
+    /// Returns this hash if no call on it needs more memory or work than `limits` allow and its key
+    /// is long enough. Does not allocate.
     ///
-    /// Returns the first of these errors: those of [`StoredHash::verify`] for a hash that cannot be
-    /// read, `PasswordInvalid` for one without a salt or a key among them; `TooCostly` if its
-    /// parameters exceed the limit on memory or the limit on work; and `KeyTooShort` if its key is shorter than
-    /// the limits allow.
+    /// Returns the first of these errors: the errors of [`StoredHash::verify`] for a hash that
+    /// cannot be read, including `PasswordInvalid` if it has no salt or no key; `TooCostly` if its
+    /// parameters exceed the limit on memory or the limit on work; and `KeyTooShort` if its key is
+    /// shorter than the limits allow.
     pub fn within(&self, limits: &Limits) -> Result<&StoredHash<'a>, LimitedError>
         ensures value { mapped (λ hash. hash.now) (with_limited_refusal result)
             ≡ mapped (λ _. self.now) (within limits.now (reading self.now)) }
@@ -40,7 +40,7 @@ impl<'a> StoredHash<'a> {
     }
 }
 
-// Returns the error of parameters that exceed a limit.
+// Returns the error for parameters that exceed a limit.
 fn too_costly(params: &Params) -> LimitedError
     ensures { limited_refusal result ≡ TooCostly (buffers_bytes params.now.log_n params.now.r params.now.p)
         (work params.now.log_n params.now.r params.now.p) }
