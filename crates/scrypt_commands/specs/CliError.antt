@@ -1,4 +1,4 @@
--- Why a run ends without an answer: each error has a status and a line.
+-- The errors that end a run without an answer: each has a status and an error line.
 use Rattle.std.specs.Prelude.{ℕ, ◌++◌, bytes_eq, if◌then◌else◌, List, [], codes, decimal, Result, Err}
 use Rattle.password_hash.specs.Refusal.{Refusal}
 use Rattle.password_hash.specs.Refusal as refusals
@@ -21,7 +21,8 @@ status_of InputFailed = 4
 status_of OutputFailed = 4
 status_of refused = 2
 
--- the line of a refusal without numbers, with its newline: it has the name of the library's error, and of its parameter
+-- the error line of a rejected hash without numbers, with its newline: it names the library's
+-- error, and its parameter
 abbrev pub refused_line : Refusal → List ℕ
 refused_line refusals.Algorithm = codes "hash refused: Algorithm\n"
 refused_line refusals.EncodingInvalid = codes "hash refused: EncodingInvalid\n"
@@ -33,7 +34,7 @@ refused_line refusals.SaltInvalid = codes "hash refused: SaltInvalid\n"
 refused_line refusals.Version = codes "hash refused: Version\n"
 refused_line others = []
 
--- the line of a refusal, with its newline: if a hash exceeds limits, with these
+-- the error line of a rejected hash, with its newline: if a hash exceeds limits, it prints them
 abbrev pub limited_line : Limits → Refusal → List ℕ
 limited_line limits (refusals.TooCostly bytes work) = codes "hash refused: TooCostly, it needs " ++ decimal bytes ++ codes " bytes and work "
     ++ decimal work ++ codes ", and --most-bytes is " ++ decimal limits.most_bytes ++ codes " and --most-work " ++ decimal limits.most_work ++ codes "\n"
@@ -41,7 +42,7 @@ limited_line limits (refusals.KeyTooShort key_len) = codes "hash refused: KeyToo
     ++ codes " bytes, and --least-key-len is " ++ decimal limits.least_key_len ++ codes "\n"
 limited_line limits why = refused_line why
 
--- the line of an error of the program's own, with its newline
+-- the error line of an error of the program itself, with its newline
 abbrev pub fixed_line : CliError → List ℕ
 fixed_line Usage =
     codes "usage: key LOG_N R P LEN SALT_HEX | hash phc|mcf LOG_N R P SALT_HEX [LEN] | verify HASH | rehash phc|mcf LOG_N R P LEN SALT_HEX HASH\n"
@@ -58,24 +59,24 @@ fixed_line InputFailed = codes "input failed\n"
 fixed_line OutputFailed = codes "output failed\n"
 fixed_line (Refused why limits) = []
 
--- the line of an error, with its newline
+-- the error line of any error, with its newline
 abbrev pub error_line : CliError → List ℕ
 error_line (Refused why limits) = limited_line limits (limited_refusal why)
 error_line error = fixed_line error
 
--- the error that reports one of the library, of a call with these limits
+-- the error that reports this library error, from a call with these limits
 abbrev pub error_of : Limits → LimitedError → CliError
 error_of limits (Hash NoMemory) = OutOfMemory
 error_of limits why = Refused why limits
 
--- the error that reports one of a call without limits
+-- the error that reports this library error, from a call without limits
 abbrev pub hash_error : Error → CliError
 hash_error why = error_of USUAL (Hash why)
 
--- the line of an error of status 2, in place of a value
+-- an error line with status 2, instead of a value
 abbrev pub ErrorLine : Type 0
 ErrorLine = List ℕ
 
--- refuses with this error
+-- fails with this error
 abbrev pub refuse : {A : Type 0} → CliError → Result A ErrorLine
 refuse error = Err (error_line error)

@@ -1,5 +1,6 @@
--- What a command asks for, or the error of the first thing that is wrong with it. After the words and their decimals, these are read in
--- this order: the salt, the parameters, the length of the key, the text of a hash.
+-- The request of a command, or the error of the first thing that is wrong with it. After the words
+-- and their decimals, these are read in this order: the salt, the parameters, the length of the
+-- key, the text of a hash.
 use Rattle.std.specs.Prelude.{ℕ, ◌^◌, ◌&&◌, Bool, false, true, bytes_eq, if◌then◌else◌, codes, ⊤}
 use Rattle.std.specs.Prelude.{List, [], ◌∷◌, Option, None, Some, is_some, ok_or, Result, Ok, Err}
 use Rattle.hex.specs.Hex.{decode_of}
@@ -19,37 +20,37 @@ use Rattle.scrypt_commands.specs.declared.command.Target.TheVariants.{Key, Hash}
 use Rattle.scrypt_commands.specs.declared.command.UncheckedParams.{UncheckedParams}
 use Rattle.scrypt_commands.specs.declared.error.CliError.TheVariants.{InvalidOutputLen, InvalidParams, SaltNotHex, Usage}
 
--- what is to be made of a password
+-- a key or a hash that is to be made from a password
 pub record Making : Type 0 where
   pub target : Target
   pub params : Parameters
   pub salt : List ℕ
 
--- what words ask for: to make something, or to verify a hash, and to make something in its place if it is weaker
+-- a request: make something, or verify a hash, and make something in its place if it is weaker
 pub data Request : Type 0 where
   ToMake : (making : Making) → Request
   ToVerify : (text : List ℕ) (wanted : Option Making) → Request
 
--- the salt of hexadecimal digits, if they are
+-- the salt that was decoded from hexadecimal digits, if they are valid
 abbrev pub decoded_salt : {E : Type 0} → Result (List ℕ) E → Result (List ℕ) ErrorLine
 decoded_salt (Ok salt) = Ok salt
 decoded_salt (Err why) = refuse SaltNotHex
 
--- the parameters, with the length that is named for the key of a hash, if they are accepted
+-- the parameters, with the key length if one is given for a hash, if they are accepted
 unfoldable pub checked_params : UncheckedParams → Option ℕ → Option Parameters
 checked_params it key_len =
     if are_accepted it.log_n it.r it.p && is_stored_len key_len
     then Some (record { log_n = it.log_n; r = it.r; p = it.p; output_len = key_len })
     else None
 
--- what is to be made, of a salt that was read
+-- the key or hash to make, with a salt that was read
 unfoldable pub making_of : Target → UncheckedParams → Option ℕ → Result (List ℕ) ErrorLine → Result Making ErrorLine
 making_of target unchecked key_len salt = do
   salt ← salt
   params ← ok_or (checked_params unchecked key_len) (error_line InvalidParams)
   Ok (record { target = target; params = params; salt = salt })
 
--- the text of a hash, if it is one of its format
+-- the text of a hash, if it has one of the two formats
 abbrev pub hash_of : List ℕ → Result (List ℕ) ErrorLine
 hash_of text = if is_stored_text text then Ok text else refuse (hash_error EncodingInvalid)
 
@@ -159,12 +160,12 @@ rehash_words drawn file words = do
   text ← hash_of text
   Ok (ToVerify text (Some wanted))
 
--- to make this
+-- the request to make this
 abbrev pub to_make : Result Making ErrorLine → Result Request ErrorLine
 to_make making = making >>= λ making. Ok (ToMake making)
 
--- What the words of a command ask for. No words stand for the recommended parameters of `hash`, for a salt that was drawn, and for a
--- hash that is the text of a file.
+-- The request in the words of a command. There are no words for the recommended parameters of
+-- `hash`, for a drawn salt, and for a hash that is read from a file.
 abbrev pub requested_by : CommandLine → Name → Result Request ErrorLine
 requested_by command_line names.Key = to_make (key_words command_line.options.is_raw command_line.words)
 requested_by command_line names.Hash =
@@ -172,6 +173,6 @@ requested_by command_line names.Hash =
 requested_by command_line names.Verify = verify_words command_line.file_text command_line.words
 requested_by command_line names.Rehash = rehash_words command_line.salt command_line.file_text command_line.words
 
--- what a command asks for
+-- the request of a command
 abbrev pub request_of : CommandLine → Result Request ErrorLine
 request_of command_line = requested_by command_line command_line.name

@@ -1,4 +1,4 @@
--- What a command line asks for.
+-- Parsed command lines.
 use Rattle.std.specs.Prelude.{ℕ, ◌||◌, Bool, false, bytes_eq, codes, if◌then◌else◌, is_some}
 use Rattle.std.specs.Prelude.{List, [], ◌∷◌, Option, None, Some, Result, Ok, Err}
 use Rattle.std.specs.Bool.{then_some}
@@ -15,8 +15,8 @@ use Rattle.scrypt_commands.specs.declared.invocation.Invocation.TheVariants as t
 use Rattle.scrypt_commands.specs.declared.options.Options.{Options as OptionsOf}
 use Rattle.scrypt_commands.specs.declared.usage.TheConstants.{HELP, VERSION}
 
--- a command by its options, with the words after its name, the salt that was drawn and the text of the file of the hash, if there
--- are these
+-- a command with its options, the words after its name, the drawn salt and the text of the hash
+-- file, if there are any
 pub record CommandLine : Type 0 where
   pub name : Name
   pub options : Options
@@ -24,7 +24,7 @@ pub record CommandLine : Type 0 where
   pub salt : Option (List ℕ)
   pub file_text : Option (List ℕ)
 
--- what a command line asks for: a text about the program, nothing that can be done, or a command by its options
+-- a parsed command line: a text about the program, an error, or a command with its options
 pub data Invocation : Type 0 where
   Tell : (text : List ℕ) → Invocation
   Refuse : (error : CliError) → Invocation
@@ -39,39 +39,40 @@ name_of word =
     else if bytes_eq word (codes "rehash") then Ok Rehash
     else Err Usage
 
--- whether an option is about a stored hash: its limits, or its file
+-- whether an option applies only to a stored hash: its limits, or its file
 abbrev pub is_about_hash : Options → Bool
 is_about_hash o = is_some o.limit_options || is_some o.hash_file
 
--- Why the options do not fit a command, if they don't. Options about a stored hash are for `verify` and `rehash`, a salt is drawn for
--- `hash` and `rehash`, the recommended parameters are those of `hash`, and only a key is written raw.
+-- Why the options do not fit a command, if they don't. Only `verify` and `rehash` take options
+-- about a stored hash, only `hash` and `rehash` draw a salt, only `hash` has recommended
+-- parameters, and only a key is written raw.
 abbrev pub misfit : Options → Name → Option CliError
 misfit o Key = then_some (is_about_hash o || o.draws_salt) KeyMisfit
 misfit o Hash = then_some (is_about_hash o || o.is_raw) HashMisfit
 misfit o Verify = then_some (o.draws_salt || o.is_raw) VerifyMisfit
 misfit o Rehash = then_some (o.is_recommended || o.is_raw) RehashMisfit
 
--- this command by these options, if they fit it
+-- this command with these options, if they fit it
 abbrev pub command_line_of : Options → List (List ℕ) → Name → Result CommandLine CliError
 command_line_of o words name = option_map_or Err (misfit o name)
     (Ok (record { name = name; options = o; words = words; salt = None; file_text = None }))
 
--- the command of these words by these options
+-- the command of these words with these options
 abbrev pub command_by : Options → List (List ℕ) → Result CommandLine CliError
 command_by o [] = Err Usage
 command_by o (word ∷ words) = name_of word and_then command_line_of o words
 
--- whether the first word is `--hash-file`, which is no option without a file
+-- whether the first word is `--hash-file`, which is not an option without a file
 abbrev pub wants_file : List (List ℕ) → Bool
 wants_file [] = false
 wants_file (word ∷ words) = bytes_eq word (codes "--hash-file")
 
--- what a command asks for, or that it is refused
+-- the invocation of a command, or its error
 abbrev pub asked_by : Result CommandLine CliError → Invocation
 asked_by (Ok command_line) = Command command_line
 asked_by (Err error) = Refuse error
 
--- the text about the program that a word asks for, if it does
+-- the text about the program that a word asks for, if any
 unfoldable pub text_of : List ℕ → Option (List ℕ)
 text_of word =
     if bytes_eq word (codes "--help") then Some HELP.now
@@ -79,16 +80,16 @@ text_of word =
     else if bytes_eq word (codes "--version") then Some VERSION.now
     else None
 
--- the same of words: it is asked for by one word alone
+-- the text about the program that these words ask for: only a single word asks for one
 unfoldable pub text_of_words : List (List ℕ) → Option (List ℕ)
 text_of_words (word ∷ []) = text_of word
 text_of_words others = None
 
--- what these options and the words after them ask for
+-- the invocation of these options and the words after them
 abbrev pub invocation_by : Options × List (List ℕ) → Invocation
 invocation_by (o, words) = if wants_file words then Refuse NoHashFile else asked_by (command_by o words)
 
--- what these words ask for, of which the first may be options
+-- the invocation of these words, which can begin with options
 abbrev pub invocation_of : List (List ℕ) → Invocation
 invocation_of words = option_map_or Tell (text_of_words words) (invocation_by (options_of words))
 
@@ -97,17 +98,17 @@ abbrev pub draws_salt : Invocation → Bool
 draws_salt (Command command_line) = command_line.options.draws_salt
 draws_salt others = false
 
--- whether the bytes of a key are written
+-- whether a key is written as its bytes
 abbrev pub is_raw : Invocation → Bool
 is_raw (Command command_line) = command_line.options.is_raw
 is_raw others = false
 
--- the file whose text is the hash, if it is not a word
+-- the name of the file that contains the hash, if the hash is not a word
 abbrev pub hash_file_of : Invocation → Option (List ℕ)
 hash_file_of (Command command_line) = command_line.options.hash_file
 hash_file_of others = None
 
--- the options, with the texts that they have
+-- the options, with the texts that they contain
 abbrev pub options_view : OptionsOf → Options
 options_view it = record {
   limit_options = it.limit_options;
@@ -118,7 +119,7 @@ options_view it = record {
   hash_file = option_copied it.hash_file;
 }
 
--- a command by its options
+-- a command with its options
 abbrev pub command_line_view : CommandLineOf → CommandLine
 command_line_view it = record {
   name = it.name;
@@ -128,7 +129,7 @@ command_line_view it = record {
   file_text = option_copied it.file_text;
 }
 
--- what a command line asks for
+-- a parsed command line
 abbrev pub invocation_view : InvocationOf → Invocation
 invocation_view (typed.Tell text) = Tell text.now
 invocation_view (typed.Refuse error) = Refuse error

@@ -1,20 +1,20 @@
--- In reading order: the options, why a run ends without an answer, what the arguments ask for, and what
--- the program prints.
+-- In reading order: the options, the errors, the commands that the arguments ask for, and the
+-- output of the program.
 
--- what a stored hash may need, and how short its key may be
+-- the limits on the cost of a stored hash, and on the length of its key
 pub mod LimitOptions
--- what the program prints about itself
+-- the texts that the program prints about itself
 -- the options before a command
 pub mod Options
--- why a run ends without an answer: statuses and lines
+-- the errors that end a run without an answer: statuses and error lines
 pub mod CliError
--- what a command line asks for, and whether its options fit its command
+-- parsed command lines, and whether their options fit the command
 pub mod Invocation
--- what the words of a command ask for, and what they are refused for
+-- the requests of commands, and the errors in their words
 pub mod Command
--- what the program prints for its arguments and its input
+-- the program's output for its arguments and its input
 pub mod Outcome
--- how a run goes: what it prints, and what it reads and writes
+-- runs: their output, and the bytes that they read and write
 pub mod Run
 -- private: the steps of a run
 pub mod Steps

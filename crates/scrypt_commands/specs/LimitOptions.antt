@@ -1,4 +1,4 @@
--- What a stored hash may need, and how short its key may be.
+-- The limits on the cost of a stored hash, and on the length of its key.
 use Rattle.std.specs.Prelude.{ℕ, ◌^◌, bytes_eq, codes, if◌then◌else◌}
 use Rattle.std.specs.Prelude.{List, Option, None, Some, option_map, unwrap_or}
 use Rattle.password_hash.specs.Decimal.{decimal_below}
@@ -8,11 +8,11 @@ use Rattle.scrypt.specs.declared.limits.Limits.{Limits}
 use Rattle.scrypt.specs.declared.limits.TheConstants.Limits.{USUAL}
 use Rattle.scrypt_commands.specs.declared.limit_options.LimitOptions.{LimitOptions}
 
--- the usual limits of the library, where `verify` and `rehash` choose the length of the key
+-- the default limits of the library; the minimum key length depends on whether a new hash is wanted
 abbrev pub usual : LimitOptions
 usual = record { most_bytes = USUAL.most_bytes; most_work = USUAL.most_work; least_key_len = None }
 
--- the options with the one of this name, whose value is a number below 2 ^ 64
+-- the options with the option of this name added, if its value is a number below 2 ^ 64
 unfoldable pub with_number : LimitOptions → List ℕ → List ℕ → Option LimitOptions
 with_number b name value =
     if bytes_eq name (codes "--most-bytes") then option_map (λ n. record b { most_bytes = n }) (decimal_below (2 ^ 64) value)
@@ -20,8 +20,9 @@ with_number b name value =
     else if bytes_eq name (codes "--least-key-len") then option_map (λ n. record b { least_key_len = Some n }) (decimal_below (2 ^ 64) value)
     else None
 
--- The limits on a hash: the least length of its key is that of USUAL, if no option says otherwise. If a new hash is wanted, they are at
--- least what that needs, and a short key is weaker than wanted, and so allowed if no option says otherwise.
+-- The limits on a hash. The minimum key length is the default of USUAL unless an option sets it. If
+-- a new hash is wanted, the limits are raised where necessary to admit it, and a short key, which
+-- is weaker than wanted, is allowed unless an option sets a minimum.
 abbrev pub limits_of : LimitOptions → Option Parameters → Limits
 limits_of b None =
     record { most_bytes = b.most_bytes; most_work = b.most_work; least_key_len = unwrap_or b.least_key_len USUAL.least_key_len }

@@ -31,20 +31,20 @@ no_options = record {
   hash_file = None;
 }
 
--- the options with the one of this name too, which has a value
+-- the options with the option of this name added, which has a value
 abbrev pub with_named : Options → List ℕ → List ℕ → Option Options
 with_named o name value =
     if bytes_eq name (codes "--hash-file") then Some (record o { hash_file = Some value })
     else option_map (λ limit_options. record o { limit_options = Some limit_options }) (with_number (unwrap_or o.limit_options usual) name value)
 
--- the same, of an option whose value comes after its first `=`
+-- the same, for an option whose value follows its first `=`
 abbrev pub with_value : Options → List ℕ → Option Options
 with_value o word =
     if nat_lt (position_or_len (λ b. b == 61) word) (length word)
     then with_named o (before_first (λ b. b == 61) word) (after_first (λ b. b == 61) word)
     else None
 
--- the options with this one too; a later one overrides an earlier one
+-- the options with this word's option added; a later one overrides an earlier one
 unfoldable pub with_option : Options → List ℕ → Option Options
 with_option o word =
     if bytes_eq word (codes "--usual-limits") then Some (record o { limit_options = Some usual })

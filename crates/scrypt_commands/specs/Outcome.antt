@@ -1,4 +1,4 @@
--- The outcome of a command line: what the program prints for its arguments and its input.
+-- The outcome of a command line: the program's output for its arguments and its input.
 use Rattle.std.specs.Prelude.{ℕ, ◌&&◌, Bool, false, true, nat_le, if◌then◌else◌, List, [], ◌++◌, length, codes}
 use Rattle.std.specs.Prelude.{Option, None, Some, option_map, unwrap_or, Result, Ok, Err, ⊤}
 use Rattle.std.specs.Result.{result_unwrap_or}
@@ -28,12 +28,12 @@ use Rattle.scrypt_commands.specs.declared.command.Target.{Target}
 use Rattle.scrypt_commands.specs.declared.command.Target.TheVariants.{Key, Hash}
 use Rattle.scrypt_commands.specs.declared.error.CliError.{CliError}
 
--- an answer: the exit status, and the line for the output
+-- an answer: the exit status and the output line
 pub record Reply : Type 0 where
   pub status : ℕ
   pub line : List ℕ
 
--- what a run prints: the exit status, the line for the output and the line for the errors
+-- the outcome of a run: the exit status, the output line and the error line
 pub record Outcome : Type 0 where
   pub status : ℕ
   pub line : List ℕ
@@ -48,7 +48,7 @@ outcome (Err line) = record { status = 2; line = []; error = line }
 abbrev pub failure : CliError → Outcome
 failure error = record { status = status_of error; line = []; error = error_line error }
 
--- the text of the PHC hash that parameters make of a password and a salt
+-- the text of the PHC hash of a password and a salt with these parameters
 unfoldable pub phc_text : Parameters → List ℕ → List ℕ → List ℕ
 phc_text c password salt = hash_text (record {
   algorithm = codes "scrypt";
@@ -68,18 +68,18 @@ new_hash Phc c password salt =
     if is_salt_len (length salt) then Ok (phc_text c password salt) else refuse (hash_error SaltInvalid)
 new_hash Mcf c password salt = Ok (mcf_text (made_hash c password salt))
 
--- the line of a key: its hexadecimal digits, or its bytes and no newline
+-- the output line of a key: its hexadecimal digits, or its bytes without a newline
 abbrev pub key_line : Bool → List ℕ → List ℕ
 key_line is_raw key = if is_raw then key else encode_lower key ++ codes "\n"
 
--- the line of what is made of a password and a salt: a derived key, or a hash
+-- the output line of a new key or hash of a password and a salt
 abbrev pub new_line : Target → Parameters → List ℕ → List ℕ → Result (List ℕ) ErrorLine
 new_line (Key len is_raw) c password salt = Ok (key_line is_raw (key_by c password salt len))
 new_line (Hash format) c password salt = do
   text ← new_hash format c password salt
   Ok (text ++ codes "\n")
 
--- the answer with what is made
+-- the answer with a new key or hash
 abbrev pub made_reply : Making → List ℕ → Result Reply ErrorLine
 made_reply making password = do
   line ← new_line making.target making.params password making.salt
@@ -91,7 +91,8 @@ right_of limits (Ok right) = Ok true
 right_of limits (Err PasswordInvalid) = Ok false
 right_of limits (Err why) = Err (limited_line (unwrap_or limits USUAL) why)
 
--- the answer to the right password of a hash: what is wanted in its place if it is weaker than that
+-- the answer to the right password: the replacement of the hash if it is weaker than wanted, and
+-- otherwise `ok`
 abbrev pub right_reply : Option Making → Result Stored Refusal → List ℕ → Result Reply ErrorLine
 right_reply None reading password = Ok (record { status = 0; line = codes "ok\n" })
 right_reply (Some wanted) reading password =
@@ -102,18 +103,18 @@ abbrev pub bounded : Option Limits → Result Stored Refusal → Result Stored R
 bounded None reading = reading
 bounded (Some limits) reading = within limits reading
 
--- the limits on a hash, if options name any, and something may be wanted in its place
+-- the limits on a hash, if options set any, and given what is wanted in its place
 abbrev pub limits_by : Option LimitOptions → Option Making → Option Limits
 limits_by limit_options wanted = option_map (λ b. limits_of b (option_map (λ making. making.params) wanted)) limit_options
 
--- the answer to a request within limits, if options name any
+-- the answer to a request within limits, if options set any
 abbrev pub reply_to : Option LimitOptions → Request → List ℕ → Result Reply ErrorLine
 reply_to limit_options (ToMake making) password = made_reply making password
 reply_to limit_options (ToVerify text wanted) password = do
   right ← right_of (limits_by limit_options wanted) (verdict password (bounded (limits_by limit_options wanted) (reading text)))
   if right then right_reply wanted (reading text) password else Ok (record { status = 1; line = codes "no\n" })
 
--- the answer to a command by its options
+-- the answer to a command with its options
 abbrev pub reply_by : CommandLine → List ℕ → Result Reply ErrorLine
 reply_by command_line input = do
   request ← request_of command_line

@@ -32,7 +32,7 @@ abbrev pub salt_of : Salt → Result (List ℕ) ErrorLine
 salt_of (Digits digits) = decoded_salt (decode_of digits.now)
 salt_of (Drawn salt) = Ok salt
 
--- what is read of the first words, and the words after them
+-- the value that is read from the first words, and the words after them
 abbrev pub before_words : {A B : Type 0} → (A → B) → A × Bor (List (String Global)) → B × List (List ℕ)
 before_words view (read, words) = (view read, texts_of words.now)
 
@@ -40,43 +40,45 @@ before_words view (read, words) = (view read, texts_of words.now)
 abbrev pub FailsWith : (CliError → Type 0) → CliError → Type 0
 FailsWith Is error = (error ≡ OutOfMemory) ⊎ ((status_of error ≡ 2) × Is error)
 
--- a step gives what is expected, also the line of an error, or an allocation failed
+-- a step returns the expected value or error line, or an allocation failed
 abbrev pub Gives : {A B : Type 0} → (A → B) → Result B ErrorLine → Result A CliError → Type 0
 Gives view expected (Ok x) = expected ≡ Ok (view x)
 Gives view expected (Err error) = FailsWith (λ error. expected ≡ Err (error_line error)) error
 
--- what is to be made, with the bytes of the salt
+-- the key or hash to make, with the bytes of the salt
 abbrev pub making_view : MakingOf → Making
 making_view it = record { target = it.target; params = it.params; salt = it.salt.items }
 
--- what a command asks for
+-- the request of a command
 abbrev pub request_view : Command → Request
 request_view (Make making) = ToMake (making_view making)
 request_view (Verify hash wanted) = ToVerify hash (option_map making_view wanted)
 
--- the status and the line of an answer
+-- the status and the output line of an answer
 abbrev pub reply_view : Answer → Reply
 reply_view Right = record { status = 0; line = codes "ok\n" }
 reply_view Wrong = record { status = 1; line = codes "no\n" }
 reply_view (Made line) = record { status = 0; line = line.items }
 
--- a salt of 16 bytes was drawn, if one is to be, and this holds of it
+-- a salt of 16 bytes was drawn if required, and this holds of it
 abbrev pub IsDrawn : Bool → (List ℕ → Type 0) → Option (List ℕ) → Type 0
 IsDrawn is_drawn Is drawn = (salt : List ℕ) × (length salt ≡ 16) × (is_drawn ≡ true → Is salt) × (drawn ≡ then_some is_drawn salt)
 
--- the line that answers with this status was appended
+-- the output line of the answer with this status was appended
 abbrev pub AppendsReply : (List ℕ → Result Reply ErrorLine) → Option (List ℕ) → Option (List ℕ) → Option (List ℕ) → ℕ → Type 0
 AppendsReply reply_on known old new status =
     OnInput known (λ input. (line : List ℕ) × (reply_on input ≡ Ok (record { status = status; line = line })) × Appends old new line)
 
--- The cores of verifying a password with a hash of this reading, and the blocks that SHA-256 compresses: none if it is refused,
--- and otherwise those of its parameters, unless an allocation failed.
+-- The cores of verifying a password against a hash with this reading, and the blocks that SHA-256
+-- compresses: none if the hash is rejected; otherwise the cost of its parameters, unless an
+-- allocation failed.
 abbrev pub AreOfHash : List ℕ → Result Stored Refusal → (failed : Type 0) → CoreCount → CoreCount → Type 0
 AreOfHash password (Err why) failed before after = after ≡ before
 AreOfHash password (Ok s) failed before after = ¬ failed → AreCounted (cost s.params.log_n s.params.r s.params.p) before after
     × (after.compressions ≡ before.compressions + verify_cost password s)
 
--- the cores of verifying for a request within limits, if options name any: none if it asks only to make something
+-- the cores of verifying for a request within limits, if options set any: none if nothing is
+-- verified
 abbrev pub AreOfRequest : Option LimitOptions → Request → List ℕ → (failed : Type 0) → CoreCount → CoreCount → Type 0
 AreOfRequest limit_options (ToMake making) password failed before after = after ≡ before
 AreOfRequest limit_options (ToVerify text wanted) password failed before after =

@@ -24,16 +24,16 @@ use std::alloc::Global;
 /// The answer to a command.
 #[derive(Drop)]
 pub enum Answer {
-    /// The password is that of the hash.
+    /// The password matches the hash.
     Right,
-    /// The password is not that of the hash.
+    /// The password does not match the hash.
     Wrong,
-    /// What was made of the password.
+    /// A key or a hash was made from the password.
     Made { line: Vec<u8> },
 }
 
 impl Answer {
-    /// Returns the exit status, which is 1 if the password is wrong, and the line for the output, with its
+    /// Returns the exit status, which is 1 if the password is wrong, and the output line, with its
     /// newline if it has one.
     pub fn reply(&self) -> (u8, &[u8])
         ensures value { reply_view self.now ≡ record { status = result.0; line = result.1.now } }
@@ -47,11 +47,13 @@ impl Answer {
 }
 
 impl<'a> Command<'a> {
-    /// Carries out the command on this password. A hash is verified only within limits, if options name any.
+    /// Carries out the command on this password. A hash is verified only within limits, if options
+    /// set any.
     ///
-    /// Returns the error of hashing or verifying, also `TooCostly` or `KeyTooShort` if a hash exceeds
-    /// the limits, and `OutOfMemory` if an allocation fails. `cores` counts the cores of verifying, and the blocks that SHA-256
-    /// compresses: none if the hash cannot be read or exceeds the limits.
+    /// Returns the error of hashing or verifying, including `TooCostly` or `KeyTooShort` if a hash
+    /// exceeds the limits, and `OutOfMemory` if an allocation fails. `cores` counts the cores of
+    /// verifying, and the blocks that SHA-256 compresses: none if the hash cannot be read or
+    /// exceeds the limits.
     pub fn answer<M: Mixer>(
         &self,
         alloc: Global,
@@ -74,7 +76,7 @@ impl<'a> Command<'a> {
     }
 }
 
-// Returns the limits on a hash, if options name any.
+// Returns the limits on a hash, if options set any.
 fn limits_by(options: Option<LimitOptions>, wanted: &Option<Making>) -> Option<Limits>
     ensures { result ≡ limits_by options (option_map making_view wanted.now) }
 {
@@ -85,7 +87,7 @@ fn limits_by(options: Option<LimitOptions>, wanted: &Option<Making>) -> Option<L
     }
 }
 
-// Makes what is wanted in place of a hash with this password, if the hash is weaker.
+// Makes the wanted replacement of a hash from this password, if the hash is weaker than wanted.
 fn replace<M: Mixer>(
     alloc: Global,
     hash: &StoredHash<'_>,
@@ -100,7 +102,7 @@ fn replace<M: Mixer>(
     }
 }
 
-// Returns whether the password is that of the hash, which is within the limits.
+// Returns whether the password matches the hash, or the error of a hash that exceeds the limits.
 fn verify<M: Mixer>(
     alloc: Global,
     hash: &StoredHash<'_>,
@@ -119,7 +121,7 @@ fn verify<M: Mixer>(
     }
 }
 
-// Verifies the password, if the hash is within the limits.
+// Verifies the password against the hash, if the hash is within the limits.
 fn verify_within<M: Mixer>(
     alloc: Global,
     hash: &StoredHash<'_>,
@@ -150,7 +152,7 @@ fn is_weaker(hash: &StoredHash<'_>, wanted: &Params) -> bool
     }
 }
 
-// Makes what is made of the password.
+// Makes a key or a hash from the password.
 fn make<M: Mixer>(alloc: Global, password: &[u8], making: &Making) -> Result<Answer, CliError>
     ensures { Gives reply_view (made_reply (making_view making.now) password.now) result }
 {
@@ -158,7 +160,7 @@ fn make<M: Mixer>(alloc: Global, password: &[u8], making: &Making) -> Result<Ans
     Ok(Answer::Made { line })
 }
 
-// Returns the line of what is made of the password.
+// Returns the output line of a new key or hash.
 fn line<M: Mixer>(alloc: Global, password: &[u8], making: &Making) -> Result<Vec<u8>, CliError>
     ensures { Gives (λ line. line.items) (new_line making.now.target making.now.params password.now making.now.salt.items) result }
 {
@@ -201,7 +203,7 @@ fn make_hash<M: Mixer>(
     }
 }
 
-// Returns the line of the derived key of `len` bytes.
+// Returns the output line of the derived key of `len` bytes.
 fn key<M: Mixer>(
     alloc: Global,
     password: &[u8],

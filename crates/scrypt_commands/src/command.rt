@@ -1,4 +1,4 @@
-// What a command asks for.
+// Commands, read from their words.
 
 ghost use Rattle.std.specs.Prelude.{◌≡◌};
 ghost use Rattle.std.specs.Option.{option_copied};
@@ -18,20 +18,20 @@ use hex::FromHexError;
 use scrypt::{Params, StoredHash, output_len_ok};
 use std::alloc::Global;
 
-/// What a command asks for.
+/// A command, read from its words.
 #[derive(Drop)]
 pub enum Command<'a> {
-    /// `key` or `hash`: the key or the text of the hash that is made of the password.
+    /// `key` or `hash`: make a key, or the text of a hash, from the password.
     Make(Making),
-    /// `verify` or `rehash`: whether the password is that of the hash. If it is, and the hash is weaker than what is
-    /// wanted, that is made in its place.
+    /// `verify` or `rehash`: verify the password against the hash. If it matches, and the hash is
+    /// weaker than wanted, make the wanted one in its place.
     Verify {
         hash: StoredHash<'a>,
         wanted: Option<Making>,
     },
 }
 
-/// What is to be made of a password.
+/// A key or a hash that is to be made from a password.
 #[derive(Drop)]
 pub struct Making {
     pub target: Target,
@@ -39,10 +39,10 @@ pub struct Making {
     pub salt: Vec<u8>,
 }
 
-/// What is made of a password.
+/// The kind of result that is made from a password.
 #[derive(Clone, Copy)]
 pub enum Target {
-    /// a key of `len` bytes, an allowed length, in hexadecimal if it is not raw
+    /// a key of `len` bytes, an allowed length, in hexadecimal unless it is raw
     Key { len: usize, is_raw: bool },
     /// a hash of this format
     Hash { format: Format },
@@ -57,7 +57,7 @@ pub enum Format {
     Mcf,
 }
 
-/// LOG_N, R and P, which may not be accepted.
+/// LOG_N, R and P, not yet checked.
 #[derive(Clone, Copy)]
 pub struct UncheckedParams {
     pub log_n: u8,
@@ -82,11 +82,12 @@ const RECOMMENDED: UncheckedParams = UncheckedParams {
 };
 
 impl<'a> Command<'a> {
-    /// Reads the words of a command. No words stand for the recommended parameters of `hash`, for a salt that
-    /// was drawn, and for a hash that is the text of a file.
+    /// Reads the words of a command. There are no words for the recommended parameters of `hash`,
+    /// for a drawn salt, and for a hash that is read from a file.
     ///
     /// Returns the error of the first of these that is wrong: `Usage`, `SaltNotHex`,
-    /// `InvalidParams`, `InvalidOutputLen`, and `EncodingInvalid`. Returns `OutOfMemory` if the allocation of the salt fails.
+    /// `InvalidParams`, `InvalidOutputLen`, and `EncodingInvalid`. Returns `OutOfMemory` if the
+    /// allocation of the salt fails.
     pub fn read(alloc: Global, command_line: CommandLine<'a>) -> Result<Command<'a>, CliError>
         ensures command { Gives request_view (request_of (command_line_view command_line.entry)) result }
     {
@@ -127,7 +128,7 @@ fn key_words(alloc: Global, is_raw: bool, words: &[String]) -> Result<Making, Cl
     Ok(making)
 }
 
-// Reads the words after `hash`. No words stand for the recommended parameters.
+// Reads the words after `hash`. There are no words for the recommended parameters.
 #[tactic(auto, unfolding(crate::specs::Command::hash_words))]
 fn hash_words(
     alloc: Global,
@@ -185,7 +186,7 @@ fn rehash_words<'a>(
     })
 }
 
-// Reads LOG_N R P, and returns the words after them too. No words stand for the recommended parameters.
+// Reads LOG_N R P, and also returns the words after them. The recommended parameters have no words.
 #[tactic(auto, unfolding(crate::specs::Command::params_words))]
 fn params_words<'a>(
     is_recommended: bool,
@@ -207,7 +208,7 @@ fn params_words<'a>(
     Ok((params, words))
 }
 
-// Reads phc|mcf, and returns the words after it too.
+// Reads phc|mcf, and also returns the words after it.
 #[tactic(auto, using(crate::proofs::CommandFacts::other), unfolding(crate::specs::Command::format_word))]
 fn format_word<'a>(words: &'a [String]) -> Result<(Format, &'a [String]), CliError>
     ensures { Gives (before_words (λ format. format)) (format_word (texts_of words.now)) result }
@@ -220,7 +221,7 @@ fn format_word<'a>(words: &'a [String]) -> Result<(Format, &'a [String]), CliErr
     }
 }
 
-// Reads SALT_HEX, and returns the words after it too. A salt that was drawn has no word.
+// Reads SALT_HEX, and also returns the words after it. A drawn salt has no word.
 #[tactic(auto, unfolding(crate::specs::Command::salt_word))]
 fn salt_word<'a>(
     drawn: Option<[u8; 16]>,
@@ -235,7 +236,7 @@ fn salt_word<'a>(
     Ok((Salt::Digits(digits), words))
 }
 
-// Reads HASH, and returns the words after it too. The text of a file has no word.
+// Reads HASH, and also returns the words after it. The text of a file has no word.
 fn hash_word<'a>(
     file_text: Option<&'a str>,
     words: &'a [String],
@@ -248,7 +249,7 @@ fn hash_word<'a>(
     }
 }
 
-// Reads LEN, and returns the words after it too.
+// Reads LEN, and also returns the words after it.
 #[tactic(auto, unfolding(crate::specs::Command::len_word))]
 fn len_word<'a>(words: &'a [String]) -> Result<(usize, &'a [String]), CliError>
     ensures { Gives (before_words (λ len. len)) (len_word (texts_of words.now)) result }
@@ -257,7 +258,7 @@ fn len_word<'a>(words: &'a [String]) -> Result<(usize, &'a [String]), CliError>
     Ok((parse_len(len).ok_or(CliError::Usage)?, words))
 }
 
-// Reads LEN, if it is there, and is the last word.
+// Reads LEN if it is given. It must be the last word.
 #[tactic(auto, unfolding(crate::specs::Command::optional_len))]
 fn optional_len(words: &[String]) -> Result<Option<usize>, CliError>
     ensures { Gives (λ len. len) (optional_len (texts_of words.now)) result }
@@ -280,7 +281,7 @@ fn first_word<'a>(words: &'a [String]) -> Result<(&'a str, &'a [String]), CliErr
     }
 }
 
-// Refuses words after the last one.
+// Rejects words after the last one.
 fn end_of(words: &[String]) -> Result<(), CliError>
     ensures { Gives (λ done. done) (end_of (texts_of words.now)) result }
 {
@@ -312,7 +313,7 @@ fn making_of(
     })
 }
 
-// Returns the parameters, with the length that is named for the key of a hash, if they are accepted.
+// Returns the parameters, with the key length if one is given for a hash, if they are accepted.
 #[tactic(auto, using(std::proofs::lemmas::Bool::Decides::nat_tests), unfolding(crate::specs::Command::checked_params, scrypt::specs::Accepted::is_stored_len))]
 fn checked_params(unchecked: UncheckedParams, key_len: Option<usize>) -> Option<Params>
     ensures { result ≡ checked_params unchecked key_len }
@@ -324,7 +325,7 @@ fn checked_params(unchecked: UncheckedParams, key_len: Option<usize>) -> Option<
     }
 }
 
-// Returns the hash of a text.
+// Reads the hash from its text.
 fn hash_of(text: &str) -> Result<StoredHash<'_>, CliError>
     ensures { Gives (λ hash. hash) (hash_of text.now) result }
 {

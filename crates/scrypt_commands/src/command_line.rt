@@ -1,4 +1,4 @@
-// A command by its options.
+// A command with its options.
 
 ghost use Rattle.std.specs.Prelude.{◌≡◌, IfErr};
 ghost use Rattle.scrypt.specs.Reading.{mapped};
@@ -10,7 +10,7 @@ use crate::command_name::Name;
 use crate::error::CliError;
 use crate::options::Options;
 
-/// A command by its options, whose words are not read yet.
+/// A command with its options, whose words are not read yet.
 #[derive(Clone, Copy)]
 pub struct CommandLine<'a> {
     pub name: Name,
@@ -19,14 +19,15 @@ pub struct CommandLine<'a> {
     pub words: &'a [String],
     /// the salt that was drawn, if the options draw one
     pub drawn: Option<[u8; 16]>,
-    /// the text of the file that the options name, if they name one
+    /// the text of the hash file, if the options name one
     pub file_text: Option<&'a str>,
 }
 
 impl<'a> CommandLine<'a> {
-    /// Returns the command of these words by these options, without a salt and the text of a file.
+    /// Returns the command of these words with these options, without a salt and without the text
+    /// of a file.
     ///
-    /// Returns `Usage` if there is no command, and the error of options that do not fit it.
+    /// Returns `Usage` if the words name no command, and the error of options that do not fit it.
     pub fn new(options: Options<'a>, words: &'a [String]) -> Result<CommandLine<'a>, CliError>
         ensures value { mapped command_line_view result ≡ command_by (options_view options.entry) (texts_of words.now) }
         ensures refused { IfErr result (λ error. status_of error ≡ 2) }

@@ -16,7 +16,7 @@ pub enum Name {
 }
 
 impl Name {
-    /// Returns the command of this name, or `Usage` if there is none.
+    /// Returns the command of this name, or `Usage` if no command has this name.
     #[tactic(auto, using(crate::proofs::CommandFacts::other), unfolding(crate::specs::Invocation::name_of))]
     pub fn of(word: &str) -> Result<Name, CliError>
         ensures value { result ≡ name_of word.now }

@@ -1,4 +1,4 @@
-// Numbers in decimal digits, as words have them.
+// Words that are decimal numbers.
 
 ghost use Rattle.std.specs.Prelude.{◌≡◌, ◌^◌};
 ghost use Rattle.password_hash.specs.Decimal.{decimal_below};

@@ -1,4 +1,4 @@
-// Why a run ends without an answer.
+// The errors that end a run without an answer.
 
 ghost use Rattle.std.specs.Prelude.{◌≡◌, OnOk};
 ghost use Rattle.std.specs.Io.KnownBytes.{Appends};
@@ -14,10 +14,10 @@ use std::alloc::AllocError;
 use std::io;
 use std::io::Write;
 
-/// Why a run ends without an answer.
+/// An error that ends a run without an answer.
 #[derive(Clone, Copy)]
 pub enum CliError {
-    /// The words are not those of a command, or one is not a decimal below its bound.
+    /// The words are not a command, or one of them is not a decimal below its bound.
     Usage,
     /// `--hash-file` has no value.
     NoHashFile,
@@ -35,7 +35,7 @@ pub enum CliError {
     InvalidParams,
     /// LEN is 0, or above 32 * (2^32 - 1).
     InvalidOutputLen,
-    /// The library refuses a hash, or the salt of a new one.
+    /// The library rejects a hash, or the salt of a new one.
     Refused {
         why: LimitedError,
         /// the limits, if the hash exceeds them
@@ -50,7 +50,7 @@ pub enum CliError {
 }
 
 impl CliError {
-    /// Returns the error that reports one of the library, of a call with these limits.
+    /// Returns the error that reports this library error, from a call with these limits.
     pub fn of(why: LimitedError, limits: Limits) -> CliError
         ensures value { result ≡ error_of limits why }
     {
@@ -71,7 +71,7 @@ impl CliError {
         }
     }
 
-    /// Writes the error line, with its newline, by one `write_all` if it has no numbers.
+    /// Writes the error line, with its newline, with one `write_all` if it has no numbers.
     pub fn write_to<F: Write>(self, faults: &mut F) -> io::Result<()>
         ensures written { OnOk result (Appends (F.contents faults.old) (F.contents faults.new) (error_line self)) }
     {
@@ -81,7 +81,7 @@ impl CliError {
         }
     }
 
-    // Returns the error line, with its newline, or no bytes for a refusal of the library.
+    // Returns the error line, with its newline, or no bytes for `Refused`.
     fn fixed_line(self) -> &'static [u8]
         ensures { result.now ≡ fixed_line self }
     {
@@ -113,7 +113,7 @@ impl CliError {
     }
 }
 
-// Writes the line of a refusal, with its newline, by one `write_all` if it has no numbers.
+// Writes the error line of `Refused`, with its newline, with one `write_all` if it has no numbers.
 fn write_refused<F: Write>(faults: &mut F, why: LimitedError, limits: Limits) -> io::Result<()>
     ensures written { OnOk result (Appends (F.contents faults.old) (F.contents faults.new) (limited_line limits (limited_refusal why))) }
 {
@@ -135,7 +135,8 @@ fn write_refused<F: Write>(faults: &mut F, why: LimitedError, limits: Limits) ->
     }
 }
 
-// Returns the line of a refusal, with its newline: it names the error, and the parameter.
+// Returns the error line of a rejected hash, with its newline: it names the error, and the
+// parameter.
 fn refused_line(why: Error) -> &'static [u8]
     ensures { result.now ≡ refused_line (refusal why) }
 {

@@ -1,4 +1,4 @@
-//! What a command line asks for, of which the first words may be options.
+//! Invocations: command lines whose first words can be options.
 
 ghost use Rattle.std.specs.Prelude.{◌≡◌, ◌⊎◌, ℕ, IfOk, IsTrue, List, [], OnErr, Option, length, true};
 ghost use Rattle.std.specs.Io.KnownBytes.{Keeps};
@@ -21,10 +21,10 @@ use std::io::{Read, Write};
 
 /// The machine that the program runs on.
 pub trait Machine {
-    /// how chunks are mixed there
+    /// how this machine mixes chunks
     type Mixer: Mixer;
 
-    /// what it has drawn
+    /// the salts that it can draw
     ghost draws: { Self → List ℕ → Type 0 };
 
     /// Draws a salt at random.
@@ -32,20 +32,20 @@ pub trait Machine {
         ensures drawn { IfOk result (λ salt. draws self.now salt) };
 }
 
-/// What a command line asks for.
+/// A parsed command line.
 #[derive(Clone, Copy)]
 pub enum Invocation<'a> {
     /// a text about the program
     Tell(&'static str),
-    /// nothing that can be done
+    /// an invalid command line
     Refuse(CliError),
-    /// a command by options that fit it
+    /// a command with options that fit it
     Command(CommandLine<'a>),
 }
 
 impl<'a> Invocation<'a> {
-    /// Parses the options, which come first, or a word that asks for a text about the program, which is the only one. The words of
-    /// the command are read by `run`.
+    /// Parses the options, which come first, or a single word that asks for a text about the
+    /// program. The words of the command are read by `run`.
     pub fn parse(words: &'a [String]) -> Invocation<'a>
         ensures value { invocation_view result ≡ invocation_of (texts_of words.now) }
     {
@@ -62,8 +62,8 @@ impl<'a> Invocation<'a> {
         }
     }
 
-    /// Returns the file whose text is the hash, if `--hash-file` names one: then give that text to `run`, which reads no
-    /// files.
+    /// Returns the name of the file that contains the hash, if `--hash-file` is given: then pass
+    /// its text to `run`, which reads no files.
     pub fn hash_file(&self) -> Option<&'a str>
         ensures value { option_copied result ≡ hash_file_of (invocation_view self.now) }
     {
@@ -73,7 +73,8 @@ impl<'a> Invocation<'a> {
         }
     }
 
-    /// Returns whether the output is the bytes of a key, by `--raw`, which are not for a terminal.
+    /// Returns whether the output is the raw bytes of a key (`--raw`), which should not go to a
+    /// terminal.
     pub fn is_raw(&self) -> bool
         ensures value { result ≡ is_raw (invocation_view self.now) }
     {
@@ -83,13 +84,16 @@ impl<'a> Invocation<'a> {
         }
     }
 
-    /// Runs the program on what is asked for, and on the text of the file of the hash if it names one. Without an option
-    /// it is `run`, by the law [`run_has_no_options`](crate::laws::run_has_no_options).
+    /// Runs the program on this invocation, with the text of the hash file if the options name one.
+    /// Without options it does what `run` does, by the law
+    /// [`run_has_no_options`](crate::laws::run_has_no_options).
     ///
-    /// Prints what `--help` or `--version` ask for. Draws a salt of 16 bytes on `machine` if the options say so.
+    /// Prints the text that `--help` or `--version` ask for. Draws a salt of 16 bytes on `machine`
+    /// if the options ask for one.
     ///
-    /// Returns an error only if the options draw a salt and the machine fails to. Then the input is not read, and nothing is
-    /// written. No salt is used but one that it has drawn.
+    /// Returns an error only if the options ask for a salt and the machine fails to draw one. Then
+    /// the input is not read, and nothing is written. Only a salt that the machine has drawn is
+    /// used.
     pub fn run<M: Machine, R: Read, W: Write, F: Write>(
         self,
         alloc: Global,
@@ -126,7 +130,7 @@ impl<'a> Invocation<'a> {
     }
 }
 
-// Draws a salt, if one is to be. Returns the error of the machine.
+// Draws a salt if required. Returns the machine's error.
 fn draw<M: Machine>(machine: &M, is_drawn: bool) -> io::Result<Option<[u8; 16]>>
     ensures salt { IfOk result (IsDrawn is_drawn (M.draws machine.now)) }
     ensures drawn { OnErr result (IsTrue is_drawn) }
@@ -149,7 +153,7 @@ fn text_of(word: &str) -> Option<&'static str>
     }
 }
 
-// The same of words: it is asked for by one word alone.
+// Returns the text about the program that these words ask for: only a single word asks for one.
 #[tactic(auto, unfolding(crate::specs::Invocation::text_of_words))]
 fn text_of_words(words: &[String]) -> Option<&'static str>
     ensures { option_copied result ≡ text_of_words (texts_of words.now) }
@@ -163,7 +167,7 @@ fn text_of_words(words: &[String]) -> Option<&'static str>
     text_of(word.as_str())
 }
 
-// Returns whether the first word is `--hash-file`, which is no option without a file.
+// Returns whether the first word is `--hash-file`, which is not an option without a file.
 fn wants_file(words: &[String]) -> bool
     ensures { result ≡ wants_file (texts_of words.now) }
 {

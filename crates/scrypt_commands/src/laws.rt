@@ -5,8 +5,9 @@ ghost use Rattle.scrypt_commands.specs.Invocation.{invocation_of, text_of_words,
 ghost use Rattle.scrypt_commands.specs.Options.{no_options, options_of};
 ghost use Rattle.scrypt_commands.specs.Run.{plan_of, plan_of_words};
 
-/// Words of which the first is not an option, and that ask for no text about the program, ask for what `run` does with them: they
-/// have the same outcome on each input, and are refused without reading it in the same cases.
+/// If the first word is not an option, and the words do not ask for a text about the program, their
+/// invocation does what `run` does with them: it has the same outcome on each input, and is
+/// rejected without reading the input in the same cases.
 #[tactic(auto, using(crate::proofs::RunFacts::without_options))]
 pub fn run_has_no_options()
     ensures same { (salt : List ℕ) (words : List (List ℕ)) → text_of_words words ≡ None → options_of words ≡ (no_options, words)

@@ -1,5 +1,5 @@
-//! The commands of `scrypt_tool`: what its arguments ask for, and what it prints for them, over any input
-//! and outputs. It has no `main` and opens no streams: the crate `scrypt_tool` does.
+//! The commands of `scrypt_tool`: parses its arguments and prints the answers, over any input and
+//! outputs. It has no `main` and opens no streams: the crate `scrypt_tool` does.
 #![tactic(auto)]
 
 mod answer;

@@ -1,4 +1,4 @@
-// What a stored hash may need, and how short its key may be.
+// The limits on the cost of a stored hash, and on the length of its key.
 
 ghost use Rattle.std.specs.Prelude.{◌≡◌};
 ghost use Rattle.scrypt_commands.specs.LimitOptions.{limits_of, usual, with_number};
@@ -6,19 +6,19 @@ ghost use Rattle.scrypt_commands.specs.LimitOptions.{limits_of, usual, with_numb
 use crate::decimals::parse_len;
 use scrypt::{Limits, Params};
 
-/// What a stored hash may need.
+/// Limits on a stored hash.
 #[derive(Clone, Copy)]
 pub struct LimitOptions {
-    /// the most bytes of memory
+    /// the limit on memory in bytes
     pub most_bytes: usize,
-    /// the most work, `4 * (N + 32) * R * P`
+    /// the limit on work, `4 * (N + 32) * R * P`
     pub most_work: u64,
-    /// the least length of its key in bytes, if one is named
+    /// the minimum length of its key in bytes, if an option sets it
     pub least_key_len: Option<usize>,
 }
 
 impl LimitOptions {
-    /// Returns the usual limits on memory and work.
+    /// Returns the default limits on memory and work.
     pub fn usual() -> LimitOptions
         ensures value { result ≡ usual }
     {
@@ -29,8 +29,8 @@ impl LimitOptions {
         }
     }
 
-    /// Returns the options with the one of this name, or `None` if there is none of it, or the value is not
-    /// a number.
+    /// Returns the options with the option of this name added, or `None` if there is no such
+    /// option, or the value is not a number.
     #[tactic(auto, using(crate::proofs::CommandFacts::other), unfolding(crate::specs::LimitOptions::with_number))]
     pub fn with_number(self, name: &str, value: &str) -> Option<LimitOptions>
         ensures value { result ≡ with_number self name.now value.now }
@@ -52,9 +52,10 @@ impl LimitOptions {
         }
     }
 
-    /// Returns the limits on a hash: the least length of its key is that of `USUAL`, unless one is named. If a new
-    /// hash is wanted in its place, they are at least what that needs, and a short key, which is weaker
-    /// than wanted, is allowed unless a length is named.
+    /// Returns the limits on a hash. The minimum key length is the default of `USUAL` unless an
+    /// option sets it. If a new hash is wanted in place of the old one, the limits are raised where
+    /// necessary to admit the new one, and a short key, which is weaker than wanted, is allowed
+    /// unless an option sets a minimum.
     pub fn limits(self, wanted: Option<Params>) -> Limits
         ensures value { result ≡ limits_of self wanted }
     {

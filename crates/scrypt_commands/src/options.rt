@@ -12,7 +12,7 @@ use crate::limit_options::LimitOptions;
 /// The options before a command.
 #[derive(Clone, Copy)]
 pub struct Options<'a> {
-    /// what the hash of `verify` and `rehash` may need, if there are limits
+    /// the limits on the hash of `verify` and `rehash`, if there are any
     pub limit_options: Option<LimitOptions>,
     /// a salt is drawn for `hash` and `rehash`
     pub draws_salt: bool,
@@ -20,7 +20,7 @@ pub struct Options<'a> {
     pub is_recommended: bool,
     /// the password is the input without a newline at its end
     pub strips_newline: bool,
-    /// the bytes of a key are written, in place of their hexadecimal digits
+    /// a key is written as its bytes instead of as hexadecimal digits
     pub is_raw: bool,
     /// the file whose text is HASH, the last word
     pub hash_file: Option<&'a str>,
@@ -36,7 +36,7 @@ pub const NONE: Options<'static> = Options {
     hash_file: None,
 };
 
-/// Parses the options, and returns the words after them too. The command begins at the first word
+/// Parses the options, and also returns the words after them. The command begins at the first word
 /// that is not an option.
 #[tactic(auto, using(crate::proofs::OptionsFacts::options))]
 pub fn parse_options<'a>(words: &'a [String]) -> (Options<'a>, &'a [String])
@@ -55,7 +55,7 @@ pub fn parse_options<'a>(words: &'a [String]) -> (Options<'a>, &'a [String])
 }
 
 impl<'a> Options<'a> {
-    // Returns the options with this one too, or `None` if the word is not one.
+    // Returns the options with this option added, or `None` if the word is not an option.
     #[tactic(auto, using(crate::proofs::CommandFacts::other), unfolding(crate::specs::Options::with_option))]
     fn with(self, word: &'a str) -> Option<Options<'a>>
         ensures value { option_map options_view result ≡ with_option (options_view self.entry) word.now }
@@ -75,8 +75,8 @@ impl<'a> Options<'a> {
         Some(options)
     }
 
-    // Returns the options with this one too, whose value comes after its first `=`, or `None` if it takes no such
-    // value.
+    // Returns the options with this option added, whose value follows its first `=`, or `None` if
+    // there is no option with this name and value.
     #[tactic(auto, using(crate::proofs::CommandFacts::other))]
     fn with_value(self, word: &'a str) -> Option<Options<'a>>
         ensures value { option_map options_view result ≡ with_value (options_view self.entry) word.now }
@@ -100,7 +100,7 @@ impl<'a> Options<'a> {
         })
     }
 
-    // Returns whether an option is about a stored hash.
+    // Returns whether an option applies only to a stored hash.
     fn is_about_hash(self) -> bool
         ensures { result ≡ is_about_hash (options_view self.entry) }
     {

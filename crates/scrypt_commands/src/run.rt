@@ -1,4 +1,4 @@
-// The program over any reader and any two writers.
+// The program, over any reader and any two writers.
 
 ghost use Rattle.std.specs.Prelude.{◌≡◌, ◌⊎◌, ◌↔◌, IsTrue, IfOk, IfErr, IfSome, Err, IsErr, OnOk, false, true};
 ghost use Rattle.std.specs.Io.KnownBytes.{Appends, IsAtEnd, Keeps};
@@ -30,16 +30,15 @@ pub struct Ended {
     pub fault_told: bool,
 }
 
-/// Runs the program on its words, which are the arguments without its name. It has no options and no
-/// limits.
+/// Runs the program on its words, the arguments after its name, without options and limits.
 ///
-/// Parses the words, reads the whole input, which is the password, computes the line of the outcome, and
-/// writes this line, by one write if the output takes all of it, and flushes once. The status is 0 after the
-/// line was written, or 1 if the line is `no`. It is 2 if the words are refused, and then the input is not
-/// read, or if hashing or verifying refuses. It is 3 if an allocation failed, and 4 if the input or the
-/// output failed. On `output failed` the first bytes of the line were written, perhaps none or all of them,
-/// and nothing else. The error line is written to `faults` by one `write_all`; if that fails, the status
-/// stays the same.
+/// Parses the words, reads the whole input, which is the password, computes the output line, writes
+/// it, with one write if the output takes all of it, and flushes once. The status is 0 after the
+/// output line was written, or 1 if it is `no`. The status is 2 if the words are rejected, and then
+/// the input is not read, or if hashing or verifying fails with an error; 3 if an allocation
+/// failed; and 4 if the input or the output failed. On `output failed` only a prefix of the output
+/// line was written, possibly none or all of it. The error line is written to `faults` with one
+/// `write_all`; if that fails, the status stays the same.
 pub fn run<R: Read, W: Write, F: Write>(
     alloc: Global,
     words: &[String],
@@ -64,7 +63,7 @@ pub fn run<R: Read, W: Write, F: Write>(
     }
 }
 
-/// The same of a command by its options.
+/// Does the same for a command with options.
 #[tactic(auto, using(crate::proofs::OutcomeFacts::ends))]
 pub(crate) fn run_command<M: Mixer, R: Read, W: Write, F: Write>(
     alloc: Global,
@@ -84,7 +83,7 @@ pub(crate) fn run_command<M: Mixer, R: Read, W: Write, F: Write>(
     }
 }
 
-// Does the work in its order, up to the line of the outcome, and returns the status.
+// Carries out the command in order, up to writing the output line, and returns the status.
 #[tactic(auto, using(crate::proofs::OutcomeFacts::endings))]
 fn execute<M: Mixer, R: Read, W: Write>(
     alloc: Global,
@@ -143,9 +142,10 @@ fn read_all<R: Read>(alloc: Global, reader: &mut R) -> Result<Vec<u8>, CliError>
     Err(CliError::InputFailed)
 }
 
-/// Writes the line, by one write if the writer takes all of it, and flushes it. An interrupted write is repeated.
+/// Writes this line, with one write if the writer takes all of it, and flushes it. An interrupted
+/// write is repeated.
 ///
-/// `write_all` of std would do, but promises nothing about what it wrote before an error.
+/// `write_all` of std is not used, because it does not specify what it wrote before an error.
 pub(crate) fn write_line<W: Write>(writer: &mut W, line: &[u8]) -> Result<(), CliError>
     ensures ok { OnOk result (Appends (W.contents writer.old) (W.contents writer.new) line.now) }
     ensures begun { AppendsBeginning (W.contents writer.old) (W.contents writer.new) line.now }
@@ -169,7 +169,7 @@ pub(crate) fn write_line<W: Write>(writer: &mut W, line: &[u8]) -> Result<(), Cl
     Err(CliError::OutputFailed)
 }
 
-/// Ends the run with this status, after its line was written.
+/// Ends the run with this status, after its output line was written.
 pub(crate) fn answered(status: u8) -> Ended
     ensures status { result.status ≡ status }
     ensures no_error { (result.input_failed ≡ false) × (result.fault_told ≡ true) }
@@ -181,7 +181,7 @@ pub(crate) fn answered(status: u8) -> Ended
     }
 }
 
-/// Ends the run with this error, and writes its line.
+/// Ends the run with this error, and writes its error line.
 pub(crate) fn end<F: Write>(error: CliError, faults: &mut F) -> Ended
     ensures status { result.status ≡ status_of error }
     ensures failed { IsTrue result.input_failed ↔ (error ≡ InputFailed) }

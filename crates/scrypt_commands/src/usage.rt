@@ -1,13 +1,13 @@
-// What the program prints about itself.
+// The texts that the program prints about itself.
 
-/// The line for words that are no command.
+/// The error line for words that are not a command.
 pub const USAGE: &[u8] =
     b"usage: key LOG_N R P LEN SALT_HEX | hash phc|mcf LOG_N R P SALT_HEX [LEN] | verify HASH | rehash phc|mcf LOG_N R P LEN SALT_HEX HASH\n";
 
-/// What `--version` prints.
+/// The output of `--version`.
 pub const VERSION: &str = "scrypt_tool 0.12.0+proved.1\n";
 
-/// What `--help` prints.
+/// The output of `--help`.
 pub const HELP: &str = "\
 scrypt_tool: scrypt keys (RFC 7914) and password hashes\n\
 \n\

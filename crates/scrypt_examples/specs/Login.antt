@@ -8,8 +8,8 @@ use Rattle.scrypt_kernel.specs.declared.cores.count.CoreCount.{CoreCount}
 use Rattle.scrypt_examples.specs.declared.login.LoginOutcome.{LoginOutcome}
 use Rattle.scrypt_examples.specs.declared.login.LoginOutcome.TheVariants.{In, InWithNewText, Refused}
 
--- The text is that of a hash made with these parameters of the password and the salt; so it lets the password
--- in, and is not weaker than wanted.
+-- The text is a hash of the password and the salt, made with these parameters; so it accepts the
+-- password, and is not weaker than wanted.
 pub record IsEnrolled (wanted : Parameters) (password salt text : List ℕ) : Type 0 where
   pub made : IsMadeText wanted password salt text
   pub accepts : verdict password (reading text) ≡ Ok tt
@@ -21,12 +21,13 @@ lets_in Refused = false
 lets_in In = true
 lets_in (InWithNewText text) = true
 
--- the text that is to be stored in place of the old one
+-- the text to store instead of the old one
 abbrev pub new_text : LoginOutcome → Option (List ℕ)
 new_text Refused = None
 new_text In = None
 new_text (InWithNewText text) = Some (string_bytes text)
 
--- both counts together went up by n at most, where a block that SHA-256 compresses is nine cores
+-- the sum of both counts grew by no more than n, where a block that SHA-256 compresses counts as
+-- nine cores
 abbrev pub CostsAtMost : ℕ → CoreCount → CoreCount → Type 0
 CostsAtMost n before after = after.all + 9 * after.compressions ≤ before.all + 9 * before.compressions + n

@@ -1,4 +1,4 @@
-//! Logins by untrusted texts: one that is too costly is refused before any work.
+//! Logins with untrusted hashes: a hash that is too costly is rejected before any work.
 
 ghost use Rattle.std.specs.Prelude.{◌≡◌, ◌+◌, ◌*◌, ◌≤◌, IfOk, length};
 ghost use Rattle.scrypt.specs.Cost.{lengths_cost};
@@ -14,7 +14,7 @@ use scrypt::{Buffers, CoreCount, LimitedError, Limits, StoredHash, Vectors};
 use std::alloc::{AllocError, Global};
 use std::marker::Model;
 
-/// Logs users in within limits, in buffers that are allocated once and are long enough for every hash within them.
+/// Logs users in within limits, in buffers that are allocated once and fit every hash within them.
 #[derive(Drop)]
 pub struct BoundedLogins {
     limits: Limits,
@@ -41,10 +41,11 @@ impl BoundedLogins {
         Ok(BoundedLogins { limits, own })
     }
 
-    /// Whether the password is that of the stored text. Does not allocate.
+    /// Whether the password matches the stored text. Does not allocate.
     ///
-    /// Returns the error of reading the text, `TooCostly` if its parameters exceed the limit on memory or on work, and
-    /// `KeyTooShort` if its key is shorter than they allow. It never returns `OutOfMemory`.
+    /// Returns the error of reading the text, `TooCostly` if its parameters exceed the limit on
+    /// memory or on work, and `KeyTooShort` if its key is shorter than the limits allow. It never
+    /// returns `OutOfMemory`.
     pub fn log_in(&mut self, stored: &str, password: &[u8]) -> Result<bool, LimitedError>
         ensures limits { self.new ≡ self.old }
         ensures verdict { with_limited_refusal result
@@ -64,14 +65,15 @@ impl BoundedLogins {
     }
 }
 
-/// Whether the password is that of the stored text, in buffers that are kept from login to login.
+/// Whether the password matches the stored text, in buffers that are kept from login to login.
 ///
-/// Returns the error of reading the text, `TooCostly` if its parameters exceed the limit on memory or on work,
-/// `KeyTooShort` if its key is shorter than they allow, and `OutOfMemory` exactly if a text within the limits needs
-/// longer buffers, so never if these are long enough for the limits.
+/// Returns the error of reading the text, `TooCostly` if its parameters exceed the limit on memory
+/// or on work, `KeyTooShort` if its key is shorter than the limits allow, and `OutOfMemory` if and
+/// only if a text within the limits needs longer buffers, which never happens if the buffers
+/// suffice for the limits.
 ///
-/// It runs at most as many cores as the limit on work. That bounds the cores together with nine for each block that SHA-256
-/// compresses too, except for the blocks of a long password, salt or key.
+/// The limit on work bounds the number of cores. It also bounds the cores plus nine times the
+/// blocks that SHA-256 compresses, not counting the blocks of a long password, salt or key.
 #[tactic(auto, using(crate::proofs::LoginFacts::bounded))]
 pub fn log_in(
     stored: &str,
@@ -90,7 +92,7 @@ pub fn log_in(
     ensures both_bounded { IfOk (reading stored.now) (λ s. CostsAtMost
         (limits.now.most_work + 9 * lengths_cost (length password.now) (length s.salt) (length s.key)) cores.old cores.new) }
 {
-    // So the limit on work bounds both counts.
+    // The limit on work bounds both counts.
     work_bounds_both_counts();
     let hash = match StoredHash::read(stored) {
         Ok(hash) => hash,

@@ -1,4 +1,4 @@
-//! A hash of a password: its text is made, and verified later.
+//! A hash of a password: makes its text, and verifies a password against it later.
 
 ghost use Rattle.std.specs.Prelude.{◌≡◌, IfErr, IfOk, string_bytes};
 ghost use Rattle.password_hash.specs.declared.error.Error.TheVariants.{OutOfMemory};

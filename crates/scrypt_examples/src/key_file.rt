@@ -15,7 +15,7 @@ use scrypt::laws::{conditions_are_inequalities, shorter_key_is_prefix};
 use scrypt::{DeriveError, Params, scrypt};
 use std::alloc::Global;
 
-/// What an encrypted file begins with, in the clear.
+/// The header of an encrypted file, which is not encrypted.
 #[derive(Clone, Copy, Debug, PartialEq)]
 pub struct Header {
     /// The parameters that its keys are derived with.
@@ -64,8 +64,8 @@ impl Header {
 }
 
 impl Subkeys {
-    /// The tag by which a reader of the file knows that its header and what follows it were written with the password:
-    /// HMAC-SHA-256 of both with the second key.
+    /// The authentication tag: HMAC-SHA-256 of the header and the rest of the file with the second
+    /// key. It shows a reader of the file that both were written with the password.
     pub fn tag(&self, header: &[u8], rest: &[u8]) -> [u8; 32]
         ensures value { result ≡ hmac_sha256 self.now.authentication (header.now ++ rest.now) }
     {
@@ -73,11 +73,11 @@ impl Subkeys {
     }
 }
 
-/// The text before the salt of an age file, in the salt of its derivation.
+/// The label before the salt of an age file, in the salt of its derivation.
 const AGE_LABEL: &[u8; 28] = b"age-encryption.org/v1/scrypt";
 
-/// The key that wraps the file key of an age file with a passphrase. The file has `log_n` and the salt;
-/// `r` is 8 and `p` is 1. A caller bounds `log_n` before this call.
+/// The key that wraps the file key of an age file with a passphrase. The file contains `log_n` and
+/// the salt; `r` is 8 and `p` is 1. Check `log_n` against a limit before this call.
 ///
 /// Returns `ParamsInvalid` if such parameters are not accepted, and `OutOfMemory` if an allocation fails.
 pub fn age_wrap_key(

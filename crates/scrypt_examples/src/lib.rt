@@ -1,8 +1,9 @@
-//! Examples of the library, with contracts as its users would write them: what README shows, and calls that rest on
-//! several contracts at once.
+//! Examples of the library, with contracts as its users would write them: the calls that README
+//! shows, and calls that combine several contracts.
 //!
-//! They are proved from the library's public clauses alone, its laws among them. So a clause that becomes weaker breaks
-//! the proof of each example that needs it. They are there to be copied, not to depend on.
+//! They are proved only from the library's public clauses, including its laws. So if a clause
+//! becomes weaker, the proof of each example that needs it fails. They are there to be copied, not
+//! to depend on.
 #![tactic(auto)]
 
 pub mod bounded_login;

@@ -1,4 +1,5 @@
-//! Logins: users are enrolled, let in by their passwords, and their hashes replaced when they have become weak.
+//! Logins: enrolls users, logs them in with their passwords, and replaces hashes that have become
+//! weak.
 
 ghost use Rattle.std.specs.Prelude.{◌≡◌, ◌⊎◌, ◌↔◌, None, Ok, Err, IsOk, IsSome, false, true, IfErr, IfOk, IfSome, string_bytes, IsTrue};
 ghost use Rattle.password_hash.specs.Refusal.{refusal};
@@ -32,7 +33,7 @@ pub struct LoginPolicy {
 }
 
 impl LoginPolicy {
-    /// Wants these parameters.
+    /// Sets the wanted parameters.
     ///
     /// Returns `InvalidParams` if they are not accepted.
     pub fn new(log_n: u8, r: u32, p: u32) -> std::result::Result<LoginPolicy, InvalidParams>
@@ -70,9 +71,9 @@ impl LoginPolicy {
         Ok(hash.into_string())
     }
 
-    /// Logs a user in by the stored text. The salt is drawn at random, for a new text.
+    /// Logs a user in with the stored text. The salt is drawn at random, for a new text.
     ///
-    /// Returns what reading the text refuses, and `OutOfMemory` if an allocation fails.
+    /// Returns the error of reading the text, and `OutOfMemory` if an allocation fails.
     pub fn log_in(
         &self,
         alloc: Global,

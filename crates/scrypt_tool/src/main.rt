@@ -1,9 +1,10 @@
 //! The program: derives scrypt keys, makes password hashes, verifies them and replaces weak ones, from the
 //! command line. `scrypt_tool --help` prints its commands and options.
 //!
-//! The password is every byte of the standard input. Without an option no newline is cut off, and the key is
-//! written in lower-case hexadecimal. The hash is written as its text, and the verdict as `ok` or `no` with
-//! status 0 or 1. In place of `ok`, `rehash` writes a new hash if the old one is weaker than wanted.
+//! The password is every byte of the standard input. Without options no newline is cut off, and a
+//! key is written in lower-case hexadecimal. A hash is written as its text, and a verdict as `ok`
+//! with status 0 or `no` with status 1. `rehash` writes a new hash instead of `ok` if the old one
+//! is weaker than wanted.
 #![tactic(auto)]
 
 ghost use Rattle.std.specs.Prelude.{⊤};
@@ -18,7 +19,7 @@ use std::process::ExitCode;
 use std::random::RandomSource;
 use std::{env, io};
 
-// A hash is shorter, except a `$7$` text with a salt that no program makes.
+// Every hash is shorter, except a `$7$` text with a salt so long that no program makes it.
 const MOST_BYTES: usize = 4096;
 
 fn main(rt: HostRuntime) -> ExitCode {
@@ -72,7 +73,8 @@ fn words(rt: &HostRuntime) -> io::Result<Vec<String>> {
     Ok(env::args(rt)?.skip(1).collect(rt.alloc())?)
 }
 
-// The text of the file of this name, if there is one. If that can't be read, prints why and returns the status.
+// The text of the file with this name, if a name is given. If it can't be read, prints the reason
+// and returns the status.
 fn file_text(rt: &HostRuntime, name: Option<&str>) -> Result<Option<String>, u8> {
     let Some(name) = name else {
         return Ok(None);
@@ -80,7 +82,8 @@ fn file_text(rt: &HostRuntime, name: Option<&str>) -> Result<Option<String>, u8>
     match read_hash(rt, name) {
         Ok(text) => Ok(Some(text)),
         Err(error) => {
-            // So that the line stays one, and a name can't change the terminal.
+            // Escaped, so that the error stays on one line and a file name can't send control codes
+            // to the terminal.
             let name = name.escape_debug();
             let _ = eprintln!(rt; "{name}: {error}");
             Err(status_of(&error))
@@ -88,10 +91,10 @@ fn file_text(rt: &HostRuntime, name: Option<&str>) -> Result<Option<String>, u8>
     }
 }
 
-// The hash in that file, which is its text without the newline at its end.
+// The hash in the file with this name: the file's text without the newline at its end.
 fn read_hash(rt: &HostRuntime, name: &str) -> io::Result<String> {
     let mut text = String::new(rt.alloc());
-    // `fs::open` would bring every function of the file system into what is trusted.
+    // `fs::open` would add every function of the file system to the trusted computing base.
     let file = rt.open_file(OpenOptions::new().read(true), name)?;
     let mut file = file.take(MOST_BYTES as u64 + 1);
     if file.read_to_string(&mut text)? > MOST_BYTES {
@@ -103,7 +106,7 @@ fn read_hash(rt: &HostRuntime, name: &str) -> io::Result<String> {
     Ok(text)
 }
 
-// The status of an error of reading the file: what is not a hash is refused.
+// The exit status for an error of reading the file: 2 if its content is not a hash.
 fn status_of(error: &io::Error) -> u8 {
     match error.kind() {
         ErrorKind::FileTooLarge | ErrorKind::InvalidData => 2,

@@ -1,2 +1,3 @@
-// How chunks are mixed on the processor that the program is compiled for. This is all that differs by the processor.
+// How chunks are mixed on the processor that the program is compiled for: the only code that
+// depends on the processor.
 pub(crate) use scrypt_commands::Vectors as Target;
