@@ -7,7 +7,8 @@ pub record AreCounted (n : ℕ) (before after : CoreCount) : Type 0 where
   pub all : after.all ≡ before.all + n
   pub lanes : after.lanes ≡ before.lanes + n
 
--- n more cores were run, all of them SIMD cores if simd is true and none of them otherwise, and no block was compressed
+-- n more cores were run, all of them SIMD cores if simd is true and otherwise no SIMD cores, and no
+-- block was compressed
 pub record AreCountedAs (simd : Bool) (n : ℕ) (before after : CoreCount) : Type 0 where
   pub all : after.all ≡ before.all + n
   pub lanes : after.lanes ≡ before.lanes + (if simd then n else 0)

@@ -1,6 +1,6 @@
--- Diagonal order: in each block the words of the four diagonals follow one another, so that the four
--- columns of a double round are the lanes of four vectors of four words. This order is not the
--- standard's: it is how the SIMD core computes.
+-- Diagonal order: in each block the words of the four diagonals follow one another, so that the
+-- four columns of a double round are the lanes of four vectors of four words. This order is not the
+-- standard's: the SIMD core computes in it.
 use Rattle.std.specs.Prelude.{◌≡◌, ℕ, ◌+◌, ◌*◌, ◌/◌, ◌%◌, ◌<◌, List, [], ◌∷◌, map, length, slice_index, nat_lt, IsTrue}
 use Rattle.scrypt_kernel.specs.Words.{block, last_block, xor_words}
 use Rattle.scrypt_kernel.specs.Salsa.{double_round, salsa20_8}
@@ -15,7 +15,7 @@ pivot = 0 ∷ 5 ∷ 10 ∷ 15 ∷ 4 ∷ 9 ∷ 14 ∷ 3 ∷ 8 ∷ 13 ∷ 2 ∷ 7 
 abbrev pub inverse_pivot : List ℕ
 inverse_pivot = 0 ∷ 13 ∷ 10 ∷ 7 ∷ 4 ∷ 1 ∷ 14 ∷ 11 ∷ 8 ∷ 5 ∷ 2 ∷ 15 ∷ 12 ∷ 9 ∷ 6 ∷ 3 ∷ []
 
--- in each block, the word from place p[i] at place i
+-- in each block, the word from index p[i] at index i
 unfoldable pub permuted : List ℕ → List ℕ → List ℕ
 permuted p x =
     map (λ i. slice_index x (16 * (i / 16) + slice_index p (i % 16))) (range_with_len 0 (length x))
@@ -28,7 +28,7 @@ diagonal_order x = permuted pivot x
 abbrev pub standard_order : List ℕ → List ℕ
 standard_order x = permuted inverse_pivot x
 
--- the tables p and q name the 16 places of a block, and undo each other
+-- the tables p and q have indices in a block of 16 words, and are inverse to each other
 pub record AreInverse (p q : List ℕ) : Type 0 where
   pub places : IsTrue (list_all (λ j. nat_lt j 16) p)
   pub inverse_places : IsTrue (list_all (λ j. nat_lt j 16) q)
@@ -52,11 +52,11 @@ pub record IsBlockMixBy (f : List ℕ → List ℕ) (b out : List ℕ) : Type 0 
   pub even : (k : ℕ) → k < length b / 32 → block out k ≡ x (2 * k + 1)
   pub odd : (k : ℕ) → k < length b / 32 → block out (length b / 32 + k) ≡ x (2 * k + 1 + 1)
 
--- X before step i of the block mix of b, which is in the order p, and q undoes that
+-- X before step i of the block mix of b, which is in the order p, and q is the inverse of p
 abbrev pub chain_in : List ℕ → List ℕ → List ℕ → ℕ → List ℕ
 chain_in p q b i = permuted p (chain (permuted q b) i)
 
--- after i turns of this block mix, of two steps each: X is x, and output has what they wrote
+-- after i double steps of this block mix: X is x, and output has the blocks that these steps wrote
 pub record AfterTurns (p q b : List ℕ) (i : ℕ) (x output : List ℕ) : Type 0 where
   pub chained : x ≡ chain_in p q b (2 * i)
   pub even : (k : ℕ) → k < i → block output k ≡ chain_in p q b (2 * k + 1)

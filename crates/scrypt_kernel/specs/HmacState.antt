@@ -1,4 +1,5 @@
--- What the state of HMAC holds, a key and the text hashed with it so far, and that of PBKDF2, a password and a salt.
+-- The states of HMAC, for a key and the text hashed with it so far, and of PBKDF2, for a password
+-- and a salt.
 use Rattle.std.specs.Prelude.{ℕ, List, ◌++◌, bit_xor, map}
 use Rattle.sha2.specs.Hashers.{Holds256}
 use Rattle.scrypt_kernel.specs.Hmac.{padded_key}

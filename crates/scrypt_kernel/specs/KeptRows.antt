@@ -11,41 +11,42 @@ pub record IsRowLen (len : ℕ) : Type 0 where
   pub some : 0 < len
   pub whole : len % 32 ≡ 0
 
--- the row that is i rows after x, in the order p, which q undoes
+-- the row that is i rows after x, in the order p, whose inverse is q
 abbrev pub mixed_in : List ℕ → List ℕ → ℕ → List ℕ → List ℕ
 mixed_in p q i x = permuted p (row (permuted q x) i)
 
--- A row of a table has part_len words for each of n chunks, one after another. So the table is cut into parts of
--- part_len words, and row m of chunk k is this part.
+-- A row of a table has part_len words for each of n chunks, one after another. So the table is cut
+-- into parts of part_len words, and row m of chunk k is the part of this number.
 abbrev pub place : ℕ → ℕ → ℕ → ℕ
 place n m k = m * n + k
 
--- row m, the last one, is followed by one more, each of whose n parts is f of that part of row m
+-- row m, the last one, is followed by a row each of whose n parts is f of the same part of row m
 pub record AddsRow (f : List ℕ → List ℕ) (n part_len m : ℕ) (before after : List ℕ) : Type 0 where
   pub len : length after ≡ (m + 2) * (n * part_len)
   pub kept : (i : ℕ) → i < (m + 1) * n → part part_len after i ≡ part part_len before i
   pub added : (k : ℕ) → k < n → part part_len after (place n (m + 1) k) ≡ f (part part_len before (place n m k))
 
--- of the rows 0 to rows - 1 of chunk k of n, for its input b, those are kept whose number is a multiple of
--- 2 ^ spacing
+-- of the rows 0 to rows - 1 of chunk k of n, for its input b, the table keeps each row whose number
+-- is a multiple of 2 ^ spacing
 pub record KeepsRows (p b : List ℕ) (n k part_len spacing rows : ℕ) (kept : List ℕ) : Type 0 where
   pub each : (m : ℕ) → m * 2 ^ spacing < rows → part part_len kept (place n m k) ≡ permuted p (row b (m * 2 ^ spacing))
 
--- kept holds the rows that a table keeps of those for the parts of x, which are in the order p, and last is the
--- row after all rows
+-- kept holds the rows that a table keeps for the parts of x, which are in the order p, and last is
+-- the row after all rows
 pub record IsFilled (p q : List ℕ) (n part_len log_n spacing : ℕ) (x kept last : List ℕ) : Type 0 where
   pub len : length kept ≡ 2 ^ (log_n - spacing) * (n * part_len)
   pub rows : (k : ℕ) → k < n → KeepsRows p (permuted q (part part_len x k)) n k part_len spacing (2 ^ log_n) kept
   pub after : (k : ℕ) → k < n → part part_len last k ≡ mixed_in p q (2 ^ log_n) (part part_len x k)
 
--- part k of x is X after i steps of the walk for the input b, and kept holds the rows of b that the table keeps
+-- part k of x is X after i steps of the walk for the input b, and kept holds the rows of b that the
+-- table keeps
 pub record IsInWalk (p b : List ℕ) (n k part_len log_n spacing i : ℕ) (kept x : List ℕ) : Type 0 where
   pub rows : KeepsRows p b n k part_len spacing (2 ^ log_n) kept
   pub walked : part part_len x k ≡ permuted p (walk b log_n i)
 
--- the lengths in a walk: X has x_len words, part_len for each of n chunks, each row whose number is a multiple of
--- 2 ^ spacing is kept, the next X has next_len words, a row that is recomputed spare_len, and the kept rows
--- kept_len. Rows are recomputed for one chunk alone.
+-- the lengths in a walk: X has x_len words, part_len for each of n chunks, each row whose number is
+-- a multiple of 2 ^ spacing is kept, the next X has next_len words, a row that is recomputed
+-- spare_len, and the kept rows kept_len. Rows are recomputed only if there is one chunk.
 pub record AreWalkLens (n part_len log_n spacing x_len next_len spare_len kept_len : ℕ) : Type 0 where
   pub some : 0 < n
   pub row : IsRowLen part_len
@@ -61,12 +62,13 @@ pub record AreWalkLens (n part_len log_n spacing x_len next_len spare_len kept_l
 abbrev pub mix_of : List ℕ → List ℕ → List ℕ → List ℕ → List ℕ
 mix_of p q x y = permuted p (block_mix (permuted q (xor_words x y)))
 
--- X after x, which is that of chunk k of n: row j is recomputed from the kept row below it
+-- the next X after x, the X of chunk k of n: row j is recomputed from the kept row below it
 abbrev pub x_after : List ℕ → List ℕ → ℕ → ℕ → ℕ → ℕ → ℕ → List ℕ → List ℕ → List ℕ
 x_after p q n k part_len log_n spacing kept x =
     let j = integerify (permuted q x) % 2 ^ log_n in
     mix_of p q x (mixed_in p q (j % 2 ^ spacing) (part part_len kept (place n (j / 2 ^ spacing) k)))
 
--- the cores of i steps of the walk for the input b of the first chunk, and of the rows that were recomputed
+-- the cores of i steps of the walk for the input b of the first chunk, and of the rows that were
+-- recomputed
 abbrev pub steps_cost : List ℕ → ℕ → ℕ → ℕ → ℕ → ℕ → ℕ
 steps_cost b n part_len log_n spacing i = (i + extra_rows b log_n spacing i) * (n * (2 * (part_len / 32)))

@@ -1,4 +1,5 @@
--- Blocks in diagonal order, side by side in four vectors, with four lanes of each block. Those of block k in a vector v are `lanes v k`.
+-- Blocks in diagonal order, side by side in four vectors, with four lanes of each block.
+-- `lanes v k` are the lanes of block k in a vector v.
 use Rattle.std.specs.Prelude.{◌≡◌, ℕ, ◌-◌, List, ◌++◌, if◌then◌else◌, nat_lt, length, map, take, drop, slice_index, bit_xor}
 use Rattle.std.specs.Int.{w32, rotate_left}
 use Rattle.std.specs.List.{range_with_len}
@@ -11,7 +12,7 @@ use Rattle.scrypt_kernel.specs.declared.cores.lanes.Diagonal.{Diagonal}
 abbrev pub lanes_of : List ℕ → List ℕ × List ℕ × List ℕ × List ℕ
 lanes_of x = (part 4 x 0, part 4 x 1, part 4 x 2, part 4 x 3)
 
--- those of block k, where `lanes` gives those of a vector
+-- the lanes of block k in four vectors, where `lanes` gives the lanes in one vector
 abbrev pub at : {V : Type 0} → (V → ℕ → List ℕ) → V × V × V × V → ℕ → List ℕ × List ℕ × List ℕ × List ℕ
 at lanes x k = (lanes x.0 k, lanes x.1 k, lanes x.2 k, lanes x.3 k)
 
@@ -22,7 +23,7 @@ pub record AreFourEach (x : List ℕ × List ℕ × List ℕ × List ℕ) : Type
   pub c : length x.2 ≡ 4
   pub d : length x.3 ≡ 4
 
--- the words of x, and those of y rotated to the left by k bits, joined by exclusive or
+-- the exclusive or of the words of x with the words of y, rotated to the left by k bits
 abbrev pub xor_rotated : ℕ → List ℕ → List ℕ → List ℕ
 xor_rotated k x y = zip2 (λ a b. bit_xor a (rotate_left w32 b k)) x y
 
@@ -38,16 +39,16 @@ quarter_rounds a b c d =
       map (λ j. (column j).3) lanes,
     )
 
--- a vector turned to the left by k places
+-- a vector rotated to the left by k lanes
 abbrev pub turned_left : ℕ → List ℕ → List ℕ
 turned_left k x = drop k x ++ take k x
 
--- the vectors of the rows from those of the columns, and the other way round: d, c and b are turned to
--- the left by one, two and three places, and d and b change places
+-- the vectors of the rows from the vectors of the columns, or the reverse: d, c and b are rotated
+-- to the left by one, two and three lanes, and d and b are exchanged
 abbrev pub turned : List ℕ × List ℕ × List ℕ × List ℕ → List ℕ × List ℕ × List ℕ × List ℕ
 turned (a, b, c, d) = (a, turned_left 1 d, turned_left 2 c, turned_left 3 b)
 
--- block k of those of two vectors, of which the first has n blocks
+-- block k of the blocks of two vectors; the first vector has n blocks
 abbrev pub of_both : ℕ → (ℕ → List ℕ) → (ℕ → List ℕ) → ℕ → List ℕ
 of_both n x y k = if nat_lt k n then x k else y (k - n)
 

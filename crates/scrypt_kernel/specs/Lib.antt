@@ -6,7 +6,7 @@ pub mod Words
 pub mod Hmac
 -- RFC 8018, section 5.2: PBKDF2 with one iteration
 pub mod Pbkdf2
--- what PBKDF2 costs in blocks that SHA-256 compresses
+-- the cost of PBKDF2 in blocks that SHA-256 compresses
 pub mod Pbkdf2Cost
 -- RFC 7914, section 3: the Salsa20/8 core
 pub mod Salsa
@@ -16,11 +16,11 @@ pub mod Count
 pub mod BlockMix
 -- RFC 7914, section 5: scryptROMix
 pub mod RoMix
--- what one scryptROMix costs in cores and in memory, and buffers of these lengths
+-- the cost of one scryptROMix in cores and in memory, and buffers of these lengths
 pub mod RoMixCost
--- the order in which the SIMD core has the words of a block
+-- the order of the words of a block in the SIMD core
 pub mod Diagonal
--- what one scryptROMix costs with a table that keeps some rows of V, or all of them
+-- the cost of one scryptROMix with a table that keeps some rows of V, or all of them
 pub mod Table
 -- a text that is being hashed, and PBKDF2 whose blocks are being written
 pub mod HmacState

@@ -1,4 +1,4 @@
--- What contracts see of the memory that a table is in.
+-- The memory that a table is in, as contracts see it.
 use Rattle.std.specs.Prelude.{ℕ, List, length, take}
 use Rattle.std.specs.Vec.{vec_capacity}
 use Rattle.scrypt_kernel.specs.declared.memory.Allocated.{Allocated}
@@ -8,7 +8,7 @@ use Rattle.scrypt_kernel.specs.declared.memory.Buffer.{Buffer}
 abbrev pub buffer_words : Buffer → List ℕ
 buffer_words rows = take rows.len rows.memory.now
 
--- how many words it has room for
+-- the capacity of this buffer in words
 abbrev pub buffer_room : Buffer → ℕ
 buffer_room rows = length rows.memory.now
 
@@ -16,6 +16,6 @@ buffer_room rows = length rows.memory.now
 abbrev pub allocated_words : Allocated → List ℕ
 allocated_words rows = take rows.len rows.memory.items
 
--- how many words it has room for
+-- the capacity of this memory in words
 abbrev pub allocated_room : Allocated → ℕ
 allocated_room rows = vec_capacity rows.memory

@@ -1,4 +1,4 @@
--- Parts of the same length, as the rows of several chunks are.
+-- Parts of the same length, such as the rows of several chunks.
 use Rattle.std.specs.Prelude.{◌≡◌, ℕ, ◌+◌, ◌<◌, ◌≤◌, List, length, slice_index, take, drop}
 use Rattle.scrypt_kernel.specs.declared.parts.Parts.{Parts}
 

@@ -4,8 +4,8 @@ use Rattle.std.specs.Int.{w32, to_be_bytes}
 use Rattle.std.specs.List.{range_with_len}
 use Rattle.scrypt_kernel.specs.Hmac.{hmac_sha256}
 
--- step 3: T_i = F (P, S, c, i) with c = 1, which has 32 bytes: the HMAC of the salt followed by i as four
--- bytes in big-endian order, where i is at least 1
+-- step 3: T_i = F (P, S, c, i) with c = 1, which has 32 bytes: the HMAC of the salt followed by i
+-- as four bytes in big-endian order, where i is at least 1
 abbrev pub pbkdf2_block : List ℕ → List ℕ → ℕ → List ℕ
 pbkdf2_block password salt i = hmac_sha256 password (salt ++ to_be_bytes w32 i)
 
@@ -13,7 +13,7 @@ pbkdf2_block password salt i = hmac_sha256 password (salt ++ to_be_bytes w32 i)
 unfoldable pub pbkdf2_byte : List ℕ → List ℕ → ℕ → ℕ
 pbkdf2_byte password salt k = slice_index (pbkdf2_block password salt (k / 32 + 1)) (k % 32)
 
--- step 1: the greatest dkLen, the length of 2 ^ 32 - 1 blocks
+-- step 1: the maximum dkLen, the length of 2 ^ 32 - 1 blocks
 abbrev pub max_output_len : ℕ
 max_output_len = (2 ^ 32 - 1) * 32
 

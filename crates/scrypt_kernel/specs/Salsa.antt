@@ -18,7 +18,7 @@ quarter_round_at a b c d x =
     let q = quarter_round (slice_index x a) (slice_index x b) (slice_index x c) (slice_index x d) in
     slice_set (slice_set (slice_set (slice_set x b q.1) c q.2) d q.3) a q.0
 
--- a double round: the quarter rounds of the four columns, and then those of the four rows
+-- a double round: the quarter rounds of the four columns, and then of the four rows
 unfoldable pub double_round : List ℕ → List ℕ
 double_round x =
     let x1 = quarter_round_at 0 4 8 12 x in

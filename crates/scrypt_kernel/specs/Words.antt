@@ -1,6 +1,6 @@
 -- Words, bytes and blocks (RFC 7914, sections 2 to 5). A byte is a number below 256, a word is a
--- number below 2 ^ 32, a block is 16 words, and a list of blocks is the list of their words. Places
--- are counted from 0.
+-- number below 2 ^ 32, a block is 16 words, and a list of blocks is the list of their words.
+-- Indices are counted from 0.
 use Rattle.std.specs.Prelude.{ℕ, ◌+◌, ◌-◌, ◌*◌, ◌/◌, ◌%◌, ◌^◌, List, [], ◌∷◌, map, length, take, drop, bit_xor}
 use Rattle.std.specs.Int.{w32, to_le_bytes}
 use Rattle.std.specs.List.{flat_map, range_with_len}

@@ -90,7 +90,8 @@ pub(crate) fn mix<O: OrderedBlocks, I: Input>(
     }
 }
 
-// One turn of a block mix: steps 2 and 3 for `2 * i` and `2 * i + 1`, with X in `x` before and in the result after.
+// One double step of a block mix: steps 2 and 3 for `2 * i` and `2 * i + 1`, with X in `x` before
+// and in the result after.
 #[inline(always)]
 pub(crate) fn take_turn<O: OrderedBlocks, I: Input>(
     x: O,

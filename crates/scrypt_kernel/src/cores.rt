@@ -1,4 +1,5 @@
-//! The Salsa20/8 cores and SHA-256, and the count of how many cores were run and how many blocks were compressed.
+//! The Salsa20/8 cores and SHA-256, and the count of the cores that were run and of the blocks that
+//! were compressed.
 
 mod count;
 pub mod lanes;

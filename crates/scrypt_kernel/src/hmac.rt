@@ -21,8 +21,8 @@ pub fn hmac_sha256(key: &[u8], text: &[u8], tail: &[u8]) -> [u8; 32]
     Hmac::new(key, text, &mut cores).finish(tail, &mut cores)
 }
 
-// A key, and the text hashed with it so far. `finish` leaves it as it is, so that texts with the same
-// beginning hash it once.
+// A key, and the text hashed with it so far. `finish` does not change it, so that texts with the
+// same beginning hash it only once.
 #[derive(Drop)]
 pub(crate) struct Hmac {
     inner: Sha256,

@@ -1,4 +1,4 @@
-//! Memory in which the rows of a table are added one after another.
+//! Memory to which the rows of a table are appended, one after another.
 
 ghost use Rattle.std.specs.Prelude.{◌≡◌, ℕ, ◌+◌, ◌*◌, ◌/◌, ◌%◌, ◌<◌, ◌≤◌, List, [], ◌++◌, length, take};
 ghost use Rattle.std.specs.Vec.{vec_capacity};
@@ -13,12 +13,12 @@ use crate::order::OrderedBlocks;
 use crate::parts::Parts;
 use crate::words::part;
 
-/// The memory of a table: room for rows of words, and the rows that are in it.
+/// The memory of a table: a capacity in words, and the rows that are in it.
 pub trait TableMemory {
     // the words of the rows
     ghost words: { Self → List ℕ };
 
-    // how many words it has room for
+    // the capacity in words
     ghost room: { Self → ℕ };
 
     /// Returns the words of the rows.
@@ -38,8 +38,8 @@ pub trait TableMemory {
 
     /// Appends the block mix of row `i`, the last one, as row `i + 1`, and counts its cores.
     ///
-    /// A row has `next.len()` words, which are `len` words for each chunk. What `next` holds after the call
-    /// is unspecified.
+    /// A row has `next.len()` words, which are `len` words for each chunk. The contents of `next`
+    /// after the call are unspecified.
     fn append_mix<O: OrderedBlocks>(
         &mut self,
         i: usize,
@@ -56,7 +56,7 @@ pub trait TableMemory {
         ensures counted { AreCountedAs O.simd (O.count * (2 * (len / 32))) cores.old cores.new };
 }
 
-/// The caller's buffer. Each row is mixed straight into its place.
+/// The caller's buffer. Each row is computed directly in its final position.
 #[derive(Drop)]
 pub struct Buffer<'a> {
     memory: &'a mut [u32],
@@ -137,8 +137,8 @@ pub(crate) fn mix_next<O: OrderedBlocks>(
     mix::<O, Parts<'_>>(&last, &mut rest[..row_len], len, cores);
 }
 
-/// Allocated memory, which is not filled with zeros first: a table takes as much of its capacity as it needs, and uses again
-/// what an earlier one took.
+/// Allocated memory, which is not filled with zeros first: a table uses only as much of its
+/// capacity as it needs, and reuses the memory of an earlier table.
 #[derive(Drop)]
 pub struct Allocated {
     memory: Vec<u32>,
@@ -157,7 +157,7 @@ impl Allocated {
         Allocated { memory, len: 0 }
     }
 
-    // Makes the memory long enough for one more row. What is in it there is unspecified.
+    // Makes the memory long enough for one more row. The new contents are unspecified.
     #[inline(always)]
     fn make_room(&mut self, row: &[u32])
         requires room { self.old.len + length row.now ≤ vec_capacity self.old.memory }
@@ -213,10 +213,12 @@ impl TableMemory for Allocated {
     }
 }
 
-// Does what `mix_next` does, and makes the memory longer by one more row meanwhile, if there is room for it.
+// Appends the row as `mix_next` does, and meanwhile extends the memory by one more row, if the
+// capacity suffices.
 //
-// Memory has to be written to become longer. A row that is written at once waits for each of its cache lines to be
-// fetched. Here those of the row after the next one are fetched a few for each turn, while the cores are computed.
+// Memory has to be written to be extended. Writing a whole row waits for each of its cache lines to
+// be fetched. Here the cache lines of the row after the next one are fetched a few in each
+// iteration, while the cores are computed.
 #[inline(always)]
 fn mix_next_ahead<O: OrderedBlocks>(
     memory: &mut Vec<u32>,
@@ -249,7 +251,8 @@ fn mix_next_ahead<O: OrderedBlocks>(
     }
 }
 
-// Takes turn `j` of the block mix of row `i`, which ends at `end`, into the `row_len` words after it, as row `i + 1`.
+// Does iteration `j` of the block mix of row `i`, which ends at `end`, into the `row_len` words
+// after it, as row `i + 1`.
 #[inline(always)]
 fn take_turn_of_next<O: OrderedBlocks>(
     x: O,
@@ -280,8 +283,8 @@ fn take_turn_of_next<O: OrderedBlocks>(
     take_turn::<O, Parts<'_>>(x, &last, &mut rest[..row_len], j, len, cores)
 }
 
-// Makes the memory longer by 32 words for each of `n` chunks, if it has fewer than `most` words and there is room. What is in it
-// there is unspecified.
+// Extends the memory by 32 words for each of `n` chunks, if it has fewer than `most` words and the
+// capacity suffices. The new contents are unspecified.
 #[inline(always)]
 fn lengthen(memory: &mut Vec<u32>, n: usize, most: usize)
     ensures words { take (length memory.old.items) memory.new.items ≡ memory.old.items }

@@ -14,31 +14,31 @@ pub mod standard;
 use crate::CoreCount;
 use crate::parts::Parts;
 
-/// The block X of a block mix (RFC 7914, section 4), or one of each chunk of a group, which are mixed
-/// at once. Its type is the order of the words, and how many chunks there are.
+/// The block X of a block mix (RFC 7914, section 4), or one block of each chunk of a group, which
+/// are interleaved. Its type is the order of the words and the number of chunks.
 pub trait OrderedBlocks: Copy {
     // pivot[i] is the standard index of the word stored at index i
     ghost pivot: { List ℕ };
 
-    // inverse_pivot[i] is the index at which the word of standard index i is stored
+    // inverse_pivot[i] is the index of the word whose standard index is i
     ghost inverse_pivot: { List ℕ };
 
     // whether its cores are counted as SIMD cores
     ghost simd: { Bool };
 
-    // how many blocks, one of each chunk
+    // the number of blocks, one for each chunk
     ghost count: { ℕ };
 
     // the words of block k
     ghost held: { Self → ℕ → List ℕ };
 
-    /// Returns how many blocks there are, from one to four.
+    /// Returns the number of blocks, from one to four.
     fn count() -> usize
         ensures value { result ≡ count }
         ensures some { 0 < result }
         ensures few { result ≤ 4 };
 
-    /// Puts words from standard order into this one.
+    /// Puts words from standard order into this order.
     fn shuffle_in(x: &mut [u32])
         requires { length x.old % 16 ≡ 0 }
         ensures value { x.new ≡ permuted pivot x.old };
@@ -75,7 +75,7 @@ pub trait OrderedBlocks: Copy {
             ≡ permuted pivot (salsa20_8 (permuted inverse_pivot (held self k))) }
         ensures counted { AreCountedAs simd count cores.old cores.new };
 
-    /// Returns the exclusive or of each block with that of `y`.
+    /// Returns the exclusive or of each block with the same block of `y`.
     fn xor(self, y: Self) -> Self
         ensures value { (k : ℕ) → k < count → held result k ≡ xor_words (held self k) (held y k) };
 

@@ -1,9 +1,9 @@
-//! Parts of the same length, as the rows of several chunks are.
+//! Parts of the same length, such as the rows of several chunks.
 
 ghost use Rattle.std.specs.Prelude.{◌≡◌, ℕ, ◌+◌, ◌*◌, ◌<◌, ◌≤◌, drop, length, slice_index, take};
 ghost use Rattle.scrypt_kernel.specs.Words.{part};
 
-/// At most four parts of `len` words each, which begin at these places of `words`.
+/// At most four parts of `len` words each, which begin at these indices of `words`.
 #[derive(Clone, Copy)]
 pub struct Parts<'a> {
     words: &'a [u32],
@@ -14,7 +14,7 @@ pub struct Parts<'a> {
 impl<'a> Parts<'a> {
     ghost use Rattle.scrypt_kernel.specs.Parts.{AreParts, part_of};
 
-    /// Takes the parts of `words` that begin at these places.
+    /// Takes the parts of `words` that begin at these indices.
     #[inline(always)]
     pub(crate) fn new(words: &'a [u32], len: usize, starts: [usize; 4]) -> Parts<'a>
         ensures all { (n : ℕ) → n ≤ 4 → ((k : ℕ) → k < n → slice_index starts k + len ≤ length words.now) → AreParts n result }

@@ -20,7 +20,8 @@ pub fn pbkdf2_one(password: &[u8], salt: &[u8], out: &mut [u8])
     pbkdf2_counted(password, salt, out, &mut CoreCount::new());
 }
 
-/// Does what [`pbkdf2_one`] does, and counts the blocks that SHA-256 compresses: the password and the salt are hashed once.
+/// Derives the key as [`pbkdf2_one`] does, and counts the blocks that SHA-256 compresses: the
+/// password and the salt are hashed once.
 pub fn pbkdf2_counted(password: &[u8], salt: &[u8], out: &mut [u8], cores: &mut CoreCount)
     requires length { length out.old ≤ max_output_len }
     ensures value { out.new ≡ pbkdf2 password.now salt.now (length out.old) }
@@ -31,7 +32,8 @@ pub fn pbkdf2_counted(password: &[u8], salt: &[u8], out: &mut [u8], cores: &mut 
 
 /// The blocks T_1, T_2, .. of 32 bytes each that PBKDF2 derives from a password and a salt.
 ///
-/// The salt is hashed once, however many blocks are written, in however many pieces.
+/// The salt is hashed only once, whatever the number of blocks, and of pieces in which they are
+/// written.
 #[derive(Drop)]
 pub struct Blocks {
     hmac: Hmac,
@@ -48,10 +50,10 @@ impl Blocks {
         }
     }
 
-    /// Fills `out` with the blocks after the first `skipped` ones: the bytes from byte
+    /// Fills `out` with the blocks after the first `skipped` blocks: the bytes from byte
     /// `32 * skipped` on.
     ///
-    /// The last of these bytes is within the `(2^32 - 1) * 32` that PBKDF2 can derive.
+    /// The last of these bytes is within the `(2^32 - 1) * 32` bytes that PBKDF2 can derive.
     pub fn write(&self, skipped: u32, out: &mut [u8], cores: &mut CoreCount)
         requires length { 32 * skipped + length out.old ≤ max_output_len }
         ensures value { (password salt : List ℕ) → AreDerivedFrom self.now password salt

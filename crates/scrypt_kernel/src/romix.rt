@@ -22,14 +22,16 @@ use crate::walk::take_steps;
 use crate::words::{read_words, write_words};
 use std::simd::u32x4;
 
-/// Replaces each chunk of `b` by its scryptROMix. All of them are mixed at once, with words in the order `O`,
-/// which has a block for each. They share one table, `rows`, which keeps each row whose number is a multiple
-/// of `2^s`. Counts the cores: `4 * N * r` for each chunk, and `2 * r` more for each row that is recomputed.
+/// Replaces each chunk of `b` by its scryptROMix. The chunks are interleaved, with words in the
+/// order `O`, which has a block for each chunk. They share one table, `rows`, which keeps each row
+/// whose number is a multiple of `2^s`. Counts the cores: `4 * N * r` for each chunk, and `2 * r`
+/// more for each row that is recomputed.
 ///
-/// A chunk has `128 * r` bytes with `r` at least 1. For each chunk, `rows` has room for
-/// `32 * r * 2^(log_n - s)` words, and `scratch` has `64 * r` words. `log_n` is at most 56. Unless `s` is 0,
-/// there is one chunk, `s` is at most `log_n`, and `scratch` has `96 * r` words. It does not matter what `rows`
-/// and `scratch` hold before the call, and what they hold after it is unspecified.
+/// A chunk has `128 * r` bytes with `r` at least 1. For each chunk, `rows` has a capacity of at least
+/// `32 * r * 2^(log_n - s)` words, and `scratch` has at least `64 * r` words. `log_n` is at most 56.
+/// Unless `s` is 0, there is one chunk, `s` is at most `log_n`, and `scratch` has at least `96 * r`
+/// words. The contents of `rows` and `scratch` before the call do not matter, and after it they are
+/// unspecified.
 pub fn mix_chunks<O: OrderedBlocks, M: TableMemory>(
     b: &mut [u8],
     r: usize,
@@ -66,7 +68,8 @@ pub fn mix_chunks<O: OrderedBlocks, M: TableMemory>(
     write_words(x, b);
 }
 
-// Steps 2 and 3, for X in `x` before and after. What `next` and `spare` hold after the call is unspecified.
+// Steps 2 and 3, for X in `x` before and after. The contents of `next` and `spare` after the call
+// are unspecified.
 fn fill_and_walk<O: OrderedBlocks, M: TableMemory>(
     rows: &mut M,
     x: &mut [u32],
@@ -105,8 +108,8 @@ fn fill_and_walk<O: OrderedBlocks, M: TableMemory>(
 /// SIMD cores (RFC 7914, section 5).
 ///
 /// `b` has `128 * r` bytes with `r` at least 1, the table `v` has `32 * r * N` words, the scratch
-/// `t` has `64 * r` words, and `log_n` is at most 56. It does not matter what `v` and `t` hold
-/// before the call, and what they hold after it is unspecified.
+/// `t` has `64 * r` words, and `log_n` is at most 56. The contents of `v` and `t` before the call
+/// do not matter, and after it they are unspecified.
 pub fn scrypt_ro_mix(b: &mut [u8], v: &mut [u32], t: &mut [u32], log_n: u8, cores: &mut CoreCount)
     requires lens { AreRoMixLens log_n (length b.old) (length v.old) (length t.old) }
     ensures value { b.new ≡ bytes_of (ro_mix (words_of b.old) log_n) }
@@ -116,13 +119,13 @@ pub fn scrypt_ro_mix(b: &mut [u8], v: &mut [u32], t: &mut [u32], log_n: u8, core
     mix_chunks::<Diagonal<u32x4>, Buffer<'_>>(b, r, &mut Buffer::new(v), t, log_n, 0, cores);
 }
 
-/// Does what [`scrypt_ro_mix`] does, with a table that keeps each row whose number is a multiple of
-/// `2^s`. Any other row is recomputed, from the kept row below it, whenever the walk needs it: row
+/// Mixes as [`scrypt_ro_mix`] does, with a table that keeps each row whose number is a multiple of
+/// `2^s`. Any other row is recomputed from the kept row below it whenever the walk needs it: row
 /// `j` takes `j mod 2^s` block mixes of `2 * r` cores each, in addition to the `4 * N * r` cores.
 ///
 /// `b` has `128 * r` bytes with `r` at least 1, the table `v` has `32 * r * 2^(log_n - s)` words,
-/// the scratch `t` has `96 * r` words, `log_n` is at most 56, and `s` at most `log_n`. It does not
-/// matter what `v` and `t` hold before the call, and what they hold after it is unspecified.
+/// the scratch `t` has `96 * r` words, `log_n` is at most 56, and `s` at most `log_n`. The contents
+/// of `v` and `t` before the call do not matter, and after it they are unspecified.
 pub fn thin_ro_mix(
     b: &mut [u8],
     v: &mut [u32],
@@ -140,10 +143,10 @@ pub fn thin_ro_mix(
     mix_chunks::<Diagonal<u32x4>, Buffer<'_>>(b, r, &mut Buffer::new(v), t, log_n, s, cores);
 }
 
-/// Does what [`scrypt_ro_mix`] does, with block mixes on words in standard order: no core is
-/// counted as a SIMD core.
+/// Mixes as [`scrypt_ro_mix`] does, with block mixes on words in standard order: no core is counted
+/// as a SIMD core.
 ///
-/// The lengths are those of [`scrypt_ro_mix`].
+/// The lengths are the same as for [`scrypt_ro_mix`].
 pub fn plain_ro_mix(b: &mut [u8], v: &mut [u32], t: &mut [u32], log_n: u8, cores: &mut CoreCount)
     requires lens { AreRoMixLens log_n (length b.old) (length v.old) (length t.old) }
     ensures value { b.new ≡ bytes_of (ro_mix (words_of b.old) log_n) }

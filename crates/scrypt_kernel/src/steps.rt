@@ -1,8 +1,9 @@
-//! scryptROMix (RFC 7914, section 5) in steps, in the caller's buffers: it can stop after any number
-//! of mixes, and go on later.
+//! scryptROMix (RFC 7914, section 5) in steps, in the caller's buffers: it can stop after any
+//! number of mixes, and continue later.
 //!
-//! Each block mix of each chunk is one *mix*: the `N` of step 2, and then the `N` of step 3. What is
-//! between two steps is all in the table and in the scratch, and in how many mixes are done.
+//! Each block mix of each chunk is one *mix*: the `N` of step 2, and then the `N` of step 3. The
+//! state between two steps consists of the table, the scratch and the number of mixes that are
+//! done.
 
 ghost use Rattle.std.specs.Prelude.{◌≡◌, ℕ, ◌+◌, ◌-◌, ◌*◌, ◌/◌, ◌%◌, ◌^◌, ◌<◌, ◌≤◌, List, length, max, min};
 ghost use Rattle.scrypt_kernel.specs.Words.{bytes_of, part, words_of};
@@ -21,7 +22,7 @@ use crate::words::{part, read_words, write_words};
 
 /// Begins the scryptROMix of the `n` chunks of `b`, with words in the order `O`: no mix is done yet.
 ///
-/// For each chunk `b` has `128 * r` bytes, and `table` and `scratch` have room for `32 * r` words.
+/// For each chunk `b` has `128 * r` bytes, and `table` and `scratch` have at least `32 * r` words.
 pub fn begin_chunks<O: OrderedBlocks>(
     n: usize,
     b: &[u8],
@@ -48,7 +49,8 @@ pub fn begin_chunks<O: OrderedBlocks>(
 /// Does `count` more mixes of each chunk after the first `done`, or all that are left, and counts
 /// their cores, `2 * r` each. `O` has a block for each chunk. Returns how many mixes are done then.
 ///
-/// For each chunk `table` has room for `32 * r * N` words, and `scratch` for `64 * r`. `log_n` is at most 56.
+/// For each chunk `table` has at least `32 * r * N` words, and `scratch` at least `64 * r`. `log_n`
+/// is at most 56.
 pub fn step_chunks<O: OrderedBlocks>(
     r: usize,
     table: &mut [u32],
@@ -110,7 +112,8 @@ fn fill_rows<O: OrderedBlocks>(
     to
 }
 
-// The last mix of step 2, after which X is in `x`, if it is the next one, and before `end`. Returns how many are done then.
+// The last mix of step 2, after which X is in `x`, if it is the next mix, and before `end`. Returns
+// how many are done then.
 #[inline(always)]
 fn mix_last<O: OrderedBlocks>(
     table: &[u32],
@@ -174,8 +177,8 @@ fn walk_on<O: OrderedBlocks>(
     take_steps::<O>(x, table, next, &mut [], len, log_n, 0, end - done, cores);
 }
 
-/// Ends the scryptROMix of the `n` chunks: writes them to `b`, in the place of those that it began
-/// with.
+/// Ends the scryptROMix of the `n` chunks: writes the mixed chunks to `b`, in place of the original
+/// ones.
 pub fn end_chunks<O: OrderedBlocks>(n: usize, b: &mut [u8], r: usize, scratch: &mut [u32])
     requires several { 0 < n }
     requires some { 0 < r }

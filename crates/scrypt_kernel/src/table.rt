@@ -17,7 +17,7 @@ use crate::words::part;
 
 /// Step 2: for i = 0 to N - 1 do V[i] = X, X = scryptBlockMix (X).
 ///
-/// X is `x` in the order `O`. What `next` holds after the call is unspecified.
+/// X is `x` in the order `O`. The contents of `next` after the call are unspecified.
 pub(crate) fn fill<O: OrderedBlocks, M: TableMemory>(
     rows: &mut M,
     x: &mut [u32],
@@ -53,8 +53,8 @@ pub(crate) fn fill<O: OrderedBlocks, M: TableMemory>(
     );
 }
 
-// Appends the row that is `2^s` rows after the last one, which is the kept row `m`. What `x` and `next`
-// hold after the call is unspecified.
+// Appends the row that is `2^s` rows after the last one, which is the kept row `m`. The contents of
+// `x` and `next` after the call are unspecified.
 #[inline(always)]
 fn append_next<O: OrderedBlocks, M: TableMemory>(
     rows: &mut M,
@@ -92,7 +92,7 @@ fn append_next<O: OrderedBlocks, M: TableMemory>(
 
 /// Computes the row that is `n` rows after the row `kept`: `x` becomes `kept` after `n` block mixes.
 ///
-/// `n` is at least 1. What `next` holds after the call is unspecified.
+/// `n` is at least 1. The contents of `next` after the call are unspecified.
 pub(crate) fn recompute<O: OrderedBlocks>(
     kept: &[u32],
     len: usize,

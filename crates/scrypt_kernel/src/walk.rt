@@ -17,11 +17,12 @@ use crate::prefetch::prefetch_row;
 use crate::table::recompute;
 use crate::words::part;
 
-/// `count` iterations of step 3: j = Integerify (X) mod N, T = X xor V[j], X = scryptBlockMix (T). The whole step has N.
+/// Does `count` of the N iterations of step 3: j = Integerify (X) mod N, T = X xor V[j], X =
+/// scryptBlockMix (T).
 ///
-/// X is in `x` before the call and after it. The steps write it to `next` and to `x` in turn, so that
-/// none copies it, except a last odd one. `v` keeps each row whose number is a multiple of `2^s`; unless `s` is 0, there is
-/// one chunk, and `spare` is for a row that is recomputed.
+/// X is in `x` before the call and after it. The steps write it alternately to `next` and to `x`,
+/// so that no step copies it, except a last odd one. `v` keeps each row whose number is a multiple
+/// of `2^s`; unless `s` is 0, there is one chunk, and `spare` is for a row that is recomputed.
 pub(crate) fn take_steps<O: OrderedBlocks>(
     x: &mut [u32],
     v: &[u32],
@@ -115,8 +116,8 @@ fn mix_recomputed<O: OrderedBlocks>(
     mix::<O, Xor<'_>>(&joined, next, len, cores);
 }
 
-// Returns for each chunk j = Integerify (X) mod N, and where V[j] begins, or the kept row below it, and prefetches
-// that row. What `next` holds after the call is unspecified.
+// Returns for each chunk j = Integerify (X) mod N, and the start of V[j], or of the kept row below
+// it, and prefetches that row. The contents of `next` after the call are unspecified.
 #[inline(always)]
 fn take_rows<O: OrderedBlocks>(
     x: &[u32],

@@ -1,5 +1,5 @@
-//! The count of how many cores were run, and how many blocks SHA-256 compressed. Nothing outside the module `cores` can
-//! increment a count.
+//! The count of the cores that were run, and of the blocks that SHA-256 compressed. Nothing outside
+//! the module `cores` can increment a count.
 
 ghost use Rattle.std.specs.Prelude.{◌≡◌, ◌+◌, ℕ, Bool, if◌then◌else◌};
 ghost use Rattle.std.specs.Borrow.{ftrue};
@@ -9,8 +9,8 @@ ghost use Rattle.scrypt_kernel.specs.Diagonal.{diagonal_core};
 use sha2::Sha256;
 use std::marker::Model;
 
-/// How many Salsa20/8 cores were run: all of them, and the SIMD cores (`lanes`). And how many blocks of 64 bytes SHA-256
-/// compressed (`compressions`).
+/// The number of Salsa20/8 cores that were run: all of them, and the SIMD cores (`lanes`); and the
+/// number of blocks of 64 bytes that SHA-256 compressed (`compressions`).
 ///
 /// Contracts see three numbers without an upper bound. At run time a count has no bytes, and no
 /// running program reads it.
@@ -36,8 +36,9 @@ impl CoreCount {
         CoreCount::of()
     }
 
-    // The count after one more core, whose input and output are the evidence that it was run. Those of
-    // a SIMD core are in diagonal order. `one` has whether it is such a core, and the three numbers after it.
+    // The count after one more core, whose input and output are the evidence that it was run. For a
+    // SIMD core they are in diagonal order. `one` has whether it is such a core, and the three
+    // numbers after it.
     pub(super) fn after_core(_before: &CoreCount, _from: &[u32; 16], _to: &[u32; 16]) -> CoreCount
         ghost one: { Bool × ℕ × ℕ × ℕ }
         requires core { _to.now ≡ (if one.0 then diagonal_core _from.now else salsa20_8 _from.now) }
@@ -49,8 +50,8 @@ impl CoreCount {
         CoreCount::of()
     }
 
-    // The count after the compressions of this hasher when it takes these bytes or ends. `more` has how many, and the three
-    // numbers after them.
+    // The count after the compressions of this hasher when it takes these bytes or ends. `more` has
+    // their number, and the three numbers after them.
     pub(super) fn after_compressions(
         _before: &CoreCount,
         _hasher: &Sha256,

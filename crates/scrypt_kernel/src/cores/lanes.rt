@@ -66,8 +66,8 @@ impl<V: Lanes> Diagonal<V> {
         mixed
     }
 
-    // Counts the cores whose inputs are these blocks and whose outputs are those of `mixed`. The compiler
-    // removes it, since a count has no bytes.
+    // Counts the cores that turn these blocks into the blocks of `mixed`. The compiler removes
+    // this, because a count has no bytes.
     fn count(&self, mixed: &Diagonal<V>, cores: &mut CoreCount)
         requires { (k : ℕ) → k < V.count → block_of V.lanes mixed.now k ≡ diagonal_core (block_of V.lanes self.now k) }
         ensures { AreCountedAs true V.count cores.old cores.new }
@@ -93,7 +93,7 @@ impl<V: Lanes> Diagonal<V> {
         }
     }
 
-    // A double round is two turns: the first is the columns, and the second the rows.
+    // A double round is two halves: the first is the columns, and the second the rows.
     #[inline(always)]
     fn double_round(self) -> Diagonal<V>
         ensures whole { (k : ℕ) → k < V.count → AreWhole V.lanes self k }
@@ -121,25 +121,27 @@ impl<V: Lanes> Diagonal<V> {
 
 /// A vector with four lanes of each block of a group.
 pub trait Lanes: Copy {
-    // how many blocks
+    // the number of blocks
     ghost count: { ℕ };
 
     // the lanes of block k
     ghost lanes: { Self → ℕ → List ℕ };
 
-    /// Returns how many blocks there are.
+    /// Returns the number of blocks.
     fn count() -> usize
         ensures value { result ≡ count }
         ensures some { 0 < result }
         ensures few { result ≤ 4 };
 
-    /// Reads four words of each part, from part `first` on: those at places `4 * j` to `4 * j + 3`.
+    /// Reads four words of each part, from part `first` on: the words at indices `4 * j` to
+    /// `4 * j + 3`.
     fn read(parts: &Parts<'_>, first: usize, j: usize) -> Self
         requires all { AreParts (first + count) parts.now }
         requires inside { 4 * j + 4 ≤ parts.now.len }
         ensures { (k : ℕ) → k < count → lanes result k ≡ part 4 (part_of parts.now (first + k)) j };
 
-    /// Writes them to these places of the parts of `x`, which is cut into parts of `len` words.
+    /// Writes the lanes to the same indices of the parts of `x`, which is cut into parts of `len`
+    /// words.
     #[inline]
     fn write(self, x: &mut [u32], len: usize, j: usize)
         requires all { count * len ≤ length x.old }
@@ -161,14 +163,14 @@ pub trait Lanes: Copy {
         ensures four { (k : ℕ) → k < count → ((length (lanes self k) ≡ 4) × (length (lanes y k) ≡ 4)) }
         ensures value { (k : ℕ) → lanes result k ≡ xor_words (lanes self k) (lanes y k) };
 
-    /// The exclusive or of each word with that of `y` rotated to the left by `bits` bits.
+    /// The exclusive or of each word with the word of `y` rotated to the left by `bits` bits.
     fn xor_rotated(self, y: Self, bits: u32) -> Self
         requires { (0 < bits) × (bits < 32) }
         ensures four { (k : ℕ) → k < count → length (lanes self k) ≡ 4 }
         ensures value { (k : ℕ) → lanes result k ≡ xor_rotated bits (lanes self k) (lanes y k) };
 
-    /// Turns the lanes of each block to the left: those of `d` by one place, those of `c` by two, and
-    /// those of `b` by three.
+    /// Rotates the lanes of each block to the left: the lanes of `d` by one, of `c` by two, and of
+    /// `b` by three.
     fn turned(b: Self, c: Self, d: Self) -> (Self, Self, Self)
         ensures { (k : ℕ) → k < count
             → ((lanes result.0 k ≡ turned_left 1 (lanes d k))
@@ -299,8 +301,8 @@ fn four_of<const N: usize>(x: Simd<u32, N>, k: usize) -> u32x4
     lanes(&x.to_array(), k)
 }
 
-// Four quarter rounds of each block at once, one in each lane. Then the lanes are turned: from the
-// columns of the block they become the rows, and the other way round.
+// Four quarter rounds of each block in parallel, one in each lane. Then the lanes are rotated, so
+// that the columns of the block become the rows, or the reverse.
 #[inline(always)]
 fn turn<V: Lanes>(a: V, b: V, c: V, d: V) -> (V, V, V, V)
     ensures four { (k : ℕ) → k < V.count → AreFourEach (V.lanes a k, V.lanes b k, V.lanes c k, V.lanes d k) }
@@ -315,10 +317,10 @@ fn turn<V: Lanes>(a: V, b: V, c: V, d: V) -> (V, V, V, V)
     (a, d, c, b)
 }
 
-// The exclusive or of `x` with the lanes of `y`, each rotated to the left by `k` bits. The two parts of
-// a rotation share no bit, so two exclusive ors take them in, which is 3 to 8 per cent faster than an
-// or of the parts first. The part that is used last is computed first, so that the other one, for
-// which the next step waits, needs no copy.
+// The exclusive or of `x` with the lanes of `y`, each rotated to the left by `k` bits. The two
+// parts of a rotation share no bit, so two exclusive ors can combine them with `x`, which is 3 to 8
+// per cent faster than an or of the parts first. The part that is used last is computed first, so
+// that the other one, which the next step waits for, needs no copy.
 #[inline(always)]
 fn xor_rotated<const N: usize>(x: Simd<u32, N>, y: Simd<u32, N>, k: u32) -> Simd<u32, N>
     requires { (0 < k) × (k < 32) }

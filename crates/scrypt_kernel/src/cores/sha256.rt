@@ -1,4 +1,5 @@
-//! SHA-256 (FIPS 180-4) with a count of the blocks of 64 bytes that it compresses. Nothing else calls the crate `sha2`.
+//! SHA-256 (FIPS 180-4) with a count of the blocks of 64 bytes that it compresses. Only this module
+//! calls the crate `sha2`.
 
 ghost use Rattle.std.specs.Prelude.{◌≡◌, ℕ, ◌+◌, ◌/◌, ◌%◌, ◌++◌, List, [], length};
 ghost use Rattle.sha2.specs.Hashers.{Holds256};

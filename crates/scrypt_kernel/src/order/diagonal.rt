@@ -1,8 +1,8 @@
-//! Diagonal order, in which the SIMD core computes, in four lanes.
+//! Diagonal order, the order of words in which the SIMD core computes, in four lanes.
 //!
 //! A block of 16 words is a square of four rows. In diagonal order its four diagonals follow one
-//! another, so the words of each column are in the same lane of four vectors. Word 0 stays at place
-//! 0, and word 1 is at place 13.
+//! another, so the words of each column are in the same lane of four vectors. Word 0 stays at index
+//! 0, and word 1 is at index 13.
 
 ghost use Rattle.std.specs.Prelude.{◌≡◌, ◌≢◌, ℕ, ◌+◌, ◌-◌, ◌*◌, ◌%◌, ◌^◌, ◌<◌, ◌≤◌, List, length, IsTrue, nat_lt, refl, slice_index, true};
 ghost use Rattle.std.specs.List.{list_all};
@@ -19,7 +19,7 @@ use crate::order::{OrderedBlocks, low_bits};
 use crate::parts::Parts;
 use crate::words::part;
 
-/// The place in standard order of the word at each place in diagonal order.
+/// The index in standard order of the word at each index in diagonal order.
 pub const PIVOT_ABCD: [usize; 16] = [
     0, 5, 10, 15, //
     4, 9, 14, 3, //
@@ -27,7 +27,7 @@ pub const PIVOT_ABCD: [usize; 16] = [
     12, 1, 6, 11, //
 ];
 
-/// The place in diagonal order of the word at each place in standard order.
+/// The index in diagonal order of the word at each index in standard order.
 pub const INVERSE_PIVOT_ABCD: [usize; 16] = [
     0, 13, 10, 7, //
     4, 1, 14, 11, //
@@ -129,8 +129,8 @@ pub fn shuffle_out(x: &mut [u32])
     permute(x, &INVERSE_PIVOT_ABCD);
 }
 
-/// Returns Integerify modulo `2^log_n` of words in diagonal order, in which words 0 and 1 of the
-/// last block are at its places 0 and 13 (RFC 7914, section 5, step 3).
+/// Returns Integerify modulo `2^log_n` of words in diagonal order. Words 0 and 1 of the last block
+/// are at its indices 0 and 13 (RFC 7914, section 5, step 3).
 ///
 /// The length of `x` is a positive multiple of 16, and `log_n` is at most 56.
 #[inline(always)]
@@ -147,7 +147,7 @@ pub fn integerify_diagonal(x: &[u32], log_n: u8) -> usize
     low_bits(x[at], x[at + 13], log_n)
 }
 
-// Moves the word at place `pivot[i]` of each block to place `i`.
+// Moves the word at index `pivot[i]` of each block to index `i`.
 fn permute(x: &mut [u32], pivot: &[usize; 16])
     requires whole { length x.old % 16 ≡ 0 }
     requires places { IsTrue (list_all (λ j. nat_lt j 16) pivot.now) }

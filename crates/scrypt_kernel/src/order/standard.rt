@@ -11,8 +11,8 @@ use crate::order::{OrderedBlocks, low_bits};
 use crate::parts::Parts;
 use std::simd::u32x4;
 
-/// A block with its words in the order of the standard. They are read and written as vectors, as
-/// those of a block in diagonal order are.
+/// A block with its words in the order of the standard. They are read and written as vectors, like
+/// the words of a block in diagonal order.
 #[derive(Clone, Copy)]
 pub struct Standard {
     rows: Diagonal<u32x4>,

@@ -1,5 +1,6 @@
-//! The lanes of one block as words of their own. A processor can take longer for a step of one block in vectors than in words,
-//! as those of arm64 do, which rotate a word in the instruction that takes it in.
+//! The lanes of one block as scalar words. Some processors take longer for a step of one block in
+//! vectors than in scalar code, for example those with arm64, which rotate a word in the
+//! instruction that uses it.
 
 ghost use Rattle.std.specs.Prelude.{◌≡◌, ◌≢◌, ℕ, ◌+◌, ◌*◌, ◌<◌, ◌≤◌, ◌∷◌, [], List, length};
 ghost use Rattle.scrypt_kernel.specs.Words.{part, xor_words};
@@ -9,8 +10,9 @@ use crate::parts::Parts;
 use crate::words::{lanes, put_words};
 use std::simd::u32x4;
 
-/// Four lanes of one block, each of them in a register of its own. What is read is a vector at first, so that rows are loaded and
-/// joined four words at a time: the lanes are the exclusive or of the words and of that vector.
+/// Four lanes of one block, each of them in its own register. Words are first read as a vector, so
+/// that rows are loaded and joined four words at a time: the lanes are the exclusive or of the
+/// words and of that vector.
 #[derive(Clone, Copy)]
 pub struct Scalars {
     a: u32,
@@ -34,7 +36,7 @@ impl Scalars {
         Scalars { a, b, c, d, row }
     }
 
-    // The same lanes, all of them in words.
+    // The same lanes, all of them in scalar words.
     #[inline]
     fn in_words(self) -> Scalars
         ensures { result.a ∷ result.b ∷ result.c ∷ result.d ∷ [] ≡ xor_words (self.a ∷ self.b ∷ self.c ∷ self.d ∷ []) self.row }
