@@ -1,4 +1,5 @@
-// Each allocation of a derivation fails in turn, and the exact number of them is asserted.
+// Each allocation of a derivation is made to fail, one per run, and the exact number of them is
+// asserted.
 
 use crate::failing_allocations::{CallEnd, failing_allocations};
 use crate::holds;
@@ -9,7 +10,8 @@ use scrypt::{
 use std::alloc::Global;
 use std::test::Fail;
 
-// The calls that derive a key in memory of their own, the last one in bytes for so many tables.
+// The calls that derive a key in memory that they allocate, the last one within a size for this
+// number of tables.
 #[derive(Clone, Copy)]
 enum Call {
     Scrypt,
@@ -18,9 +20,10 @@ enum Call {
     InGroups(usize),
 }
 
-// A call, p, the sizes of its allocations at (4, 1, p), how many of them it needs, and the reason for the row. They are
-// the chunks, the table and the scratch. A call for several tables that gets no scratch for them ends with one table: this
-// and its scratch fit where the several tables were. How many tables a call takes is in `memory.rt`.
+// A call, p, the sizes of its allocations at (4, 1, p), how many of them it needs, and the reason
+// for the row. The allocations are the chunks, the table and the scratch. A call for several tables
+// that cannot allocate their scratches falls back to one table, which fits with its scratch where
+// the several tables were. `memory.rt` tests how many tables a call allocates.
 static CALLS: [(Call, u32, [usize; 3], usize, &str); 10] = [
     (Call::Scrypt, 1, [128, 2048, 256], 3, "the three buffers"),
     (
@@ -76,10 +79,10 @@ static CALLS: [(Call, u32, [usize; 3], usize, &str); 10] = [
     (Call::InGroups(4), 4, [512, 8192, 1024], 2, "four"),
 ];
 
-// What an output holds before a call.
+// The initial contents of an output.
 const BEFORE: [u8; 32] = [0xaa; 32];
 
-// How a call ends with this answer.
+// The end of a call that returned this.
 fn end_of(answer: Result<(), DeriveError>) -> CallEnd {
     match answer {
         Ok(()) => CallEnd::Done,
@@ -88,7 +91,7 @@ fn end_of(answer: Result<(), DeriveError>) -> CallEnd {
     }
 }
 
-// How a call of the trait ends.
+// The end of a call of the trait.
 fn end_of_trait(alloc: Global, params: &Params, output: &mut [u8]) -> CallEnd {
     match Scrypt::from(*params).derive_key(alloc, b"", b"", output) {
         Ok(()) => CallEnd::Done,
@@ -97,7 +100,7 @@ fn end_of_trait(alloc: Global, params: &Params, output: &mut [u8]) -> CallEnd {
     }
 }
 
-// How this call ends. If it runs out of memory, its output is as it was.
+// The end of this call. If it runs out of memory, its output is unchanged.
 fn ended(call: Call, alloc: Global, params: &Params) -> CallEnd {
     let (mut output, mut cores) = (BEFORE, CoreCount::new());
     let end = match call {

@@ -1,4 +1,4 @@
-// Calls whose allocations fail in turn.
+// Runs calls whose allocations fail, one after another.
 
 use std::alloc::{AllocError, Global};
 use std::test::Fail;
@@ -6,7 +6,7 @@ use std::test::Fail;
 // More blocks than a process can have once the larger ones are taken.
 const BLOCKS: usize = 100_000;
 
-// How a call ended whose allocations fail.
+// The end of a call whose allocations fail.
 #[derive(Clone, Copy)]
 pub enum CallEnd {
     Done,
@@ -23,7 +23,7 @@ fn take_each(alloc: Global, sizes: &[usize]) -> Result<Vec<Vec<u8>>, AllocError>
     Ok(blocks)
 }
 
-// All else that the process can have, down to the smallest block.
+// All other memory that the process can have, down to the smallest block.
 fn take_all(alloc: Global) -> Result<Vec<Vec<u8>>, AllocError> {
     let mut blocks: Vec<Vec<u8>> = Vec::with_capacity(alloc, BLOCKS)?;
     let mut size: usize = 1 << 46;
@@ -41,9 +41,9 @@ fn take_all(alloc: Global) -> Result<Vec<Vec<u8>>, AllocError> {
     Ok(blocks)
 }
 
-// The number of allocations of a call, whose sizes these are: it ends out of memory if the process has
-// room for fewer of them, and is done as soon as it has room for all. The room is made by holding
-// every block that the process can have, except the first ones of these sizes.
+// The number of allocations of a call with these sizes: it runs out of memory as long as the
+// process can allocate fewer of them, and succeeds once it can allocate all. This holds every block
+// that the process can have, and then frees only the first ones of these sizes.
 pub fn failing_allocations<F: Fn() -> CallEnd>(
     alloc: Global,
     sizes: &[usize],

@@ -1,4 +1,4 @@
-// Each allocation of a call fails in turn, and the exact number of them is asserted.
+// Each allocation of a call is made to fail, one per run, and the exact number of them is asserted.
 
 use crate::failing_allocations::{CallEnd, failing_allocations};
 use crate::{holds, is};
@@ -8,7 +8,7 @@ use scrypt::{Params, Scrypt};
 use std::alloc::Global;
 use std::test::Fail;
 
-// How a call ended by its answer.
+// The end of a call that returned this.
 fn ended<T, E: PartialEq + Drop>(answer: &Result<T, E>, out_of_memory: E) -> CallEnd {
     match answer {
         Ok(_) => CallEnd::Done,
@@ -94,7 +94,7 @@ static DERIVING: [(Deriving, u32, usize, &[usize], &str); 9] = [
     ),
 ];
 
-// How this call ends with the empty password.
+// The end of this call with the empty password.
 fn end_of_deriving(
     call: &Deriving,
     alloc: Global,
@@ -154,8 +154,8 @@ enum Making {
     DecodeBase64,
 }
 
-// A call, the sizes of its allocations, and the reason for the row. What is pushed to is made in the
-// call, by the first allocation, and is as it was if the push fails.
+// A call, the sizes of its allocations, and the reason for the row. A call that pushes first makes
+// the text to push to, by the first allocation; a push that fails leaves this text unchanged.
 static MAKING: [(Making, &[usize], &str); 7] = [
     (Making::New, &[LETTERS], "a copy of the text"),
     (Making::FromId, &[LETTERS], "a dollar and the id"),
@@ -174,8 +174,8 @@ static MAKING: [(Making, &[usize], &str); 7] = [
     (Making::DecodeBase64, &[BYTES], "the bytes of a field"),
 ];
 
-// How this call ends. The text is `$` and letters, 2000 in all; the bytes have as many letters of crypt
-// Base64, which are the field.
+// The end of this call. The text is `$` and letters, 2000 characters in all; the bytes are encoded
+// in the same number of letters of crypt Base64, which are the field.
 fn end_of_making(
     call: &Making,
     alloc: Global,
@@ -210,7 +210,7 @@ fn end_of_making(
     }
 }
 
-// A text with a letter after it, so many times.
+// A text with `count` copies of a letter after it.
 pub fn followed(alloc: Global, text: &str, letter: &str, count: usize) -> Result<String, Fail> {
     let letters = letter.repeat(alloc, count)?;
     Ok(format!(in alloc; "{text}{}", letters.as_str())?)

@@ -1,5 +1,6 @@
-// The calls that can run out of memory, once each, and the texts of errors, which no clause gives. Which texts are made,
-// verified and refused is in `tools/tests/hashes.py` and `tools/tests/program.py`, which ask the built programs.
+// The calls that can run out of memory, once each, and the texts of errors, which no clause states.
+// `tools/tests/hashes.py` and `tools/tests/program.py` ask the built programs which texts are made,
+// verified and rejected.
 
 use crate::refused::{MCF, params_of};
 use crate::{holds, is};
@@ -54,7 +55,7 @@ fn mcf_hashes(rt: HostRuntime) -> Result<(), Fail> {
     holds(verified.is_ok(), "borrowed")
 }
 
-// An error of a caller's own, from each error of its calls.
+// A caller's own error type, converted from each error of its calls.
 #[derive(Drop)]
 enum Failure {
     Hash(Error),
@@ -73,7 +74,7 @@ impl From<AllocError> for Failure {
     }
 }
 
-// Makes a hash by default, prints it, reads the text and verifies another password by it.
+// Makes a hash by default, prints it, reads the text and verifies another password against it.
 fn printed_and_read(alloc: Global, password: &[u8], other: &[u8]) -> Result<(), Failure> {
     let hasher = Scrypt::default();
     let made: phc::PasswordHash = hasher.hash_password(alloc, password, *b"0123456789abcdef")?;

@@ -1,4 +1,5 @@
-// Hostile texts, whose verdicts are the same by each call that reads them. More texts are in `tools/tests/hashes.py`.
+// Hostile texts: every call that reads them returns the same verdict. `tools/tests/hashes.py` has
+// more.
 
 use crate::hash_allocations::followed;
 use crate::holds;
@@ -14,13 +15,13 @@ use std::test::Fail;
 // libxcrypt's, of the empty password.
 const HASH: &str = "$7$2/..../....$rNxJWVHNv/mCNcgE/f6/L4zO6Fos5c2uTzhyzoisI62";
 
-// Where the key begins.
+// The position of the key.
 const KEY_AT: usize = 15;
 
-// The lengths of the beginnings of a `$7$` hash that are hashes of shorter keys.
+// The lengths of the prefixes of a `$7$` hash that are hashes of shorter keys.
 const SHORTER_KEYS: [usize; 14] = [19, 23, 25, 27, 31, 34, 35, 39, 43, 46, 47, 51, 55, 58];
 
-// The verdict by a beginning of this length.
+// The verdict by a prefix of this length.
 fn wanted_of_beginning(len: usize) -> Result<(), Error> {
     if len == KEY_AT {
         Err(Error::OutputSize)
@@ -49,8 +50,8 @@ fn beginnings(rt: HostRuntime) -> Result<(), Fail> {
     Ok(())
 }
 
-// The verdict on its password by the beginning of this length of a PHC hash. Without the whole salt there is no key, and one
-// that ends in the key is the hash of a shorter key.
+// The verdict on its password by the prefix of this length of a PHC hash. Without the whole salt
+// there is no key, and a prefix that ends in the key is the hash of a shorter key.
 fn wanted_of_phc_beginning(len: usize) -> Result<(), Error> {
     match len {
         2..=6 => Err(Error::Algorithm),
@@ -73,7 +74,7 @@ fn beginnings_of_a_phc_hash(rt: HostRuntime) -> Result<(), Fail> {
     Ok(())
 }
 
-// The verdict by the hash with this byte in this place.
+// The verdict by the hash with this byte at this position.
 fn wanted_of_replaced(at: usize, by: u8) -> Result<(), Error> {
     match value(by) {
         Some(value) if at < 57 || value < 16 => Err(Error::PasswordInvalid),
@@ -111,8 +112,8 @@ fn each_character_of_a_key_replaced(rt: HostRuntime) -> Result<(), Fail> {
     holds(texts == 5461, "43 places with 127 characters each")
 }
 
-// A `$7$` text without what comes a million times after it, how many fields it has, how long they are together, the verdict,
-// and the reason for the row.
+// A `$7$` text, a text that is repeated a million times after it, the number of fields, their total
+// length, the verdict, and the reason for the row.
 static MILLIONS: [(&str, &str, usize, usize, Error, &str); 2] = [
     (
         "$7$2/..../....$",
@@ -132,7 +133,7 @@ static MILLIONS: [(&str, &str, usize, usize, Error, &str); 2] = [
     ),
 ];
 
-// Whether a text has so many fields that are together so long.
+// Whether a text has this number of fields, with this total length.
 fn has_fields(text: &str, wanted: usize, wanted_len: usize) -> bool {
     let Ok(hash) = mcf::PasswordHashRef::new(text) else {
         return false;

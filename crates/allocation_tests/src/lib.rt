@@ -1,6 +1,7 @@
-//! Tests of the libraries, of what no contract can say: that hashing, verifying and deriving succeed if
-//! memory is available, how much each call allocates, what happens if an allocation fails, and that hostile
-//! texts get the same verdict by each call. The other tests of the libraries are in `library_tests`.
+//! Tests of the libraries for what no contract can state: that hashing, verifying and deriving
+//! succeed if memory is available, how much each call allocates, the effect of a failed allocation,
+//! and that each call returns the same verdict on hostile texts. The other tests of the libraries
+//! are in `library_tests`.
 #![tactic(auto)]
 
 #[cfg(test)]
@@ -23,8 +24,8 @@ mod verdicts;
 #[cfg(test)]
 use std::test::Fail;
 
-// Fails a test with this text unless it holds. Each `assert!` would be proved where it stands, with all that the test has
-// there: a row of eight took twice as long to prove.
+// Fails a test with this text unless it holds. An `assert!` would be proved where it is, with
+// everything that the test knows there: a table of eight rows took twice as long to prove.
 #[cfg(test)]
 fn holds(is_so: bool, text: &'static str) -> Result<(), Fail> {
     if is_so { Ok(()) } else { Err(text.into()) }

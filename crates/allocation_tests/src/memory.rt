@@ -1,4 +1,5 @@
-// How many tables the calls allocate, that they succeed at large sizes, and that some refuse without a copy.
+// The number of tables that the calls allocate, their success at large sizes, and errors without
+// allocating.
 
 use crate::hash_allocations::followed;
 use crate::verdicts::{is_mcf_verdict, is_phc_verdict};
@@ -18,7 +19,8 @@ const SCRATCH: usize = 2048;
 
 const CHUNKS: usize = 4096;
 
-// How many bytes the buffers may have, how many tables are then allocated, and the reason for the row.
+// A limit on the size of the buffers, the number of tables that are then allocated, and the reason
+// for the row.
 static TABLES: [(usize, usize, &str); 6] = [
     (0, 1, "one table for four chunks, in each call so far"),
     (
@@ -32,7 +34,7 @@ static TABLES: [(usize, usize, &str); 6] = [
     (usize::MAX, 4, "at most four"),
 ];
 
-// The most addresses that the process has had so far, in KiB.
+// The peak size of the process's address space so far, in KiB.
 fn most_memory(rt: &HostRuntime) -> Result<usize, Fail> {
     let status = fs::read_to_string(rt, "/proc/self/status")?;
     let mut is_next = false;
@@ -79,7 +81,7 @@ static LARGE: [((u8, u32, u32), [usize; 3], &str); 8] = [
     ((4, 1, 1), [0, 0, 10 << 20], "a key of 10 MiB"),
 ];
 
-// Whether both calls that derive a key give the same one.
+// Whether both calls that derive a key return the same one.
 fn derives(
     alloc: Global,
     params: Params,
@@ -119,7 +121,7 @@ fn large_sizes(rt: HostRuntime) -> Result<(), Fail> {
     Ok(())
 }
 
-// How many bytes a key has, and the reason for the row.
+// The length of a key, and the reason for the row.
 static LONG_KEYS: [(usize, &str); 2] = [
     (4096, "a text above 4,096 bytes"),
     (1 << 20, "a text above a megabyte"),
@@ -140,7 +142,7 @@ fn long_keys_of_hashes(rt: HostRuntime) -> Result<(), Fail> {
     Ok(())
 }
 
-// The calls that refuse what is not of their format before they allocate.
+// The calls that reject malformed input before they allocate.
 #[derive(Clone, Copy)]
 enum Refusing {
     New,
@@ -158,10 +160,10 @@ static REFUSING: [(Refusing, &str); 5] = [
     (Refusing::DecodeBase64, "a field of no letters of any bytes"),
 ];
 
-// A copy of such a text would be seen in the most memory.
+// Large enough that a copy would raise the peak of `most_memory`.
 const LONG: usize = 1 << 26;
 
-// Whether this call refuses a text of letters, with a dollar at its end or one letter too many.
+// Whether this call rejects letters with a dollar at the end, or with one letter too many.
 fn refuses(
     call: Refusing,
     alloc: Global,
@@ -187,7 +189,8 @@ fn refusals_without_allocating(rt: HostRuntime) -> Result<(), Fail> {
     let with_dollar = format!(in alloc; "{}$", letters.get(3..).unwrap_or(""))?;
     let hash = mcf::PasswordHashRef::new(letters.as_str())?;
     let field = hash.fields().next().ok_or("no field")?;
-    // What made these took more memory for a while, which a copy could have now.
+    // Making these texts raised the peak, so a copy could hide below it: this block is held to
+    // prevent that.
     let held: Vec<u8> = Vec::with_capacity(alloc, 8 * LONG)?;
     let before = most_memory(&rt)?;
     for &(call, reason) in &REFUSING {

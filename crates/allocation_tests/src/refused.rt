@@ -16,7 +16,7 @@ pub const PHC: &str =
 pub const MCF: &str =
     "$7$CU..../....Mq4YHD2syxYT.MsH1Ek0n1$JyHIxez0DOwm0r6.kAIohc8UFBOLU4xX8a1wGBpLrw7";
 
-// Texts and the error of verifying them, with every allocation refused, and the reason for the row.
+// Texts and the error of verifying them, with every allocation failing, and the reason for the row.
 static REFUSED: [(&str, Error, &str); 10] = [
     (
         "$8$CU..../....Mq4YHD2syxYT.MsH1Ek0n1$JyHIxez0DOwm0r6.kAIohc8UFBOLU4xX8a1wGBpLrw7",
@@ -129,7 +129,7 @@ static WEAKER: [(&str, (u8, u32, u32), usize, Result<bool, Error>, &str); 14] = 
     ),
 ];
 
-// Parameters with this length of a key, or none if it is 0.
+// Parameters with this key length, or without one if it is 0.
 pub fn params_of((log_n, r, p): (u8, u32, u32), len: usize) -> Result<Params, InvalidParams> {
     if len == 0 {
         Params::new(log_n, r, p)
@@ -138,7 +138,7 @@ pub fn params_of((log_n, r, p): (u8, u32, u32), len: usize) -> Result<Params, In
     }
 }
 
-// A hasher by these parameters: `Scrypt::new` has the recommended ones.
+// A hasher with these parameters: `Scrypt::new` has the recommended ones.
 fn hasher_of(costs: (u8, u32, u32), len: usize) -> Result<Scrypt, InvalidParams> {
     if costs == (17, 8, 1) && len == 0 {
         Ok(Scrypt::new())
@@ -147,7 +147,7 @@ fn hasher_of(costs: (u8, u32, u32), len: usize) -> Result<Scrypt, InvalidParams>
     }
 }
 
-// Whether a hash is weaker than wanted. Identifiers of one digit are those of MCF texts.
+// Whether a hash is weaker than wanted. Only MCF texts have identifiers of one digit.
 fn is_weaker(wanted: &Scrypt, text: &str) -> Result<bool, Error> {
     match PasswordHashRef::new(text) {
         Ok(hash) if hash.id().len() == 1 => wanted.needs_rehash(&hash),

@@ -10,7 +10,7 @@ use scrypt::{Scrypt, StoredHash};
 use std::alloc::Global;
 use std::test::Fail;
 
-// The verdict by a stored text, which is of either format.
+// The verdict by a stored text, which can have either format.
 fn stored_verdict(alloc: Global, text: &str, password: &[u8]) -> Result<(), Error> {
     match StoredHash::read(text) {
         Ok(hash) => hash.verify(alloc, password),
@@ -18,7 +18,7 @@ fn stored_verdict(alloc: Global, text: &str, password: &[u8]) -> Result<(), Erro
     }
 }
 
-// Whether the verdict by a PHC text, by each call alike, is this.
+// Whether each call returns this verdict on a PHC text.
 pub fn is_phc_verdict(
     alloc: Global,
     text: &str,
@@ -49,7 +49,7 @@ fn owned_verdict(alloc: Global, text: &str, password: &[u8]) -> Result<(), Error
     }
 }
 
-// Whether the verdict by a `$7$` text, borrowed, owned and stored alike, is this.
+// Whether a `$7$` text, borrowed, owned and stored, has this verdict each time.
 pub fn is_mcf_verdict(
     alloc: Global,
     text: &str,
@@ -89,7 +89,7 @@ static CHANGED: [(&str, Result<(), Error>, &str); 11] = [
     ("scrypt$ln=56,r=1,p=1", Err(OutOfMemory), "a table of 2^63"),
 ];
 
-// What follows the salt, a password, the verdict, and the reason for the row.
+// The rest of a text after the salt, a password, the verdict, and the reason for the row.
 static KEYS: [(&str, &str, Result<(), Error>, &str); 4] = [
     (KEY, "password", Ok(()), "the password"),
     (KEY, "invalid", Err(PasswordInvalid), "another one"),

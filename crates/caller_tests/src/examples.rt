@@ -1,4 +1,4 @@
-// One good path of each example that allocates: what it then returns is what its contract says.
+// A successful run of each example that allocates: the result is what its contract states.
 
 use crate::holds;
 use scrypt::{Limits, Params};

@@ -1,4 +1,5 @@
-//! Tests of the commands, over streams that fail at each call, and by a caller whose contract rests on that of a run; and of the examples.
+//! Tests of the commands, over streams that fail at each call, and by a caller whose contract
+//! relies on the contract of a run; and of the examples.
 #![tactic(auto)]
 
 #[cfg(test)]
@@ -10,8 +11,8 @@ mod streams;
 #[cfg(test)]
 use std::test::Fail;
 
-// Fails a test with this text unless it holds. Each `assert!` would be proved where it stands, with all that the test has
-// there.
+// Fails a test with this text unless it holds. An `assert!` would be proved where it is, with
+// everything that the test knows there, which is slow.
 #[cfg(test)]
 fn holds(is_so: bool, text: &'static str) -> Result<(), Fail> {
     if is_so { Ok(()) } else { Err(text.into()) }

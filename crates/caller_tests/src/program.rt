@@ -7,10 +7,10 @@ ghost use Rattle.scrypt_commands.specs.Run.{IsAnswer, plan_of_words};
 use scrypt_commands::run::run;
 use std::alloc::Global;
 
-/// Runs the program on these words, without options, and this password. Returns its status and what it prints, without its
-/// error line.
+/// Runs the program on these words, without options, and this password. Returns its status and its
+/// output, without its error line.
 ///
-/// The status is 3 or 4 if an allocation fails, the latter if it is one for the output.
+/// The status is 3 or 4 if an allocation fails: 4 if it is an allocation for the output.
 pub fn printed(alloc: Global, words: &[String], password: &[u8]) -> (u8, Vec<u8>)
     ensures answer { IsAnswer result.0 → let outcome = (plan_of_words (texts_of words.now)).outcome_on password.now in
         (result.0 ≡ outcome.status) × (result.1.items ≡ outcome.line) }

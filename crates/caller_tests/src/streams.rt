@@ -1,4 +1,5 @@
-// The commands over streams that give or take one byte a call, and fail. `tools/tests/streams.py` has streams of the system.
+// The commands over streams that read or write one byte in each call, and fail.
+// `tools/tests/streams.py` has the system's streams.
 
 ghost use Rattle.std.specs.Prelude.{◌≤◌, IfOk};
 
@@ -9,8 +10,9 @@ use std::alloc::{AllocError, Global};
 use std::io::{Error, ErrorKind, Read, Result, Write};
 use std::test::Fail;
 
-// A reader of letters `x`, or a writer, of one byte a call. The call after `end` of them returns the error, or no byte if
-// there is none. After that a writer takes bytes again, and a reader is at its end. A writer marks each flush by a `^`.
+// A reader of letters `x`, or a writer, one byte in each call. The call after the first `end` calls
+// returns the error, or zero bytes if `error` is `None`. After that a writer takes bytes again, and
+// a reader is at its end. A writer marks each flush with a `^`.
 #[derive(Drop)]
 struct Stream {
     end: usize,
@@ -29,7 +31,7 @@ impl Stream {
         }
     }
 
-    // Gives or takes a byte, and returns how many, 1 or 0.
+    // Reads or writes a byte, and returns the number of bytes, 1 or 0.
     fn step(&mut self) -> Result<usize>
         ensures bound { IfOk result (λ n. n ≤ 1) }
     {
@@ -78,8 +80,9 @@ impl Write for Stream {
 // The end of a stream and its error.
 type Kind = (usize, Option<ErrorKind>);
 
-// A line, its input, its output, and the writer of errors; how the run ends, after how many reads, and what it has written to
-// the output and to that of errors; and the reason for the row.
+// A command line; the kinds of its input, its output, and its error output; how the run ends; the
+// number of reads; the bytes written to the output and to the error output; and the reason for the
+// row.
 type Row<'a> = (
     &'a str,
     [Kind; 3],
@@ -89,7 +92,7 @@ type Row<'a> = (
     &'static str,
 );
 
-// The words of a line.
+// The words of a command line.
 fn words_of(alloc: Global, line: &str) -> std::result::Result<Vec<String>, AllocError> {
     let mut words = Vec::new(alloc);
     for word in line.split(' ') {
@@ -98,7 +101,7 @@ fn words_of(alloc: Global, line: &str) -> std::result::Result<Vec<String>, Alloc
     Ok(words)
 }
 
-// Runs a line, and fails unless it ends as its row has it.
+// Runs a command line, and fails unless the run ends as the row states.
 fn check(alloc: Global, row: Row<'_>) -> std::result::Result<(), Fail> {
     let (
         line,
@@ -144,7 +147,7 @@ const VERIFY_EMPTY: &str = "verify $7$2/..../....$rNxJWVHNv/mCNcgE/f6/L4zO6Fos5c
 const REHASH: &str =
     "rehash mcf 4 1 1 64  $7$2/..../....$W.DC6SK1n8Wquj250SWcOF3iCywSlnx7anZDmvlBgp.";
 
-// Lines, their statuses, and what they write for `xxx`, by Python's hashlib.
+// Command lines, their statuses, and their output for `xxx`, by Python's hashlib.
 const ANSWERS: [(&str, u8, &str, &str); 4] = [
     (
         KEY,
@@ -171,7 +174,7 @@ const INPUT_FAILED: &str = "input failed\n";
 
 const OUTPUT_FAILED: &str = "output failed\n";
 
-// Lines, inputs that fail, and the reason for the row.
+// Command lines, inputs that fail, and the reason for the row.
 const INPUTS: [(&str, Kind, &str); 9] = [
     (KEY, (0, OTHER), "an input that seems empty"),
     (KEY, (1, OTHER), "after a first piece"),
@@ -270,7 +273,7 @@ const ENDS: [Row<'static>; 10] = [
     ),
 ];
 
-// The call after the last byte of an answer is the flush, which ends the run: there is none after it.
+// The call after the last byte of an answer is the flush, which ends the run: no call follows it.
 #[test]
 fn failing_outputs(rt: HostRuntime) -> std::result::Result<(), Fail> {
     for &(line, status, answer, reason) in &ANSWERS {
@@ -325,7 +328,8 @@ fn other_ends(rt: HostRuntime) -> std::result::Result<(), Fail> {
     Ok(())
 }
 
-// What is written a byte a call is what is written at once, however many calls that takes: a key of 5,000 bytes takes 10,001.
+// One byte per write gives the same output as a single write, however many calls that takes: a key
+// of 5,000 bytes takes 10,001.
 #[test]
 fn a_long_line(rt: HostRuntime) -> std::result::Result<(), Fail> {
     let alloc = rt.alloc();

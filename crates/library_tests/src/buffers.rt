@@ -1,4 +1,4 @@
-// Derivations in the caller's buffers, which may hold anything.
+// Derivations in the caller's buffers, whose initial contents do not matter.
 
 use crate::holds;
 use crate::keys::FIRST;

@@ -1,4 +1,4 @@
-// Derivations with several chunks at a time, and several logins at once.
+// Derivations with interleaved chunks, and batches of logins.
 
 use crate::holds;
 use scrypt::{
@@ -8,8 +8,8 @@ use scrypt::{
 use std::alloc::{AllocError, Global};
 use std::test::Fail;
 
-// p, the key of 16 bytes by (4, 2, p) of the password `pw` and the salt `NaCl`, by Python's hashlib, and how many chunks are
-// mixed at a time.
+// p, the key of 16 bytes by (4, 2, p) of the password `pw` and the salt `NaCl`, by Python's
+// hashlib, and the number of chunks that are interleaved.
 static KEYS: [(u32, u128, &str); 5] = [
     (1, 0x9acfeb5ab60a631cf80523789174c12d, "one chunk"),
     (2, 0xed83cb4dd2f9d3b27f51ac358ac58092, "two at once"),
@@ -22,7 +22,7 @@ static KEYS: [(u32, u128, &str); 5] = [
     ),
 ];
 
-// Room for four tables and scratches, with the chunks of p up to 5.
+// The size of four tables and scratches, and of the chunks of p up to 5.
 const MOST_BYTES: usize = 4 * (4096 + 512) + 5 * 256;
 
 #[test]
@@ -32,7 +32,7 @@ fn keys_in_groups(rt: HostRuntime) -> Result<(), Fail> {
     keys_by::<Pairs>(rt.alloc())
 }
 
-// No processor needs more than one mixer, but each computes on every processor.
+// Each processor needs only one mixer, but every mixer computes the same on every processor.
 fn keys_by<W: Mixer>(alloc: Global) -> Result<(), Fail> {
     for &(p, wanted, reason) in &KEYS {
         let (params, mut key) = (Params::new(4, 2, p)?, [0u8; 16]);
@@ -54,11 +54,11 @@ fn keys_by<W: Mixer>(alloc: Global) -> Result<(), Fail> {
 const HASH: &str =
     "$scrypt$ln=4,r=1,p=1$TmFDbE5hQ2xOYUNsTmFDbA$byFamdVzF4dSYG0oEkkoOuYyJ2d96S6WZWa49NYGK8w";
 
-// A call on the stack for each of so many logins would overflow it.
+// With this many logins, a recursive call for each would overflow the stack.
 const MANY: usize = 100_000;
 
-// The texts of the first and of the other logins, and whether the first and the last are verified. A text that cannot be
-// read takes no time.
+// The texts of the first login and of the others, and whether the first and the last are verified.
+// Rejecting a text that cannot be read takes no time.
 static LOGINS: [(&str, &str, bool, bool, &str); 3] = [
     ("", "", false, false, "each is refused alone"),
     (

@@ -1,4 +1,4 @@
-// The keys of the standards, by the calls of their own.
+// The keys of the standards, by the call for each.
 
 use crate::holds;
 use scrypt::hmac::hmac_sha256;

@@ -1,4 +1,4 @@
-// The SIMD core and its block mix against plain ones, and their values.
+// The SIMD core and its block mix, compared with plain ones and with known values.
 
 use crate::holds;
 use scrypt::block_mix::lanes::{self, shuffle_in, shuffle_out};
@@ -68,7 +68,7 @@ fn mixed_by_lanes(words: &[u32; 160], r: usize) -> ([u32; 160], [u32; 160]) {
     (output, input)
 }
 
-// The plain block mix. The SIMD block mix has to give the same, and to leave its input unchanged.
+// The plain block mix. The SIMD block mix must return the same, and leave its input unchanged.
 fn mixed(words: &[u32; 160], r: usize) -> Result<[u32; 160], Fail> {
     let (wanted, (output, input)) = (mixed_by_words(words, r), mixed_by_lanes(words, r));
     holds(output == wanted, "the SIMD block mix")?;
@@ -80,7 +80,7 @@ fn mixed(words: &[u32; 160], r: usize) -> Result<[u32; 160], Fail> {
 fn block_mixes() -> Result<(), Fail> {
     let mut words = [0; 160];
     words[..16].copy_from_slice(&CORE_INPUT);
-    // The second block is zeros, so the first step takes the first block alone.
+    // The second block is zeros, so the input of the first core is the first block.
     let begun = mixed(&words, 1)?;
     holds(
         begun.get(..16) == Some(CORE_OUTPUT.as_slice()),

@@ -1,4 +1,4 @@
-// The laws on keys and hashes whose values are known: what a law states is computed too.
+// The laws, on keys and hashes with known values: each statement of a law is also computed.
 
 use crate::keys::FIRST;
 use crate::{holds, is};

@@ -1,11 +1,11 @@
-//! Tests of the libraries, of what no contract can say: that the compiled code gives the standards' keys,
-//! and calls succeed on texts at the bounds of each format. What calls allocate is in `allocation_tests`,
-//! which is proved beside this crate. `tools/tests/program.py` asks the linked program for the keys of RFC
-//! 7914, and `tools/tests/hashes.py` which texts it verifies.
+//! Tests of the libraries for what no contract can state: that the compiled code computes the
+//! standards' keys, and that calls succeed on texts at the limits of each format.
+//! `allocation_tests` tests the allocations of each call. `tools/tests/program.py` asks the linked
+//! program for the keys of RFC 7914, and `tools/tests/hashes.py` which texts it verifies.
 //!
-//! A function that returns no error is exactly what its contract says, and its definition is evaluated on the standards'
-//! vectors in `proofs/StandardFacts.antt` of its crate. The tables here show the compiled code on the same vectors, and on
-//! texts at the bounds of each format.
+//! A function that returns no error does exactly what its contract states, and its definition is
+//! evaluated on the standards' vectors in `proofs/StandardFacts.antt` of its crate. The tables here
+//! test the compiled code on the same vectors, and on texts at the limits of each format.
 #![tactic(auto)]
 
 #[cfg(test)]
@@ -30,8 +30,8 @@ mod romix;
 #[cfg(test)]
 use std::test::Fail;
 
-// Fails a test with this text unless it holds. Each `assert!` would be proved where it stands, with all that the test has
-// there: a row of eight took twice as long to prove.
+// Fails a test with this text unless it holds. An `assert!` would be proved where it is, with
+// everything that the test knows there: a table of eight rows took twice as long to prove.
 #[cfg(test)]
 fn holds(is_so: bool, text: &'static str) -> Result<(), Fail> {
     if is_so { Ok(()) } else { Err(text.into()) }

@@ -123,7 +123,7 @@ fn ids_and_fields() -> Result<(), Fail> {
     Ok(())
 }
 
-// Whether a field with a dollar is refused.
+// Whether a field with a dollar is rejected.
 fn refuses_a_dollar(hash: &mut PasswordHash) -> bool {
     hash.push_str("a$b") == Err(mcf::Error::EncodingInvalid)
 }
@@ -139,7 +139,7 @@ fn pushes(rt: HostRuntime) -> Result<(), Fail> {
     holds(is(hash.as_str(), "$7$$zzD"), "two bytes")
 }
 
-// The bytes of these letters, which a text and a field of a hash give alike.
+// The bytes of these letters; a text and a field of a hash must decode to the same.
 fn decoded(alloc: Global, letters: &str) -> Result<mcf::Result<Vec<u8>>, Fail> {
     let mut hash = PasswordHash::from_id(alloc, "7")?;
     hash.push_str(letters)?;
@@ -165,7 +165,7 @@ static LETTERS: [(&[u8], &str); 8] = [
     ),
 ];
 
-// What are no letters of any bytes, and why.
+// Letters that do not encode any bytes, and why.
 static NO_LETTERS: [(&str, &str); 4] = [
     ("z", "a letter alone"),
     ("z2", "spare bits of one byte are set"),
@@ -188,7 +188,7 @@ fn letters_of_bytes(rt: HostRuntime) -> Result<(), Fail> {
     Ok(())
 }
 
-// How many bytes, and how many letters they have.
+// The length of some bytes, and the number of their letters.
 const LENS: [(usize, usize); 6] = [(0, 0), (1, 2), (2, 3), (3, 4), (32, 43), (64, 86)];
 
 #[test]

@@ -1,5 +1,5 @@
-// Lengths of keys, and what parameters need, at their bounds. `tools/tests/program.py` has the smallest parameters, and those that are
-// refused.
+// Lengths of keys, and the cost of parameters, at their limits. `tools/tests/program.py` has the
+// smallest parameters, and parameters that are rejected.
 
 use crate::holds;
 use scrypt::{BufferLens, Params, output_len_ok};
@@ -20,7 +20,7 @@ static LENS: [(usize, bool, &str); 5] = [
     (137_438_953_471, false, "as many whole blocks of PBKDF2"),
 ];
 
-// The same of a key that is stored.
+// The same for the key of a stored hash.
 static STORED_LENS: [(usize, bool, &str); 5] = [
     (9, false, "too short"),
     (10, true, "the least"),

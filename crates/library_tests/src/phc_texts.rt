@@ -25,7 +25,8 @@ fn decimals() -> Result<(), Fail> {
     Ok(())
 }
 
-// Parameters, the name that is added with the number 1, what they are then, the answer, and the reason for the row.
+// Parameters, the name that is added with the number 1, the parameters afterwards, the result, and
+// the reason for the row.
 static ADDED: [(&str, &str, &str, Result<(), Error>, &str); 6] = [
     ("x=0", "ln", "x=0,ln=1", Ok(()), "another name"),
     ("ln=1", "ln", "ln=1", Err(ParamsInvalid), "the same name"),
@@ -67,7 +68,8 @@ fn added_parameters() -> Result<(), Fail> {
 pub const HASH: &str =
     "$scrypt$ln=16,r=8,p=1$aM15713r3Xsvxbi31lqr1Q$nFNh2CVHVjNldFVKDHDlm4CbdRSCdEBsjjJxD+iCs5E";
 
-// Texts that print as they were read, and the reason for the row. `tools/tests/hashes.py` has more that are refused.
+// Texts that print as they were read, and the reason for the row. `tools/tests/hashes.py` has more
+// texts, which are rejected.
 static PRINTED: [(&str, &str); 6] = [
     (HASH, "a whole one"),
     ("$scrypt", "the algorithm alone"),
@@ -95,7 +97,7 @@ fn printed_texts(rt: HostRuntime) -> Result<(), Fail> {
     Ok(())
 }
 
-// Texts that are refused, and the reason for the row.
+// Texts that are rejected, and the reason for the row.
 static UNREAD: [(&str, &str); 15] = [
     ("", "the empty text"),
     ("$", "no algorithm"),

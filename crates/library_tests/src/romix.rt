@@ -1,4 +1,5 @@
-// scryptROMix in each order of its words, for small sizes. The buffers may hold anything before the call.
+// scryptROMix with each order of words, for small sizes. The initial contents of the buffers do not
+// matter.
 
 use crate::holds;
 use scrypt::CoreCount;
@@ -28,7 +29,7 @@ fn mixed_by_diagonals(
     Ok(output)
 }
 
-// The same in the standard's order of words, which has to give the same.
+// The same in the standard's order of words; the result must be the same.
 fn mixed(
     alloc: Global,
     bytes: &[u8; 512],
