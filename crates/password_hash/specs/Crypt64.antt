@@ -11,7 +11,7 @@ alphabet = codes "./0123456789ABCDEFGHIJKLMNOPQRSTUVWXYZabcdefghijklmnopqrstuvwx
 unfoldable pub letter : ℕ → ℕ
 letter value = slice_index alphabet value
 
--- the value of a letter, its place in the alphabet
+-- the value of a letter: its index in the alphabet
 unfoldable pub letter_value : ℕ → Option ℕ
 letter_value byte = position (λ other. other == byte) alphabet
 
@@ -21,17 +21,20 @@ unfoldable pub letters_of : ℕ → ℕ → List ℕ
 letters_of zero number = []
 letters_of (suc count) number = letter (number % 64) ∷ letters_of count (number / 64)
 
--- the number with this least significant digit and these digits above it, if both are there
+-- the number with this least significant digit and these digits above it, or `None` if one of the
+-- two is missing
 abbrev pub with_digit : Option ℕ → Option ℕ → Option ℕ
 with_digit (Some value) (Some above) = Some (value + 64 * above)
 with_digit value above = None
 
--- the number that letters encode: their values are its digits in base 64, the least significant first
+-- the number that letters encode: their values are the digits of the number in base 64, the least
+-- significant first
 unfoldable pub number_of : List ℕ → Option ℕ
 number_of [] = Some 0
 number_of (first ∷ letters) = with_digit (letter_value first) (number_of letters)
 
--- the encoding of bytes: four letters for each three bytes, and at the end three for two or two for one
+-- the encoding of bytes: four letters for each three bytes, and at the end three letters for two
+-- bytes or two for one
 unfoldable pub crypt64_of : List ℕ → List ℕ
 crypt64_of [] = []
 crypt64_of (a ∷ []) = letters_of 2 a
@@ -62,14 +65,14 @@ decoded letters =
 abbrev pub encoded_len : ℕ → ℕ
 encoded_len n = (4 * n + 2) / 3
 
--- n bytes from index `at` of `all` bytes have letters of their own: they begin at a group of three,
--- and end after one or at the end
+-- the letters of n bytes, from index `at` of `all` bytes, encode no other bytes: the n bytes begin
+-- at a group of three, and end after a group or at the end
 pub record IsPiece (at n all : ℕ) : Type 0 where
   pub begins : at % 3 ≡ 0
   pub inside : at + n ≤ all
   pub ends : at + n < all → n % 3 ≡ 0
 
--- these letters begin with the encoding of these bytes, and the rest comes after it
+-- the letters begin with the encoding of these bytes, followed by the rest
 pub record Begins (letters bytes rest : List ℕ) : Type 0 where
   pub are_bytes : All (λ byte. byte < 256) bytes
   pub whole : letters ≡ crypt64_of bytes ++ rest

@@ -21,12 +21,13 @@ decimal_below limit text =
     if is_decimal text && nat_lt (digits_value 10 text) limit then Some (digits_value 10 text)
     else None
 
--- `answer` is what `parse` returns, as an option, but `None` if the text begins with a plus or a leading zero
+-- `answer` is the result of `parse`, as an option, but `None` if the text begins with a plus or a
+-- leading zero
 abbrev pub DecimalGives : {N E : Type 0} → (List ℕ → Result N E → Type 0) → List ℕ → Option N → Type 0
 DecimalGives {N} {E} parse_gives text answer = MatchBool (has_plus_or_leading_zero text) (answer ≡ None)
     ((parsed : Result N E) × parse_gives text parsed × (answer ≡ result_ok parsed))
 
--- r is what `from_str` of an unsigned integer type of k bits returns
+-- r is the result of `from_str` of an unsigned integer type of k bits
 abbrev pub UnsignedGives : ℕ → List ℕ → Result ℕ ParseIntError → Type 0
 UnsignedGives k text r =
     ParsesUnsigned k 10 text r × ExplainsUnsignedError 10 text r × HasUnsignedDigitsIfOk text r

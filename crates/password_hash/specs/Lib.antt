@@ -2,13 +2,13 @@
 
 -- the errors, by their values
 pub mod Refusal
--- bytes whose number has bounds
+-- lists of bytes of a limited length
 pub mod ShortBytes
 -- the letters of identifiers, names and values
 pub mod Letters
 -- numbers in decimal digits
 pub mod Decimal
--- texts of parts, each after a `$`
+-- texts that consist of parts, each after a `$`
 pub mod Parts
 -- the value of a parameter
 pub mod Value
@@ -16,7 +16,7 @@ pub mod Value
 pub mod Pairs
 -- PHC hashes, and their texts
 pub mod Phc
--- how a PHC text is read
+-- the reading of a PHC text
 pub mod PhcReading
 -- crypt Base64
 pub mod Crypt64

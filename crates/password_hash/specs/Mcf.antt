@@ -27,6 +27,6 @@ IsMcf text = (id : List ℕ) × (fields : List (List ℕ)) × IsMcfText text id 
 unfoldable pub id_of : List ℕ → List ℕ
 id_of text = slice_index_or (parts_of text) 1 []
 
--- its fields, after the id
+-- the fields of an MCF text, after the id
 unfoldable pub fields_of : List ℕ → List (List ℕ)
 fields_of text = drop 2 (parts_of text)

@@ -1,4 +1,4 @@
--- What contracts see of borrowed MCF texts.
+-- Borrowed MCF texts, as contracts see them.
 use Rattle.std.specs.Prelude.{ℕ, List}
 use Rattle.password_hash.specs.declared.mcf.field.Field.{Field}
 use Rattle.password_hash.specs.declared.mcf.fields.Fields.{Fields}
@@ -13,6 +13,6 @@ borrowed_text hash = hash.text.now
 abbrev pub field_text : Field → List ℕ
 field_text field = field.text.now
 
--- the texts of the fields that are yet to come
+-- the texts of the fields that an iterator has not returned yet
 abbrev pub fields_left : Fields → List (List ℕ)
 fields_left fields = parts_left fields.left

@@ -44,6 +44,6 @@ abbrev pub pairs_of : List ℕ → List (List ℕ × List ℕ)
 pairs_of [] = []
 pairs_of (byte ∷ text) = map pair_of (slice_split (λ b. b == 44) (byte ∷ text))
 
--- the pairs of what is left of a text of pairs, if anything is
+-- the pairs of the rest of a text of pairs, if there is a rest
 abbrev pub pairs_left : Option (Bor (List ℕ)) → List (List ℕ × List ℕ)
 pairs_left left = map pair_of (pieces_left 44 left)

@@ -1,4 +1,4 @@
--- Texts that consist of parts, each after a `$`, as PHC and MCF texts do.
+-- Texts that consist of parts, each after a `$`, such as PHC and MCF texts.
 use Rattle.std.specs.Prelude.{ℕ, ◌==◌, List, [], ◌∷◌, Option, None, Some}
 use Rattle.std.specs.Borrow.{Bor}
 use Rattle.std.specs.List.{flat_map, slice_split}
@@ -11,19 +11,19 @@ dollar = 36
 abbrev pub parts_text : List (List ℕ) → List ℕ
 parts_text parts = flat_map (λ part. dollar ∷ part) parts
 
--- the parts of a text, split at each `$`; the first is what comes before the first `$`
+-- the parts of a text, split at each `$`; the first is the text before the first `$`
 abbrev pub parts_of : List ℕ → List (List ℕ)
 parts_of text = slice_split (λ byte. byte == dollar) text
 
--- the pieces of what is left of a text, if anything is, split at each c
+-- the pieces of the rest of a text, split at each c, if there is a rest
 abbrev pub pieces_left : ℕ → Option (Bor (List ℕ)) → List (List ℕ)
 pieces_left c None = []
 pieces_left c (Some text) = slice_split (λ byte. byte == c) text.now
 
--- the parts of what is left of a text
+-- the parts of the rest of a text
 abbrev pub parts_left : Option (Bor (List ℕ)) → List (List ℕ)
 parts_left left = pieces_left dollar left
 
--- what was read of the front of a text, and the parts of what is left of it
+-- what was read from the front of a text, and the parts of the rest of the text
 abbrev pub before_parts : {A : Type 0} → A × Option (Bor (List ℕ)) → A × List (List ℕ)
 before_parts (read, left) = (read, parts_left left)

@@ -1,4 +1,5 @@
--- The reading of a PHC text: its parts are read one after another, each only as what it is printed of.
+-- The reading of a PHC text: its parts are read one after another, each only in the form in which
+-- it is printed.
 use Rattle.std.specs.Prelude.{ℕ, ◌^◌, ◌==◌, ◌&&◌, Bool, true, not, nat_eq, nat_le, nat_lt, if◌then◌else◌, List, [], ◌∷◌, codes, length}
 use Rattle.std.specs.Prelude.{Option, None, Some, option_and_then}
 use Rattle.std.specs.List.{after_first, list_all, list_any, starts_with}
@@ -66,7 +67,7 @@ params_and_rest [] = Some ([], [])
 params_and_rest (part ∷ after) =
     if list_any (λ byte. byte == 61) part then parsed_pairs part >>= (λ pairs. Some (pairs, after)) else Some ([], part ∷ after)
 
--- the salt and the key after it, each if there is one; nothing may be left
+-- the salt and the key after it, if they are there; no part may follow
 abbrev pub salt_and_key : List (List ℕ) → Option (Option (List ℕ) × Option (List ℕ))
 salt_and_key [] = Some (None, None)
 salt_and_key (salt ∷ []) = decoded_bytes 1 salt >>= λ salt. Some (Some salt, None)
@@ -84,7 +85,8 @@ hash_after algorithm parts = do
   (salt, key) ← salt_and_key parts
   Some (record { algorithm = algorithm; version = version; params = params; salt = salt; hash = key })
 
--- the hash of the parts of a text: nothing stands before the first `$`, and the algorithm after it
+-- the hash of the parts of a text: the first part, before the first `$`, is empty, and the second
+-- is the algorithm
 abbrev pub hash_of_parts : List (List ℕ) → Option PasswordHash
 hash_of_parts ([] ∷ algorithm ∷ parts) = if is_identifier algorithm then hash_after algorithm parts else None
 hash_of_parts parts = None

@@ -1,10 +1,11 @@
--- An error by its value: the name in it is a list of bytes, wherever it is in memory.
+-- An error by its value: the name in it is a list of bytes, wherever the name is in memory.
 use Rattle.std.specs.Prelude.{ℕ, List, Result, Ok, Err}
 use Rattle.password_hash.specs.declared.error.Error.{Error}
 use Rattle.password_hash.specs.declared.error.Error.TheVariants as error
 
--- The errors, each under a name of its own. The last two are those of verifying within limits, which has a type of
--- its own for its errors: parameters that need so many bytes and so much work, and a key of so many bytes.
+-- The errors, one constructor for each. The last two are errors of verifying within limits, which
+-- has its own error type: the bytes and the work that the parameters need, and the length of the
+-- key in bytes.
 pub data Refusal : Type 0 where
   Algorithm : Refusal
   EncodingInvalid : Refusal

@@ -1,4 +1,4 @@
--- Lists of bytes whose length has bounds, and how a fixed number of places keeps them.
+-- Lists of bytes of a limited length, and their representation in a fixed number of bytes.
 use Rattle.std.specs.Prelude.{◌≡◌, ℕ, ◌-◌, ◌≤◌, List, ◌++◌, length, take, replicate}
 use Rattle.base64.specs.GeneralPurpose.{IsBytes}
 
@@ -8,11 +8,11 @@ pub record AreBytesFromTo (least most : ℕ) (bytes : List ℕ) : Type 0 where
   pub enough : least ≤ length bytes
   pub fits : length bytes ≤ most
 
--- the list, and zeros up to this number of places
+-- the list, padded with zeros to this length
 abbrev pub padded : ℕ → List ℕ → List ℕ
 padded size xs = xs ++ replicate (size - length xs) 0
 
--- from `least` to `most` bytes at the front of `most` places, and zeros after them
+-- from `least` to `most` bytes at the front of `most` bytes, followed by zeros
 pub record AreStored (least most : ℕ) (places : List ℕ) (len : ℕ) : Type 0 where
   pub enough : least ≤ len
   pub within : len ≤ length places

@@ -1,9 +1,9 @@
--- What contracts see of a `Value` and of an item of `Pairs`.
+-- A `Value` and an item of `Pairs`, as contracts see them.
 use Rattle.std.specs.Prelude.{ℕ, List}
 use Rattle.password_hash.specs.declared.phc.ident.Ident.{Ident}
 use Rattle.password_hash.specs.declared.phc.value.Value.{Value}
 
--- its text
+-- the text of a value
 abbrev pub value_text : Value → List ℕ
 value_text value = value.text.now
 

@@ -21,10 +21,10 @@ pub type Result<T> = std::result::Result<T, Error>;
 pub trait Kdf {
     ghost use Rattle.password_hash.specs.declared.kdf.Error.{Error};
 
-    // The key that a password and a salt give.
+    // The key that a password and a salt derive.
     ghost derives: { Self → List ℕ → List ℕ → List ℕ → Type 0 };
 
-    // Which error a refused length gives.
+    // The errors of deriving a key of this length.
     ghost refuses: { Self → List ℕ → List ℕ → ℕ → Error → Type 0 };
 
     /// Derives a key of `out.len()` bytes from `password` and `salt`, and writes it to `out`.

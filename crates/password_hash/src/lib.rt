@@ -1,6 +1,6 @@
 //! Password hashing: traits, errors, and the texts of PHC and modular crypt hashes.
 //!
-//! It derives no keys and makes no hashes: the crate `scrypt` does, by these traits.
+//! It derives no keys and makes no hashes: the crate `scrypt` does so, through these traits.
 #![tactic(auto)]
 
 pub mod decimal;

@@ -8,10 +8,10 @@ use std::alloc::Global;
 
 /// Makes password hashes of type `H`.
 pub trait PasswordHasher<H> {
-    // The hash that a password and a salt give.
+    // The hash of a password and a salt.
     ghost hashes: { Self → List ℕ → List ℕ → H → Type 0 };
 
-    // Which error a refused password and salt give.
+    // The errors of hashing a password with a salt.
     ghost refuses: { Self → List ℕ → List ℕ → Refusal → Type 0 };
 
     /// Hashes `password` with `salt`.
@@ -19,7 +19,7 @@ pub trait PasswordHasher<H> {
         ensures ok { IfOk result (λ h. hashes self.now password.now salt.now h) }
         ensures err { IfErr result (λ e. refuses self.now password.now salt.now (refusal e)) };
 
-    /// Hashes `password` with a salt of 16 bytes, which the caller has drawn at random.
+    /// Hashes `password` with a salt of 16 bytes, which the caller has generated at random.
     fn hash_password(&self, alloc: Global, password: &[u8], drawn: [u8; 16]) -> Result<H>
         ensures ok { IfOk result (λ h. hashes self.now password.now drawn h) }
         ensures err { IfErr result (λ e. refuses self.now password.now drawn (refusal e)) }
@@ -34,14 +34,14 @@ pub trait CustomizedPasswordHasher<H> {
     /// The parameters of the algorithm.
     type Params;
 
-    // The hash that a password, a salt, an algorithm, a version and parameters give.
+    // The hash of a password, a salt, an algorithm, a version and parameters.
     ghost customizes: { Self → List ℕ → List ℕ → Option (List ℕ) → Option ℕ → Self.Params → H → Type 0 };
 
-    // Which error these give if they are refused.
+    // The errors of hashing with these arguments.
     ghost refuses: { Self → List ℕ → List ℕ → Option (List ℕ) → Option ℕ → Self.Params → Refusal → Type 0 };
 
     /// Hashes `password` with `salt` and `params`, by the algorithm `alg_id` in the version
-    /// `version`. `None` means the default one.
+    /// `version`. `None` means the default algorithm or version.
     fn hash_password_customized(
         &self,
         alloc: Global,
@@ -76,7 +76,7 @@ pub trait PasswordVerifier<H> {
     // The verdict of a password and a hash, if no allocation fails.
     ghost verdict: { List ℕ → H → Result ⊤ Refusal };
 
-    // Verifying the hash needs memory.
+    // Whether verifying the hash needs memory.
     ghost needs_memory: { H → Type 0 };
 
     /// Verifies `password` against `hash`. Returns the verdict, or `OutOfMemory`.

@@ -1,4 +1,4 @@
-//! The 64 letters of crypt(5), each of which encodes six bits.
+//! The 64 letters of crypt(5). Each encodes six bits.
 ghost use Rattle.std.specs.Prelude.{◌≡◌, ◌<◌, ◌≤◌, length};
 ghost use Rattle.password_hash.specs.Crypt64.{letter, letter_value, number_of};
 
@@ -27,8 +27,8 @@ pub fn value(byte: u8) -> Option<u8>
     }
 }
 
-/// Returns the number that at most five letters encode in base 64, the lowest digit first, or
-/// `None` if a byte is not a letter of crypt(5).
+/// Returns the number that at most five letters encode in base 64, the least significant digit
+/// first, or `None` if a byte is not a letter of crypt(5).
 #[tactic(auto, using(crate::proofs::Crypt64Facts::numbers), unfolding(crate::specs::Crypt64::number_of))]
 pub fn number(letters: &[u8]) -> Option<u32>
     requires short { length letters.now ≤ 5 }

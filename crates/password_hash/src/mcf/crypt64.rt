@@ -63,8 +63,8 @@ impl Base64 {
         n + n.div_ceil(3)
     }
 
-    /// Writes the letters that encode `bytes` to the front of `out`, and returns how many there
-    /// are. The bytes of `out` after them are unchanged.
+    /// Writes the letters that encode `bytes` to the front of `out`, and returns their number. The
+    /// rest of `out` is unchanged.
     ///
     /// Returns `EncodingInvalid` exactly if `out` is too short, and leaves it unchanged.
     #[tactic(auto, using(crate::proofs::GroupFacts::lengths))]

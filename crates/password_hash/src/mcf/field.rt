@@ -66,7 +66,7 @@ impl<'a> Field<'a> {
     }
 }
 
-/// Returns those of `letters` that encode `n` bytes from byte `at` on.
+/// Returns the part of `letters` that encodes `n` bytes from byte `at` on.
 fn letters_of(letters: &[u8], at: usize, n: usize) -> &[u8]
     requires { at / 3 * 4 + encoded_len n ≤ length letters.now }
     ensures { result.now ≡ take (encoded_len n) (drop (at / 3 * 4) letters.now) }

@@ -94,7 +94,7 @@ impl PasswordHash {
         if !is_field(field) {
             return Err(Error::EncodingInvalid);
         }
-        // Room for both is reserved first, so that nothing is written if the allocation fails.
+        // Capacity for both is reserved first, so that nothing is written if the allocation fails.
         self.text.reserve(field.len().saturating_add(1))?;
         self.text.push('$').unwrap();
         self.text.push_str(field).unwrap();

@@ -42,7 +42,7 @@ impl PasswordHash {
     }
 }
 
-/// Parses a password hash. Returns `None` if `text` is not one.
+/// Parses a password hash. Returns `None` if `text` is not a password hash.
 fn parse(text: &str) -> Option<PasswordHash>
     ensures value { result ≡ read_hash text.now }
 {
@@ -53,7 +53,7 @@ fn parse(text: &str) -> Option<PasswordHash>
     parse_after(algorithm, left)
 }
 
-/// Parses what is left of a password hash after its algorithm.
+/// Parses the rest of a password hash, after its algorithm.
 fn parse_after(algorithm: Ident, left: Option<&str>) -> Option<PasswordHash>
     ensures { result ≡ hash_after algorithm (parts_left left.entry) }
 {

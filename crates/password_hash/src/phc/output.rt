@@ -11,10 +11,10 @@ pub type Output = ShortBytes<10, 64>;
 const _: () = prove!(Output::MIN_LENGTH == 10 && Output::MAX_LENGTH == 64);
 
 impl Output {
-    /// The least length of a key in bytes.
+    /// The minimum length of a key in bytes.
     pub const MIN_LENGTH: usize = 10;
 
-    /// The greatest length of a key in bytes.
+    /// The maximum length of a key in bytes.
     pub const MAX_LENGTH: usize = 64;
 
     /// Copies a key of 10 to 64 bytes.
@@ -28,8 +28,8 @@ impl Output {
         Output::copied(key).ok_or(Error::OutputSize)
     }
 
-    /// Returns whether `bytes` are those of the key at byte `at`. Every byte is compared, also
-    /// after a difference.
+    /// Returns whether the key has `bytes` at byte `at`. Every byte is compared, also after a
+    /// difference.
     ///
     /// The key has at least `at + bytes.len()` bytes.
     pub fn matches_at(&self, at: usize, bytes: &[u8]) -> bool

@@ -47,7 +47,7 @@ impl<'a> Iterator for Pairs<'a> {
 }
 
 /// Returns the text before the first separator, and the text after it. Without a separator these
-/// are the whole text and an empty one.
+/// are the whole text and an empty text.
 pub(super) fn cut(text: &str, separator: char) -> (&str, &str)
     requires { separator < 128 }
     ensures before { result.0.now ≡ before_first (λ b. b == separator) text.now }

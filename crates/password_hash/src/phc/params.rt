@@ -48,7 +48,8 @@ impl ParamsString {
         }
     }
 
-    /// Returns the text of the parameters, at most 127 bytes. It is empty if there are none.
+    /// Returns the text of the parameters, at most 127 bytes. It is empty if there are no
+    /// parameters.
     #[tactic(auto, using(crate::proofs::ParamsFacts::text_of_pairs))]
     pub fn as_str(&self) -> &str
         ensures value { result.now ≡ pairs_text self.now }
@@ -57,7 +58,7 @@ impl ParamsString {
         self.text.as_str()
     }
 
-    /// Parses the text of parameters, which is empty if there are none.
+    /// Parses the text of parameters, which is empty if there are no parameters.
     ///
     /// Returns `ParamsInvalid` if a name or a value is invalid, if a name occurs twice, or if
     /// `text` has more than 127 bytes.
@@ -145,15 +146,15 @@ impl Eq for ParamsString {
         (on_equiv (λ (pair : List ℕ × List ℕ). pair.1) nat_list_eq_equiv)) };
 }
 
-/// Returns a text of pairs, or `None` if it is empty: then there are none.
+/// Returns a text of pairs, or `None` if it is empty, because then there are no pairs.
 fn unless_empty(text: &str) -> Option<&str>
     ensures { pairs_left result ≡ pairs_of text.now }
 {
     if text.is_empty() { None } else { Some(text) }
 }
 
-/// Appends a pair to the text of others. Returns `ParamsInvalid`, and changes nothing, if there is
-/// no room.
+/// Appends a pair to the text of other pairs. Returns `ParamsInvalid`, and changes nothing, if the
+/// capacity is too small.
 fn push_pair(text: &mut ArrayString<127>, name: &str, value: &str) -> Result<()>
     ensures exact { IsOk result
         ↔ (length (with_pair text.old.bytes (name.now, value.now)) ≤ 127) }

@@ -1,7 +1,8 @@
 //! The parts of a PHC text, read one after another.
 //!
-//! Each function takes what is left of the text: all that follows the `$` after the parts already
-//! read, or `None` after the last part. `None` as its result means that the text is not a PHC text.
+//! Each function takes the rest of the text: everything after the `$` that follows the parts
+//! already read, or `None` after the last part. A result of `None` means that the text is not a PHC
+//! text.
 ghost use Rattle.std.specs.Prelude.{◌≡◌, option_map};
 ghost use Rattle.password_hash.specs.Parts.{before_parts, parts_left};
 ghost use Rattle.password_hash.specs.PhcReading.{params_and_rest, salt_and_key, version_and_rest};
@@ -13,7 +14,7 @@ use crate::phc::encoding::decode;
 use crate::phc::pairs::cut;
 use crate::phc::{Output, ParamsString, Salt};
 
-/// Returns the version, if the next part begins with `v=`, and what is left of the text after it.
+/// Returns the version, if the next part begins with `v=`, and the rest of the text after it.
 pub(super) fn take_version(left: Option<&str>) -> Option<(Option<Version>, Option<&str>)>
     ensures value { option_map before_parts result ≡ version_and_rest (parts_left left.entry) }
 {
@@ -29,7 +30,7 @@ pub(super) fn take_version(left: Option<&str>) -> Option<(Option<Version>, Optio
     Some((Some(version), after))
 }
 
-/// Returns the parameters, if the next part has a `=`, and what is left of the text after them.
+/// Returns the parameters, if the next part has a `=`, and the rest of the text after them.
 pub(super) fn take_params(left: Option<&str>) -> Option<(ParamsString, Option<&str>)>
     ensures value { option_map before_parts result ≡ params_and_rest (parts_left left.entry) }
 {
@@ -43,8 +44,7 @@ pub(super) fn take_params(left: Option<&str>) -> Option<(ParamsString, Option<&s
     Some((ParamsString::parse(part).ok()?, after))
 }
 
-/// Returns the salt and the key after it, each if there is one. They are the last parts of the
-/// text.
+/// Returns the salt and the key after it, if they are there. They are the last parts of the text.
 pub(super) fn take_salt_and_key(left: Option<&str>) -> Option<(Option<Salt>, Option<Output>)>
     ensures value { result ≡ salt_and_key (parts_left left.entry) }
 {

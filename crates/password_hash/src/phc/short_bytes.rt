@@ -33,7 +33,7 @@ impl<const LEAST: usize, const MOST: usize> Model for ShortBytes<LEAST, MOST> {
 }
 
 impl<const LEAST: usize, const MOST: usize> ShortBytes<LEAST, MOST> {
-    /// Copies `bytes`. Returns `None` if their number is out of bounds.
+    /// Copies `bytes`. Returns `None` if their length is out of bounds.
     pub(super) fn copied(bytes: &[u8]) -> Option<ShortBytes<LEAST, MOST>>
         ensures exact { IsSome result ↔ ((LEAST ≤ length bytes.now) × (length bytes.now ≤ MOST)) }
         ensures value { IfSome result (λ made. made ≡ bytes.now) }
