@@ -1,5 +1,4 @@
--- The reading of a PHC text: its parts are read one after another, each only in the form in which
--- it is printed.
+-- The reading of a PHC text: its parts are read one after another, each only in its printed form.
 use Rattle.std.specs.Prelude.{ℕ, ◌^◌, ◌==◌, ◌&&◌, Bool, true, not, nat_eq, nat_le, nat_lt, if◌then◌else◌, List, [], ◌∷◌, codes, length}
 use Rattle.std.specs.Prelude.{Option, None, Some, option_and_then}
 use Rattle.std.specs.List.{after_first, list_all, list_any, starts_with}

@@ -15,8 +15,8 @@ pub(crate) fn first_piece(text: &str, separator: char) -> (&str, Option<&str>)
     }
 }
 
-/// Returns the first part after the `$` that a text begins with, and the text after the next `$`, if
-/// there is one. Returns `None` if the text begins with anything else.
+/// Returns the first part after the `$` that a text begins with, and the text after the next `$`,
+/// if there is one. Returns `None` if the text begins with anything else.
 pub(crate) fn split_first(text: &str) -> Option<(&str, Option<&str>)>
     ensures { MatchOption result ((rest : List ℕ) → text.now ≢ dollar ∷ rest)
         (λ split. parts_of text.now ≡ [] ∷ split.0.now ∷ parts_left split.1) }

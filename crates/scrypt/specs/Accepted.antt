@@ -1,6 +1,7 @@
 -- Which parameters and which output lengths are accepted, computed in unbounded integers. RFC 7914,
--- section 2, bounds p by (2 ^ 32 - 1) * 32 / (128 * r), which is the same as r * p < 2 ^ 30. It requires
--- 1 < N < 2 ^ (128 * r / 8), which is not required here; instead 128 * r * N is below 2 ^ 64.
+-- section 2, bounds p by (2 ^ 32 - 1) * 32 / (128 * r), which is the same as r * p < 2 ^ 30. It
+-- requires 1 < N < 2 ^ (128 * r / 8), which is not required here; instead 128 * r * N is below 2 ^
+-- 64.
 use Rattle.std.specs.Prelude.{ℕ, ◌*◌, ◌^◌, ◌&&◌, Bool, true, nat_eq, nat_le, nat_lt, Option, None, Some}
 use Rattle.std.specs.Option.{option_eq}
 use Rattle.scrypt_kernel.specs.Pbkdf2.{max_output_len}
@@ -20,7 +21,8 @@ without_len c = record c { output_len = None }
 unfoldable pub are_accepted : ℕ → ℕ → ℕ → Bool
 are_accepted log_n r p = (nat_lt 0 r && nat_lt 0 p) && (nat_lt (128 * r * 2 ^ log_n) (2 ^ 64) && nat_lt (r * p) (2 ^ 30))
 
--- whether an output of this many bytes can be derived: dkLen is at least 1 and at most (2 ^ 32 - 1) * 32
+-- whether an output of this many bytes can be derived: dkLen is at least 1 and at most (2 ^ 32 - 1)
+-- * 32
 unfoldable pub is_output_len : ℕ → Bool
 is_output_len n = nat_le 1 n && nat_le n max_output_len
 

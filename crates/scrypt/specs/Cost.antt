@@ -17,8 +17,8 @@ cost log_n r p = ro_mix_cost log_n r * p
 abbrev pub chunks_bytes : ℕ → ℕ → ℕ
 chunks_bytes r p = p * (128 * r)
 
--- how many rows the walks of the first i chunks of B recompute, with a table that keeps each row whose
--- number is a multiple of 2 ^ s
+-- how many rows the walks of the first i chunks of B recompute, with a table that keeps each row
+-- whose number is a multiple of 2 ^ s
 unfoldable pub extra_rows_of_chunks : List ℕ → ℕ → ℕ → ℕ → ℕ → ℕ
 extra_rows_of_chunks b log_n s r zero = 0
 extra_rows_of_chunks b log_n s r (suc i) =

@@ -55,7 +55,7 @@ pub mod WithinLimits
 pub mod Logins
 -- a derivation in steps: the contents of its buffers between two steps
 pub mod Stepping
--- private: the groups in which the chunks of B are mixed, and the memory for them
+-- private: the groups of chunks of B that are interleaved, and the memory for them
 pub mod Mixing
 -- private: the salt and the key of a hash
 pub mod StoredKey

@@ -15,7 +15,7 @@ use Rattle.scrypt.specs.declared.logins.Login.{Login}
 abbrev pub Attempt : Type 0
 Attempt = List ℕ × Result Stored Refusal
 
--- the reading of the hash of a login, or the error that the login has in place of a hash
+-- the reading of the hash of a login, or the error that the login has instead
 abbrev pub reading_of : Login → Result Stored Refusal
 reading_of login = with_limited_refusal login.hash and_then reading
 
@@ -70,7 +70,7 @@ all_of f = flat_map (own f)
 abbrev pub chunks_cost : List ℕ → Stored → ℕ
 chunks_cost password s = pbkdf2_cost (length password) (length s.salt) (chunks_bytes s.params.r s.params.p)
 
--- the blocks that SHA-256 compresses in step 3 of the derivation, in which the key is compared
+-- the blocks that SHA-256 compresses in step 3 of the derivation, to compare the key
 abbrev pub compare_cost : List ℕ → Stored → ℕ
 compare_cost password s = pbkdf2_cost (length password) (chunks_bytes s.params.r s.params.p) (length s.key)
 

@@ -38,7 +38,8 @@ read_parts _ = Err EncodingInvalid
 unfoldable pub read_mcf : List ℕ → Result Stored Refusal
 read_mcf text = read_parts (parts_of text)
 
--- the text of these parts: `$7$`, the eleven letters of the parameters, the salt as it is, `$`, and the key in crypt Base64
+-- the text of these parts: `$7$`, the eleven letters of the parameters, the salt as it is, `$`, and
+-- the key in crypt Base64
 abbrev pub mcf_text : Stored → List ℕ
 mcf_text s = params_text s.params ++ (s.salt ++ dollar ∷ crypt64_of s.key)
 
@@ -51,7 +52,8 @@ pub record IsMcfHashText (text : List ℕ) (s : Stored) : Type 0 where
   pub key : All (λ byte. byte < 256) s.key
   pub key_len : IsTrue (is_output_len (length s.key))
 
--- the key that these parameters make of a password and a salt: the salt of its derivation is the letters of the salt
+-- the key that these parameters make of a password and a salt: the salt of its derivation is the
+-- letters of the salt
 abbrev pub made_key : Parameters → List ℕ → List ℕ → List ℕ
 made_key c password salt = key_by c password (crypt64_of salt) (key_len_or_default c)
 

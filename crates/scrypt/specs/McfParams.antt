@@ -20,8 +20,9 @@ params_letters log_n r p = letter log_n ∷ (letters_of 5 r ++ letters_of 5 p)
 abbrev pub params_text : Parameters → List ℕ
 params_text c = codes "$7$" ++ params_letters c.log_n c.r c.p
 
--- The parameters that the first eleven bytes of a field encode: log_n in one letter, r and p in five letters
--- each. A first byte below 128 that is not a letter reads as 255. The rest of the field is the salt.
+-- The parameters that the first eleven bytes of a field encode: log_n in one letter, r and p in
+-- five letters each. A first byte below 128 that is not a letter reads as 255. The rest of the
+-- field is the salt.
 unfoldable pub field_params : List ℕ → Result Parameters Refusal
 field_params field = if nat_lt (slice_index field 0) 128 then (
     ok_or (five_letter_number (drop 1 field)) EncodingInvalid and_then λ r.

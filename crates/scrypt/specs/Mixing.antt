@@ -1,4 +1,4 @@
--- Private: the groups in which the chunks of B are mixed, and the memory for them.
+-- Private: the groups of chunks of B that are interleaved, and the memory for them.
 use Rattle.std.specs.Prelude.{◌≡◌, Bool, ℕ, ◌+◌, ◌-◌, ◌*◌, ◌<◌, ◌≤◌, ◌&&◌, nat_eq, nat_lt, min, if◌then◌else◌, List, length, replicate, take}
 use Rattle.scrypt_kernel.specs.Count.{AreCounted}
 use Rattle.scrypt.specs.Accepted.{Parameters}
@@ -6,7 +6,7 @@ use Rattle.scrypt.specs.Cost.{chunks_bytes, cost, scratch_words, table_words, th
 use Rattle.scrypt.specs.Workspace.{IsRestKept, Workspace, chunks_at_once}
 use Rattle.scrypt.specs.declared.buffers.InUse.{InUse}
 
--- Memory, in words, for w tables and w scratches, with which w chunks are interleaved. A table
+-- Memory, in words, for w tables and w scratches, so that w chunks can be interleaved. A table
 -- keeps one row in 2 ^ s, and w is 1 unless s is 0.
 pub record HasTables (log_n s r w room scratch : ℕ) : Type 0 where
   pub some : 0 < w
@@ -37,8 +37,8 @@ pub record IsWidth (log_n r n w : ℕ) (chunks table scratch : List ℕ) : Type 
   pub chunks_fit : chunks_bytes r n ≤ length chunks
   pub memory : HasTables log_n 0 r w (length table) (length scratch)
 
--- the memory of a derivation of n chunks with this N and r, with a table that keeps one row in 2 ^ s;
--- the width is the number of chunks that are interleaved in this memory
+-- the memory of a derivation of n chunks with this N and r, with a table that keeps one row in 2 ^
+-- s; the width is the number of chunks that are interleaved in this memory
 pub record IsReady {M : Type 0} (room_of : M → ℕ) (log_n s r n : ℕ) (used : InUse M) : Type 0 where
   pub chunks_len : length used.chunks.now ≡ chunks_bytes r n
   pub memory : HasTables log_n s r used.width (room_of used.rows.now) (length used.scratch.now)

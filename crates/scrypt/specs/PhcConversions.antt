@@ -10,7 +10,8 @@ use Rattle.scrypt.specs.Reading.{mapped}
 abbrev pub output_len_of : Option (List ℕ) → ℕ
 output_len_of key = unwrap_or (option_map length key) 32
 
--- the parameters of a hash with the length of its key, or the error of its version or of its parameters
+-- the parameters of a hash with the length of its key, or the error of its version or of its
+-- parameters
 abbrev pub params_with_len : PasswordHash → Result Parameters Refusal
 params_with_len hash =
     let with_len = λ (c : Parameters). record c { output_len = Some (output_len_of hash.hash) } in

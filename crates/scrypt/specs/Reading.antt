@@ -21,7 +21,8 @@ unfoldable pub checked : ℕ → ℕ → ℕ → Result Parameters Refusal
 checked log_n r p =
     if are_accepted log_n r p then Ok (record { log_n = log_n; r = r; p = p; output_len = None }) else Err ParamsInvalid
 
--- The parts of a stored hash. A *reading* is these parts or the first error: a `Result Stored Refusal`.
+-- The parts of a stored hash. A *reading* is these parts or the first error: a
+-- `Result Stored Refusal`.
 pub record Stored : Type 0 where
   pub params : Parameters
   pub salt : List ℕ
@@ -40,8 +41,8 @@ mixed_of password s = mixed_chunks (chunks_of password s) s.params.log_n s.param
 abbrev pub verify_cost : List ℕ → Stored → ℕ
 verify_cost password s = hash_cost (length password) (length s.salt) s.params.r s.params.p (length s.key)
 
--- whether the hash accepts the password: the stored key is the key of its length that the parameters and the salt
--- of the hash derive from the password
+-- whether the hash accepts the password: the stored key is the key of its length that the
+-- parameters and the salt of the hash derive from the password
 unfoldable pub is_right : List ℕ → Stored → Bool
 is_right password s = bytes_eq s.key (derived_key password s.salt s.params.log_n s.params.r s.params.p (length s.key))
 

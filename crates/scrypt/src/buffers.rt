@@ -240,8 +240,8 @@ pub(crate) struct OwnBuffers {
 }
 
 impl OwnBuffers {
-    /// Allocates the chunks, the table and the scratch, in this order. The table is empty, and grows
-    /// within its capacity.
+    /// Allocates the chunks, the table and the scratch, in this order. The table is empty, and
+    /// grows within its capacity.
     pub(crate) fn allocate(alloc: Global, lens: &BufferLens) -> Result<OwnBuffers, AllocError>
         ensures chunks { IfOk result (λ own. length own.chunks.items ≡ lens.now.chunks) }
         ensures table { IfOk result (λ own. allocated_room own.table ≡ lens.now.table) }

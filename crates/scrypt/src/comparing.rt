@@ -1,4 +1,5 @@
-// Comparing a stored key with the derived one (RFC 7914, section 6, step 3), without a copy of either.
+// Comparing a stored key with the derived one (RFC 7914, section 6, step 3), without a copy of
+// either.
 
 ghost use Rattle.std.specs.Prelude.{◌≡◌, length};
 ghost use Rattle.scrypt_kernel.specs.Count.{AreHashed};

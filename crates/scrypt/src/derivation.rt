@@ -39,8 +39,8 @@ pub fn output_len_ok(len: usize) -> bool
 /// ignored.
 ///
 /// Returns `InvalidOutputLen` exactly if the length of `output` is not allowed
-/// ([`output_len_ok`](crate::output_len_ok)), and otherwise `OutOfMemory` if an allocation fails. On
-/// an error `output` is unchanged.
+/// ([`output_len_ok`](crate::output_len_ok)), and otherwise `OutOfMemory` if an allocation fails.
+/// On an error `output` is unchanged.
 pub fn scrypt(
     alloc: Global,
     password: &[u8],
@@ -172,8 +172,8 @@ pub fn scrypt_with_buffers(
 /// uses only the front of each buffer, with the lengths of [`BufferLens::for_tables`] for the
 /// tables that fit, at most four and at most `p`. The rest of each buffer is unchanged.
 ///
-/// Returns `InvalidOutputLen` exactly if the length of `output` is not allowed, and otherwise `OutOfMemory` exactly if a
-/// buffer is too short. On an error nothing has changed.
+/// Returns `InvalidOutputLen` exactly if the length of `output` is not allowed, and otherwise
+/// `OutOfMemory` exactly if a buffer is too short. On an error nothing has changed.
 #[tactic(auto, using(crate::proofs::AcceptedFacts::most_output_len))]
 pub fn scrypt_at_front<W: Mixer>(
     password: &[u8],

@@ -18,8 +18,8 @@ use crate::{
 };
 use std::alloc::{AllocError, Global};
 
-/// The three buffers of derivations, allocated once. Each call uses the front of each buffer, with
-/// any parameters for which the buffers are long enough.
+/// The three buffers of derivations, allocated once. Each call uses the front of each buffer, and
+/// accepts any parameters if the buffers are long enough for them.
 #[derive(Drop)]
 pub struct Buffers {
     /// The chunks, in bytes.

@@ -199,8 +199,8 @@ pub fn five_letters_are_inverse()
     ensures accepted { (log_n r p : ℕ) → IsTrue (are_accepted log_n r p) → (r < 2 ^ 30) × (p < 2 ^ 30) }
 {}
 
-/// The eleven letters that encode accepted parameters in `$7$` texts are equal exactly if `log_n`, `r`
-/// and `p` are.
+/// The eleven letters that encode accepted parameters in `$7$` texts are equal exactly if `log_n`,
+/// `r` and `p` are.
 #[tactic(auto, using(crate::proofs::McfTextFacts::params_letters_once))]
 pub fn letters_of_parameters_are_injective()
     ensures injective { (log_n r p other_log_n other_r other_p : ℕ) → IsTrue (are_accepted log_n r p) → IsTrue (are_accepted other_log_n other_r other_p)

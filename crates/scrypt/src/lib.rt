@@ -1,4 +1,5 @@
-//! The scrypt key derivation function (RFC 7914) and its password hashes, proved against their definitions.
+//! The scrypt key derivation function (RFC 7914) and its password hashes, proved against their
+//! definitions.
 //!
 //! It draws no salts and starts no threads. Only calls with [`Limits`] limit the cost of a stored
 //! hash. In this example `alloc` is `rt.alloc()` of the `HostRuntime` that `main` takes.

@@ -25,8 +25,8 @@ const _: () = prove!(Limits::USUAL.most_bytes == 269484032 && Limits::USUAL.most
 const _: () = prove!(Limits::USUAL.least_key_len == 16);
 
 impl Limits {
-    /// A table of 256 MiB and the two smaller buffers, four times the work of the recommended parameters,
-    /// and a key of 16 bytes.
+    /// A table of 256 MiB and the two smaller buffers, four times the work of the recommended
+    /// parameters, and a key of 16 bytes.
     pub const USUAL: Limits = Limits {
         most_bytes: 257 << 20,
         most_work: 4 * 4 * ((1 << 17) + 32) * 8,

@@ -31,7 +31,8 @@ pub struct Login<'p, 't> {
 }
 
 impl<'p, 't> Login<'p, 't> {
-    // Returns the parts of the hash, or the error in place of the hash or of reading it.
+    // Returns the parts of the hash, the error that the login has instead of a hash, or the error
+    // of reading the hash.
     fn parts(&self) -> Result<&StoredParts<'t>, LimitedError>
         ensures { mapped (λ parts. stored parts.now) (with_limited_refusal result) ≡ reading_of self.now }
     {
@@ -149,8 +150,8 @@ impl<'p, 't> Login<'p, 't> {
 }
 
 /// Verifies each password as [`StoredHash::verify_with_buffers`] verifies it in these buffers, so
-/// each verdict is independent of the other logins. If a login has an error in place of its hash,
-/// the verdict is this error. `verdicts` has the length of `logins`, and gets the verdict of each
+/// each verdict is independent of the other logins. If a login has an error instead of a hash, its
+/// verdict is this error. `verdicts` has the length of `logins`, and gets the verdict of each login
 /// at the same index. Does not allocate.
 ///
 /// If all hashes that are not errors have the `N` and the `r` of the first, and each buffer is long

@@ -79,8 +79,8 @@ impl Params {
     ///
     /// Accepts exactly the parameters with `r > 0`, `p > 0`, `128 * r * 2^log_n < 2^64` and
     /// `r * p < 2^30`, computed in unbounded integers, and returns `InvalidParams` for all others.
-    /// So `log_n` is at most 56. As in the Rust crate and unlike RFC 7914, section 2, `log_n` may be
-    /// 0, and may be `16 * r` or more.
+    /// So `log_n` is at most 56. As in the Rust crate and unlike RFC 7914, section 2, `log_n` may
+    /// be 0, and may be `16 * r` or more.
     #[tactic(auto, unfolding(crate::specs::Accepted::is_stored_len))]
     pub fn new(log_n: u8, r: u32, p: u32) -> Result<Params, InvalidParams>
         ensures accepted { IsOk result ↔ IsTrue (are_accepted log_n r p) }
@@ -116,7 +116,8 @@ impl Params {
         Ok(Params::new(log_n, r, p)?.with_output_len(len))
     }
 
-    /// Returns the parameters of a text. Returns `ParamsInvalid` if [`Params::new`] does not accept them.
+    /// Returns the parameters of a text. Returns `ParamsInvalid` if [`Params::new`] does not accept
+    /// them.
     #[tactic(auto, using(crate::proofs::AcceptedFacts::reading_numbers))]
     pub(crate) fn of_text(log_n: u8, r: u32, p: u32) -> password_hash::Result<Params>
         ensures { with_refusal result ≡ checked log_n r p }
@@ -148,7 +149,8 @@ impl Params {
         }
     }
 
-    /// Proof hint: exposes the invariant that the parameters are accepted, and their length if they have one.
+    /// Proof hint: exposes the invariant that the parameters are accepted, and their length if they
+    /// have one.
     #[tactic(auto, using(crate::proofs::AcceptedFacts::bounds))]
     pub(crate) fn expose_invariant(&self)
         ensures accepted { IsTrue (are_accepted self.now.log_n self.now.r self.now.p) }
@@ -230,8 +232,8 @@ impl Params {
         self.p
     }
 
-    /// Returns the number of Salsa20/8 cores that a derivation runs, `4 * N * r * p`, which is below
-    /// `2^89`.
+    /// Returns the number of Salsa20/8 cores that a derivation runs, `4 * N * r * p`, which is
+    /// below `2^89`.
     #[tactic(auto, using(crate::proofs::AcceptedFacts::small_cores))]
     pub fn cores(&self) -> u128
         ensures value { result ≡ cost self.now.log_n self.now.r self.now.p }

@@ -175,9 +175,9 @@ pub fn cores_done(params: &Params, at: Progress) -> u128
 
 /// Finishes a derivation in steps: step 3, which writes the key to `output`.
 ///
-/// Returns `Unfinished` exactly if not all chunks are mixed, and otherwise `InvalidOutputLen` exactly
-/// if the length of `output` is not allowed. On an error nothing has changed. The buffers are the
-/// caller's to wipe.
+/// Returns `Unfinished` exactly if not all chunks are mixed, and otherwise `InvalidOutputLen`
+/// exactly if the length of `output` is not allowed. On an error nothing has changed. The buffers
+/// are the caller's to wipe.
 #[tactic(auto, using(crate::proofs::AcceptedFacts::most_output_len))]
 pub fn finish(
     password: &[u8],

@@ -113,7 +113,8 @@ impl<'a> StoredHash<'a> {
         }
     }
 
-    /// Returns the length of the key of the hash in bytes, or 0 if it has no key. Does not allocate.
+    /// Returns the length of the key of the hash in bytes, or 0 if it has no key. Does not
+    /// allocate.
     ///
     /// Returns the same errors as [`StoredHash::params`].
     pub fn key_len(&self) -> Result<usize>

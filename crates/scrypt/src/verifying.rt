@@ -65,7 +65,8 @@ fn is_key_of<M: TableMemory, W: Mixer>(
 /// Verifies with the parts of a hash, in three buffers that it allocates in this order: the chunks,
 /// the table and the scratch.
 ///
-/// Returns `OutOfMemory` if an allocation fails, before the first core, and otherwise `PasswordInvalid` if the keys differ.
+/// Returns `OutOfMemory` if an allocation fails, before the first core, and otherwise
+/// `PasswordInvalid` if the keys differ.
 pub(crate) fn verify_allocating<W: Mixer>(
     alloc: Global,
     password: &[u8],

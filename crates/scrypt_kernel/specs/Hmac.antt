@@ -10,8 +10,8 @@ hashed_key secret = (if nat_lt 64 (length secret) then sha256 secret else secret
 abbrev pub padded_key : List ℕ → List ℕ
 padded_key secret = hashed_key secret ++ replicate (64 - length (hashed_key secret)) 0
 
--- steps 2 to 7: H (K xor opad, H (K xor ipad, text)), where K is the padded key, ipad is the byte 0x36
--- repeated 64 times, and opad is the byte 0x5c repeated 64 times
+-- steps 2 to 7: H (K xor opad, H (K xor ipad, text)), where K is the padded key, ipad is the byte
+-- 0x36 repeated 64 times, and opad is the byte 0x5c repeated 64 times
 unfoldable pub hmac_sha256 : List ℕ → List ℕ → List ℕ
 hmac_sha256 secret text =
     let inner = sha256 (map (bit_xor 0x36) (padded_key secret) ++ text) in

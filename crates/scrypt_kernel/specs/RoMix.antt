@@ -1,6 +1,6 @@
 -- scryptROMix (RFC 7914, section 5) of the blocks B, where N is 2 ^ log_n. The definition has no
--- table: it computes a row of V wherever it is used. The standard requires N to be above 1 and below
--- 2 ^ (16 * r); the definition covers every log_n, including 0.
+-- table: it computes a row of V wherever it is used. The standard requires N to be above 1 and
+-- below 2 ^ (16 * r); the definition covers every log_n, including 0.
 use Rattle.std.specs.Prelude.{ℕ, zero, suc, ◌%◌, ◌^◌, List}
 use Rattle.scrypt_kernel.specs.Words.{bytes_of, last_block, le_number, xor_words}
 use Rattle.scrypt_kernel.specs.BlockMix.{block_mix}

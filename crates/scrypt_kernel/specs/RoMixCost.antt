@@ -1,5 +1,5 @@
--- The cost of one scryptROMix: how often the standard's steps, with a table V, call the Salsa20/8 core,
--- and the memory that they use. A word has 4 bytes.
+-- The cost of one scryptROMix: how often the standard's steps, with a table V, call the Salsa20/8
+-- core, and the memory that they use. A word has 4 bytes.
 use Rattle.std.specs.Prelude.{◌≡◌, ℕ, ◌-◌, ◌*◌, ◌/◌, ◌%◌, ◌^◌, ◌<◌, ◌≤◌}
 
 -- the cores of one scryptROMix: 2 * N block mixes of 2 * r cores each

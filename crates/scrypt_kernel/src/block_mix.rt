@@ -45,8 +45,8 @@ impl<'a> Input for Parts<'a> {
     }
 }
 
-// The exclusive or of two rows of each chunk. It is computed as the block mix reads it, and is never
-// in memory as a whole.
+// The exclusive or of two rows of each chunk. It is computed as the block mix reads it, and is
+// never in memory as a whole.
 #[derive(Clone, Copy)]
 pub(crate) struct Xor<'a> {
     pub(crate) x: Parts<'a>,

@@ -1,9 +1,9 @@
-//! The steps of scrypt (RFC 7914) below the derivation of a key, each proved against its definition:
-//! HMAC, PBKDF2, the Salsa20/8 core, scryptBlockMix and scryptROMix.
+//! The steps of scrypt (RFC 7914) below the derivation of a key, each proved against its
+//! definition: HMAC, PBKDF2, the Salsa20/8 core, scryptBlockMix and scryptROMix.
 //!
-//! The crate `scrypt` re-exports what users need of it. Nothing is checked at run time: lengths and
-//! parameters are conditions of the contracts.
-//! The definitions that the contracts cite are in `specs/`, one file for each section of a standard.
+//! The crate `scrypt` re-exports the parts that users need. Nothing is checked at run time: lengths
+//! and parameters are preconditions. The definitions that the preconditions and postconditions cite
+//! are in `specs/`, one file for each section of a standard.
 #![tactic(auto)]
 
 pub mod block_mix;

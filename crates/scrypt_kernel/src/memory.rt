@@ -1,4 +1,4 @@
-//! Memory to which the rows of a table are appended, one after another.
+//! The memory of a table, whose rows are appended one after another.
 
 ghost use Rattle.std.specs.Prelude.{◌≡◌, ℕ, ◌+◌, ◌*◌, ◌/◌, ◌%◌, ◌<◌, ◌≤◌, List, [], ◌++◌, length, take};
 ghost use Rattle.std.specs.Vec.{vec_capacity};
@@ -114,7 +114,8 @@ impl<'a> TableMemory for Buffer<'a> {
     }
 }
 
-// Mixes row `i`, which ends at `end`, into the `row_len` words after it, as row `i + 1`, and counts its cores.
+// Mixes row `i`, which ends at `end`, into the `row_len` words after it, as row `i + 1`, and counts
+// its cores.
 #[inline(always)]
 pub(crate) fn mix_next<O: OrderedBlocks>(
     memory: &mut [u32],
@@ -213,8 +214,8 @@ impl TableMemory for Allocated {
     }
 }
 
-// Appends the row as `mix_next` does, and meanwhile extends the memory by one more row, if the
-// capacity suffices.
+// Appends the row as `mix_next` does, while extending the memory by one more row if the capacity
+// suffices.
 //
 // Memory has to be written to be extended. Writing a whole row waits for each of its cache lines to
 // be fetched. Here the cache lines of the row after the next one are fetched a few in each

@@ -32,8 +32,7 @@ pub fn pbkdf2_counted(password: &[u8], salt: &[u8], out: &mut [u8], cores: &mut 
 
 /// The blocks T_1, T_2, .. of 32 bytes each that PBKDF2 derives from a password and a salt.
 ///
-/// The salt is hashed only once, whatever the number of blocks, and of pieces in which they are
-/// written.
+/// The salt is hashed only once, for any number of blocks, written in any number of pieces.
 #[derive(Drop)]
 pub struct Blocks {
     hmac: Hmac,

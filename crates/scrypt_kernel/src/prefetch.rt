@@ -4,8 +4,8 @@ ghost use Rattle.std.specs.Prelude.{◌≤◌, length};
 
 use crate::words::{lanes, put_lanes};
 
-/// Reads four words of each of the first eight blocks of `row` and of its last block, with which
-/// the block mix begins.
+/// Reads four words of each of the first eight blocks of `row`, and of its last block, which the
+/// block mix reads first.
 ///
 /// A row of the table is at a random address in memory that is larger than the caches, and the core
 /// of one block has to end before the core of the next block begins. These reads do not depend on

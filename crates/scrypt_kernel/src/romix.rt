@@ -27,11 +27,11 @@ use std::simd::u32x4;
 /// whose number is a multiple of `2^s`. Counts the cores: `4 * N * r` for each chunk, and `2 * r`
 /// more for each row that is recomputed.
 ///
-/// A chunk has `128 * r` bytes with `r` at least 1. For each chunk, `rows` has a capacity of at least
-/// `32 * r * 2^(log_n - s)` words, and `scratch` has at least `64 * r` words. `log_n` is at most 56.
-/// Unless `s` is 0, there is one chunk, `s` is at most `log_n`, and `scratch` has at least `96 * r`
-/// words. The contents of `rows` and `scratch` before the call do not matter, and after it they are
-/// unspecified.
+/// A chunk has `128 * r` bytes with `r` at least 1. For each chunk, `rows` has a capacity of at
+/// least `32 * r * 2^(log_n - s)` words, and `scratch` has at least `64 * r` words. `log_n` is at
+/// most 56. Unless `s` is 0, there is one chunk, `s` is at most `log_n`, and `scratch` has at least
+/// `96 * r` words. The contents of `rows` and `scratch` before the call do not matter, and after it
+/// they are unspecified.
 pub fn mix_chunks<O: OrderedBlocks, M: TableMemory>(
     b: &mut [u8],
     r: usize,
@@ -90,7 +90,8 @@ fn fill_and_walk<O: OrderedBlocks, M: TableMemory>(
 {
     // Step 2: for i = 0 to N - 1 do V[i] = X, X = scryptBlockMix (X).
     fill::<O, M>(rows, x, next, len, log_n, s, cores);
-    // Step 3: for i = 0 to N - 1 do j = Integerify (X) mod N, T = X xor V[j], X = scryptBlockMix (T).
+    // Step 3: for i = 0 to N - 1 do j = Integerify (X) mod N, T = X xor V[j], X = scryptBlockMix
+    // (T).
     take_steps::<O>(
         x,
         rows.words(),

@@ -20,7 +20,8 @@ use crate::table::recompute;
 use crate::walk::take_steps;
 use crate::words::{part, read_words, write_words};
 
-/// Begins the scryptROMix of the `n` chunks of `b`, with words in the order `O`: no mix is done yet.
+/// Begins the scryptROMix of the `n` chunks of `b`, with words in the order `O`: no mix is done
+/// yet.
 ///
 /// For each chunk `b` has `128 * r` bytes, and `table` and `scratch` have at least `32 * r` words.
 pub fn begin_chunks<O: OrderedBlocks>(
@@ -112,8 +113,8 @@ fn fill_rows<O: OrderedBlocks>(
     to
 }
 
-// The last mix of step 2, after which X is in `x`, if it is the next mix, and before `end`. Returns
-// how many are done then.
+// Does the last mix of step 2, if it is the next mix and before `end`: X is in `x` then.
+// Returns how many mixes are done then.
 #[inline(always)]
 fn mix_last<O: OrderedBlocks>(
     table: &[u32],

@@ -1,5 +1,5 @@
-//! The table of scryptROMix (RFC 7914, section 5, step 2), which keeps each row of V whose number is
-//! a multiple of `2^s`. With `s` of 0 it is the whole V.
+//! The table of scryptROMix (RFC 7914, section 5, step 2), which keeps each row of V whose number
+//! is a multiple of `2^s`. With `s` of 0 it is the whole V.
 //!
 //! Several chunks share a table, whose rows have `len` words of each chunk, one after another.
 
@@ -90,7 +90,8 @@ fn append_next<O: OrderedBlocks, M: TableMemory>(
     }
 }
 
-/// Computes the row that is `n` rows after the row `kept`: `x` becomes `kept` after `n` block mixes.
+/// Computes the row that is `n` rows after the row `kept`: `x` becomes `kept` after `n` block
+/// mixes.
 ///
 /// `n` is at least 1. The contents of `next` after the call are unspecified.
 pub(crate) fn recompute<O: OrderedBlocks>(

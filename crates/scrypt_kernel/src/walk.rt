@@ -54,8 +54,8 @@ pub(crate) fn take_steps<O: OrderedBlocks>(
 
 // Step 3 for one `i`: j = Integerify (X) mod N, T = X xor V[j], X = scryptBlockMix (T).
 //
-// It is not inlined: as two copies in one function, the steps of three chunks take 1.02 to 1.04 of the
-// time on x86-64-v2.
+// It is not inlined: as two copies in one function, the steps of three chunks take 1.02 to 1.04 of
+// the time on x86-64-v2.
 fn step<O: OrderedBlocks>(
     x: &[u32],
     v: &[u32],
@@ -87,7 +87,8 @@ fn step<O: OrderedBlocks>(
     }
 }
 
-// T = X xor V[j], X = scryptBlockMix (T), where V[j] is recomputed: it is `missing` rows after `kept`.
+// T = X xor V[j], X = scryptBlockMix (T), where V[j] is recomputed: it is `missing` rows after
+// `kept`.
 fn mix_recomputed<O: OrderedBlocks>(
     x: &[u32],
     kept: &[u32],

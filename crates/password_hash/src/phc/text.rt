@@ -11,8 +11,8 @@ use base64::engine::general_purpose::STANDARD_NO_PAD;
 use itoa::Buffer;
 use std::{fmt, str};
 
-/// The capacity of a text, in which every hash fits. The algorithm has at most 33 bytes with its
-/// `$`, the version 43, the parameters 128, and the salt and the key 87 each.
+/// The capacity of a text, enough for every hash. The algorithm has at most 33 bytes with its `$`,
+/// the version 43, the parameters 128, and the salt and the key 87 each.
 const CAPACITY: usize = 378;
 
 impl PasswordHash {

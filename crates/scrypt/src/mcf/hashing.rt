@@ -200,7 +200,8 @@ fn hash_of_text(text: Vec<u8>) -> PasswordHash
 /// [`StoredHash::verify_with_buffers`](crate::StoredHash::verify_with_buffers) uses and leaves
 /// them.
 ///
-/// Returns `OutOfMemory` exactly if `text` or another buffer is too short, and then changes nothing.
+/// Returns `OutOfMemory` exactly if `text` or another buffer is too short, and then changes
+/// nothing.
 #[tactic(auto, using(crate::proofs::HashingFacts::errors))]
 pub fn hash_with_buffers<W: Mixer>(
     password: &[u8],

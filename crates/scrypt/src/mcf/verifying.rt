@@ -17,9 +17,9 @@ impl<'a> PasswordVerifier<PasswordHashRef<'a>> for Scrypt {
 
     ghost needs_memory = { λ hash. IsOk (read_mcf (borrowed_text hash)) };
 
-    /// Verifies the password with the parameters, the salt and the length of the key of the hash, and
-    /// never with this value's parameters. The salt is passed to the derivation as the bytes of the
-    /// text, not decoded, and the key is compared with its letters in the text.
+    /// Verifies the password with the parameters, the salt and the length of the key of the hash,
+    /// and never with this value's parameters. The salt is passed to the derivation as the bytes of
+    /// the text, not decoded, and the key is compared with its letters in the text.
     ///
     /// Returns the first of these errors: `Algorithm` if the id is not `7`; `EncodingInvalid` if
     /// the first field is missing; the errors of `decode_params_and_salt` for the first field;

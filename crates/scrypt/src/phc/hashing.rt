@@ -105,8 +105,8 @@ fn hash_of(params: &Params, salt: Salt, key: Output) -> PasswordHash
 /// Hashes `password` as `Scrypt::hash_password_with_params` does, in the caller's buffers. Does not
 /// allocate.
 ///
-/// Each buffer is at least as long as [`BufferLens::of`](crate::BufferLens::of) returns for `params`.
-/// The buffers and the count are used and left as
+/// Each buffer is at least as long as [`BufferLens::of`](crate::BufferLens::of) returns for
+/// `params`. The buffers and the count are used and left as
 /// [`StoredHash::verify_with_buffers`](crate::StoredHash::verify_with_buffers) uses and leaves
 /// them.
 ///

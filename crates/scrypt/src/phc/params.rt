@@ -28,8 +28,8 @@ impl TryFrom<&ParamsString> for Params {
 
     ghost try_from_gives = { λ text answer. with_refusal answer ≡ params_of_pairs text.now };
 
-    /// Reads the parameters `ln`, `r` and `p`. If one is missing, it is 17, 8 or 1, whatever is recommended for new
-    /// hashes. The result has no length of a stored key.
+    /// Reads the parameters `ln`, `r` and `p`. If one is missing, it is 17, 8 or 1, whatever is
+    /// recommended for new hashes. The result has no length of a stored key.
     ///
     /// Returns the error of the first pair that has one: `ParamInvalid` with the name, if `ln` is
     /// not a decimal of at most 255 or `r` or `p` is not a decimal, and `ParamsInvalid` for any
@@ -83,8 +83,8 @@ impl TryFrom<&PasswordHash> for Params {
 
     ghost try_from_gives = { λ hash answer. with_refusal answer ≡ params_with_len hash.now };
 
-    /// Reads the parameters of a hash, with the length of its key, or 32 if it has no key. The algorithm
-    /// is ignored.
+    /// Reads the parameters of a hash, with the length of its key, or 32 if it has no key. The
+    /// algorithm is ignored.
     ///
     /// Returns `Version` if the hash has a version, and otherwise the errors of reading its
     /// parameters.

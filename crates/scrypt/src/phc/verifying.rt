@@ -16,8 +16,8 @@ impl PasswordVerifier<PasswordHash> for Scrypt {
 
     ghost needs_memory = { λ hash. IsOk (read_phc hash) };
 
-    /// Verifies the password with the parameters, the salt and the length of the key of the hash, and
-    /// never with this value's parameters. Every byte of the two keys is compared, also after a
+    /// Verifies the password with the parameters, the salt and the length of the key of the hash,
+    /// and never with this value's parameters. Every byte of the two keys is compared, also after a
     /// difference.
     ///
     /// Returns the first of these errors: `Algorithm` if the algorithm is not `scrypt`, `Version`

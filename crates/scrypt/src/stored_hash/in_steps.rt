@@ -28,9 +28,9 @@ impl<'a> StoredHash<'a> {
         }
     }
 
-    /// Finishes a verification in steps, which [`begin`](crate::begin) began with [`StoredHash::params`] and
-    /// [`StoredHash::salt`]: the verdict of [`StoredHash::verify`], once all chunks are mixed. The
-    /// buffers are the caller's to wipe.
+    /// Finishes a verification in steps, which [`begin`](crate::begin) began with
+    /// [`StoredHash::params`] and [`StoredHash::salt`]: the verdict of [`StoredHash::verify`], once
+    /// all chunks are mixed. The buffers are the caller's to wipe.
     pub fn finish(
         &self,
         password: &[u8],

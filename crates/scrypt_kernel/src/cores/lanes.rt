@@ -17,8 +17,8 @@ use crate::parts::Parts;
 use crate::words::{lanes, put_in_part, put_lanes};
 use std::simd::{Simd, u32x4, u32x8};
 
-/// Replaces the 16 words, which are in diagonal order, by their Salsa20/8 core in diagonal order, and
-/// counts it as a SIMD core (RFC 7914, section 3).
+/// Replaces the 16 words, which are in diagonal order, by their Salsa20/8 core in diagonal order,
+/// and counts it as a SIMD core (RFC 7914, section 3).
 #[inline(always)]
 pub fn core(x: &mut [u32; 16], cores: &mut CoreCount)
     ensures value { x.new ≡ diagonal_order (salsa20_8 (standard_order x.old)) }
@@ -66,8 +66,8 @@ impl<V: Lanes> Diagonal<V> {
         mixed
     }
 
-    // Counts the cores that turn these blocks into the blocks of `mixed`. The compiler removes
-    // this, because a count has no bytes.
+    // Counts the cores whose inputs are these blocks and whose outputs are the blocks of `mixed`.
+    // The compiler removes this, because a count has no bytes.
     fn count(&self, mixed: &Diagonal<V>, cores: &mut CoreCount)
         requires { (k : ℕ) → k < V.count → block_of V.lanes mixed.now k ≡ diagonal_core (block_of V.lanes self.now k) }
         ensures { AreCountedAs true V.count cores.old cores.new }
