@@ -1,4 +1,4 @@
-/* Memory for derivations, which is kept from one to the next. Not proved. */
+/* Memory that is kept between derivations. Not proved. */
 #include "arena.h"
 
 #include "system.h"
@@ -25,7 +25,7 @@ size_t arena_reserve(struct arena *arena, const scrypt_needs *one, size_t max) {
     if (arena->mapping == NULL) continue;
     arena->room = max * one->bytes;
     drop_on_fork(arena->mapping, arena->room + HUGE_PAGE);
-    /* The rest of the last huge page is left out, so that it takes no whole one. */
+    /* Leaves out the part of the last huge page, which would otherwise take a whole one. */
     ask_for_huge_pages(front_of(arena), arena->room / HUGE_PAGE * HUGE_PAGE);
     return max;
   }

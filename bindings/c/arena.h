@@ -15,13 +15,13 @@ struct buffers {
 
 /* Its initial state is all zeros. */
 struct arena {
-  uint8_t *mapping; /* a huge page longer than its room, which begins at a multiple of one */
-  size_t room;      /* in bytes; 0 if nothing is mapped */
+  uint8_t *mapping; /* HUGE_PAGE longer than the memory, which begins at a multiple of it */
+  size_t room;      /* its length in bytes; 0 if nothing is mapped */
 };
 
-/* Reserves memory for `max` derivations with a table each, or for fewer if the system has less, and
- * returns their number, possibly 0. The old content is lost. A forked child doesn't have the
- * mapping, so the arena is in memory that is zeros there. */
+/* Reserves memory for `max` derivations with one table each, or for fewer if the system has less,
+ * and returns their number, possibly 0. The old content is lost. A forked child doesn't have the
+ * mapping, so the arena itself must be in memory that is zeroed in the child. */
 size_t arena_reserve(struct arena *arena, const scrypt_needs *one, size_t max);
 
 /* Buffers for `logins` with the same needs, in `tables` reserved tables. */

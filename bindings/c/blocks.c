@@ -11,7 +11,7 @@
 #define MAX_PREFAULTED ((size_t)129 << 20) /* the tables of scrypt_key, if there are several */
 #define CACHE_LINE ((size_t)64)
 
-/* Blocks of this size or more get their own mapping, as malloc does too: unmapping is faster than
+/* Blocks of this size or more get their own mapping, as in malloc: unmapping is faster than
  * overwriting. */
 #define LARGE ((size_t)32 << 20)
 
@@ -68,7 +68,7 @@ static uint8_t *with_head(uint8_t *block, uint8_t *start, size_t len) {
   return block;
 }
 
-/* Whether the first page, to which this writes, is a huge page: then its end is in memory too. */
+/* Writes to the first page, and returns whether it is a huge page: then its end is resident too. */
 static int is_huge(uint8_t *block) {
   *(volatile uint8_t *)block = 0;
   return is_resident(block + HUGE_PAGE - LARGEST_PAGE);

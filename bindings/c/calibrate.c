@@ -32,7 +32,7 @@ int scrypt_calibrate(double seconds, size_t most_bytes, uint32_t *log_n, uint32_
   uint32_t it, best = 0;
   int status = SCRYPT_TOO_COSTLY;
   if (log_n == NULL || r == NULL || p == NULL) return SCRYPT_NULL_POINTER;
-  /* Twice N takes about twice as long, which is measured if it may be less. */
+  /* Twice the N takes about twice the time: try it if that may be within the limit. */
   for (it = LEAST_LOG_N; it <= MOST_LOG_N && (size_t)128 * R <= most_bytes >> it && 1.8 * taken <= seconds; it++) {
     status = measure(it, &taken);
     if (status == SCRYPT_OK && !(taken <= seconds)) status = SCRYPT_TOO_COSTLY;

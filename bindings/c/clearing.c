@@ -1,6 +1,6 @@
-/* Which proved code is called, and the stack that it used, which is overwritten (SECURITY.md, row
- * "freed memory"): not proved. The objects of what the kit built have each proved call as base_..,
- * and where there is one for a newer processor as newer_... */
+/* Chooses which proved code is called, and wipes the stack that it used (SECURITY.md, row "freed
+ * memory"). Not proved. The objects that the kit built contain each proved call as base_.., and, if
+ * there is code for a newer processor, as newer_... */
 #include "scrypt_c.h"
 
 #include <string.h>
@@ -30,9 +30,9 @@ const char *scrypt_version(void) { return LIBRARY_VERSION " " BASE; }
 size_t tables_that_pay(void) { return BASE_PAYS; }
 #endif
 
-/* BELOW is more than any proved call uses of the stack (tests/test_clearing.c). Its frames begin
- * APART below those of clear_stack, so that they are wiped, whatever the compiler puts into the
- * frames here. */
+/* BELOW is more stack than any proved call uses (tests/test_clearing.c). The frames of a proved
+ * call begin APART bytes below the frame of clear_stack, so that they are wiped, whatever the
+ * compiler puts into the frames here. */
 enum { BELOW = 12800, APART = 256 };
 #define KEEP(array) __asm__ volatile("" ::"r"(array) : "memory")
 #if __has_attribute(zero_call_used_regs)
@@ -41,8 +41,8 @@ enum { BELOW = 12800, APART = 256 };
 #define CLEARS __attribute__((noinline, no_stack_protector))
 #endif
 
-/* Nothing is promised of registers, but a dynamic linker that binds the next call of a program
- * saves them in the stack. The attribute excludes registers of which a call has to keep a part. */
+/* No promise covers registers, but a dynamic linker that binds the next call of a program saves
+ * them on the stack. The attribute excludes registers that a callee has to preserve in part. */
 #ifdef __x86_64__
 CLEARS __attribute__((target("avx"))) static void clear_ymm(void) { __asm__ volatile(""); }
 CLEARS static void clear_registers(void) {
@@ -57,7 +57,7 @@ CLEARS static void clear_registers(void) {
 }
 #endif
 
-/* Not by memset, whose return address would be below. */
+/* Does not call memset, whose return address would be below. */
 CLEARS static void clear_stack(void) {
   volatile uint64_t below[(BELOW + APART) / sizeof(uint64_t)];
   size_t i;
@@ -99,7 +99,7 @@ CLEARS static void clear_stack(void) {
   }
 #include "proved_calls.h"
 
-/* Which sees no password or key. */
+/* It reads no password or key, so nothing is wiped. */
 void base_scrypt_wipe(uint8_t *, size_t, uint32_t *, size_t, uint32_t *, size_t);
 void scrypt_wipe(uint8_t *chunks, size_t chunks_len, uint32_t *table, size_t table_len,
                  uint32_t *scratch, size_t scratch_len) {

@@ -10,11 +10,11 @@ static inline const uint8_t *bytes_of(const void *bytes) {
   return bytes != NULL ? (const uint8_t *)bytes : (const uint8_t *)"";
 }
 
-/* For the proved calls, which accept no log_n above 56: a greater one mustn't become one that they
- * accept. */
+/* Converts log_n for the proved calls, which accept none above 56: truncation must not turn a
+ * larger value into an accepted one. */
 static inline uint8_t in_8_bits(uint32_t log_n) { return log_n < 64 ? (uint8_t)log_n : UINT8_MAX; }
 
-/* How many tables pay on this processor, at most SCRYPT_MOST_LOGINS. */
+/* The number of interleaved chunks that is fastest on this processor, up to SCRYPT_MOST_LOGINS. */
 size_t tables_that_pay(void);
 
 #endif

@@ -3,7 +3,7 @@
  * A slot is the right to derive on one processor, with the memory for that. Each call runs in the
  * thread of its caller. If no slot is free it waits in the queue, first in, first out. The call
  * that leads a slot takes compatible calls from the queue into its batch, and derives for all of
- * them, while their threads sleep. A call goes from state to state, each time with the lock:
+ * them, while their threads sleep. A call changes its state only under the lock:
  *
  *   state       its thread                       left by                           for
  *   WAITING     sleeps; the call is queued       release_slot                      LEADING
@@ -14,16 +14,16 @@
  *
  * Five invariants hold whenever the lock is free:
  *
- * 1. While a call is queued, no slot is free and the hasher is open: a slot that is released goes
- *    directly to the first of the queue.
- * 2. The queue is in the order in which calls came. Only members of a batch overtake others.
- * 3. A status is an error until a proved call has returned it. Then it is in the stack of the
- *    leader, and reaches the calls of its batch together with the state DONE.
- * 4. A call is in the stack of its thread, which returns only after it has seen, with the lock,
- *    that the call is DONE: so the call exists whenever another thread with the lock touches it.
+ * 1. While a call is queued, no slot is free and the hasher is open: a slot that is released is
+ *    handed directly to the first call of the queue.
+ * 2. The queue is in FIFO order. Only members of a batch overtake others.
+ * 3. A status is an error until a proved call has returned it. Then it is on the leader's stack,
+ *    and is copied to the calls of the batch together with the state DONE.
+ * 4. A call is on the stack of its thread, which returns only after it has seen, under the lock,
+ *    that the call is DONE: so the call exists whenever another thread accesses it under the lock.
  * 5. In a child the kernel has filled the queue with zeros, its initial state: the lock and all
- *    slots are free, nobody waits, and there is no memory. The child's only thread is the one that
- *    forked, and it was in no call, since hashers are not async-signal-safe. */
+ *    slots are free, no call waits, and there is no memory. The child's only thread is the one that
+ *    forked, and it was in no call, because hashers are not async-signal-safe. */
 #define _GNU_SOURCE
 #include "arena.h"
 #include "options.h"
@@ -32,13 +32,13 @@
 #include <stdlib.h>
 #include <string.h>
 
-#define MAX_SCANNED 1000 /* calls of a long queue, of which the lock is held */
+#define MAX_SCANNED 1000 /* maximum number of calls that are scanned under the lock */
 #define NS_OF_MS INT64_C(1000000)
-#define MAX_TIMEOUT_MS (INT64_MAX / NS_OF_MS / 2) /* what is longer is no timeout */
+#define MAX_TIMEOUT_MS (INT64_MAX / NS_OF_MS / 2) /* a longer one counts as none */
 
-/* The batching window: not shorter than a sleep may end late. */
+/* The batching window. It is not shorter than the time by which a sleep may end late. */
 #define MAX_LINGER_NS 1000000
-#ifndef MIN_LINGER_NS /* tests have another */
+#ifndef MIN_LINGER_NS /* tests define another value */
 #define MIN_LINGER_NS 50000
 #endif
 
@@ -47,11 +47,11 @@ struct slot {
   struct arena arena;
 };
 
-/* In the stack of its thread, at first zeros but for what is derived: from `kind` on. */
+/* On the stack of its thread. Initially the fields before `kind` are zeros. */
 struct call {
   enum { WAITING, FOLLOWING, LEADING, DONE } state;
   int status;
-  condition changed; /* for its thread alone: the state */
+  condition changed; /* signals its thread that the state has changed */
   struct call *previous, *next;
   struct slot *slot; /* of a call that leads */
 
@@ -64,7 +64,7 @@ struct call {
   size_t output_len;
 };
 
-/* Zeros are its initial state. */
+/* Its initial state is all zeros. */
 struct queue {
   mutex lock;
   struct call *first, *last;
@@ -81,7 +81,7 @@ struct scrypt_hasher {
   struct queue *queue;
 };
 
-/* ---- States: with the lock ---- */
+/* ---- States: under the lock ---- */
 
 static void end_call(struct call *call, int status) {
   call->state = DONE;
@@ -103,7 +103,7 @@ static void dequeue(struct queue *queue, struct call *call) {
   queue->stats.waiting--;
 }
 
-/* The first one, or NULL: the first ones are the narrowest, and have been used most. */
+/* Returns the first free slot, or NULL: the first slots are the narrowest, and used most. */
 static struct slot *find_free_slot(const scrypt_hasher *hasher) {
   struct slot *it = hasher->queue->slots, *end = it + hasher->slots;
   while (it < end && it->is_taken) it++;
@@ -132,7 +132,7 @@ static void leave(struct queue *queue, struct call *call, int status) {
   end_call(call, status);
 }
 
-/* Hands the slot directly to the first of the queue, or frees it. */
+/* Hands the slot directly to the first call of the queue, or frees it. */
 static void release_slot(struct queue *queue, struct slot *slot) {
   struct call *first = queue->first;
   slot->is_taken = 0;
@@ -147,7 +147,7 @@ static int are_compatible(const struct call *it, const struct call *leader) {
 }
 
 /* Adds compatible calls to a batch, in the order of the queue, until it has `max`, or a slot's
- * share of all calls: a larger batch would leave a processor idle. Returns how many it has then. */
+ * share of all calls: a larger batch would leave a processor idle. Returns the batch's size. */
 static size_t extend_batch(scrypt_hasher *hasher, struct call **batch, size_t count, size_t max) {
   struct queue *queue = hasher->queue;
   size_t calls = queue->stats.waiting + queue->stats.deriving, scanned = 0;
@@ -176,7 +176,7 @@ static void finish(scrypt_hasher *hasher, struct call **batch, const int *status
 
 /* ---- A call, in its thread ---- */
 
-/* Sleeps until the call leads or is done. Only waiting has a timeout. */
+/* Sleeps until the call leads or is done. The timeout applies only while it waits. */
 static void await(struct queue *queue, struct call *call, int64_t timeout_ms) {
   int has_timeout = timeout_ms >= 0 && timeout_ms <= MAX_TIMEOUT_MS;
   int64_t deadline = has_timeout ? now_ns() + timeout_ms * NS_OF_MS : NO_DEADLINE;
@@ -187,15 +187,16 @@ static void await(struct queue *queue, struct call *call, int64_t timeout_ms) {
   }
 }
 
-/* How long a leader lets others join its batch: 1/256 of a derivation, if a core takes 50 ns. */
+/* The batching window of a leader: 1/256 of a derivation, if a core takes 50 ns. */
 static int64_t linger_ns(const scrypt_needs *needs) {
   int64_t ns = (int64_t)(needs->table_len / 8 * needs->p / 5); /* 4 * N * r * p cores */
   if (ns < MIN_LINGER_NS || !can_sleep_briefly()) return 0;
   return ns < MAX_LINGER_NS ? ns : MAX_LINGER_NS;
 }
 
-/* Returns how many calls the batch has, of which the first leads. Those of a batch that has just
- * ended often come again at once: they are ready to run, or too late by less than the window. */
+/* Returns the number of calls in the batch; the first one leads. Clients whose batch has just ended
+ * often come back immediately: they are ready to run, or would miss the batch by less than the
+ * window. */
 static size_t form_batch(scrypt_hasher *hasher, struct call **batch, size_t max) {
   struct queue *queue = hasher->queue;
   int64_t linger = linger_ns(&batch[0]->needs);
@@ -230,10 +231,10 @@ static void verify_batch(struct call **batch, size_t count, int *statuses, struc
   int status;
   for (i = 0; i < count; i++) logins[i] = batch[i]->login;
   status = scrypt_verify_group_with_buffers(logins, count, statuses, ALL_OF(of));
-  (void)status; /* nothing is NULL, and a batch has no more than four */
+  (void)status; /* no error: nothing is NULL, and a batch has no more than four calls */
 }
 
-/* Without the lock. If there is memory for fewer tables, the batch is derived in parts. */
+/* Runs without the lock. If there is memory only for fewer tables, derives the batch in parts. */
 static void derive(scrypt_hasher *hasher, struct call **batch, size_t count, size_t width,
                    int *statuses) {
   struct arena *arena = &batch[0]->slot->arena;
@@ -250,7 +251,7 @@ static void derive(scrypt_hasher *hasher, struct call **batch, size_t count, siz
   }
 }
 
-/* A batch has no more chunks than the slot has tables, so that nobody waits for those of others. */
+/* A batch has no more chunks than the slot has tables, so that no call waits for others' chunks. */
 static void lead(scrypt_hasher *hasher, struct call *call) {
   struct call *batch[SCRYPT_MOST_LOGINS] = {call};
   int statuses[] = {SCRYPT_OUT_OF_MEMORY, SCRYPT_OUT_OF_MEMORY, SCRYPT_OUT_OF_MEMORY,
@@ -277,7 +278,7 @@ static int run(scrypt_hasher *hasher, struct call *call, int64_t timeout_ms) {
 
 /* ---- The calls ---- */
 
-/* Without a text the decoy takes the same path, and so the time of a wrong password. */
+/* Without a text, the decoy is verified, in the time of a wrong password. */
 int scrypt_hasher_verify(scrypt_hasher *hasher, const void *password, size_t password_len,
                          const char *text, size_t text_len, int64_t timeout_ms) {
   struct call call = {.kind = VERIFY, .login = {password, password_len, text, text_len}};
@@ -312,7 +313,7 @@ int scrypt_hasher_hash(scrypt_hasher *hasher, const void *password, size_t passw
   }
   if (!with->mcf && (call.salt_len == 0 || call.salt_len > MAX_SALT_LEN))
     return SCRYPT_SALT_INVALID;
-  /* A PHC text that doesn't fit would be found after the derivation. */
+  /* Otherwise a PHC text that doesn't fit would be detected only after the derivation. */
   if (call.salt_len > capacity ||
       capacity < (with->mcf ? SCRYPT_MCF_CAPACITY(call.salt_len) : SCRYPT_PHC_CAPACITY))
     return SCRYPT_BUFFER_SIZE;
@@ -347,7 +348,7 @@ int scrypt_hasher_stats(scrypt_hasher *hasher, scrypt_stats *stats) {
   return SCRYPT_OK;
 }
 
-/* ---- The beginning and the end ---- */
+/* ---- Creation and destruction ---- */
 
 static size_t size_of_queue(const scrypt_hasher *hasher) {
   return sizeof(struct queue) + hasher->slots * sizeof(struct slot);

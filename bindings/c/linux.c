@@ -99,7 +99,7 @@ int random_bytes(uint8_t *bytes, size_t len) {
   return 1;
 }
 
-#ifndef ROOT /* tests have another */
+#ifndef ROOT /* tests define another value */
 #define ROOT ""
 #endif
 
@@ -122,9 +122,9 @@ static size_t limit_of(const char *folder, const char *name, const char *period_
 
 static size_t least(size_t one, size_t other) { return one < other ? one : other; }
 
-/* The minimum of the limits of this process's control group and of its ancestors, in version 2,
- * whose path is in the line "0::PATH". In a container the path may be the host's; then the mounted
- * group is the container's. */
+/* The minimum of the limits of this process's control group and of its ancestors, in version 2. The
+ * file has the path of the group as "0::PATH". In a container the path may be the host's; then the
+ * mounted group is the container's. */
 static size_t least_of_groups(const char *name) {
   char line[1024] = "", *path = line + 3, *slash;
   size_t most = limit_of("", name, NULL);

@@ -16,7 +16,7 @@ static size_t usable_memory(void) {
   return memory - memory / 8;
 }
 
-/* The limit, or 7/8 of the memory if that is less, as in a small container, but as much as a new
+/* The limit, or 7/8 of the memory if that is less, as in a small container, but no less than a new
  * hash needs. */
 static size_t default_most_bytes(size_t limit, const scrypt_needs *new) {
   size_t usable = usable_memory();
@@ -24,8 +24,8 @@ static size_t default_most_bytes(size_t limit, const scrypt_needs *new) {
   return most > new->bytes ? most : (size_t)new->bytes;
 }
 
-/* Two tables for each processor, or as many as fit into 7/8 of the memory: of the largest that are
- * allowed or, if not one of these does, of new hashes. */
+/* Two tables for each processor, or the number that fits into 7/8 of the memory if that is less:
+ * tables of the maximum size or, if none of that size fits, tables of new hashes. */
 static size_t default_at_once(const scrypt_options *with, const scrypt_needs *new) {
   size_t usable = usable_memory();
   size_t fit = usable / with->most_bytes;

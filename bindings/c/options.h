@@ -6,14 +6,14 @@
 
 #define MAX_SALT_LEN 64
 
-/* Writes the options that were given, or none if NULL, with defaults in place of zeros, and what a
- * new hash needs. Returns the errors of scrypt_hasher_new. */
+/* Writes the given options, or none if NULL, with zeros replaced by defaults, and the cost of a new
+ * hash. Returns the errors of scrypt_hasher_new. */
 int complete_options(const scrypt_options *given, scrypt_options *with, scrypt_needs *needs);
 
-/* How many calls may derive at a time. */
+/* The number of slots. */
 size_t slots_of(const scrypt_options *with);
 
-/* How many tables a slot has: the last slots have one more if not all can have the same. */
+/* The number of tables of a slot: the last slots have one more if they cannot all have the same. */
 size_t width_of_slot(const scrypt_options *with, size_t slots, size_t place);
 
 /* Writes a hash that costs as much as a new one, for logins without a hash. */

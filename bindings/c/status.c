@@ -1,4 +1,4 @@
-/* The names and the words of the statuses, which the packages ask for. Not proved. */
+/* The names and the messages of the statuses, for the packages too. Not proved. */
 #include "scrypt_c.h"
 
 #define ROW(name, text) [SCRYPT_##name] = {"SCRYPT_" #name, text}

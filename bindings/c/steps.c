@@ -1,16 +1,17 @@
-/* Keys in steps, with a function of the caller's between them. Not proved: over the calls of
+/* Keys in steps, with calls of the caller's function between them. Not proved: uses the calls of
  * calls.c. */
 #include "groups.h"
 #include "system.h"
 
-/* Of blocks.c: what is freed is wiped, or given back to the system. */
+/* From blocks.c: freed memory is wiped, or unmapped. */
 void *clearing_malloc(size_t len);
 void clearing_free(void *block);
 
-/* As scrypt_key has it: what four tables of 32 MiB take, and the words from which several pay. */
+/* As in scrypt_key: the bytes of four tables of 32 MiB, and the minimum words of a table for which
+ * interleaving pays. */
 enum { MAX_OF_TABLES = 129 << 20, MIN_WORDS = 1 << 14 };
 
-/* How long a step takes, and how many cores the first one has, which takes less. */
+/* The time of a step, and the number of cores of the first one, which takes less. */
 enum { STEP_NS = 10000000, FIRST_CORES = 1 << 12 };
 
 static void free_buffers(scrypt_steps *steps) {
@@ -19,7 +20,7 @@ static void free_buffers(scrypt_steps *steps) {
   clearing_free(steps->scratch);
 }
 
-/* Buffers with so many tables. */
+/* Allocates buffers with this number of tables. */
 static int take_buffers(scrypt_steps *steps, const scrypt_needs *needs, size_t tables) {
   steps->chunks_len = needs->chunks_len;
   steps->table_len = tables * needs->table_len;
@@ -32,7 +33,7 @@ static int take_buffers(scrypt_steps *steps, const scrypt_needs *needs, size_t t
   return 0;
 }
 
-/* As many block mixes as take the time of a step, if the last ones took so long. */
+/* The number of block mixes for the next step, if the last step took this time. */
 static size_t next_step(size_t mixes, int64_t ns) {
   if (ns < STEP_NS / 2) return mixes <= SIZE_MAX / 2 ? 2 * mixes : mixes;
   if (ns > STEP_NS) mixes = (size_t)((double)mixes * STEP_NS / (double)ns);

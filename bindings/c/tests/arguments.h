@@ -1,4 +1,4 @@
-/* Variables for each_call.h, with the names of arguments in the header: what calls are given, and where they write. */
+/* Variables for each_call.h, named as the arguments in the header: the inputs and the outputs. */
 #ifndef ARGUMENTS_H
 #define ARGUMENTS_H
 
@@ -36,7 +36,7 @@ static struct {
   scrypt_steps steps[1];
 } made;
 
-/* A derivation in steps at its end, in chunks of its own. */
+/* A derivation in steps whose chunks are all mixed, in its own buffer. */
 static scrypt_steps ended;
 
 /* A pointer that may not be NULL. */
@@ -49,7 +49,7 @@ static scrypt_steps ended;
 
 static int go_on(void *context, uint64_t done, uint64_t all) { return context != NULL || done > all; }
 
-/* With buffers for as many tables as a derivation can use, and at most this many. */
+/* Sets the buffers: for up to this number of tables, and no more than a derivation can use. */
 static void take_arguments(const void *password, size_t password_len, const void *salt, size_t salt_len, uint32_t log_n,
                            uint32_t r, uint32_t p, size_t key_len, size_t most_tables) {
   scrypt_needs needs;
@@ -62,7 +62,7 @@ static void take_arguments(const void *password, size_t password_len, const void
   given.capacity = sizeof made.text, given.len = sizeof made.salt;
   given.most_bytes = SIZE_MAX, given.most_work = UINT64_MAX;
   given.most_ms = -1;
-  given.seconds = 1e-9; /* in which no parameters are found */
+  given.seconds = 1e-9; /* too short for any parameters */
   given.chunks_len = needs.chunks_len;
   given.table_len = needs.tables * needs.table_len;
   given.scratch_len = needs.tables * needs.scratch_len;
@@ -71,14 +71,14 @@ static void take_arguments(const void *password, size_t password_len, const void
   made.scratch = calloc(given.scratch_len, 4);
   if (made.chunks == NULL || made.table == NULL || made.scratch == NULL) exit(3);
   *made.steps = (scrypt_steps){log_n, r, p, {0, 0, 0}, BUFFERS_OF_STEPS};
-  made.steps->at.at_once = 1; /* so that a step is possible in any turn */
+  made.steps->at.at_once = 1; /* so that a step is possible in any order of calls */
   ended = *made.steps, ended.at.chunks = p;
   ended.chunks = calloc(ended.chunks_len, 1);
   if (ended.chunks == NULL) exit(3);
   given.steps = &ended, given.mixes = 3, given.on_progress = go_on;
 }
 
-/* The text that is verified and read, alone and for `count` logins. */
+/* Sets the text that is verified and read, by itself and in `count` logins. */
 static void take_text(const char *text, const scrypt_login *logins, size_t count) {
   given.text = text, given.text_len = strlen(text);
   given.logins = logins, given.count = count;

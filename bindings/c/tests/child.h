@@ -1,4 +1,4 @@
-/* For tests that limit the process in which they run. Define _DEFAULT_SOURCE before including this
+/* For tests that limit their own process. Define _DEFAULT_SOURCE before including this
  * file. */
 #ifndef CHILD_H
 #define CHILD_H

@@ -1,5 +1,6 @@
-/* Preloaded into the tests if they run in an emulator that accepts all advice on memory and follows none, as Debian 12's does: fills with
- * zeros in a child of a fork what is to be, and takes away what is not to be there. Not a part of the library. */
+/* Preloaded into the tests if they run in an emulator that accepts every madvise and ignores it, as
+ * Debian 12's does. In a child of a fork it zeroes and unmaps memory as the advice says. Not a part
+ * of the library. */
 #define _GNU_SOURCE
 #include <pthread.h>
 #include <stdlib.h>
@@ -9,7 +10,7 @@
 
 enum { MOST = 1024 };
 
-/* What a child finds as zeros, or not at all. A place is free if its length is 0. */
+/* The memory that a child finds as zeros, or not at all. An entry is free if its length is 0. */
 static struct {
   void *at;
   size_t len;
@@ -17,7 +18,7 @@ static struct {
 } wiped[MOST];
 static pthread_mutex_t lock = PTHREAD_MUTEX_INITIALIZER;
 
-/* In place of what was known of this address; of nothing if the length is 0. */
+/* Replaces the entry of this address; removes it if the length is 0. */
 static void note(void *at, size_t len, int is_left_out) {
   size_t i, place = MOST;
   (void)pthread_mutex_lock(&lock);
@@ -39,7 +40,7 @@ int munmap(void *at, size_t len) {
   return (int)syscall(SYS_munmap, at, len);
 }
 
-/* The emulator does this. The thread that forked may have the lock. */
+/* Called by the emulator. The thread that forked may hold the lock. */
 static void wipe(void) {
   static const pthread_mutex_t FREE = PTHREAD_MUTEX_INITIALIZER;
   size_t i;
@@ -49,7 +50,7 @@ static void wipe(void) {
   lock = FREE;
 }
 
-/* What a test starts may be a program of the machine itself. */
+/* A program that a test starts may be the host's. */
 __attribute__((constructor)) static void begin(void) {
   (void)unsetenv("LD_PRELOAD");
   (void)pthread_atfork(NULL, NULL, wipe);

@@ -1,7 +1,8 @@
 #!/bin/sh
-# Compares the names that a library exports with the calls that the header declares, as the compiler lists
-# them. The linker exports what CMake finds in the text of the header, so this list is another one.
-# usage: exported.sh HEADER LIBRARY    CC, NM and OBJDUMP are those of the target
+# Compares the names that a library exports with the calls that the header declares, as the
+# compiler lists them: an independent list, because the linker exports the names that CMake finds in
+# the text of the header.
+# usage: exported.sh HEADER LIBRARY    with the target's CC, NM and OBJDUMP
 set -eu
 export LC_ALL=C
 room=$(mktemp -d)

@@ -1,8 +1,10 @@
-/* Prints the key or the text of each line of the standard input: HOW S LOG_N R P LEN PASSWORD SALT, where the last two
- * are in hexadecimal after a dot. A key if HOW is a number of tables: by scrypt_key with none, by scrypt_key_thin if S
- * is not 0, or else by scrypt_key_with_buffers, whose table and scratch are so many times as long as one chunk needs.
- * The buffers are not zeros before. If HOW is phc or mcf, the text with a key of LEN bytes, and how it is verified with
- * its password and with another one. If HOW is need, the bytes that a derivation needs. For random_keys.py. */
+/* Prints the key or the text of each line of standard input: HOW S LOG_N R P LEN PASSWORD SALT,
+ * with the last two in hexadecimal after a dot. If HOW is a number of tables, prints a key: with 0
+ * tables by scrypt_key; otherwise by scrypt_key_thin if S is not 0, or by scrypt_key_with_buffers
+ * with a table and a scratch for this number of chunks. Before, the buffers are not zeros. If HOW
+ * is phc or mcf, prints the text with a key of LEN bytes, and the statuses of verifying it with its
+ * password and with a wrong password. If HOW is need, prints the bytes that a derivation needs. For
+ * random_keys.py. */
 #include "scrypt_c.h"
 
 #include <stdio.h>
@@ -60,7 +62,7 @@ static void print_key(const struct line *of, size_t tables) {
   putchar('\n');
 }
 
-/* A zero after the password wouldn't be another one. */
+/* A zero appended to the password would not make it wrong. */
 static void print_text(struct line *of, int is_mcf) {
   char text[SCRYPT_MCF_CAPACITY(MOST)];
   int status = (is_mcf ? scrypt_hash_mcf : scrypt_hash_phc)(GIVEN, of->len, text, sizeof text);

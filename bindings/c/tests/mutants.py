@@ -25,7 +25,7 @@ TESTS = ["test_queue", "test_hasher_parts", "test_hasher", "test_hasher_load"]
 FLAGS = ["-std=gnu99", "-O1", "-w", "-I.", "-Itests", f"-L{LIB}", f"-Wl,-rpath,{LIB}", "-Wl,-z,now"]
 SECONDS, CPU_SECONDS = 30, 20  # for one test, which takes two
 
-# A pattern and what takes the place of each match, one at a time.
+# A pattern and its replacement, applied to one match at a time.
 SWAPS = [
     (r" < ", " <= "), (r" <= ", " < "), (r" > ", " >= "), (r" >= ", " > "), (r" == ", " != "),
     (r" != ", " == "), (r" && ", " || "), (r" \|\| ", " && "), (r" \+ ", " - "), (r" - ", " + "),

@@ -1,7 +1,7 @@
 #!/usr/bin/env python3
-"""Compares random keys and texts with those that Python's hashlib makes: keys in whole tables, one to four at a time,
-and in smaller ones; texts of both formats, which have to be verified with their password alone; and
-parameters at the bounds of RFC 7914, with the bytes that they need.
+"""A differential test against Python's hashlib, on random keys and texts: keys with one to four
+whole tables, and with smaller tables; texts of both formats, which only their password must verify;
+and parameters at the limits of RFC 7914, with the bytes that they need.
 
 usage: python3 -m bindings.c.tests.random_keys KEYS TEXTS SEED COMMAND..
 
@@ -49,7 +49,7 @@ def texts(rng, count):
 
 
 def needs(rng, count):
-    """Parameters whose product or table is about the greatest."""
+    """Parameters with about the maximum product or table."""
     for _ in range(count):
         r = rng.choice([1, 2, 3, 8, 1 << 15, (1 << 15) - 1, 1 << 20, (1 << 30) - 1])
         p = max((1 << 30) + rng.choice([0, 1, -1, -r, r, rng.randrange(-(1 << 24), 1 << 24)]), r) // r

@@ -10,7 +10,7 @@
 #include <sys/syscall.h>
 #include <unistd.h>
 
-enum { R = 8, BESIDE = 3 << 20 }; /* what a mapping has beside its block, at most */
+enum { R = 8, BESIDE = 3 << 20 }; /* maximum overhead of a mapping */
 
 static size_t least_refused = SIZE_MAX, most_asked, least_counted = SIZE_MAX, asked;
 static int is_granted(size_t len) {
@@ -42,11 +42,11 @@ static char text[SCRYPT_PHC_CAPACITY];
 /* Of one table; or more than there is, of one that no system has. */
 static size_t table_bytes(uint32_t log_n) { return log_n < 50 ? (size_t)128 * R << log_n : SIZE_MAX; }
 
-/* How many tables a call asks for, which gets none. So nothing is derived. */
+/* The number of tables that a call asks for. It gets none, so nothing is derived. */
 #define tables_of(log_n, call) (least_refused = table_bytes(log_n), most_asked = 0, status = (call), least_refused = SIZE_MAX, \
                                 most_asked / table_bytes(log_n))
 
-/* How often a call asks for a table or more: once for each derivation. */
+/* The number of times that a call asks for a table or more: once for each derivation. */
 #define derivations_of(log_n, call) (least_counted = table_bytes(log_n), asked = 0, status = (call), least_counted = SIZE_MAX, asked)
 
 static size_t fewer(size_t one, size_t other) { return one < other ? one : other; }
@@ -85,7 +85,7 @@ static void tables_of_keys(size_t that_pay) {
   }
 }
 
-/* All buffers together are within the bound. */
+/* All buffers together are within the limit. */
 static void tables_of_keys_within(size_t that_pay) {
   const scrypt_needs needs = needs_of(14, 4);
   const size_t each = 4 * (needs.table_len + needs.scratch_len), chunks = needs.chunks_len;
@@ -145,8 +145,8 @@ static void no_table_of_what_is_refused(void) {
   check(status == SCRYPT_KEY_TOO_SHORT, "a short key is named");
 }
 
-/* A table that the system does not take back is overwritten: what is left are where it begins, its
- * length and a mark. */
+/* A table that the system fails to unmap is overwritten: only its start, its length and a mark are
+ * left. */
 static void not_unmapped(void) {
   size_t at, left = 0;
   keeps = 1;

@@ -8,8 +8,8 @@
 #include <stdlib.h>
 #include <string.h>
 
-/* What the version begins with, and all of it if the processor is known that the library is built
- * for. */
+/* The start of the version, or the whole version if the test knows the processor that the library
+ * is built for. */
 #ifdef PROCESSOR
 #define VERSION SCRYPT_VERSION_STRING " " PROCESSOR
 #else
@@ -115,8 +115,8 @@ static void verify_group_in_buffers(const char *text) {
       }
 }
 
-/* Memory for several tables is used for them: each row changes, but for those of a second one where
- * one is used for two chunks. Twelve chunks leave no rest, whatever the number of tables. */
+/* Memory for several tables is used: each row changes, except in a second table on processors that
+ * use one table for two chunks. Twelve chunks leave no rest, whatever the number of tables. */
 static void several_tables_are_used(void) {
   static uint8_t chunks[128 * 12], key[16];
   static uint32_t table[4 * 32 * 64], scratch[4 * 64];
@@ -131,7 +131,7 @@ static void several_tables_are_used(void) {
 }
 
 /* scrypt_hash_phc_with_buffers or scrypt_hash_mcf_with_buffers: the same text as without buffers,
- * zeros in chunks and scratch after it, and refusals that leave what they should. */
+ * zeros in chunks and scratch after it, and errors that leave them as the header says. */
 static void hash_in_buffers(int is_mcf, const char *made) {
   static uint8_t chunks[2048];
   static uint32_t table[5000], scratch[600];
@@ -247,7 +247,7 @@ static int is_of_long(const char *password, size_t len, const char *text) {
          scrypt_verify_within(password, len, text, strlen(text), SIZE_MAX, UINT64_MAX, 0) == SCRYPT_OK;
 }
 
-/* Where memory is there, a call succeeds, however long a password, a salt, a key and a text are. */
+/* If there is memory, a call succeeds, however long a password, a salt, a key and a text are. */
 static void long_inputs(void) {
   enum { LEN = 5000 };
   static char password[LEN], salt[LEN], text[SCRYPT_MCF_CAPACITY(LEN)];

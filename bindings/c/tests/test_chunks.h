@@ -1,5 +1,6 @@
-/* For test_calls.c: each call that derives, with each number of chunks in each number of tables. The answers are the same. How much of the
- * stack a call uses depends on how many chunks are mixed at a time, and how many are left then. */
+/* For test_calls.c: each call that derives, with each number of chunks in each number of tables.
+ * The results are the same. The stack that a call uses depends on the number of interleaved chunks,
+ * and on the rest. */
 #ifndef TEST_CHUNKS_H
 #define TEST_CHUNKS_H
 
@@ -8,17 +9,18 @@
 
 #include <string.h>
 
-/* With twelve chunks, two, three and four at a time have each rest that there is, after none and after several. */
+/* Up to twelve chunks: interleaved by two, three and four, they leave every possible rest, after no
+ * full group and after several. */
 enum { MOST_CHUNKS = 12, MOST_TABLES = 4, CHUNK = 128, TABLE = 32 * 64, SCRATCH = 64, THIN_SCRATCH = 96 };
 
 static uint8_t chunks_of_all[SCRYPT_MOST_LOGINS * MOST_CHUNKS * CHUNK];
 static uint32_t tables_of_all[MOST_TABLES * TABLE], scratch_of_all[MOST_TABLES * SCRATCH];
 
-/* (6, 1, p), and its buffers with so many tables. */
+/* (6, 1, p), and its buffers with this number of tables. */
 #define OF_CHUNKS(p) "pw", 2, "salt", 4, 6, 1, p
 #define IN_TABLES(p, tables) chunks_of_all, CHUNK * (p), tables_of_all, TABLE * (tables), scratch_of_all, SCRATCH * (tables)
 
-/* The answers for p chunks, without buffers. */
+/* The results for p chunks, without buffers. */
 struct answers {
   uint8_t key[32];
   char phc[SCRYPT_PHC_CAPACITY], mcf[SCRYPT_MCF_CAPACITY(4)];

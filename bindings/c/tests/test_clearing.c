@@ -1,21 +1,22 @@
-/* How much of the stack a call uses, and what it leaves there and in memory that it frees: nothing
+/* How much stack a call uses, and what it leaves on the stack and in memory that it frees: nothing
  * further below than SCRYPT_STACK_BYTES, zeros where the proved code had its frames, no password or
- * key in the frames above it, and zeros in each freed block. With all calls of the header, in each
- * number of tables and of chunks, on which the frames depend, and with texts that are drawn. */
+ * key in the frames above it, and zeros in each freed block. Tests all calls of the header, with
+ * each number of tables and of chunks, because the frames depend on these, and with random
+ * texts. */
 #include "arguments.h"
 #include "check.h"
 
 #include <limits.h>
 #include <pthread.h>
 
-/* In OWN bytes are the frames of this test and of calls.c, which aren't cleared. */
+/* OWN bytes hold the frames of this test and of calls.c, which aren't wiped. */
 enum { OWN = 2048, ROOM = 40 << 10, PAINT = 0xa5, OF_SYSTEM = 8192 };
 
 static const char PASSWORD[] = "a password that has a length of 40 bytes";
 static const char SALT[] = "a salt has 32 bytes, as this has";
 #define SECRETS PASSWORD, sizeof PASSWORD - 1, SALT, sizeof SALT - 1
 
-/* ---- Blocks: a malloc that uses none again, in which the library works too ---- */
+/* ---- Blocks: a malloc that never reuses a block, also for the library ---- */
 
 #ifndef _WIN32
 enum { ARENA = 1 << 28, UNIT = 16, HEAD = 2 * sizeof(size_t) };
@@ -115,7 +116,7 @@ static const struct {
 #include "each_call.h"
 };
 
-/* Those two choose their own parameters. */
+/* These two choose their own parameters. */
 static void check_call(const char *name, int (*call)(void), int wanted, int is_first) {
 #ifndef _WIN32
   size_t from = used, before = blocks;
@@ -148,7 +149,7 @@ static void all_calls(uint32_t p, size_t max_tables) {
   free_arguments();
 }
 
-/* ---- Texts that are drawn: a hash with a part repeated and some bytes changed ---- */
+/* ---- Random texts: a hash with a part repeated and some bytes changed ---- */
 
 static char drawn[2 * SCRYPT_PHC_CAPACITY];
 static size_t drawn_len;
@@ -188,9 +189,9 @@ static void drawn_texts(void) {
   scrypt_hasher_free(given.hasher);
 }
 
-/* A thread whose stack has 8 KiB more, for what the system has there. */
+/* A thread whose stack has 8 KiB more, for the system's data. */
 #ifdef _WIN32
-static void on_a_small_thread(void) {} /* a stack has at least 64 KiB */
+static void on_a_small_thread(void) {} /* a stack has 64 KiB or more */
 #else
 static void *on_thread(void *key) {
   return scrypt_key(SECRETS, 4, 8, 3, (uint8_t *)key, 64) == SCRYPT_OK ? key : NULL;

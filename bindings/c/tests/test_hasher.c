@@ -10,7 +10,7 @@ static const struct { uint8_t log_n; uint32_t r, p; } PARAMS[] = {
     [P2] = {4, 8, 2},   [P4] = {4, 8, 4},   [P16] = {4, 8, 16},
     [R16] = {4, 16, 1}, [SLOW] = {13, 8, 1}, [SLOW2] = {13, 8, 2}};
 
-/* A scenario: calls in a hasher, in which no derivation ends unless the test says so. Each second
+/* A scenario: calls in a hasher whose derivations end only when the test says so. Every second
  * verification has a wrong password. */
 static const char *scenario;
 static scrypt_hasher *hasher;
@@ -84,7 +84,7 @@ static void let_windows_last(int last) {
   settle();
 }
 
-/* Lets the batch end that began first. */
+/* Lets the oldest batch end. */
 static void end_first(void) {
   int before = READ(ended);
   WRITE(passed, READ(passed) + 1);
@@ -102,7 +102,7 @@ static void let_all_end(void) {
   until(READ(over) == started);
 }
 
-/* Lets all derivations end. Then the batches were these, in their order. */
+/* Lets all derivations end, and compares the batches and their order. */
 static void end(const char *wanted_batches) {
   char in_order[256] = "", *at = in_order;
   scrypt_stats stats = {1, 1, 1};
@@ -146,7 +146,7 @@ static const struct {
     {"more processors than tables", 64, 2, 4, {A, A, A}, "0 1 2"},
 };
 
-/* As many tables as the batch has chunks and the slot has. */
+/* The number of tables is the minimum of the batch's chunks and the slot's tables. */
 static void check_tables(size_t at_once, const enum kind *calls) {
   size_t width = at_once / hasher->slots < interleave ? at_once / hasher->slots : interleave;
   for (int i = 0; i < begun; i++) {

@@ -1,5 +1,5 @@
 /* The hasher with derivations that can be stopped: its sources are included, and call functions of
- * this file in place of the proved calls, tables_that_pay, malloc, and some of system.h. */
+ * this file instead of the proved calls, tables_that_pay, malloc, and some of system.h. */
 #define _GNU_SOURCE
 #ifdef _WIN32
 #include "windows.c"
@@ -35,13 +35,13 @@ static int failed;
     }                                                 \
   } while (0)
 #define IS(call, wanted) expect((call) == (wanted), #call)
-/* Waits until it holds, or for ten seconds. */
+/* Waits until the condition holds, or for ten seconds. */
 #define until(holds) for (int tries_ = 0; !(holds) && tries_ < 50000; tries_++) usleep(200)
 
 /* ---- Memory ---- */
 
-static size_t max_mapped = SIZE_MAX, mapped; /* by one mapping, and by all that are there */
-static int maps;                             /* how often */
+static size_t max_mapped = SIZE_MAX, mapped; /* by one mapping, and by all */
+static int maps;                             /* the number of mappings that were made */
 static void *test_map(size_t size) {
   void *at = size <= READ(max_mapped) ? map_zeros(size) : NULL;
   (void)ADD(maps, at != NULL);
@@ -49,7 +49,7 @@ static void *test_map(size_t size) {
   return at;
 }
 
-/* What is given back is zeros, except for a queue, which is smaller than a huge page. */
+/* Unmapped memory must be zeros, except for a queue, which is smaller than a huge page. */
 static int test_unmap(void *at, size_t size) {
   size_t words = size / sizeof(size_t);
   while (words > 0 && ((size_t *)at)[words - 1] == 0) words--;
@@ -94,10 +94,10 @@ static void test_wait(condition *it, mutex *with, int64_t deadline_ns) {
   condition_wait(it, with, deadline_ns);
 }
 
-/* ---- Derivations that are watched, and stopped ---- */
+/* ---- Derivations that are recorded, and stopped ---- */
 
-/* The batches in the order in which they begin: the first letters of their passwords, ~ if others
- * could join in a window, and the number of tables. */
+/* The batches, in order of their begin: the first letters of their passwords, ~ if others could
+ * join in a window, and the number of tables. */
 enum { MAX_BATCHES = 64 };
 static struct { char calls[8]; int tables; } batches[MAX_BATCHES];
 static size_t interleave = 4; /* tables_that_pay */
@@ -124,7 +124,7 @@ static void end_watched(int tables) {
   (void)ADD(ended, 1);
 }
 
-static int all_match; /* as if each key were that of its hash */
+static int all_match; /* each key is taken to match its hash */
 static int watched_batch(const scrypt_login *logins, size_t count, int *statuses, uint8_t *chunks,
                          size_t chunks_len, uint32_t *table, size_t table_len, uint32_t *scratch,
                          size_t scratch_len) {
@@ -204,8 +204,8 @@ static int verify(scrypt_hasher *hasher, const char *text, const char *password,
   return scrypt_hasher_verify(hasher, password, strlen(password), text, strlen(text), ms);
 }
 
-/* How many slots are taken; whether none is, nobody waits or derives, and no closed hasher has
- * memory. The invariants of the queue hold. */
+/* The number of slots that are taken; whether no slot is taken, no call waits or derives, and no
+ * closed hasher has memory. The invariants of the queue hold. */
 static struct look { int leading, is_idle; scrypt_stats stats; } look_at(scrypt_hasher *hasher) {
   struct queue *queue = hasher->queue;
   struct look at = {0, 1, {0, 0, 0}};
@@ -231,7 +231,7 @@ static struct look { int leading, is_idle; scrypt_stats stats; } look_at(scrypt_
 /* ---- Children ---- */
 
 #if HAS_FORKS
-/* In a child: the hasher works, and nothing of the parent is in it. */
+/* In a child: the hasher works, and has no calls or memory of the parent. */
 static void check_child(scrypt_hasher *hasher) {
   char text[SCRYPT_PHC_CAPACITY];
   scrypt_stats stats = {1, 1, 1};

@@ -5,7 +5,7 @@
 
 #ifdef __SANITIZE_THREAD__ /* which knows no child of several threads */
 #define FORKS 0
-#elif !defined FORKS /* valgrind, in which each takes seconds, has none */
+#elif !defined FORKS /* no forks under valgrind, where each takes seconds */
 #define FORKS 4
 #endif
 
@@ -44,7 +44,7 @@ static void at_any_time(void) {
     for (int i = 0; i < 16; i++) pthread_create(&all[i], NULL, verify_until_closed, hasher);
     until(READ(running) == 16);
     expect(READ(running) == 16, "cancelled in a call, or not begun");
-    if (READ(running) != 16) _exit(1); /* its threads would go on in the next test */
+    if (READ(running) != 16) _exit(1); /* otherwise its threads would run in the next test */
     for (int i = 0; i < 1000; i++) IS(scrypt_hasher_stats(hasher, &stats), SCRYPT_OK);
     for (int i = 0; i < FORKS; i++) {
       usleep((useconds_t)(rand() % 500));

@@ -58,7 +58,7 @@ static void defaults(void) {
   WRITE(max_mapped, SIZE_MAX);
 }
 
-/* ---- Errors: none of these calls waits for the slot, which is taken ---- */
+/* ---- Errors: these calls don't wait for the slot, which is taken ---- */
 
 #define TEXT_OF(params, more) "$scrypt$ln=" params "$c2FsdHNhbHQ$AAAAAAAAAAAAAAAAAAAA" more
 static void refused_verifications(void) {
@@ -203,7 +203,7 @@ static void room_for_one(void) {
 }
 
 #if HAS_FORKS
-/* A child maps what it needs, and gives that back; of its parents it has nothing. */
+/* A child maps and unmaps its own memory; it has no memory of its parent. */
 static int generation(scrypt_hasher *hasher, const char *text, int more) {
   void *of_parent = hasher->queue->slots[0].arena.mapping;
   pid_t child = fork();
@@ -235,7 +235,7 @@ static void generations(void) {
 }
 #endif
 
-/* A part of the derivation, at most a millisecond, and none below 50 microseconds. */
+/* A part of the derivation, up to a millisecond; no window if it is below 50 microseconds. */
 static void windows(void) {
   static const struct {
     uint8_t log_n;
@@ -250,7 +250,7 @@ static void windows(void) {
   }
 }
 
-/* Waits that end in a mixed order take the time of their number. */
+/* Waits that end in a mixed order take linear time. */
 static void many_waits(void) {
   enum { N = 80000 };
   static const int STATUSES[] = {SCRYPT_OK, SCRYPT_MISMATCH, SCRYPT_OK, SCRYPT_MISMATCH};
@@ -267,7 +267,7 @@ static void many_waits(void) {
   }
   it = queue->first;
   for (int i = 0; i < MAX_SCANNED; i++, it = it->next) it->needs.r = 1;
-  IS(extend_batch(hasher, batch, 1, 4), 1); /* it looks no further */
+  IS(extend_batch(hasher, batch, 1, 4), 1); /* it scans no further */
   it->previous->needs.r = 0;
   IS(extend_batch(hasher, batch, 1, 2), 2);
   all[0].needs.r = 1;
@@ -285,7 +285,7 @@ static void many_waits(void) {
   free(all);
 }
 
-/* How many tables a hasher may have, which its options show. */
+/* The maximum number of tables of a hasher, which its options show. */
 static void memory(void) {
   static const size_t GIB = (size_t)1 << 30;
   const struct {

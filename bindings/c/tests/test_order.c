@@ -1,6 +1,6 @@
-/* The order of things: each argument of each call is where the header has it, shown by a known key
- * and known texts with arguments that all differ; and where two refusals meet, the first in the
- * comment of the call is returned, and outputs are written as it says. */
+/* Orders: each argument of each call is in its position in the header, shown by a known key and
+ * known texts with arguments that all differ; and if two errors apply, the first in the comment of
+ * the call is returned, and outputs are written as the comment says. */
 #include "arguments.h"
 #include "check.h"
 
@@ -20,7 +20,7 @@ static int nothing(void) { return 1; }
 static int a_key(void) { return memcmp(made.output, KEY, sizeof KEY) == 0; }
 static int is_begun(void) { return made.steps->at.chunks == 0 && made.steps->at.mixes == 0; }
 static int is_at_3(void) { return made.steps->at.chunks == 0 && made.steps->at.at_once == 1 && made.steps->at.mixes == 3; }
-/* Goes on to the end, for scrypt_verify_finish. */
+/* Mixes all chunks, for scrypt_verify_finish. */
 static int is_verifying(void) {
   int status = SCRYPT_OK;
   if (!is_begun() || made.steps->log_n != 4 || made.steps->r != 2 || made.steps->p != 3) return 0;
@@ -59,7 +59,7 @@ static int needs(void) { return are_needed(1); }
 static int needs_of_two(void) { return are_needed(2); }
 static int needs_of_a_hash(void) { return are_needed(1) && made.needs->key_len == 20; }
 
-/* Each login has its own place: right, no text, another password, right. */
+/* Each login has its own status: right, no text, a wrong password, right. */
 static const scrypt_login LOGINS[] = {{"pw", 2, OF(PHC)}, {"pw", 2, "$8$", 3}, {"PW", 2, OF(MCF)}, {"pw", 2, OF(MCF)}};
 static int verdicts(void) {
   static const int WANTED[] = {SCRYPT_OK, SCRYPT_ENCODING_INVALID, SCRYPT_MISMATCH, SCRYPT_OK};
@@ -132,7 +132,7 @@ static void check_call(const char *name, int status) {
 
 static void arguments(const char *text) {
   static uint32_t half[512], scratch[192];
-  /* Just what (4, 2, 3) needs. */
+  /* The exact cost of (4, 2, 3). */
   const scrypt_options options = {sizeof options, 4, 2, 3, 0, 20, 8, 5376, 1152, 20, 1, 1};
   take_arguments(SECRETS, PARAMS, 20, 1);
   take_text(text, LOGINS, 4);
@@ -154,7 +154,7 @@ static void arguments(const char *text) {
   free_arguments();
 }
 
-/* ---- Where two refusals meet ---- */
+/* ---- Two errors apply ---- */
 
 static uint8_t key[20], chunks[768];
 static uint32_t table[1024], scratch[192];
@@ -216,7 +216,7 @@ static void mcf_hashes_with_two_faults(void) {
         SCRYPT_BUFFER_SIZE);
 }
 
-/* Texts with two faults. A wrong password is a third one, which is found last. */
+/* Texts with two faults. A wrong password is a third fault, which is detected last. */
 #define AND_KEY "$c2FsdHNhbHQ$AAAAAAAAAAAAAAAAAAAA"
 static const struct {
   const char *text;
@@ -263,7 +263,7 @@ static void texts_with_two_faults(void) {
   }
 }
 
-/* N in place of log_n: rejected by each call, even if its last 8 bits are a log_n. */
+/* N instead of log_n: rejected by each call, even if its last 8 bits are a log_n. */
 static void n_in_place_of_log_n(void) {
   static const uint32_t NUMBERS[] = {64, 256, 260, 16384, UINT32_MAX};
   size_t i, lens[3], least;

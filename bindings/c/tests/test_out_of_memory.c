@@ -8,8 +8,8 @@
 
 #include <string.h>
 
-/* What the limits allow beyond what the process has, what a call may touch, and the seconds of
- * processor for all. */
+/* The memory that the limits allow in addition to the process's, the memory that a call may touch,
+ * and the CPU seconds for all tests. */
 enum { MORE_GIB = 4, TOUCHED_KIB = 4096, SECONDS = 5 };
 
 #define SECRETS "pw", 2, "saltsalt", 8
@@ -56,7 +56,7 @@ static const struct {
     {"scrypt_hasher_verify", hasher_verify},
 };
 
-/* The most memory that this process has touched, in KiB. */
+/* The peak memory of this process, in KiB. */
 static long touched(void) {
   struct rusage usage;
   return getrusage(RUSAGE_SELF, &usage) == 0 ? usage.ru_maxrss : 0;

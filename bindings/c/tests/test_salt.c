@@ -1,4 +1,4 @@
-/* scrypt_draw_salt: fills exactly the bytes that it is given, with others each time. It reports a
+/* scrypt_draw_salt: fills exactly the given bytes, with different ones each time. It reports a
  * failing system call, and so does scrypt_hash_new. */
 #define _DEFAULT_SOURCE
 #include "check.h"
@@ -26,7 +26,7 @@ static void many(void) {
 
 #ifdef _WIN32
 
-static void refused_by_the_system(void) {} /* nothing makes it refuse there */
+static void refused_by_the_system(void) {} /* it cannot be made to fail there */
 
 #else
 
@@ -38,7 +38,7 @@ static void refused_by_the_system(void) {} /* nothing makes it refuse there */
 #include <sys/prctl.h>
 #include <sys/syscall.h>
 
-/* In a child for which the system call fails. */
+/* In a child whose system call fails. */
 static int refused(void) {
   struct sock_filter filter[] = {
       BPF_STMT(BPF_LD | BPF_W | BPF_ABS, offsetof(struct seccomp_data, nr)),

@@ -61,7 +61,7 @@ static void vectors(size_t count) {
   }
 }
 
-/* N of 1, odd r, and several numbers of chunks beside each number of tables: scrypt_key's key. */
+/* N of 1, odd r, and several numbers of chunks with each number of tables: scrypt_key's key. */
 static void others(void) {
   static const uint32_t CASES[][3] = {{0, 3, 2},  {1, 1, 1}, {4, 2, 3}, {5, 3, 5},
                                       {3, 1, 16}, {6, 2, 7}, {2, 5, 9}};
@@ -82,7 +82,8 @@ static void others(void) {
     }
 }
 
-/* A derivation that is left, and another in its buffers; one that went on in moved buffers. */
+/* A derivation that is abandoned, and another in its buffers; one that continued in moved
+ * buffers. */
 static void left_and_moved(void) {
   uint8_t key[32], wanted[32];
   scrypt_steps it = new_steps(6, 2, 2, 1), other = new_steps(6, 2, 2, 1);
@@ -111,7 +112,7 @@ static void left_and_moved(void) {
 
 /* ---- Stored hashes ---- */
 
-/* Of the password pw, and a salt of its own format, by hashlib.scrypt: (4, 2, 3). */
+/* By hashlib.scrypt, with (4, 2, 3), the password pw, and a salt for each format. */
 static const char PHC[] = "$scrypt$ln=4,r=2,p=3$c2FsdHNhbHQ$lB7QJHiavdcXlmY0J3GxoFXcUz4";
 static const char MCF[] = "$7$20....1....n34PoBLMgF5$Z8J2bfek1wDXI7xhu6YDEbhVlE3";
 #define NO_BOUNDS SIZE_MAX, UINT64_MAX, 0
@@ -137,7 +138,7 @@ static void hashes(void) {
     }
 }
 
-/* The verdict before anything is derived: a text, its bounds, and what begins with it. */
+/* The verdict before anything is derived: a text, limits, and the expected status. */
 static void refused_hashes(void) {
   static const struct {
     const char *text;
@@ -225,10 +226,10 @@ static void with_progress(void) {
         "no output");
 }
 
-/* ---- Refusals ---- */
+/* ---- Errors ---- */
 
-/* What a structure is changed by before a call, and what each call returns then, with -1 for
- * SCRYPT_OK. The key is finished with no output, which is refused last. */
+/* A change of the structure before a call, and the status that each call then returns, with -1 for
+ * SCRYPT_OK. scrypt_key_finish is called with an empty output, which is its last error. */
 enum {
   OK = -1,
   PARAMS = SCRYPT_INVALID_PARAMS,
@@ -281,7 +282,7 @@ static const struct {
     {"at the end", OK, OK, NO_OUTPUT, 4, 2, 2, {2, 0, 0}, 0, 0, 0},
 };
 
-/* The call's status; if it isn't SCRYPT_OK, nothing has changed. */
+/* Returns the call's status; if it isn't SCRYPT_OK, nothing has changed. */
 static void refuses(const char *why, int wanted, int (*call)(scrypt_steps *), scrypt_steps it) {
   static uint8_t chunks[512];
   static uint32_t table[1024], scratch[128];

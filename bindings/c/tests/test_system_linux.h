@@ -24,7 +24,7 @@ static void while_mapped(void) {
 
 /* ---- Control groups ---- */
 
-/* Files of control groups below the folder of this test, in place of the system's. */
+/* Files of control groups in the folder of this test, instead of the system's. */
 static void set_group(const char *line, const char *folder, const char *file) {
   char command[1024];
   snprintf(command, sizeof command,

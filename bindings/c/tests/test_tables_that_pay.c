@@ -1,5 +1,5 @@
 /* The number of tables that scrypt_key uses, by the peak memory of the process: the number that
- * pays on PROCESSOR, for which the library is compiled. */
+ * pays on PROCESSOR, the target of the library. */
 #include "check.h"
 #include "machine.h"
 #include "scrypt_c.h"

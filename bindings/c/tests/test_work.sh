@@ -1,5 +1,5 @@
 #!/bin/sh
-# Calls that derive one key execute as many instructions as each other, within 20 per cent.
+# Calls that derive one key execute the same number of instructions, within 20 per cent.
 # usage: test_work.sh PROGRAM ROOM
 set -eu
 rm -f "$2"/counts.*
