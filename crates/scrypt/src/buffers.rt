@@ -36,7 +36,7 @@ impl BufferLens {
     }
 
     /// Returns the lengths for interleaving `tables` chunks, at most four: the table and the
-    /// scratch are `tables` times as long as those that [`BufferLens::of`] returns. With a `p` of 2
+    /// scratch are `tables` times as long as [`BufferLens::of`] returns. With a `p` of 2
     /// or more, more tables take less time: on x86-64-v3 two take 0.56 of the time, and four 0.41.
     pub fn for_tables(params: &Params, tables: usize) -> BufferLens
         requires few { tables ≤ 4 }

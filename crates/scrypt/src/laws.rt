@@ -235,7 +235,7 @@ pub fn work_bounds_both_counts()
 {}
 
 /// The diagonal order and the standard order are inverse to each other on whole blocks, and so are
-/// the two tables of places. So what is proved of words in diagonal order covers every input.
+/// the two tables of indices. So the proofs about words in diagonal order cover every input.
 #[tactic(auto, using(scrypt_kernel::proofs::OrderFacts::orders_are_inverse))]
 pub fn diagonal_order_undone()
     ensures undone { (x : List ℕ) → length x % 16 ≡ 0 → standard_order (diagonal_order x) ≡ x }

@@ -178,8 +178,9 @@ impl<'a> StoredHash<'a> {
         }
     }
 
-    /// Returns whether `log_n`, `r`, `p` or the length of the key is below the one of `wanted`,
-    /// whose length is 32 bytes if it has none. One of the four suffices. Does not allocate.
+    /// Returns whether `log_n`, `r`, `p` or the length of the key is below the parameters
+    /// `wanted`, which ask for a key of 32 bytes if they have no length. One of the four suffices.
+    /// Does not allocate.
     ///
     /// Returns the same errors as [`StoredHash::verify`] does before it allocates, in the same
     /// order.

@@ -1,5 +1,5 @@
 //! The lanes of one block as scalar words. Some processors take longer for a step of one block in
-//! vectors than in scalar code, for example those with arm64, which rotate a word in the
+//! vectors than in scalar code, for example arm64 processors, which rotate a word in the
 //! instruction that uses it.
 
 ghost use Rattle.std.specs.Prelude.{◌≡◌, ◌≢◌, ℕ, ◌+◌, ◌*◌, ◌<◌, ◌≤◌, ◌∷◌, [], List, length};
