@@ -26,8 +26,8 @@ enum Deriving {
     VerifyMcf,
 }
 
-// A call that derives a key, p, the key's length, the sizes of its allocations at (4, 1, p), and the reason for the row. The
-// last three are the chunks, the table and the scratch.
+// A call that derives a key, p, the key's length, the sizes of its allocations at (4, 1, p), and
+// the reason for the row. The last three are the chunks, the table and the scratch.
 static DERIVING: [(Deriving, u32, usize, &[usize], &str); 9] = [
     (
         Deriving::HashPhc,

@@ -102,7 +102,8 @@ fn hashes_by_default(rt: HostRuntime) -> Result<(), Fail> {
     Ok(())
 }
 
-// The letters of a salt, a password, log_n, r and p, the length of the key or 0 for none, the hash, and the reason for the row.
+// The letters of a salt, a password, log_n, r and p, the length of the key or 0 for none, the hash,
+// and the reason for the row.
 static MCF_HASHES: [(&str, &str, (u8, u32, u32), usize, &str, &str); 5] = [
     (
         "Mq4YHD2syxYT.MsH1Ek0n1",
@@ -168,8 +169,8 @@ fn known_mcf_hashes(rt: HostRuntime) -> Result<(), Fail> {
     Ok(())
 }
 
-// A salt, the length of the key or 0 for none, and the hash of `pleaseletmein` by (14, 8, 1), or its error, and the reason for
-// the row.
+// A salt, the length of the key or 0 for none, and the hash of `pleaseletmein` by (14, 8, 1), or
+// its error, and the reason for the row.
 static PHC_HASHES: [(&str, usize, Result<&str, Error>, &str); 4] = [
     (
         "SodiumChloride",

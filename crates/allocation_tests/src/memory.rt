@@ -11,8 +11,8 @@ use std::alloc::Global;
 use std::fs;
 use std::test::Fail;
 
-// The table, the scratch and the chunks at (15, 8, 4), in bytes. Memory for such a table is returned to the system as soon
-// as it is freed.
+// The table, the scratch and the chunks at (15, 8, 4), in bytes. Memory for such a table is
+// returned to the system as soon as it is freed.
 const TABLE: usize = 1 << 25;
 
 const SCRATCH: usize = 2048;

@@ -75,7 +75,8 @@ fn errors_without_memory(rt: HostRuntime) -> Result<(), Fail> {
     Ok(())
 }
 
-// A text, the wanted log_n, r, p and length, or 0 for none, whether it is weaker, and the reason for the row.
+// A text, the wanted log_n, r, p and length, or 0 for none, whether it is weaker, and the reason
+// for the row.
 static WEAKER: [(&str, (u8, u32, u32), usize, Result<bool, Error>, &str); 14] = [
     (PHC, (17, 8, 1), 0, Ok(true), "the recommended parameters"),
     (PHC, (16, 8, 1), 0, Ok(false), "its own"),

@@ -1,4 +1,5 @@
-// Verdicts on passwords, by the calls of the libraries. `tools/tests/hashes.py` asks the built program for more of them.
+// The verdicts that the calls of the libraries return. `tools/tests/hashes.py` asks the built
+// program for more.
 
 use crate::holds;
 use password_hash::Error::{
@@ -134,7 +135,8 @@ const MADE_KEY: &str = "JyHIxez0DOwm0r6.kAIohc8UFBOLU4xX8a1wGBpLrw7";
 
 const OTHER_KEY: &str = "JyHIxez0DOwm0r6.kAIohc8UFBOLU4xX8a1wGBpLrwD";
 
-// The third key of RFC 7914, section 12, whose salt is a plain text, and the first, of 32 and of 33 bytes.
+// The third key of RFC 7914, section 12, whose salt is plain text, and the first, with 32 and with
+// 33 bytes.
 const PLAIN: &str = "C6..../....SodiumChloride";
 
 const THIRD: &str = "kBGj9fHznVYFQMEn/qDCfrDevf9YDtcDdKvEqHJLV8D";
@@ -145,7 +147,8 @@ const LONGER: &str = "rNxJWVHNv/mCNcgE/f6/L4zO6Fos5c2uTzhyzoisI62z";
 
 const LETMEIN: &str = "pleaseletmein";
 
-// The first field of a `$7$` text and the second, a password, the verdict, and the reason for the row.
+// The first field of a `$7$` text and the second, a password, the verdict, and the reason for the
+// row.
 static FIELDS: [(&str, &str, &str, Result<(), Error>, &str); 14] = [
     (MADE, MADE_KEY, LETMEIN, Ok(()), "the password"),
     (MADE, MADE_KEY, "bogus", Err(PasswordInvalid), "another one"),

@@ -58,7 +58,8 @@ fn mixed_by_words(words: &[u32; 160], r: usize) -> [u32; 160] {
     output
 }
 
-// The SIMD block mix of these words in diagonal order, and its input afterwards, both in the standard's order again.
+// The SIMD block mix of these words, which works in diagonal order, and its input afterwards, both
+// converted to the standard order.
 fn mixed_by_lanes(words: &[u32; 160], r: usize) -> ([u32; 160], [u32; 160]) {
     let (len, mut input, mut output) = (32 * r.clamp(1, 5), *words, [0; 160]);
     shuffle_in(&mut input);

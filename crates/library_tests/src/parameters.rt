@@ -43,7 +43,8 @@ fn lengths_of_keys() -> Result<(), Fail> {
     Ok(())
 }
 
-// log_n, r and p, the lengths of the chunks, the table and the scratch, and the cores of a derivation.
+// log_n, r and p, the lengths of the chunks, the table and the scratch, and the cores of a
+// derivation.
 static NEEDS: [((u8, u32, u32), [usize; 3], u128); 6] = [
     ((0, 1, 1), [128, 32, 64], 4),
     ((4, 1, 1), [128, 512, 64], 64),

@@ -7,8 +7,8 @@ use scrypt::romix::{plain_ro_mix, scrypt_ro_mix, thin_ro_mix};
 use std::alloc::Global;
 use std::test::Fail;
 
-// The bytes with the first 128 * r of them mixed in the diagonal order of words, with r from 1 to 4 and log_n up to 6. All
-// buffers hold `word`.
+// The bytes with the first 128 * r of them mixed in the diagonal order of words, with r from 1 to 4
+// and log_n up to 6. All buffers hold `word`.
 fn mixed_by_diagonals(
     alloc: Global,
     bytes: &[u8; 512],

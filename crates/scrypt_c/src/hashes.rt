@@ -22,13 +22,14 @@ use scrypt::laws::reading_names_no_password;
 use scrypt::{CoreCount, Limits, Params, mcf, phc};
 use std::alloc::Global;
 
-/// Writes the PHC text of the hash of `password` and `salt` to the front of `text`, and its length to
-/// `text_len`. The key has `key_len` bytes.
+/// Writes the PHC text of the hash of `password` and `salt` to the start of `text`, and its length
+/// to `text_len`. The key has `key_len` bytes.
 ///
-/// Returns `OK`, or the first of these: `INVALID_PARAMS` unless `log_n`, `r` and `p` are accepted and
-/// the key has 10 to 64 bytes; `SALT_INVALID` unless the salt has 1 to 64 bytes; `OUT_OF_MEMORY` if an
-/// allocation fails; and `BUFFER_SIZE` if the new text is longer than `text`, and then `text_len` is
-/// its length. On an error `text` is unchanged, and on any but `BUFFER_SIZE` so is `text_len`.
+/// Returns `OK`, or the first of these: `INVALID_PARAMS` unless `log_n`, `r` and `p` are accepted
+/// and the key has 10 to 64 bytes; `SALT_INVALID` unless the salt has 1 to 64 bytes;
+/// `OUT_OF_MEMORY` if an allocation fails; and `BUFFER_SIZE` if the new text is longer than `text`,
+/// and then `text_len` is its length. On an error `text` is unchanged, and on any but `BUFFER_SIZE`
+/// so is `text_len`.
 #[unsafe(no_mangle)]
 pub extern "C" fn scrypt_hash_phc(
     alloc: Global,
@@ -62,13 +63,13 @@ pub extern "C" fn scrypt_hash_phc(
     }
 }
 
-/// Writes the `$7$` text of the hash of `password` and `salt` to the front of `text`, and its length to
-/// `text_len`. The key has `key_len` bytes.
+/// Writes the `$7$` text of the hash of `password` and `salt` to the start of `text`, and its
+/// length to `text_len`. The key has `key_len` bytes.
 ///
-/// Returns `OK`, or the first of these: `INVALID_PARAMS` unless `log_n`, `r` and `p` are accepted and
-/// the key has 10 to 64 bytes; `OUT_OF_MEMORY` if an allocation fails; and `BUFFER_SIZE` if the new
-/// text is longer than `text`, and then `text_len` is its length. On an error `text` is unchanged, and
-/// on any but `BUFFER_SIZE` so is `text_len`.
+/// Returns `OK`, or the first of these: `INVALID_PARAMS` unless `log_n`, `r` and `p` are accepted
+/// and the key has 10 to 64 bytes; `OUT_OF_MEMORY` if an allocation fails; and `BUFFER_SIZE` if the
+/// new text is longer than `text`, and then `text_len` is its length. On an error `text` is
+/// unchanged, and on any but `BUFFER_SIZE` so is `text_len`.
 #[unsafe(no_mangle)]
 pub extern "C" fn scrypt_hash_mcf(
     alloc: Global,

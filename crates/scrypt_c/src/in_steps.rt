@@ -260,8 +260,8 @@ pub extern "C" fn scrypt_verify_begin(
 /// `scrypt_verify`.
 ///
 /// Returns `OK`, or the first of these: the errors of `scrypt_verify` for a hash that cannot be
-/// read; `BUFFER_SIZE` unless the chunks have the length of `scrypt_buffer_lens`; `UNFINISHED` unless
-/// all chunks are mixed; and `MISMATCH`. The chunks are unchanged.
+/// read; `BUFFER_SIZE` unless the chunks have the length of `scrypt_buffer_lens`; `UNFINISHED`
+/// unless all chunks are mixed; and `MISMATCH`. The chunks are unchanged.
 #[unsafe(no_mangle)]
 pub extern "C" fn scrypt_verify_finish(
     password: &[u8],
@@ -335,7 +335,7 @@ fn are_for_steps(
         && fits(tables, lens.scratch, scratch.len())
 }
 
-// Whether `len` has capacity for `tables` buffers of length `one`.
+// Whether `tables` buffers of length `each` fit into `len`.
 fn fits(tables: usize, each: usize, len: usize) -> bool
     requires some { 0 < each }
     ensures exact { IsTrue result ↔ (tables * each ≤ len) }

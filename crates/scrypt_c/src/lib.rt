@@ -1,6 +1,6 @@
 //! The C interface: a static library over the crate `scrypt`.
 //!
-//! It is not meant for callers in Rattle, because it trusts the pointers and the lengths that it is
+//! It is not meant for callers in Rattle, and it trusts the pointers and the lengths that it is
 //! passed. Each call returns a status: 0 on success, otherwise an error code. A slice is a pointer
 //! and a length in C.
 #![tactic(auto)]

@@ -12,7 +12,7 @@ use scrypt::StoredHash;
 
 /// Reads the text of a hash.
 ///
-/// Returns `EncodingInvalid` if the bytes are not UTF-8 or the text is not one of its format.
+/// Returns `EncodingInvalid` if the bytes are not UTF-8 or the text does not match its format.
 pub fn stored_hash(bytes: &[u8]) -> Result<StoredHash<'_>>
     ensures reading { bytes_reading bytes.now ≡ with_refusal result and_then reading }
     ensures params { bytes_params bytes.now ≡ with_refusal result and_then params_reading }
@@ -24,7 +24,7 @@ pub fn stored_hash(bytes: &[u8]) -> Result<StoredHash<'_>>
     }
 }
 
-/// Copies a text to the front of the caller's buffer, if it fits, and writes its length.
+/// Copies a text to the start of the caller's buffer, if it fits, and writes its length.
 pub fn copy_to(text: &str, buffer: &mut [u8], text_len: &mut usize) -> i32
     ensures ok { (result ≡ OK) ↔ (length text.now ≤ length buffer.old) }
     ensures status { (result ≡ OK) ⊎ (result ≡ BUFFER_SIZE) }

@@ -219,9 +219,9 @@ fn verify(
     }
 }
 
-/// Verifies up to four passwords, each against its own hash, in one batch in the caller's buffers.
-/// Each has its own verdict. Does not allocate. If there are fewer than four, pass empty texts for
-/// the last ones: an empty text is rejected without deriving a key.
+/// Verifies up to four passwords, each against its own hash and with its own verdict, in the
+/// caller's buffers. Does not allocate. If there are fewer than four, pass empty texts for the last
+/// ones: an empty text is rejected without deriving a key.
 ///
 /// Writes to each status what `scrypt_verify_with_buffers` returns for that password and hash in
 /// these buffers, whatever the others are. All keys are derived in one batch if all hashes that are

@@ -129,7 +129,8 @@ key_words is_raw words = do
   making ← making_of (Key len is_raw) params None salt
   if is_output_len len then Ok making else refuse InvalidOutputLen
 
--- after `hash`: phc|mcf LOG_N R P SALT_HEX [LEN], or phc|mcf SALT_HEX for the recommended parameters
+-- after `hash`: phc|mcf LOG_N R P SALT_HEX [LEN], or phc|mcf SALT_HEX for the recommended
+-- parameters
 unfoldable pub hash_words : Bool → Option (List ℕ) → List (List ℕ) → Result Making ErrorLine
 hash_words is_recommended drawn words = do
   (format, words) ← format_word words

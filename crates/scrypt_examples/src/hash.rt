@@ -22,7 +22,8 @@ pub fn stored_text(alloc: Global, password: &[u8], salt: [u8; 16]) -> Result<Str
 
 /// Returns `Ok` if the stored text accepts the password, and `PasswordInvalid` if it does not.
 ///
-/// Returns the error of reading the text if it has one, and otherwise `OutOfMemory` if an allocation fails.
+/// Returns the error of reading the text, if any, and otherwise `OutOfMemory` if an allocation
+/// fails.
 pub fn verify(alloc: Global, stored: &str, password: &[u8]) -> Result<()>
     ensures verdict { IsVerdict password.now (reading stored.now) (with_refusal result) }
 {

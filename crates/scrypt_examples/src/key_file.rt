@@ -34,8 +34,8 @@ pub struct Subkeys {
 }
 
 impl Header {
-    /// The keys of the file with this header: the two halves of one derived key of 64 bytes, as in the
-    /// files of Tarsnap's `scrypt enc`. The first is also the derived key of 32 bytes.
+    /// The keys of the file with this header: the two halves of one derived key of 64 bytes, as in
+    /// the files of Tarsnap's `scrypt enc`. The first is also the derived key of 32 bytes.
     ///
     /// Returns `OutOfMemory` if an allocation fails.
     pub fn subkeys(&self, alloc: Global, password: &[u8]) -> Result<Subkeys, DeriveError>
@@ -79,7 +79,8 @@ const AGE_LABEL: &[u8; 28] = b"age-encryption.org/v1/scrypt";
 /// The key that wraps the file key of an age file with a passphrase. The file contains `log_n` and
 /// the salt; `r` is 8 and `p` is 1. Check `log_n` against a limit before this call.
 ///
-/// Returns `ParamsInvalid` if such parameters are not accepted, and `OutOfMemory` if an allocation fails.
+/// Returns `ParamsInvalid` if such parameters are not accepted, and `OutOfMemory` if an allocation
+/// fails.
 pub fn age_wrap_key(
     alloc: Global,
     password: &[u8],

@@ -56,7 +56,8 @@ impl LoginPolicy {
         hash_text(alloc, password, salt, &self.wanted)
     }
 
-    /// The `$7$` text to store for a new user of a system that reads crypt(3) texts. The salt is drawn at random.
+    /// The `$7$` text to store for a new user of a system that reads crypt(3) texts. The salt is
+    /// drawn at random.
     ///
     /// Returns `OutOfMemory` if an allocation fails.
     pub fn enroll_mcf(&self, alloc: Global, password: &[u8], salt: [u8; 16]) -> Result<String>

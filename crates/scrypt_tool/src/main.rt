@@ -1,5 +1,5 @@
-//! The program: derives scrypt keys, makes password hashes, verifies them and replaces weak ones, from the
-//! command line. `scrypt_tool --help` prints its commands and options.
+//! The program: derives scrypt keys, makes password hashes, verifies them and replaces weak ones,
+//! from the command line. `scrypt_tool --help` prints its commands and options.
 //!
 //! The password is every byte of the standard input. Without options no newline is cut off, and a
 //! key is written in lower-case hexadecimal. A hash is written as its text, and a verdict as `ok`
