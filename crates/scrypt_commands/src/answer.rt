@@ -102,7 +102,7 @@ fn replace<M: Mixer>(
     }
 }
 
-// Returns whether the password matches the hash, or the error of a hash that exceeds the limits.
+// Returns whether the password matches the hash. A hash that exceeds the limits is an error.
 fn verify<M: Mixer>(
     alloc: Global,
     hash: &StoredHash<'_>,

@@ -45,7 +45,7 @@ pub enum CliError {
     OutOfMemory,
     /// The input could not be read to its end.
     InputFailed,
-    /// The line could not be written, or not be flushed.
+    /// The output line could not be written or flushed.
     OutputFailed,
 }
 

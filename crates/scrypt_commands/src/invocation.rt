@@ -24,7 +24,7 @@ pub trait Machine {
     /// how this machine mixes chunks
     type Mixer: Mixer;
 
-    /// the salts that it can draw
+    /// the salts that it draws
     ghost draws: { Self → List ℕ → Type 0 };
 
     /// Draws a salt at random.
