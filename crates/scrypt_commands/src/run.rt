@@ -35,10 +35,10 @@ pub struct Ended {
 /// Parses the words, reads the whole input, which is the password, computes the output line, writes
 /// it, with one write if the output takes all of it, and flushes once. The status is 0 after the
 /// output line was written, or 1 if it is `no`. The status is 2 if the words are rejected, and then
-/// the input is not read, or if the library rejects the hash or the salt; 3 if an allocation failed;
-/// and 4 if the input or the output failed. On `output failed` only a prefix of the output line was
-/// written, possibly none or all of it. The error line is written to `faults` with one `write_all`;
-/// if that fails, the status stays the same.
+/// the input is not read, or if the library rejects the hash or the salt; 3 if an allocation
+/// failed; and 4 if the input or the output failed. On `output failed` only a prefix of the output
+/// line was written, possibly none or all of it. The error line is written to `faults` with one
+/// `write_all`; if that fails, the status stays the same.
 pub fn run<R: Read, W: Write, F: Write>(
     alloc: Global,
     words: &[String],
