@@ -58,7 +58,7 @@ def prove(room, kept):
 def main(kept):
     declarations.main()
     MADE.parent.mkdir(parents=True, exist_ok=True)
-    # Not in the repository, in which rt refuses sources that are of no crate.
+    # Not in the repository, because rt rejects sources there that belong to no crate.
     with tempfile.TemporaryDirectory() as room:
         archive = prove(Path(room), kept)
         own = copies.kit.located()

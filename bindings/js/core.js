@@ -8,17 +8,17 @@ import { Instance, places } from './instance.js';
 import { MEMORY } from './machine.js';
 import { keyInSteps, turn, verdictInSteps } from './steps.js';
 
-// Limits on memory that are left out are no more than there is.
+// Default limits on memory do not exceed the memory there is.
 const ofMachine = (bytes) => (bytes < MEMORY ? bytes : BigInt(MEMORY));
 const MOST_MEMORY = ofMachine(2n ** 30n + 2n ** 20n); // N = 2^20 with r = 8
 const TEXT_CAPACITY = 512; // the longest text of a hash, without its salt
 
-/** The calls, which return when they are done. In a page's own thread they are for small N. */
+/** The calls, which block the thread. In a page's thread use them for small N. */
 export class Scrypt {
-  #instance; // none while a call is in it
+  #instance; // undefined while a call runs in it
   #another;
 
-  /** Of a compiled module. */
+  /** Creates it from a compiled module. */
   static async of(module) {
     try {
       const { exports } = await WebAssembly.instantiate(module);
@@ -29,13 +29,13 @@ export class Scrypt {
     }
   }
 
-  // Of what an instance exports, and a function that makes another one.
+  // Takes an instance's exports, and a function that makes a new instance.
   constructor(exports, another) {
     this.#instance = new Instance(exports);
     this.#another = another;
   }
 
-  /** How many bytes of memory the module holds. */
+  /** The number of bytes of memory of the module. */
   get memory() {
     return this.#instance?.size ?? 0;
   }
@@ -49,7 +49,7 @@ export class Scrypt {
     });
   }
 
-  /** The same in steps, between which this thread goes on. */
+  /** The same in steps; the event loop runs between them. */
   async scryptAsync(password, salt, given) {
     const { onProgress, signal, ...options } = optionsOf(given, 'scrypt', 'steps');
     const wanted = keyOptions(options);
@@ -86,7 +86,7 @@ export class Scrypt {
     });
   }
 
-  /** The same in steps, between which this thread goes on. */
+  /** The same in steps; the event loop runs between them. */
   async verifyAsync(password, text, given) {
     const { onProgress, signal, ...options } = optionsOf(given, 'verify', 'steps');
     const wanted = verifyOptions(options);
@@ -130,13 +130,13 @@ export class Scrypt {
         signal?.throwIfAborted();
       }
     } finally {
-      steps.return(); // the memory of what was left is wiped
+      steps.return(); // an abandoned derivation's memory is wiped
     }
   }
 
-  // Calls the module in an empty memory. All values are bytes before one is placed. No other call
-  // finds the instance meanwhile, and none later if the engine ended the call inside of the module,
-  // at the end of the stack or by a timeout: then it goes with its memory.
+  // Calls the module in an empty memory. All values are converted to bytes before one is placed. No
+  // other call uses the instance until it returns; and if the engine ended the call inside of the
+  // module, by a stack overflow or a timeout, the instance is dropped with its memory.
   *#steps(values, work) {
     const given = Object.entries(values).map(([name, value]) => bytesOf(value, name));
     const it = this.#instance ?? new Instance(this.#another());
@@ -161,7 +161,7 @@ function keyOptions(options) {
   return { params: parameters(options), length: lengthOf(options.dkLen), limits };
 }
 
-// The buffers come first, since the key is not within the limits.
+// The buffers come first, because the limits do not cover the key.
 function keyPlaces(it, { params, length, limits }) {
   const buffers = it.buffersFor(params, ...limits);
   return [params, it.take(length), buffers];
@@ -170,7 +170,7 @@ function keyPlaces(it, { params, length, limits }) {
 const verifyOptions = (options) =>
   ({ options, params: withDefaults(options), length: lengthOf(options.dkLen) });
 
-// The limits, of which those that are left out are the usual ones: these admit hashes that are made
+// The limits, with defaults for those that are left out. The defaults admit hashes that are made
 // with the same options.
 function limitsOf(it, { options, params, length }) {
   const usual = it.words(3);
@@ -183,7 +183,7 @@ function limitsOf(it, { options, params, length }) {
   ];
 }
 
-// Where there is no hash: the work of a wrong password for a new one.
+// Without a hash: does the work of a wrong password for a new hash.
 function nobodyPlaces(it, wanted) {
   const limits = limitsOf(it, wanted).slice(0, 2);
   return [it.take(SALT_LEN), ...keyPlaces(it, { ...wanted, limits })];

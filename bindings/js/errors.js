@@ -1,10 +1,10 @@
-// What is refused, and why.
+// The errors.
 import {
   ALGORITHM, BUFFER_SIZE, ENCODING_INVALID, HASH_PARAMS_INVALID, HASH_PARAM_INVALID, KEY_TOO_SHORT,
   MISMATCH, OUTPUT_SIZE, OUT_OF_MEMORY, TOO_COSTLY, VERSION, WORDS,
 } from './declared.js';
 
-/** Why a call was refused: `code` for programs, `message` for people. Neither holds a secret. */
+/** An error of a call: `code` for programs, `message` for people. Neither holds a secret. */
 export class ScryptError extends Error {
   constructor(code, message, options) {
     super(message, options);
@@ -13,8 +13,8 @@ export class ScryptError extends Error {
   }
 }
 
-/** A stored hash was refused: it is none of scrypt, costs more than the limits allow, or has a
- * shorter key. */
+/** A stored hash was rejected: it is not a scrypt hash, costs more than the limits allow, or has
+ * too short a key. */
 export class RefusedHashError extends ScryptError {
   constructor(code, message) {
     super(code, message);
@@ -27,7 +27,7 @@ const REFUSALS = new Set([
   TOO_COSTLY, VERSION,
 ].map((status) => WORDS.get(status)[0]));
 
-/** The error of a call that reads the text of a hash, and perhaps takes a password, in bytes. */
+/** The error of a call that reads the text of a hash, and perhaps a password, as bytes. */
 export function errorOfHash(error, password = new Uint8Array()) {
   if (!REFUSALS.has(error.code)) return error;
   const isHash = /^\$(scrypt|7)\$/.test(new TextDecoder().decode(password.subarray(0, 8)));
@@ -36,16 +36,16 @@ export function errorOfHash(error, password = new Uint8Array()) {
   return new RefusedHashError(error.code, error.message + hint);
 }
 
-/** The error that a worker told of. */
+/** The error that a worker reported. */
 export const errorNamed = ({ name, code = 'INTERNAL', message }) =>
   new (name === 'RefusedHashError' ? RefusedHashError : ScryptError)(code, message);
 
-/** Another password, or: needs a new hash. */
+/** A wrong password, or: needs a new hash. */
 export const NO = MISMATCH;
 
 /**
- * Of what a proved call returned, with more words for people. A buffer that is too short is a fault
- * of this package.
+ * The error for the status of a proved call, with a longer message. A buffer that is too short is a
+ * fault of this package.
  */
 export const errorOf = (status, options, more = '') => {
   const [code, message] = WORDS.get(status) ?? [];
@@ -54,12 +54,12 @@ export const errorOf = (status, options, more = '') => {
   return new ScryptError(code, message + more, options);
 };
 
-/** There is no memory for a copy or a table, or the stack ends; `cause` is what was thrown. */
+/** No memory for a copy or a table, or a stack overflow; `cause` is the engine's exception. */
 export const outOfMemory = (cause) => errorOf(OUT_OF_MEMORY, { cause });
 
-// Firefox throws an InternalError at the end of the stack.
+// Firefox throws an InternalError on a stack overflow.
 const isExhausted = (cause) => cause instanceof RangeError || cause?.name === 'InternalError';
 
-/** The error for what was thrown: another one if that was for want of memory or stack. */
+/** The error for an exception: out of memory if the engine had too little memory or stack. */
 export const errorFor = (cause, code, message) =>
   (isExhausted(cause) ? outOfMemory(cause) : new ScryptError(code, message, { cause }));

@@ -1,4 +1,4 @@
-/** A string is encoded as UTF-8; one with a lone surrogate is refused. */
+/** A string is encoded as UTF-8; one with a lone surrogate is rejected. */
 export type Bytes = string | ArrayBuffer | ArrayBufferView;
 
 export interface Params {
@@ -7,41 +7,38 @@ export interface Params {
   /** The block size. */
   r: number;
   /**
-   * The parallelization. Two chunks are mixed at a time, in twice the memory, if `maxmem` and the
+   * The parallelization. Two chunks are interleaved, in twice the memory, if `maxmem` and the
    * engine allow it.
    */
   p: number;
-  /** The length of the key in bytes; 32 if left out. Of a new hash it is 10 to 64. */
+  /** The length of the key in bytes, 10 to 64 in a new hash. Default: 32. */
   dkLen?: number | undefined;
 }
 
-/**
- * As options, each of which may be left out or undefined: then it is the recommended one, and
- * `dkLen` is 32.
- */
+/** Parameters as options. If left out or undefined: the recommended ones, and `dkLen` of 32. */
 export type PartialParams = { [K in keyof Params]?: Params[K] | undefined };
 
-/** As they are read from a hash. */
+/** Parameters that are read from a hash. */
 export type ReadParams = Params & { dkLen: number };
 
 export interface KeyOptions extends Params {
   /**
-   * The most bytes of memory; 2 ** 30 + 2 ** 20 if left out, or 7/8 of what the container has, if
-   * that is less.
+   * The maximum bytes of memory. Default: 2 ** 30 + 2 ** 20, or 7/8 of the memory of the container
+   * if that is less.
    */
   maxmem?: number | undefined;
-  /** The most work, 4 * (N + 32) * r * p; no limit if left out. */
+  /** The maximum work, 4 * (N + 32) * r * p. Default: no limit. */
   maxwork?: number | undefined;
 }
 
 export interface HashOptions extends PartialParams {
-  /** 1 to 64 bytes, or any number for `'mcf'`; 16 random ones if left out. */
+  /** 1 to 64 bytes, or any number for `'mcf'`. Default: 16 random bytes. */
   salt?: Bytes | undefined;
-  /** `'phc'`, the default: `$scrypt$..`; or `'mcf'`, as crypt(3) has it: `$7$..`. */
+  /** `'phc'`, the default: `$scrypt$..`; or `'mcf'`, the format of crypt(3): `$7$..`. */
   format?: 'phc' | 'mcf' | undefined;
   /**
-   * The most bytes of memory; 2 ** 30 + 2 ** 20 if left out, or 7/8 of what the container has, if
-   * that is less.
+   * The maximum bytes of memory. Default: 2 ** 30 + 2 ** 20, or 7/8 of the memory of the container
+   * if that is less.
    */
   maxmem?: number | undefined;
 }
@@ -53,18 +50,18 @@ export interface HashOptions extends PartialParams {
  */
 export interface VerifyOptions extends PartialParams {
   /**
-   * The most bytes of memory; if left out, enough for a table of 2 ** 28 bytes, or more if the
+   * The maximum bytes of memory. Default: enough for a table of 2 ** 28 bytes, or more if the
    * parameters need more.
    */
   maxmem?: number | undefined;
   /**
-   * The most work, 4 * (N + 32) * r * p; 4 times that of the defaults if left out, or that of the
-   * parameters.
+   * The maximum work, 4 * (N + 32) * r * p. Default: 4 times the work of the default parameters, or
+   * the work of the parameters if that is more.
    */
   maxwork?: number | undefined;
   /**
-   * The least length of the key in bytes; if left out, as for the hashers of other languages, or
-   * dkLen if that is less.
+   * The minimum length of the key in bytes. Default: the default of the hashers in other languages,
+   * or dkLen if that is less.
    */
   minKeyLength?: number | undefined;
 }
@@ -76,16 +73,16 @@ export interface CallOptions {
    */
   signal?: AbortSignal | undefined;
   /**
-   * The most milliseconds that the call waits for a worker, which may have to start; no limit if
-   * left out.
+   * The maximum milliseconds that the call waits for a worker, which may have to start. Default: no
+   * limit.
    */
   timeout?: number | undefined;
 }
 
 export interface StepOptions {
   /**
-   * Is called some hundred times a second with how much is done, from 0 to 1. What it throws ends
-   * the call, and rejects the promise.
+   * Called about a hundred times a second with the fraction that is done, from 0 to 1. An exception
+   * from it ends the call and rejects the promise.
    */
   onProgress?: ((fraction: number) => void) | undefined;
   /** Ends the call between two steps, and the promise is rejected with the signal's reason. */
@@ -100,14 +97,14 @@ export type ErrorCode =
   /** A limit is negative, not a whole number, or above 2 ** 53 - 1, but is not `Infinity`. */
   | 'INVALID_LIMIT'
   /**
-   * An argument has another type than it should, or is missing, or there is no option of that name.
+   * An argument has a wrong type, or is missing, or there is no option of that name.
    */
   | 'INVALID_TYPE'
   | 'LONE_SURROGATE'
-  /** Also where the stack ends: `cause` is what the engine threw. */
+  /** Also on a stack overflow: `cause` is the engine's exception. */
   | 'OUT_OF_MEMORY'
   /**
-   * The parameters exceed the limit on memory or on work: the message has what they need, and the
+   * The parameters exceed the limit on memory or on work: the message has their cost and the
    * limits.
    */
   | 'TOO_COSTLY'
@@ -116,11 +113,11 @@ export type ErrorCode =
   /** The salt of a new hash in PHC form has no bytes, or more than 64. */
   | 'SALT_INVALID'
   /**
-   * The text is not a hash in PHC form or `$7$`, or in PHC form its salt or its key has a length
-   * that is not allowed: 1 to 64 and 10 to 64 bytes are. A hash of bcrypt is such a text.
+   * The text is neither a hash in PHC form nor a `$7$` hash, such as a hash of bcrypt; or, in PHC
+   * form, the salt does not have 1 to 64 bytes, or the key does not have 10 to 64 bytes.
    */
   | 'ENCODING_INVALID'
-  /** The text has PHC form, but names another algorithm, as argon2id. */
+  /** The text has PHC form, but names another algorithm, such as argon2id. */
   | 'ALGORITHM'
   /** The hash in PHC form names a version. */
   | 'VERSION'
@@ -135,15 +132,15 @@ export type ErrorCode =
   | 'HASH_PARAMS_INVALID'
   /** No worker was free within `timeout`. */
   | 'TIMEOUT'
-  /** `maxQueue` calls wait for a worker already. */
+  /** `maxQueue` calls already wait for a worker. */
   | 'QUEUE_FULL'
-  /** The engine lacks WebAssembly with vectors. */
+  /** The engine has no WebAssembly with SIMD. */
   | 'UNSUPPORTED'
-  /** The module was not found or not allowed to be compiled. The next call tries again. */
+  /** The module was not found, or the engine may not compile it. The next call tries again. */
   | 'LOAD_FAILED'
   /**
-   * The worker at the address in the message ended, or did not start and there is no other one. The
-   * next call starts another one. This thread may be one that cannot start workers: use `load()`.
+   * The worker at the address in the message ended, or did not start and there is no other worker.
+   * The next call starts one. If this thread cannot start workers, use `load()`.
    */
   | 'WORKER_FAILED'
   /** A fault of this package. */
@@ -155,8 +152,8 @@ export class ScryptError extends Error {
 }
 
 /**
- * A stored hash is refused: the text is not one of scrypt, it costs more than the limits allow, or
- * its key is shorter.
+ * A stored hash is rejected: the text is not a scrypt hash, it costs more than the limits allow, or
+ * its key is too short.
  */
 export class RefusedHashError extends ScryptError {
   private constructor();
@@ -169,43 +166,43 @@ export function scrypt(
 /** Makes the text of a hash with a random salt, in a worker. */
 export function hash(password: Bytes, options?: HashOptions & CallOptions): Promise<string>;
 /**
- * Whether the password is that of the text, in a worker. A text that is not a hash of scrypt is a
- * `RefusedHashError`. Without a text, as for a user who does not exist, it is `false` after the
- * work of a new hash.
+ * Verifies a password against the text of a hash, in a worker. A text that is not a scrypt hash is
+ * a `RefusedHashError`. Without a text, as for a user who does not exist, the result is `false`
+ * after the work of a new hash, so that a timing attack does not tell which users exist.
  */
 export function verify(
   password: Bytes, text: Bytes | null | undefined,
   options?: VerifyOptions & StepOptions & CallOptions,
 ): Promise<boolean>;
-/** Whether the hash of the text is weaker than one with these options. */
+/** Whether a hash is weaker than a new hash with these options. */
 export function needsRehash(text: Bytes, options?: PartialParams): Promise<boolean>;
-/** The parameters of the text of a hash, and the length of its key: 0 if it has none. */
+/** The parameters of a hash, and the length of its key: 0 if it has none. */
 export function params(text: Bytes): Promise<ReadParams>;
 /**
- * The text that `verify` reads, of a salt and a key of another program: in PHC form if the lengths
+ * Makes a hash for `verify` from a salt and a key of another program: in PHC form if the lengths
  * allow it, with the first 64 bytes of the key, which are the key of that length; otherwise `$7$`.
- * An N below 64 is refused: it may be its logarithm.
+ * An N below 64 is rejected, because it may be the logarithm of N.
  */
 export function storedText(
   salt: Bytes, key: Bytes, options: { N: number; r: number; p: number },
 ): string;
 /**
- * Sets how many workers there may be: as many as the machine has processors, but at most four, and
- * in Node no more than fit into 7/8 of the memory of the machine or the container, if it is left
- * out. And how many calls may wait for a worker: 1000, if it is left out.
+ * Sets the maximum number of workers, and of calls that wait for one. Defaults: one worker for each
+ * processor, up to four and, in Node, up to the number that fits into 7/8 of the memory of the
+ * machine or the container; and 1000 calls.
  */
 export function configure(
   options: { maxWorkers?: number | undefined; maxQueue?: number | undefined },
 ): void;
-/** Whether this engine has WebAssembly with vectors. */
+/** Whether this engine has WebAssembly with SIMD. */
 export function isSupported(): boolean;
 
-/** The same calls in the caller's own thread, which waits for them. */
+/** The same calls in the caller's thread, which they block. */
 export interface Scrypt {
   scrypt(password: Bytes, salt: Bytes, options: KeyOptions): Uint8Array;
   /**
-   * The same in steps of some 10 ms, between which a page paints. The memory is wiped after an
-   * abort too: 0.1 seconds for 1 GiB.
+   * The same in steps of about 10 ms; a page paints between them. The memory is wiped after an
+   * abort too, which takes 0.1 seconds for 1 GiB.
    */
   scryptAsync(password: Bytes, salt: Bytes, options: KeyOptions & StepOptions): Promise<Uint8Array>;
   hash(password: Bytes, options?: HashOptions): string;
@@ -217,16 +214,16 @@ export interface Scrypt {
   needsRehash(text: Bytes, options?: PartialParams): boolean;
   params(text: Bytes): ReadParams;
   /**
-   * How many bytes of memory the module holds, all zero between calls, except for 688 bytes of
-   * constants. They are free once this object is, and after a call that the engine ended.
+   * The number of bytes of memory of the module, all zero between calls, except for 688 bytes of
+   * constants. They are freed with this object, and after a call that the engine ended.
    */
   readonly memory: number;
 }
 
 /**
- * Loads the module for calls in the caller's own thread. `source` is where it is, if not beside
- * this package's files: a URL, its bytes, or a compiled module. All later calls use that one too,
- * in workers and here; if it cannot be loaded, nothing changes.
+ * Loads the module for calls in the caller's thread. `source` says where it is, if it is not with
+ * this package's files: a URL, its bytes, or a compiled module. All later calls use this source
+ * too, in workers and here; if it cannot be loaded, nothing changes.
  */
 export function load(
   source?: URL | string | ArrayBuffer | ArrayBufferView | WebAssembly.Module,

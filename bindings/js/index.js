@@ -8,7 +8,7 @@ import { call, configure } from './workers.js';
 
 export { RefusedHashError, ScryptError, configure, isSupported, load, storedText };
 
-// What is for this thread, and what is for the worker.
+// Separates the options for this thread from the options for the worker.
 const parted = ({ onProgress, signal, timeout, ...options }) =>
   [{ onProgress, signal, timeout }, options];
 
@@ -25,15 +25,15 @@ export async function hash(password, given) {
   return call('hash', [copy, { ...options, salt: saltCopy }], how);
 }
 
-/** Whether the password is that of the text, in a worker. Without a text it is not, after the work
- * of a new hash. */
+/** Verifies a password against the text of a hash, in a worker. Without a text the result is false,
+ * after the work of a new hash. */
 export async function verify(password, text, given) {
   const [how, options] = parted(optionsOf(given, 'verify', 'steps', 'worker'));
   const [copy, textCopy] = copiesOf(isNone(text) ? { password } : { password, text });
   return call('verify', [copy, textCopy, options], how);
 }
 
-// The calls that read a text take microseconds. The memory for a long one is not kept.
+// Calls that only read a text take microseconds. The memory for a long text is not kept.
 const MOST_KEPT = 2 ** 22;
 let reader = {};
 
@@ -43,7 +43,7 @@ async function read() {
   return reader.scrypt;
 }
 
-// The text is copied before there is a module, since the caller may change it then.
+// The text is copied before the module is loaded, because the caller may change it until then.
 async function reading(name, text, ...options) {
   const [copy] = copiesOf({ text });
   try {
@@ -54,12 +54,12 @@ async function reading(name, text, ...options) {
   }
 }
 
-/** Whether the hash of the text is weaker than one with these options. */
+/** Whether a hash is weaker than a new hash with these options. */
 export async function needsRehash(text, given) {
   return reading('needsRehash', text, optionsOf(given, 'needsRehash'));
 }
 
-/** The parameters of the text of a hash, and the length of its key. */
+/** The parameters of a hash, and the length of its key. */
 export async function params(text) {
   return reading('params', text);
 }

@@ -1,20 +1,20 @@
-// An instance of the module: what is placed in its memory, and what is called there.
+// An instance of the module: allocates in its memory, and calls its functions.
 import { NO_LIMIT } from './arguments.js';
 import { KEY_TOO_SHORT, OK, TOO_COSTLY } from './declared.js';
 import { NO, errorOf, outOfMemory } from './errors.js';
 
 const PAGE = 65536;
 const STACK = 2 ** 20; // of the module, at the bottom of its memory
-const AT_ONCE = 2; // chunks that are mixed at a time
+const AT_ONCE = 2; // interleaved chunks
 
-/** An instance whose memory is empty. What is taken of it is zeros, until it is wiped. */
+/** An instance with an empty memory. Memory that is taken is zeros, and lasts until it is wiped. */
 export class Instance {
   #calls;
   #memory;
   #base;
   #top;
   #isInside = false;
-  #needs = ''; // what the call needs, and its limits, in words
+  #needs = ''; // the cost of the call and its limits, for the message
 
   constructor(exports) {
     this.#calls = exports;
@@ -23,17 +23,17 @@ export class Instance {
     this.#top = this.#base;
   }
 
-  /** How many bytes of memory it has, which is never less than before. */
+  /** The number of bytes of its memory, which never shrinks. */
   get size() {
     return this.#memory.buffer.byteLength;
   }
 
-  /** Whether a call has not returned. The module takes no other one then. */
+  /** Whether a call has not returned. Then the module must not be called again. */
   get isInside() {
     return this.#isInside;
   }
 
-  /** Wipes what was taken, and the stack. */
+  /** Wipes the memory that was taken, and the stack. */
   wipe() {
     this.#clear(0, STACK);
     this.#clear(this.#base, this.#top);
@@ -41,7 +41,7 @@ export class Instance {
     this.#needs = '';
   }
 
-  // A slice is a pointer and a length to the module.
+  // For the module a slice is a pointer and a length.
   #status(name, args) {
     const given = args.flatMap((it) => (typeof it === 'object' ? [it.at, BigInt(it.length)] : it));
     this.#isInside = true;
@@ -50,13 +50,13 @@ export class Instance {
     return status;
   }
 
-  /** Calls the module, with numbers and with what was taken. */
+  /** Calls the module, with numbers and with memory that was taken. */
   call(name, ...args) {
     const status = this.#status(name, args);
     if (status !== OK) throw this.#refusal(status);
   }
 
-  /** Of a call that also answers no. */
+  /** The same for a call that can also return no. */
   isOk(name, ...args) {
     const status = this.#status(name, args);
     if (status !== OK && status !== NO) throw this.#refusal(status);
@@ -68,7 +68,7 @@ export class Instance {
     return errorOf(status, undefined, isLimit ? this.#needs : '');
   }
 
-  /** Takes zeros above what is taken. */
+  /** Takes zeros above the memory that is taken. */
   take(length, size = 1) {
     const at = Math.ceil(this.#top / 64) * 64;
     const top = at + length * size;
@@ -84,19 +84,19 @@ export class Instance {
     return { at: BigInt(at), length, size };
   }
 
-  /** Words that the module writes to, each with as many low bytes as its type has. */
+  /** Words that the module writes to: to the low bytes, by the size of the type. */
   words(count) {
     return Array.from({ length: count }, () => this.take(8));
   }
 
-  /** Takes as much as these bytes, and copies them there. */
+  /** Takes memory for these bytes, and copies them there. */
   put(bytes) {
     const taken = this.take(bytes.length);
     this.view(taken).set(bytes);
     return taken;
   }
 
-  /** The bytes of what was taken. */
+  /** The bytes of memory that was taken. */
   view({ at, length }) {
     return new Uint8Array(this.#memory.buffer, Number(at), length);
   }
@@ -109,7 +109,7 @@ export class Instance {
     return Number(this.big(taken));
   }
 
-  // Takes the place of a scrypt_needs. Returns it, with those of its fields after log_n, r and p.
+  // Takes memory for a scrypt_needs. Returns it, and its fields after log_n, r and p.
   #takeNeeds() {
     const { at } = this.take(72);
     return [at, ...Array.from({ length: 7 }, (_, i) => ({ at: at + BigInt(16 + 8 * i) }))];
@@ -125,8 +125,8 @@ export class Instance {
   }
 
   /**
-   * The buffers for verifying a hash, or none if it is refused: the call that verifies it says why,
-   * before it looks at them.
+   * The buffers for verifying a hash, or empty ones if it is rejected: the call that verifies it
+   * returns the error before it checks the buffers.
    */
   buffersOf(text, limits) {
     const [needs, keyLength, ...sizes] = this.#takeNeeds();
@@ -136,8 +136,8 @@ export class Instance {
   }
 
   /**
-   * The chunks, the table and the scratch of these sizes: for as many chunks at a time as the
-   * memory allows.
+   * The chunks, the table and the scratch of these sizes, for the number of interleaved chunks that
+   * the memory allows.
    */
   buffers(sizes) {
     const [tables, chunks, table, scratch] = sizes.map((it) => this.number(it));
@@ -154,14 +154,14 @@ export class Instance {
   }
 
   #clear(from, to) {
-    // One view has at most 2^32 bytes in some engines.
+    // In some engines a view has no more than 2^32 bytes.
     for (let at = from; at < to; at += 2 ** 30) {
       new Uint8Array(this.#memory.buffer, at, Math.min(2 ** 30, to - at)).fill(0);
     }
   }
 }
 
-// What a call needs, which is a hash if it has a key, and its limits.
+// The cost of a call, for a hash if there is a key, and its limits.
 function inWords([bytes, work, key], limits) {
   const [most, mostWork, least] = limits.map((it) => (it === NO_LIMIT ? Infinity : it));
   const ofHash = key === undefined ? '' : `, a key of ${key} bytes (minKeyLength is ${least})`;
@@ -169,5 +169,5 @@ function inWords([bytes, work, key], limits) {
   return `: ${bytes} bytes (maxmem is ${most}), ${ofWork}${ofHash}`;
 }
 
-/** Where words are. */
+/** The addresses of words. */
 export const places = (words) => words.map((it) => it.at);

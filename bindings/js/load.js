@@ -1,14 +1,14 @@
-// The module: where it is, and whether this engine can run it.
+// The module: its source, and whether this engine can run it.
 import { Scrypt } from './core.js';
 import { ScryptError } from './errors.js';
 
-// A module of one function, which makes a vector.
+// A module of one function, which makes a SIMD vector.
 const VECTOR = Uint8Array.of(
   0, 97, 115, 109, 1, 0, 0, 0, 1, 5, 1, 96, 0, 1, 123, 3, 2, 1, 0, 10, 8, 1, 6, 0, 65, 0, 253, 15,
   11,
 );
 
-/** Whether this engine has WebAssembly with vectors. */
+/** Whether this engine has WebAssembly with SIMD. */
 export const isSupported = () => typeof WebAssembly === 'object' && WebAssembly.validate(VECTOR);
 
 function checkSupported() {
@@ -18,11 +18,11 @@ function checkSupported() {
 }
 
 let given = Promise.resolve(); // the module of the last source that was loaded, if there was one
-let own; // that of this package's file
+let own; // the module of this package's file
 
 /**
- * The module that calls use: once a source is being loaded, its module if it can be loaded, or else
- * the one before.
+ * The module that calls use: once a source is being loaded, its module if it can be loaded,
+ * otherwise the previous module.
  */
 export async function compile() {
   checkSupported();
@@ -40,7 +40,7 @@ async function ownModule() {
   }
 }
 
-// One of another realm, as of a frame, is of another class.
+// In another realm, such as a frame, it has another class.
 function isModule(source) {
   try {
     WebAssembly.Module.exports(source);

@@ -3,15 +3,17 @@
 
 usage: lower.py IN OUT
 
-Addresses stay numbers of 64 bits, in each function, local and call: only where an instruction accesses the memory, the high
-half of its address is cut off. That changes nothing if the access is inside of the memory, which has at most 2^32 bytes; the
-proofs show that each is. (An access outside traps in the one module, and may not in the other.) What isn't known here is refused.
+Addresses stay numbers of 64 bits, in each function, local and call: only where an instruction
+accesses the memory, the high half of its address is cut off. This changes nothing if the access is
+within the memory, which has no more than 2^32 bytes; the proofs show that each access is. (An
+access outside traps in the one module, and may not in the other.) Unknown instructions are
+rejected.
 """
 
 import sys
 
 I32, I64, F32, F64, V128 = 0x7F, 0x7E, 0x7D, 0x7C, 0x7B
-SIZE = "a number of bytes"  # an i64, of which the high half is cut off too
+SIZE = "a number of bytes"  # an i64, whose high half is cut off too
 WRAP = b"\xa7"  # i32.wrap_i64
 SET, GET = 0x21, 0x20  # a local
 
@@ -24,7 +26,7 @@ def simd(*codes):
     return [0xFD00 | code for code in codes]
 
 
-# What instructions that access the memory have on the stack above the address.
+# The operands above the address, for instructions that access the memory.
 COPY, FILL = bulk(10), bulk(11)
 LANES = simd(*range(84, 92))
 ACCESSES = {
@@ -47,7 +49,7 @@ BYTES = {
 
 
 class Unknown(Exception):
-    """What this doesn't know how to change, or whether."""
+    """A part of a module that this can't handle."""
 
 
 def number(value):
@@ -85,7 +87,7 @@ class Reader:
                 return value
 
     def skip(self, count):
-        """Skips so many numbers, signed or not."""
+        """Skips `count` numbers, signed or not."""
         for _ in range(count):
             self.number()
 
@@ -147,7 +149,7 @@ class Function:
 
 
 def lowered(body, params):
-    """A function of so many parameters."""
+    """A function with this number of parameters."""
     it = Reader(body)
     own = [(it.number(), it.byte()) for _ in range(it.number())]
     if not {kind for _, kind in own} <= {I32, I64, F32, F64, V128}:
@@ -177,7 +179,7 @@ def vector(it, entry):
 
 
 def parameters(it):
-    """How many parameters a type has."""
+    """The number of parameters of a type."""
     it.wanted(b"\x60", "a type that is not a function's")
     count = len(it.take(it.number()))
     it.take(it.number())

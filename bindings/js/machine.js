@@ -1,4 +1,4 @@
-// What the machine has, or the container.
+// The memory and the processors of the machine, or of the container.
 const { process } = globalThis;
 const os = process?.getBuiltinModule?.('node:os');
 
@@ -9,8 +9,8 @@ export const MEMORY = Math.floor((memory * 7) / 8);
 
 const processors = os?.availableParallelism() ?? globalThis.navigator?.hardwareConcurrency ?? 4;
 
-// A verification within the default limits takes 257 MiB, and its worker some 15 besides.
+// A verification within the default limits takes 257 MiB, and its worker about 15 MiB more.
 const OF_WORKER = 272 * 2 ** 20;
 
-/** How many workers there are at most, if the program does not say. */
+/** The default maximum number of workers. */
 export const MAX_WORKERS = Math.max(1, Math.min(processors, 4, Math.floor(MEMORY / OF_WORKER)));

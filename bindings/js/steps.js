@@ -1,9 +1,9 @@
-// Keys and verdicts in steps of some 10 ms.
+// Keys and verdicts in steps of about 10 ms.
 import { places } from './instance.js';
 
 const STEP_MS = 10;
 
-/** A turn of the event loop: a page paints, and messages come in. A timer would wait longer. */
+/** Lets the event loop run: a page paints, and messages come in. A timer would wait longer. */
 export const turn = () => new Promise((resolve) => {
   const { port1, port2 } = new MessageChannel();
   port1.onmessage = () => {
@@ -13,14 +13,14 @@ export const turn = () => new Promise((resolve) => {
   port2.postMessage(undefined);
 });
 
-// Takes the place of a scrypt_progress.
+// Takes memory for a scrypt_progress.
 function takeProgress(it) {
   const { at } = it.take(24);
   const [chunks, width, mixes] = [0n, 8n, 16n].map((i) => ({ at: at + i }));
   return { at, chunks, width, mixes };
 }
 
-// Goes on to the end of all chunks, and yields how much is done, from 0 to 1.
+// Mixes all chunks, and yields the fraction that is done, from 0 to 1.
 function* mixedInSteps(it, params, buffers, progress) {
   const [logN, r, p] = params;
   const inChunk = 2 ** (logN + 1);
@@ -32,7 +32,7 @@ function* mixedInSteps(it, params, buffers, progress) {
     const [begun, width] = [performance.now(), number('width')];
     it.call('scrypt_key_step', ...params, BigInt(count), ...buffers, progress.at);
     const [done, ended] = [mixed(), performance.now()];
-    // A step ends with its chunk, so it may be shorter. Clocks of pages may stand still meanwhile.
+    // A step ends with its chunk, so it may be shorter. A page's clock may stand still during it.
     const inTime = Math.floor(((done - before) * STEP_MS) / (width * (ended - begun)));
     count = Math.max(1, Math.min(2 * count, inTime, all));
     before = done;
@@ -42,7 +42,7 @@ function* mixedInSteps(it, params, buffers, progress) {
   }
 }
 
-/** Derives a key in buffers that nothing else changes meanwhile. */
+/** Derives a key. Nothing else may change the buffers between its steps. */
 export function* keyInSteps(it, password, salt, params, key, buffers) {
   const progress = takeProgress(it);
   it.call('scrypt_key_begin', password, salt, ...params, ...buffers, progress.at);
@@ -50,7 +50,7 @@ export function* keyInSteps(it, password, salt, params, key, buffers) {
   it.call('scrypt_key_finish', password, ...params, buffers[0], progress.at, key);
 }
 
-/** Whether the password is that of the text, in buffers that nothing else changes meanwhile. */
+/** Verifies a password against a text. Nothing else may change the buffers between its steps. */
 export function* verdictInSteps(it, password, text, limits, buffers) {
   const [words, progress] = [it.words(3), takeProgress(it)];
   const given = [password, text, ...limits, ...places(words), ...buffers, progress.at];

@@ -1,15 +1,15 @@
-// The salts and keys of other programs, as hashes.
+// Hashes from the salts and keys of other programs.
 import { bytesOf, optionsOf, parameters, wrong } from './arguments.js';
 
 const LETTERS = './0123456789ABCDEFGHIJKLMNOPQRSTUVWXYZabcdefghijklmnopqrstuvwxyz';
 
 const base64 = (bytes) => btoa(String.fromCharCode(...bytes)).replaceAll('=', '');
 
-// A number in letters of crypt(3), the least first.
+// A number in crypt(3)'s letters, least significant first.
 const digits = (value, count) =>
   Array.from({ length: count }, (_, i) => LETTERS[Math.floor(value / 64 ** i) % 64]).join('');
 
-/** Bytes in letters of crypt(3). */
+/** Bytes in crypt(3)'s letters. */
 export function letters(bytes) {
   let text = '';
   for (let at = 0; at < bytes.length; at += 3) {
@@ -29,7 +29,7 @@ export function mcfText(salt, key, [logN, r, p]) {
 }
 
 /**
- * The text that `verify` reads, of a salt and a key of another program: in PHC form if the lengths
+ * Makes a hash for `verify` from a salt and a key of another program: in PHC form if the lengths
  * allow it, with the first 64 bytes of the key, which are the key of that length; otherwise `$7$`.
  * An N below 64 may be its logarithm, and then no password would match.
  */

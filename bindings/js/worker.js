@@ -5,14 +5,14 @@ import { outOfMemory } from './errors.js';
 
 const port = typeof WorkerGlobalScope === 'function'
   ? globalThis : process.getBuiltinModule('node:worker_threads').parentPort;
-let own; // the module that was given last
+let own; // the last module that was received
 let scrypt;
 let controller; // of the last call
 
 const refusal = ({ name, code, message }) => ({ value: undefined, error: { name, code, message } });
 const onProgress = (progress) => port.postMessage({ progress });
 
-// The bytes are wiped before the caller has the answer.
+// The bytes are wiped before the caller gets the answer.
 async function answer({ module, name, args, isReporting }) {
   controller = new AbortController();
   const { signal } = controller;
@@ -20,7 +20,7 @@ async function answer({ module, name, args, isReporting }) {
   try {
     if (module !== undefined) [own, scrypt] = [module, undefined];
     scrypt ??= await Scrypt.of(own);
-    const method = scrypt[`${name}Async`] ?? scrypt[name]; // in steps, if it has some
+    const method = scrypt[`${name}Async`] ?? scrypt[name]; // in steps, if the call has steps
     return { value: await method.call(scrypt, ...args.slice(0, -1), options), error: undefined };
   } catch (error) {
     return refusal(error);
@@ -29,7 +29,8 @@ async function answer({ module, name, args, isReporting }) {
   }
 }
 
-// An abort of a call that was answered meanwhile ends no other one, since that comes after it.
+// If the call was answered before the abort, the abort ends no other call, because the next one
+// comes after it.
 port.onmessage = async ({ data }) => {
   if (data.isAborted) {
     controller.abort();
@@ -38,14 +39,14 @@ port.onmessage = async ({ data }) => {
   const given = await answer(data);
   const { value } = given;
   try {
-    // A key is given away, so that no copy of it is left here.
+    // A key is transferred, so that no copy of it is left here.
     port.postMessage(given, ArrayBuffer.isView(value) ? [value.buffer] : []);
   } catch (cause) {
     port.postMessage(refusal(outOfMemory(cause)));
   }
 };
 
-// The call that it was is never answered otherwise.
+// Otherwise this call would never be answered.
 port.onmessageerror = () => {
   throw new Error('a call could not be read');
 };

@@ -1,20 +1,20 @@
-// Calls in workers, so that the thread of a page or of a server goes on meanwhile.
+// Calls in workers, so that they don't block the thread of a page or of a server.
 import { amount, bytesAmong, optionsOf } from './arguments.js';
 import { ScryptError, errorNamed, outOfMemory } from './errors.js';
 import { compile } from './load.js';
 import { MAX_WORKERS } from './machine.js';
 
-const IDLE_MS = 5000; // after which a worker ends, and its memory is free
-const MAX_TIMER = 2 ** 31 - 1; // milliseconds: a longer timer fires at once
+const IDLE_MS = 5000; // an idle worker ends after this time, and its memory is freed
+const MAX_TIMER = 2 ** 31 - 1; // milliseconds: a longer timer fires immediately
 
 let [maxWorkers, maxQueue] = [MAX_WORKERS, 1000];
 
-const workers = new Set(); // those that have not ended
+const workers = new Set(); // all workers that have not ended
 const idle = [];
-const waiting = []; // calls that no worker has yet, in the order in which they were made
+const waiting = []; // the wait queue: calls that no worker has yet, oldest first
 let isFull = false; // a further worker could not start
 
-/** Sets how many workers there may be, and how many calls may wait for one. */
+/** Sets the maximum number of workers, and of calls that wait for one. */
 export function configure(given) {
   const options = optionsOf(given, 'configure');
   const most = amount(options.maxWorkers, 'maxWorkers', maxWorkers, 1);
@@ -27,10 +27,10 @@ function start() {
     // Bundlers look for exactly this expression.
     return new Worker(new URL('./worker.js', import.meta.url), { type: 'module' });
   }
-  // Not imported, since bundlers for pages would look for it.
+  // Not imported, because bundlers for pages would look for it.
   const threads = globalThis.process?.getBuiltinModule?.('node:worker_threads');
   if (!threads) throw new Error('this thread cannot start workers; use load()');
-  // Without the program's flags: `--input-type` is an error where a file is run.
+  // Without the program's flags: `--input-type` is an error if a file is run.
   const worker = new threads.Worker(new URL('./worker.js', import.meta.url), { execArgv: [] });
   worker.on('message', (data) => worker.onmessage({ data }));
   worker.on('error', (error) => worker.onerror(error));
@@ -39,8 +39,8 @@ function start() {
   return worker;
 }
 
-// A worker is given a call once it says that it is ready: so no call is lost that waits for one
-// that cannot start.
+// A worker gets a call only after it has reported that it is ready, so that no call is lost in a
+// worker that cannot start.
 function started() {
   try {
     const worker = Object.assign(start(), { isReady: false });
@@ -53,7 +53,7 @@ function started() {
   }
 }
 
-// The calls wait for the other workers, if there are some.
+// The calls wait for the other workers, if there are any.
 function cannotStart(reason) {
   isFull = workers.size > 0;
   if (!isFull) for (const call of waiting.splice(0)) call.reject(reason);
@@ -94,7 +94,7 @@ function report(call, progress) {
   }
 }
 
-// A worker that waits doesn't keep the program from ending.
+// An idle worker doesn't keep the program from ending.
 function rest(worker) {
   worker.call = undefined;
   worker.unref?.();
@@ -105,11 +105,11 @@ function rest(worker) {
 
 const starting = () => [...workers].filter((it) => !it.isReady).length;
 
-// In an overload those who have waited long are about to leave, and then their work is lost. So the
-// last one goes first while more than two wait for each worker, and otherwise the first one.
+// In an overload the calls that have waited long are about to give up, and then their work is lost.
+// So the order is LIFO while more than two calls wait for each worker, and otherwise FIFO.
 const next = () => (waiting.length > 2 * workers.size ? waiting.pop() : waiting.shift());
 
-// Gives the calls that wait to workers that are idle, and starts others.
+// Gives waiting calls to idle workers, and starts more workers.
 function assign() {
   while (idle.length > 0 && waiting.length > 0) give(idle.pop(), next());
   while (!isFull && workers.size < maxWorkers && waiting.length > starting()) started();
@@ -129,12 +129,12 @@ function give(worker, call) {
     worker.module = module;
   } catch (cause) {
     rest(worker);
-    call.reject(outOfMemory(cause)); // to copy the message
+    call.reject(outOfMemory(cause)); // no memory to copy the message
   }
 }
 
-// Browsers give no reason if the page's policy forbids workers, or the script is not there. Its
-// name is not written as where it starts, since bundlers would look for it here too.
+// Browsers give no reason if the page's policy forbids workers, or if the script is missing. The
+// script's name is written differently from above, because bundlers would look for it here too.
 function failed(cause) {
   const address = import.meta.url.replace(/[^/]*$/, 'worker.js');
   const reason = cause.message || 'is it there, and allowed here?';
@@ -152,8 +152,8 @@ function enqueue(call) {
   }
 }
 
-// A call that a worker has begun with ends between two steps, so that the worker and its memory are
-// there for the next one.
+// A call that has started in a worker ends between two steps, so that the worker and its memory
+// stay available for the next call.
 function leave(call, reason) {
   call.isOver = true;
   if (waiting.includes(call)) waiting.splice(waiting.indexOf(call), 1);
@@ -161,7 +161,7 @@ function leave(call, reason) {
   call.reject(reason);
 }
 
-// Until the call is answered, refused or aborted: also while the module is fetched, and while the
+// Until the call is answered, rejected or aborted: also while the module is fetched, and while the
 // call waits for a worker.
 async function answer(call, signal, timeout) {
   const answered = new Promise((resolve, reject) => { Object.assign(call, { resolve, reject }); });
@@ -181,13 +181,13 @@ async function answer(call, signal, timeout) {
   }
 }
 
-/** Calls a method of Scrypt in a worker. The bytes of `args` are given away. */
+/** Calls a method of Scrypt in a worker. The bytes of `args` are transferred. */
 export async function call(name, args, { signal, timeout, onProgress }) {
   try {
     signal?.throwIfAborted();
     const it = { name, args, onProgress, isOver: false };
     return await answer(it, signal, amount(timeout, 'timeout'));
   } finally {
-    for (const it of bytesAmong(args)) if (it.length > 0) it.fill(0); // what no worker was given
+    for (const it of bytesAmong(args)) if (it.length > 0) it.fill(0); // bytes that no worker got
   }
 }

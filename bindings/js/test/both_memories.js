@@ -1,6 +1,6 @@
-// Calls each function of two modules with the same arguments, and compares what is returned or
-// trapped, and the memories.
-// usage: node both_memories.js BEFORE AFTER    of which BEFORE has a 64-bit memory
+// A differential test: calls each function of two modules with the same arguments, and compares
+// results, traps and memories.
+// usage: node both_memories.js BEFORE AFTER    BEFORE has a 64-bit memory
 import { readFileSync } from 'node:fs';
 
 const [before, after] = process.argv.slice(2).map((path) => readFileSync(path));
@@ -31,7 +31,8 @@ function opened(bytes) {
   return { instance, memory };
 }
 
-// Addresses at the ends of what the function may access, just outside, and around 2^31 and 2^32.
+// Addresses at the ends of the memory that the function may access, just outside, and around 2^31
+// and 2^32.
 function addresses(offset, size) {
   const last = END - offset - size;
   return [0, 1, 7, 65552, last - 1, last, last + 1, END - 1, END, 2 ** 31 - 1, 2 ** 31, 2 ** 32 - 1].filter((it) => it >= 0);

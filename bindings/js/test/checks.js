@@ -1,5 +1,5 @@
-// What is checked in each engine, on a module: the package's, and the one with a 64-bit memory that
-// it is made of. Each check is a name and a function, which throws.
+// The checks for each engine, on a module: the package's, and the module with a 64-bit memory that
+// it is made from. Each check is a name and a function, which throws on failure.
 import { compile } from '../load.js';
 import { endingChecks } from './endings.js';
 import {

@@ -1,4 +1,4 @@
-// How calls end otherwise than by an answer.
+// The ways in which calls end without an answer.
 import { equal, instead, refused } from './support.js';
 
 const later = (ms = 0) => new Promise((resolve) => { setTimeout(resolve, ms); });
@@ -51,7 +51,7 @@ export function endingChecks() {
     equal(reports.join(), '0.1', 'no progress after the abort');
     await aborted;
     equal(made[0].sent[1].isAborted, true, 'what the worker is told');
-    made[0].says({ value: KEY }); // its answer was under way
+    made[0].says({ value: KEY }); // its answer was in transit
     await until(() => made[0].sent.length === 3);
     abort.abort();
     made[0].says({ value: OTHER });
@@ -63,7 +63,7 @@ export function endingChecks() {
     const abort = new AbortController();
     const calls = [call({ signal: abort.signal }), call()];
     await until(() => made[0]?.sent.length === 1);
-    // The worker is given the next call at once, which is not the one that is aborted.
+    // The worker gets the next call immediately; that call is not aborted.
     made[0].says({ value: KEY });
     abort.abort();
     equal(made[0].sent.filter((it) => it.isAborted).length, 0, 'aborts');
@@ -113,7 +113,7 @@ export function endingChecks() {
       call(options).then(() => answers.push(i), ({ code }) => answers.push(code));
     const first = add(0, { timeout: 500 });
     await until(() => made[0]?.sent.length === 1);
-    await later(600); // it computes, for which the timeout does not count
+    await later(600); // the timeout does not count while it computes
     const others = [1, 2, 3].map((i) => add(i));
     await refused('QUEUE_FULL', () => call());
     for (let i = 2; i <= 4; i++) {
@@ -123,7 +123,7 @@ export function endingChecks() {
     await add('late', { timeout: 1 });
     made[0].says({ value: KEY });
     await Promise.all([first, ...others]);
-    // The newest one first, while more than two wait for a worker.
+    // LIFO, while more than two wait for a worker.
     equal(answers.join(), '0,3,1,TIMEOUT,2', 'the order');
     for (const timeout of [-1, NaN]) await refused('INVALID_LIMIT', () => call({ timeout }));
     for (const it of [{ maxWorkers: 0 }, { maxQueue: NaN }]) {

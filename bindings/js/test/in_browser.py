@@ -66,12 +66,12 @@ def serve():
 
 
 def answer():
-    """What a page says."""
+    """The output of a page."""
     return Handler.said.get(timeout=SECONDS)
 
 
 def in_another(command, page):
-    """What a page says that a command opens."""
+    """The output of a page that a command opens."""
     quiet = {"stdout": subprocess.DEVNULL, "stderr": subprocess.DEVNULL}
     with subprocess.Popen([*command, page], **quiet) as ran:
         try:
@@ -89,7 +89,7 @@ def is_hashed(chromium, page):
 
 
 def in_chromium(page):
-    """What the page says in Chromium, in which ONE_SCRIPT is opened too."""
+    """The output of the page in Chromium, which opens ONE_SCRIPT too."""
     chromium = browser.Browser()
     try:
         chromium.open(page)

@@ -1,6 +1,6 @@
-// Keys and hashes of node:crypto, which is OpenSSL's, for random arguments.
+// Differential test: keys and hashes of node:crypto, which is OpenSSL's, for random arguments.
 // usage: node keys.js [COUNT]       prints some as JSON, for a page
-//        node keys.js COUNT steps   derives so many keys in steps of random sizes
+//        node keys.js COUNT steps   derives COUNT keys in steps of random sizes
 import { randomBytes, randomInt, scryptSync } from 'node:crypto';
 import { pathToFileURL } from 'node:url';
 import { load } from '../index.js';

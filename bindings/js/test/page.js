@@ -1,4 +1,4 @@
-// Runs the checks in a page, and sends what they say to the server.
+// Runs the checks in a page, and sends the results to the server.
 import { checks } from './checks.js';
 
 const got = async (path) => {

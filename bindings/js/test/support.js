@@ -1,4 +1,4 @@
-// What checks share.
+// Shared by the checks.
 import { Scrypt } from '../core.js';
 import { ScryptError } from '../errors.js';
 
@@ -25,7 +25,7 @@ export async function works(api) {
   equal(hex(key), '77d65762', 'the next call');
 }
 
-/** What bindings/cases.tsv says of verifications. */
+/** The verifications of bindings/cases.tsv. */
 export async function verifies(api, lines, after = () => {}) {
   for (const line of lines.trimEnd().split('\n').slice(1)) {
     const [status, password, text] = line.split('\t');
@@ -48,7 +48,7 @@ export async function instead(object, name, value, work) {
   }
 }
 
-/** With a clock by which each step takes another time, so that the next one has another size. */
+/** With a clock that gives each step a different time, so that the next step has another size. */
 export function inRandomSteps(work) {
   let ms = 0;
   const now = () => {
@@ -81,7 +81,7 @@ export async function opened(module) {
   try {
     it.memory.grow(0);
   } catch {
-    it.isWide = true; // engines in which the size of a 64-bit memory is a BigInt
+    it.isWide = true; // some engines have the size of a 64-bit memory as a BigInt
   }
   // Calls so that the engine ends scrypt_hash_params.
   it.end = (work) => {
@@ -92,7 +92,7 @@ export async function opened(module) {
       it.isEnding = false;
     }
   };
-  // Whether all but the module's own data, which are above its stack, is zeros.
+  // Whether the memory is zeros, except for the module's data, which are above its stack.
   it.isWiped = () => {
     const { memory: { buffer }, base } = it;
     equal(hex(new Uint8Array(buffer).subarray(2 ** 20, base)), data, 'data');

@@ -1,6 +1,6 @@
 #!/bin/sh
-# Tests the package in Node and in Chromium, beside node:crypto; its types; and the bundles of README.
-# Prints which package is not installed.
+# Tests the package in Node and in Chromium, against node:crypto; its types; and the bundles of
+# README. Prints the packages that are not installed.
 set -eu
 unset CDPATH
 cd "$(dirname "$0")"

@@ -1,4 +1,5 @@
-"""lower.py changes each instruction that accesses the memory, and nothing else, and refuses what it doesn't know.
+"""lower.py changes each instruction that accesses the memory, and nothing else, and rejects
+unknown ones.
 
 Here a module is made that has a function for each of these instructions, and both_memories.js calls them before and after, with
 addresses at the ends of the memory and outside of it.
@@ -105,7 +106,7 @@ def made(bodies, memory=b"\x04\x02", data=b"\x00\x42\x90\x80\x04\x0b", more=b"")
     ])  # fmt: skip
 
 
-# A part of a module that is refused, and why.
+# A part of a module that is rejected, and why.
 REFUSED = [
     (made([("grow", b"\x20\x00\x40\x00")]), "memory.grow, which the module doesn't have"),
     (made([("size", b"\x3f\x00")]), "memory.size"),
@@ -149,7 +150,7 @@ class Lower(unittest.TestCase):
                 lower.module(module)
 
     def test_packed(self):
-        """What is packed is what this made, whichever other tools are installed."""
+        """The packed file is the output of lower.py, whichever other tools are installed."""
         self.assertEqual(build.MODULE.read_bytes(), lower.module(build.MADE.read_bytes()))
 
 

@@ -1,4 +1,5 @@
-// Compiled by tsc with `strict`, and not run: that the types fit what is called, and refuse what they should.
+// Compiled by tsc with `strict`, and not run: tests that the types accept correct calls, and reject
+// wrong ones.
 import { Bytes, ErrorCode, RefusedHashError, Scrypt, ScryptError, configure, hash, isSupported, load, needsRehash, params, scrypt, storedText, verify } from 'scrypt-proved';
 
 const signal = new AbortController().signal;
@@ -9,7 +10,7 @@ export async function calls(password: Bytes): Promise<string | undefined> {
   const isRight: boolean = await verify(password, text, { maxwork: 2 ** 30, minKeyLength: 10, timeout: 1000 });
   const isOfNobody: boolean = await verify(password, null) || await verify(password, undefined);
   configure({ maxWorkers: 1, maxQueue: Infinity });
-  // What is undefined is left out.
+  // An undefined option is left out.
   const none = { N: undefined, dkLen: undefined, maxmem: undefined, signal: undefined };
   await hash('', { ...none, salt: undefined, format: undefined });
   await verify('', '', { ...none, maxwork: undefined, minKeyLength: undefined });

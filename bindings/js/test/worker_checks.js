@@ -1,4 +1,4 @@
-// What is checked of calls in workers, and of what is handed in and loaded.
+// The checks of calls in workers, of arguments, and of loading.
 import * as workers from '../index.js';
 import { compile } from '../load.js';
 import { equal, hex, instead, refused, verifies, works } from './support.js';
@@ -23,7 +23,7 @@ const VECTORS = [
     + '8e56fd8f4ba5d09ffa1c6d927c40f4c337304049e8a952fbcbf45c6fa77a41a4'],
 ];
 
-/** Parameters of the least cost. */
+/** Parameters of minimum cost. */
 export const OF = { N: 2, r: 1, p: 1 };
 
 function detached() {
@@ -32,7 +32,7 @@ function detached() {
   return it;
 }
 
-// What is wrong, in place of a parameter, or of a password, a salt or a text.
+// Wrong values of a parameter, or of a password, a salt or a text.
 const NUMBERS = [
   ['INVALID_PARAMS', 'N', [3, 0, -2, 1.5, NaN, Infinity, 2 ** 64]],
   ['INVALID_PARAMS', 'r', [0, 2 ** 32 + 8, 2 ** 30]],
@@ -189,8 +189,8 @@ function hashChecks() {
   return list;
 }
 
-// What a class, a Proxy or a getter of the caller does is its own; what a stranger can put into
-// Object.prototype lifts no limit.
+// A class, a Proxy or a getter of the caller may do anything; but a property that a stranger can
+// put into Object.prototype must not lift a limit.
 function givenChecks() {
   const list = {};
   list['bytes that change after the call'] = async () => {
