@@ -115,7 +115,7 @@ hostile: native
 	$(TASK) $(PY) tools.tests.hostile $(LIBRARY) 100000
 
 # ---- The program ----
-program: $(call proved,$(PROVED)/scrypt_tool)
+program: $(call proved,$(PROVED)/scrypt_tool native)
 	$(TASK) --needs cc:gcc /usr/include/bsd/readpassphrase.h:libbsd-dev tools/gate/program.sh
 $(CROSS:%=program-%): program-%: $(PROVED)/scrypt_commands
 	$(TASK) $(call FOR,$*) $(PY) bindings.cross $* scrypt_tool

@@ -26,7 +26,8 @@ def send(pid, terminal, answer):
 
 
 def session(words, answers):
-    """Runs a program on a terminal, and types an answer, or sends a signal, after each line that ends in a colon.
+    """Runs a program on a terminal, and types an answer, or sends a signal, after each line that ends in a colon, or a
+    bar that ends in a per cent sign.
     Returns its status, what the terminal showed, and whether the echo was on, at each answer and at the end."""
     pid, terminal = pty.fork()
     if pid == 0:
@@ -45,7 +46,7 @@ def session(words, answers):
             is_closed = True
             continue
         shown, line = shown + part, line + part
-        if line.rstrip().endswith(b":") and answers:
+        if line.rstrip().endswith((b":", b"%")) and answers:
             echo.append(has_echo(terminal))
             send(pid, terminal, answers.pop(0))
             line = b""
