@@ -36,7 +36,7 @@
 #define NS_OF_MS INT64_C(1000000)
 #define MAX_TIMEOUT_MS (INT64_MAX / NS_OF_MS / 2) /* a longer one counts as none */
 
-/* The batching window. It is not shorter than the time by which a sleep may end late. */
+/* The batching window. It is no shorter than the delay with which a sleep may end. */
 #define MAX_LINGER_NS 1000000
 #ifndef MIN_LINGER_NS /* tests define another value */
 #define MIN_LINGER_NS 50000

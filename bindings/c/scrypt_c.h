@@ -108,7 +108,7 @@ enum scrypt_status {
   SCRYPT_KEY_TOO_SHORT = 15,      /* the key in the text is shorter than the limits allow */
   SCRYPT_NULL_POINTER = 16,       /* a pointer that may not be NULL is NULL */
   SCRYPT_CLOSED = 17,             /* the hasher is closed */
-  SCRYPT_TIMEOUT = 18,            /* no slot of the hasher was free before the timeout */
+  SCRYPT_TIMEOUT = 18,            /* the call got no slot of the hasher before its timeout */
   SCRYPT_OPTIONS_SIZE = 19,       /* the size in the options is not sizeof (scrypt_options) */
   SCRYPT_UNFINISHED = 20,         /* not all chunks of a derivation in steps are mixed */
   SCRYPT_INVALID_PROGRESS = 21,   /* no derivation with these parameters has this progress */
@@ -118,8 +118,8 @@ enum scrypt_status {
 /* ---- Keys ---- */
 
 /* Writes the scrypt key of password and salt, output_len bytes long, to output. With p of 2 or
- * more, up to four chunks are interleaved, each in a table, if all buffers need no more than 129
- * MiB together; if that allocation fails, one table is used.
+ * more, up to four chunks are interleaved, in up to four tables, if all buffers need no more than
+ * 129 MiB together; if that allocation fails, one table is used.
  * SCRYPT_NULL_POINTER, SCRYPT_INVALID_PARAMS, SCRYPT_INVALID_OUTPUT_LEN, SCRYPT_OUT_OF_MEMORY. */
 SCRYPT_CHECKED
 int scrypt_key(const void *password, size_t password_len, const void *salt, size_t salt_len, uint32_t log_n, uint32_t r,

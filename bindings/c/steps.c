@@ -7,8 +7,8 @@
 void *clearing_malloc(size_t len);
 void clearing_free(void *block);
 
-/* As in scrypt_key: the bytes of four tables of 32 MiB, and the minimum words of a table for which
- * interleaving pays. */
+/* As in scrypt_key: the bytes of four tables of 32 MiB, and the minimum words of a table that
+ * make interleaving faster. */
 enum { MAX_OF_TABLES = 129 << 20, MIN_WORDS = 1 << 14 };
 
 /* The time of a step, and the number of cores of the first one, which takes less. */

@@ -19,7 +19,7 @@ struct line {
   uint8_t password[MOST], salt[MOST];
 };
 
-/* How many bytes the text has after its dot, which are written. */
+/* Decodes the text after its dot to bytes, and returns their number. */
 static size_t bytes_of(const char *text, uint8_t *bytes) {
   size_t len = 0;
   unsigned byte;

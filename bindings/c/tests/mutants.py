@@ -1,5 +1,5 @@
 #!/usr/bin/env python3
-"""Mutation testing of the hasher: mutants made by rules, each of which a test has to kill.
+"""Mutation testing of the hasher: mutants made by rules. A test has to kill each mutant.
 
 usage: python3 -m bindings.c.tests.mutants [PART OF]    after make lib; at the top of the repository
 

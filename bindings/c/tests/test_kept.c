@@ -25,7 +25,8 @@ static int by_hasher(void) {
   return status == SCRYPT_MISMATCH ? SCRYPT_OK : -1;
 }
 
-/* Calls with known values in them. Returns how many of the 18 are others afterwards, and 100 more if the call fails. */
+/* Makes a call with known values in the registers. Returns how many of the 18 have changed, plus
+ * 100 if the call fails. */
 int changed_by(int (*call)(void));
 #define EACH_WORD(it) it(rbx) it(rbp) it(rdi) it(rsi) it(r12) it(r13) it(r14) it(r15)
 #define EACH_VECTOR(it)                                                                                        \

@@ -88,8 +88,8 @@ static void keys_in_buffers(size_t i, uint8_t s) {
   free(scratch);
 }
 
-/* The key of vector 1, which has 16 chunks, in buffers that are longer than needed: how many tables
- * are used of them, and nothing after those is written. */
+/* The key of vector 1, which has 16 chunks, in buffers that are longer than needed: the number of
+ * tables that are used. Nothing after them is written. */
 static const struct {
   size_t table_more, scratch_more; /* than one of each */
   size_t used;

@@ -10,8 +10,8 @@ static void check_null(int status, int wanted, const char *why) {
   check(memcmp(&made, before, sizeof made) == 0, why);
 }
 
-/* How often a call was made before, the pointers that it is given now, and the one of them that is
- * NULL. */
+/* The number of times that a call was made before, the pointers that it gets now, and the name of
+ * the pointer that is NULL. */
 static int turn, pointers;
 static const char *null = "";
 

@@ -33,7 +33,7 @@ static struct world {
   struct call calls[CALLS];
   struct batch {
     struct call *calls[SCRYPT_MOST_LOGINS];
-    size_t count, rounds; /* how often it was extended */
+    size_t count, rounds; /* the number of times that it was extended */
   } batches[SLOTS];
   int entered, wanted[CALLS], statuses[CALLS];
 } now, before;

@@ -1,4 +1,5 @@
-/* Windows unwinds the stack by a table of all functions: from a fault in a proved call, through it and the C around it, to main. */
+/* Windows unwinds the stack by a table of all functions: from a fault in a proved call, through it
+ * and the C around it, to main. */
 #include "scrypt_c.h"
 
 #include <stdio.h>

@@ -1,4 +1,5 @@
-/* Calls that derive one key, for valgrind, which counts the instructions of each: none derives it twice. */
+/* Calls that derive one key, for valgrind, which counts the instructions of each: no call derives
+ * it twice. */
 #include "check.h"
 #include "scrypt_c.h"
 

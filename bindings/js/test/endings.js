@@ -13,8 +13,8 @@ async function until(condition) {
 const [KEY, OTHER] = [Uint8Array.of(1), Uint8Array.of(2)];
 const args = () => [new Uint8Array(1), new Uint8Array(1), {}];
 
-// Runs a check with workers that start if `starts` says so, and a copy of workers.js that has no
-// others.
+// Runs a check with fake workers, which start if `starts` returns true, and with a copy of
+// workers.js that has no others.
 async function withWorkers(name, check, starts = () => true) {
   const made = [];
   class Acting {
