@@ -249,8 +249,8 @@ func (h *Hasher) refusal(text []byte) error {
 }
 
 // NeedsRehash reports whether a parameter of the hash, or the length of its key, is smaller than in
-// new hashes. Its errors match ErrInvalidHash (errors.Is). It needs no memory, so it also works on
-// a closed Hasher.
+// new hashes. Its errors match ErrInvalidHash (errors.Is), or ErrClosed for the zero Hasher. It needs
+// no memory, so it also works on a closed Hasher.
 func (h *Hasher) NeedsRehash(text string) (bool, error) {
 	if h.of == nil {
 		return false, ErrClosed

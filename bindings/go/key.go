@@ -20,9 +20,9 @@ const stepTime = 10 * time.Millisecond
 const several = 129 << 20
 
 // Key derives a key of keyLen bytes from a password and a salt. N must be a power of two. Limit
-// keyLen if it comes from a file; Params.Memory and Params.Work return the cost of N, r and p. The
-// errors match (errors.Is) ErrInvalidParams, ErrInvalidOutputLen, and ErrOutOfMemory if the memory
-// for the table or for the key is not available.
+// keyLen if it comes from a file: the process ends if it has no memory for the key. Params.Memory
+// and Params.Work return the cost of N, r and p. The errors match (errors.Is) ErrInvalidParams,
+// ErrInvalidOutputLen, and ErrOutOfMemory if the memory for the table is not available.
 func Key(password, salt []byte, N, r, p, keyLen int) ([]byte, error) {
 	return made(N, r, p, keyLen, func(needs C.scrypt_needs, key []byte) error {
 		return failed(C.scrypt_key(pointer(password), size(password), pointer(salt), size(salt),
