@@ -1,7 +1,8 @@
 """Verifies and makes hashes by the built program: hashes of other programs, and changed, truncated
 or long ones.
 
-The hashes are from tools/tests/known.py, and all other keys from Python's hashlib.
+The hashes are from tools/tests/known.py and bindings/cases.tsv, and all other keys from Python's
+hashlib.
 `tools/tests/hostile.py` fuzzes the C library with more than a million texts.
 
 usage: python3 -m tools.tests.hashes SCRYPT_TOOL
@@ -9,6 +10,8 @@ usage: python3 -m tools.tests.hashes SCRYPT_TOOL
 
 import hashlib
 import itertools
+import pathlib
+import re
 import sys
 
 from tools.tests import crypt64, reference, runs
@@ -165,6 +168,19 @@ def verified(tool):
         yield f"{text} ({reason})", unlimited(tool, ["verify", text], password), wanted
 
 
+def cases(tool):
+    """The verifications of bindings/cases.tsv, except a text with a zero byte, which no argument has."""
+    table = pathlib.Path(__file__).parents[2] / "bindings" / "cases.tsv"
+    for line in table.read_text("utf-8").splitlines()[1:]:
+        status, password, text = line.split("\t")
+        if "\\0" not in text:
+            ran = runs.run([tool, "--usual-limits", "verify", text], password.encode())
+            name = re.sub(r"^HASH_", "", status).title().replace("_", "")
+            wanted = {"OK": runs.OK, "MISMATCH": runs.NO}.get(status, (2, "", f"hash refused: {name}"))
+            error = re.match(r"(hash refused: \w+)?", ran[2])[0]
+            yield f"{text} (cases.tsv)", (*ran[:2], error), wanted
+
+
 def made(tool):
     """Hashes of long passwords in both formats, by hashlib's keys."""
     for length, form in itertools.product(LONG_PASSWORDS, ("phc", "mcf")):
@@ -180,7 +196,7 @@ def made(tool):
 
 def main():
     (tool,) = sys.argv[1:]
-    _, wrong = runs.report("hashes", itertools.chain(verified(tool), made(tool)))
+    _, wrong = runs.report("hashes", itertools.chain(verified(tool), cases(tool), made(tool)))
     sys.exit(1 if wrong else 0)
 
 
