@@ -1,6 +1,6 @@
 #!/usr/bin/env python3
 """Proves and compiles the crate scrypt_c and the program scrypt_tool for a processor other than the
-kit's, with its mixer, the backend (tools/copies.py). The output is in crates/NAME/out/PRESET.
+kit's, with its backend (tools/copies.py). The output is in crates/NAME/out/PRESET.
 
 usage: python3 -m bindings.cross PRESET NAME[=KEPT] ..
 
@@ -36,7 +36,7 @@ def build(room, preset, name, given):
     """Proves and builds a copy of a crate."""
     out, of_kit = Path(f"crates/{name}/out/{preset}").resolve(), presets.MACHINES[preset]["kit"]
     out.mkdir(parents=True, exist_ok=True)
-    copies.copy_crate(name, room / name, of_kit["mixer"])
+    copies.copy_crate(name, room / name, of_kit["backend"])
     options = ["--toolchain", f"{kit.located()}/toolchain", "--backend", "llvm", "--target", of_kit["target"]]
     verdict = copies.build(name, room / name, out / MADE[name], *options, kept=begin(name, preset, given))
     shutil.rmtree(out / "kept", ignore_errors=True)

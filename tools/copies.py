@@ -1,6 +1,6 @@
 """Copies of crates and of the kit's toolchain for another target, and their build.
 
-A copy is the crate with the mixer (the backend) of that target in `src/target.rt`. It is proved
+A copy is the crate with the backend of that target in `src/target.rt`. It is proved
 like the crate, over the same libraries.
 """
 
@@ -24,18 +24,18 @@ def run(*words, cwd=None):
     return ran.stdout
 
 
-def copy_crate(name, to, mixer, left_out=()):
-    """Copies a crate without these functions and their proofs. `mixer` is the backend
-    (crates/scrypt/src/mixers.rt); the crates themselves have Vectors, for x86-64."""
+def copy_crate(name, to, backend, left_out=()):
+    """Copies a crate without these functions and their proofs. `backend` is the backend
+    (crates/scrypt/src/backends.rt); the crates themselves have Simd, for x86-64."""
     for part in "src", "specs", "proofs":
         if os.path.isdir(f"crates/{name}/{part}"):
             shutil.copytree(f"crates/{name}/{part}", to / part)
     for function in left_out:
         leave_out(to, function)
     chosen = to / "src/target.rt"
-    text, count = re.subn(r"::Vectors\b", f"::{mixer}", chosen.read_text("utf-8"))
+    text, count = re.subn(r"::Simd\b", f"::{backend}", chosen.read_text("utf-8"))
     if count != 1:
-        sys.exit(f"{chosen}: {count} mixers")
+        sys.exit(f"{chosen}: {count} backends")
     chosen.write_text(text, "utf-8")
 
 

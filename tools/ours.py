@@ -7,14 +7,14 @@ import time
 
 from tools.generate.header import loaded, structure
 
-UNBOUNDED = (1 << 64) - 1
-Options, Needs, Login = (structure(f"scrypt_{it}") for it in ("options", "needs", "login"))
-__all__ = ["Login", "Needs", "Options", "UNBOUNDED", "buffers", "loaded", "seconds", "verifying"]
+NO_LIMIT = (1 << 64) - 1
+Options, Cost, Login = (structure(f"scrypt_{it}") for it in ("options", "needs", "login"))
+__all__ = ["Login", "Cost", "Options", "NO_LIMIT", "buffers", "loaded", "seconds", "verifying"]
 
 
-def verifying(library, most_bytes, most_work):
+def verifying(library, max_mem, max_work):
     """A verification by a hasher, which keeps its memory, in one table, within these limits."""
-    options = Options(ctypes.sizeof(Options), 1, 1, 1, most_bytes=most_bytes, most_work=most_work, at_once=1, processors=1)
+    options = Options(ctypes.sizeof(Options), 1, 1, 1, max_mem=max_mem, max_work=max_work, max_tables=1, processors=1)
     hasher = library.scrypt_hasher_new(ctypes.byref(options), None)
     return lambda *login: library.scrypt_hasher_verify(hasher, *login, -1)
 
@@ -22,10 +22,10 @@ def verifying(library, most_bytes, most_work):
 def buffers(library, params, tables, logins=1):
     """The chunks for a number of logins, up to four tables and their scratch, in huge pages if available: each followed by
     its length."""
-    needs = Needs()
-    if library.scrypt_params_need(*params, UNBOUNDED, UNBOUNDED, needs) != 0:
+    cost = Cost()
+    if library.scrypt_params_cost(*params, NO_LIMIT, NO_LIMIT, cost) != 0:
         sys.exit(f"no lengths for {params}")
-    for length, times, width in ((needs.chunks_len, logins, 1), (needs.table_len, tables, 4), (needs.scratch_len, tables, 4)):
+    for length, times, width in ((cost.chunks_len, logins, 1), (cost.table_len, tables, 4), (cost.scratch_len, tables, 4)):
         room = mmap.mmap(-1, length * times * width)
         room.madvise(mmap.MADV_HUGEPAGE)
         yield from ((ctypes.c_char * len(room)).from_buffer(room), length * times)

@@ -1,4 +1,4 @@
-"""Reads the vendor part of CMakePresets.json about other machines: the kit's target and its mixer,
+"""Reads the vendor part of CMakePresets.json about other machines: the kit's target and its backend,
 and the commands and files that are needed to build and run for them, each with its Debian package.
 
 usage: python3 -m tools.presets packages      the Debian packages of all

@@ -16,7 +16,7 @@ void arena_free(struct arena *arena) {
   arena->room = 0;
 }
 
-size_t arena_reserve(struct arena *arena, const scrypt_needs *one, size_t max) {
+size_t arena_reserve(struct arena *arena, const scrypt_cost *one, size_t max) {
   for (; max > 0; max--) {
     if (one->bytes <= arena->room / max) return max;
     arena_free(arena);
@@ -32,7 +32,7 @@ size_t arena_reserve(struct arena *arena, const scrypt_needs *one, size_t max) {
   return 0;
 }
 
-struct buffers arena_buffers(const struct arena *arena, const scrypt_needs *one, size_t tables,
+struct buffers arena_buffers(const struct arena *arena, const scrypt_cost *one, size_t tables,
                              size_t logins) {
   struct buffers of;
   of.table_len = tables * one->table_len;

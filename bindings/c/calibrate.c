@@ -3,10 +3,10 @@
 #include "scrypt_c.h"
 #include "system.h"
 
-enum { LEAST_LOG_N = 10, MOST_LOG_N = 40, R = 8, TRIES = 3 };
+enum { MIN_LOG_N = 10, MAX_LOG_N = 40, R = 8, TRIES = 3 };
 
 /* With a larger p the chunks would need more than 1 MiB in addition to the table. */
-#define MOST_P 1000
+#define MAX_P 1000
 
 static double now(void) { return (double)now_ns() * 1e-9; }
 
@@ -27,13 +27,13 @@ static int measure(uint32_t log_n, double *seconds) {
   return status;
 }
 
-int scrypt_calibrate(double seconds, size_t most_bytes, uint32_t *log_n, uint32_t *r, uint32_t *p) {
+int scrypt_calibrate(double seconds, size_t max_mem, uint32_t *log_n, uint32_t *r, uint32_t *p) {
   double taken = 0, best_taken = 0;
   uint32_t it, best = 0;
   int status = SCRYPT_TOO_COSTLY;
   if (log_n == NULL || r == NULL || p == NULL) return SCRYPT_NULL_POINTER;
   /* Twice the N takes about twice the time: try it if that may be within the limit. */
-  for (it = LEAST_LOG_N; it <= MOST_LOG_N && (size_t)128 * R <= most_bytes >> it && 1.8 * taken <= seconds; it++) {
+  for (it = MIN_LOG_N; it <= MAX_LOG_N && (size_t)128 * R <= max_mem >> it && 1.8 * taken <= seconds; it++) {
     status = measure(it, &taken);
     if (status == SCRYPT_OK && !(taken <= seconds)) status = SCRYPT_TOO_COSTLY;
     if (status != SCRYPT_OK) break;
@@ -43,6 +43,6 @@ int scrypt_calibrate(double seconds, size_t most_bytes, uint32_t *log_n, uint32_
   if (best == 0) return status;
   *log_n = best;
   *r = R;
-  *p = seconds < MOST_P * best_taken ? (uint32_t)(seconds / best_taken) : MOST_P;
+  *p = seconds < MAX_P * best_taken ? (uint32_t)(seconds / best_taken) : MAX_P;
   return SCRYPT_OK;
 }

@@ -38,18 +38,18 @@ int scrypt_buffer_lens(uint32_t log_n, uint32_t r, uint32_t p, uint8_t s, size_t
 }
 
 /* The maximum for several tables: four of 32 MiB, with scratch and chunks. */
-#define MOST_OF_SEVERAL ((size_t)129 << 20)
+#define MAX_INTERLEAVED_MEM ((size_t)129 << 20)
 
 int scrypt_key(INPUTS, OUTPUT) {
   TAKE_OUTPUT;
   TAKE_INPUTS;
-  return cleared_scrypt_kdf(THE_INPUTS, tables_that_pay(), MOST_OF_SEVERAL, THE_OUTPUT);
+  return cleared_scrypt_kdf(THE_INPUTS, max_interleave(), MAX_INTERLEAVED_MEM, THE_OUTPUT);
 }
 
-int scrypt_key_within(INPUTS, size_t most_bytes, uint64_t most_work, OUTPUT) {
+int scrypt_key_limited(INPUTS, size_t max_mem, uint64_t max_work, OUTPUT) {
   TAKE_OUTPUT;
   TAKE_INPUTS;
-  return cleared_scrypt_kdf_within(THE_INPUTS, tables_that_pay(), most_bytes, most_work, THE_OUTPUT);
+  return cleared_scrypt_kdf_limited(THE_INPUTS, max_interleave(), max_mem, max_work, THE_OUTPUT);
 }
 
 int scrypt_key_with_buffers(INPUTS, OUTPUT, BUFFERS) {
@@ -95,13 +95,13 @@ int scrypt_key_finish(const scrypt_steps *steps, const void *password, size_t pa
                                    THE_OUTPUT);
 }
 
-int scrypt_verify_begin(scrypt_steps *steps, STORED, size_t most_bytes, uint64_t most_work, size_t least_key_len) {
+int scrypt_verify_begin(scrypt_steps *steps, STORED, size_t max_mem, uint64_t max_work, size_t min_key_len) {
   uint8_t log_n = 0;
   int status;
   TAKE_STEPS;
   TAKE(password);
   TAKE(text);
-  status = cleared_scrypt_verify_begin(THE_STORED, most_bytes, most_work, least_key_len, &log_n, &steps->r, &steps->p,
+  status = cleared_scrypt_verify_begin(THE_STORED, max_mem, max_work, min_key_len, &log_n, &steps->r, &steps->p,
                                        BUFFERS_OF(steps), &steps->at);
   if (status == SCRYPT_OK) steps->log_n = log_n;
   return status;
@@ -143,10 +143,10 @@ int scrypt_verify(STORED) {
   return cleared_scrypt_verify(THE_STORED);
 }
 
-int scrypt_verify_within(STORED, size_t most_bytes, uint64_t most_work, size_t least_key_len) {
+int scrypt_verify_limited(STORED, size_t max_mem, uint64_t max_work, size_t min_key_len) {
   TAKE(password);
   TAKE(text);
-  return cleared_scrypt_verify_within(THE_STORED, most_bytes, most_work, least_key_len);
+  return cleared_scrypt_verify_limited(THE_STORED, max_mem, max_work, min_key_len);
 }
 
 int scrypt_verify_with_buffers(STORED, BUFFERS) {
@@ -156,30 +156,30 @@ int scrypt_verify_with_buffers(STORED, BUFFERS) {
   return cleared_scrypt_verify_with_buffers(THE_STORED, THE_BUFFERS);
 }
 
-int scrypt_verify_within_with_buffers(STORED, size_t most_bytes, uint64_t most_work, size_t least_key_len, BUFFERS) {
+int scrypt_verify_limited_with_buffers(STORED, size_t max_mem, uint64_t max_work, size_t min_key_len, BUFFERS) {
   TAKE(password);
   TAKE(text);
   TAKE_BUFFERS;
-  return cleared_scrypt_verify_within_with_buffers(THE_STORED, most_bytes, most_work, least_key_len, THE_BUFFERS);
+  return cleared_scrypt_verify_limited_with_buffers(THE_STORED, max_mem, max_work, min_key_len, THE_BUFFERS);
 }
 
-int scrypt_verify_group_with_buffers(const scrypt_login *logins, size_t count, int *statuses, BUFFERS) {
+int scrypt_verify_batch_with_buffers(const scrypt_login *logins, size_t count, int *statuses, BUFFERS) {
   static const scrypt_login NONE = {"", 0, "", 0};
-  scrypt_login each[SCRYPT_MOST_LOGINS];
-  int made[SCRYPT_MOST_LOGINS];
+  scrypt_login each[SCRYPT_MAX_LOGINS];
+  int made[SCRYPT_MAX_LOGINS];
   size_t i;
   REFUSE_IF((logins == NULL || statuses == NULL) && count > 0);
   TAKE_BUFFERS;
   for (i = 0; i < count; i++)
     REFUSE_IF(is_null(logins[i].password, logins[i].password_len) || is_null(logins[i].text, logins[i].text_len));
-  if (count > SCRYPT_MOST_LOGINS) return SCRYPT_BUFFER_SIZE;
-  for (i = 0; i < SCRYPT_MOST_LOGINS; i++) {
+  if (count > SCRYPT_MAX_LOGINS) return SCRYPT_BUFFER_SIZE;
+  for (i = 0; i < SCRYPT_MAX_LOGINS; i++) {
     each[i] = i < count ? logins[i] : NONE;
     each[i].password = bytes_of(each[i].password);
     if (each[i].text == NULL) each[i].text = "";
   }
 #define EACH(i) (const uint8_t *)each[i].password, each[i].password_len, each[i].text, each[i].text_len
-  cleared_scrypt_verify_group_with_buffers(EACH(0), EACH(1), EACH(2), EACH(3), made, THE_BUFFERS);
+  cleared_scrypt_verify_batch_with_buffers(EACH(0), EACH(1), EACH(2), EACH(3), made, THE_BUFFERS);
   for (i = 0; i < count; i++) statuses[i] = made[i];
   return SCRYPT_OK;
 }
@@ -199,20 +199,20 @@ int scrypt_hash_params(const char *text, size_t text_len, uint32_t *log_n, uint3
   return status;
 }
 
-int scrypt_hash_needs(const char *text, size_t text_len, size_t most_bytes, uint64_t most_work, size_t least_key_len,
-                      scrypt_needs *needs) {
+int scrypt_hash_cost(const char *text, size_t text_len, size_t max_mem, uint64_t max_work, size_t min_key_len,
+                     scrypt_cost *cost) {
   TAKE(text);
-  REFUSE_IF(needs == NULL);
-  return cleared_scrypt_hash_needs(text, text_len, most_bytes, most_work, least_key_len, needs);
+  REFUSE_IF(cost == NULL);
+  return cleared_scrypt_hash_cost(text, text_len, max_mem, max_work, min_key_len, cost);
 }
 
-int scrypt_params_need(uint32_t log_n, uint32_t r, uint32_t p, size_t most_bytes, uint64_t most_work, scrypt_needs *needs) {
-  REFUSE_IF(needs == NULL);
-  return cleared_scrypt_params_need(in_8_bits(log_n), r, p, most_bytes, most_work, needs);
+int scrypt_params_cost(uint32_t log_n, uint32_t r, uint32_t p, size_t max_mem, uint64_t max_work, scrypt_cost *cost) {
+  REFUSE_IF(cost == NULL);
+  return cleared_scrypt_params_cost(in_8_bits(log_n), r, p, max_mem, max_work, cost);
 }
 
-int scrypt_limits_for_new(uint32_t log_n, uint32_t r, uint32_t p, size_t key_len, size_t *most_bytes, uint64_t *most_work,
-                          size_t *least_key_len) {
-  REFUSE_IF(most_bytes == NULL || most_work == NULL || least_key_len == NULL);
-  return cleared_scrypt_limits_for_new(in_8_bits(log_n), r, p, key_len, most_bytes, most_work, least_key_len);
+int scrypt_default_limits(uint32_t log_n, uint32_t r, uint32_t p, size_t key_len, size_t *max_mem, uint64_t *max_work,
+                          size_t *min_key_len) {
+  REFUSE_IF(max_mem == NULL || max_work == NULL || min_key_len == NULL);
+  return cleared_scrypt_default_limits(in_8_bits(log_n), r, p, key_len, max_mem, max_work, min_key_len);
 }

@@ -23,11 +23,11 @@ __attribute__((constructor)) static void choose(void) {
 const char *scrypt_version(void) {
   return is_newer ? LIBRARY_VERSION " " NEWER : LIBRARY_VERSION " " BASE;
 }
-size_t tables_that_pay(void) { return is_newer ? NEWER_PAYS : BASE_PAYS; }
+size_t max_interleave(void) { return is_newer ? NEWER_PAYS : BASE_PAYS; }
 #else
 #define CHOSEN(name) base_##name
 const char *scrypt_version(void) { return LIBRARY_VERSION " " BASE; }
-size_t tables_that_pay(void) { return BASE_PAYS; }
+size_t max_interleave(void) { return BASE_PAYS; }
 #endif
 
 /* BELOW is more stack than any proved call uses (tests/test_clearing.c). The frames of a proved

@@ -14,7 +14,7 @@ static inline const uint8_t *bytes_of(const void *bytes) {
  * larger value into an accepted one. */
 static inline uint8_t in_8_bits(uint32_t log_n) { return log_n < 64 ? (uint8_t)log_n : UINT8_MAX; }
 
-/* The number of interleaved chunks that is fastest on this processor, up to SCRYPT_MOST_LOGINS. */
-size_t tables_that_pay(void);
+/* The number of interleaved chunks that is fastest on this processor, up to SCRYPT_MAX_LOGINS. */
+size_t max_interleave(void);
 
 #endif

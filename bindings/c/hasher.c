@@ -56,7 +56,7 @@ struct call {
   struct slot *slot; /* of a call that leads */
 
   enum { VERIFY, HASH, KEY } kind;
-  scrypt_needs needs;
+  scrypt_cost cost;
   scrypt_login login; /* without a text if this is no verification */
   const void *salt;
   size_t salt_len;
@@ -74,7 +74,7 @@ struct queue {
 
 struct scrypt_hasher {
   scrypt_options options;
-  scrypt_needs needs; /* of new hashes */
+  scrypt_cost cost; /* of new hashes */
   char decoy[SCRYPT_PHC_CAPACITY];
   int is_closed;
   size_t slots;
@@ -142,8 +142,8 @@ static void release_slot(struct queue *queue, struct slot *slot) {
 }
 
 static int are_compatible(const struct call *it, const struct call *leader) {
-  return it->kind == VERIFY && it->needs.log_n == leader->needs.log_n &&
-         it->needs.r == leader->needs.r && it->needs.p == leader->needs.p;
+  return it->kind == VERIFY && it->cost.log_n == leader->cost.log_n &&
+         it->cost.r == leader->cost.r && it->cost.p == leader->cost.p;
 }
 
 /* Adds compatible calls to a batch, in the order of the queue, until it has `max`, or a slot's
@@ -188,8 +188,8 @@ static void await(struct queue *queue, struct call *call, int64_t timeout_ms) {
 }
 
 /* The batching window of a leader: 1/256 of a derivation, if a core takes 50 ns. */
-static int64_t linger_ns(const scrypt_needs *needs) {
-  int64_t ns = (int64_t)(needs->table_len / 8 * needs->p / 5); /* 4 * N * r * p cores */
+static int64_t linger_ns(const scrypt_cost *cost) {
+  int64_t ns = (int64_t)(cost->table_len / 8 * cost->p / 5); /* 4 * N * r * p cores */
   if (ns < MIN_LINGER_NS || !can_sleep_briefly()) return 0;
   return ns < MAX_LINGER_NS ? ns : MAX_LINGER_NS;
 }
@@ -199,7 +199,7 @@ static int64_t linger_ns(const scrypt_needs *needs) {
  * window. */
 static size_t form_batch(scrypt_hasher *hasher, struct call **batch, size_t max) {
   struct queue *queue = hasher->queue;
-  int64_t linger = linger_ns(&batch[0]->needs);
+  int64_t linger = linger_ns(&batch[0]->cost);
   size_t count;
   if (max <= 1) return 1;
   mutex_unlock(&queue->lock);
@@ -226,11 +226,11 @@ static int write_key(const scrypt_options *with, const struct call *it, struct b
 }
 
 static void verify_batch(struct call **batch, size_t count, int *statuses, struct buffers of) {
-  scrypt_login logins[SCRYPT_MOST_LOGINS];
+  scrypt_login logins[SCRYPT_MAX_LOGINS];
   size_t i;
   int status;
   for (i = 0; i < count; i++) logins[i] = batch[i]->login;
-  status = scrypt_verify_group_with_buffers(logins, count, statuses, ALL_OF(of));
+  status = scrypt_verify_batch_with_buffers(logins, count, statuses, ALL_OF(of));
   (void)status; /* no error: nothing is NULL, and a batch has no more than four calls */
 }
 
@@ -238,13 +238,13 @@ static void verify_batch(struct call **batch, size_t count, int *statuses, struc
 static void derive(scrypt_hasher *hasher, struct call **batch, size_t count, size_t width,
                    int *statuses) {
   struct arena *arena = &batch[0]->slot->arena;
-  const scrypt_needs *needs = &batch[0]->needs;
-  size_t wanted = count * needs->p;
-  size_t tables = arena_reserve(arena, needs, width < wanted ? width : wanted);
-  size_t most = tables > needs->p ? tables / needs->p : 1, done;
+  const scrypt_cost *cost = &batch[0]->cost;
+  size_t wanted = count * cost->p;
+  size_t tables = arena_reserve(arena, cost, width < wanted ? width : wanted);
+  size_t most = tables > cost->p ? tables / cost->p : 1, done;
   for (done = 0; done < count && tables > 0; done += most) {
     size_t part = most < count - done ? most : count - done;
-    struct buffers of = arena_buffers(arena, needs, tables, part);
+    struct buffers of = arena_buffers(arena, cost, tables, part);
     if (batch[0]->kind == VERIFY) verify_batch(batch + done, part, statuses + done, of);
     else if (batch[0]->kind == HASH) statuses[0] = write_hash(&hasher->options, batch[0], of);
     else statuses[0] = write_key(&hasher->options, batch[0], of);
@@ -253,12 +253,12 @@ static void derive(scrypt_hasher *hasher, struct call **batch, size_t count, siz
 
 /* A batch has no more chunks than the slot has tables, so that no call waits for others' chunks. */
 static void lead(scrypt_hasher *hasher, struct call *call) {
-  struct call *batch[SCRYPT_MOST_LOGINS] = {call};
+  struct call *batch[SCRYPT_MAX_LOGINS] = {call};
   int statuses[] = {SCRYPT_OUT_OF_MEMORY, SCRYPT_OUT_OF_MEMORY, SCRYPT_OUT_OF_MEMORY,
                     SCRYPT_OUT_OF_MEMORY};
   size_t place = (size_t)(call->slot - hasher->queue->slots);
   size_t width = width_of_slot(&hasher->options, hasher->slots, place);
-  size_t count = form_batch(hasher, batch, call->kind == VERIFY ? width / call->needs.p : 1);
+  size_t count = form_batch(hasher, batch, call->kind == VERIFY ? width / call->cost.p : 1);
   mutex_unlock(&hasher->queue->lock);
   derive(hasher, batch, count, width, statuses);
   mutex_lock(&hasher->queue->lock);
@@ -271,7 +271,7 @@ static int run(scrypt_hasher *hasher, struct call *call, int64_t timeout_ms) {
   enter(hasher, call);
   await(queue, call, timeout_ms);
   if (call->state == LEADING) lead(hasher, call);
-  queue->stats.refused += call->status == SCRYPT_OUT_OF_MEMORY || call->status == SCRYPT_TIMEOUT;
+  queue->stats.failed += call->status == SCRYPT_OUT_OF_MEMORY || call->status == SCRYPT_TIMEOUT;
   mutex_unlock(&queue->lock);
   return call->status;
 }
@@ -290,8 +290,8 @@ int scrypt_hasher_verify(scrypt_hasher *hasher, const void *password, size_t pas
     call.login.text = hasher->decoy;
     call.login.text_len = strlen(hasher->decoy);
   }
-  status = scrypt_hash_needs(call.login.text, call.login.text_len, with->most_bytes,
-                             with->most_work, with->least_key_len, &call.needs);
+  status = scrypt_hash_cost(call.login.text, call.login.text_len, with->max_mem,
+                            with->max_work, with->min_key_len, &call.cost);
   if (status == SCRYPT_OK) status = run(hasher, &call, timeout_ms);
   return text == NULL && status == SCRYPT_OK ? SCRYPT_MISMATCH : status;
 }
@@ -306,14 +306,14 @@ int scrypt_hasher_hash(scrypt_hasher *hasher, const void *password, size_t passw
   if (hasher == NULL || is_null(password, password_len) || is_null(salt, salt_len) ||
       is_null(text, capacity))
     return SCRYPT_NULL_POINTER;
-  call.needs = hasher->needs;
+  call.cost = hasher->cost;
   if (salt == NULL) {
     call.salt = random_salt;
     call.salt_len = with->salt_len;
   }
   if (!with->mcf && (call.salt_len == 0 || call.salt_len > MAX_SALT_LEN))
     return SCRYPT_SALT_INVALID;
-  /* Otherwise a PHC text that doesn't fit would be detected only after the derivation. */
+  /* Otherwise a PHC string that doesn't fit would be detected only after the derivation. */
   if (call.salt_len > capacity ||
       capacity < (with->mcf ? SCRYPT_MCF_CAPACITY(call.salt_len) : SCRYPT_PHC_CAPACITY))
     return SCRYPT_BUFFER_SIZE;
@@ -329,7 +329,7 @@ int scrypt_hasher_key(scrypt_hasher *hasher, const void *password, size_t passwo
   if (hasher == NULL || is_null(password, password_len) || is_null(salt, salt_len) ||
       is_null(key, key_len))
     return SCRYPT_NULL_POINTER;
-  call.needs = hasher->needs;
+  call.cost = hasher->cost;
   if (key_len == 0 || key_len > SCRYPT_MAX_OUTPUT_LEN) return SCRYPT_INVALID_OUTPUT_LEN;
   return run(hasher, &call, timeout_ms);
 }
@@ -356,7 +356,7 @@ static size_t size_of_queue(const scrypt_hasher *hasher) {
 
 scrypt_hasher *scrypt_hasher_new(const scrypt_options *options, int *status) {
   scrypt_hasher made = {.is_closed = 0}, *hasher = NULL;
-  int result = complete_options(options, &made.options, &made.needs);
+  int result = complete_options(options, &made.options, &made.cost);
   if (result == SCRYPT_OK) {
     made.slots = slots_of(&made.options);
     hasher = (scrypt_hasher *)malloc(sizeof *hasher);

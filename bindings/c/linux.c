@@ -125,7 +125,7 @@ static size_t least(size_t one, size_t other) { return one < other ? one : other
 /* The minimum of the limits of this process's control group and of its ancestors, in version 2. The
  * file has the path of the group as "0::PATH". In a container the path may be the host's; then the
  * mounted group is the container's. */
-static size_t least_of_groups(const char *name) {
+static size_t min_of_groups(const char *name) {
   char line[1024] = "", *path = line + 3, *slash;
   size_t most = limit_of("", name, NULL);
   FILE *file = fopen(ROOT "/proc/self/cgroup", "re");
@@ -141,7 +141,7 @@ static size_t least_of_groups(const char *name) {
 
 size_t processors_of_process(void) {
   size_t of_version_1 = limit_of("/cpu", "cpu.cfs_quota_us", "cpu.cfs_period_us"), count = 0;
-  size_t quota = least(least_of_groups("cpu.max"), of_version_1);
+  size_t quota = least(min_of_groups("cpu.max"), of_version_1);
   cpu_set_t set;
   if (sched_getaffinity(0, sizeof set, &set) == 0) count = (size_t)CPU_COUNT(&set);
   else if (sysconf(_SC_NPROCESSORS_ONLN) > 0) count = (size_t)sysconf(_SC_NPROCESSORS_ONLN);
@@ -150,7 +150,7 @@ size_t processors_of_process(void) {
 }
 
 size_t memory_of_process(void) {
-  size_t most = least(least_of_groups("memory.max"), least_of_groups("memory.high"));
+  size_t most = least(min_of_groups("memory.max"), min_of_groups("memory.high"));
   long pages = sysconf(_SC_PHYS_PAGES);
   most = least(most, limit_of("/memory", "memory.limit_in_bytes", NULL));
   if (pages > 0) most = least(most, (size_t)pages * (size_t)sysconf(_SC_PAGESIZE));

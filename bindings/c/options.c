@@ -18,7 +18,7 @@ static size_t usable_memory(void) {
 
 /* The limit, or 7/8 of the memory if that is less, as in a small container, but no less than a new
  * hash needs. */
-static size_t default_most_bytes(size_t limit, const scrypt_needs *new) {
+static size_t default_max_mem(size_t limit, const scrypt_cost *new) {
   size_t usable = usable_memory();
   size_t most = limit < usable ? limit : usable;
   return most > new->bytes ? most : (size_t)new->bytes;
@@ -26,17 +26,17 @@ static size_t default_most_bytes(size_t limit, const scrypt_needs *new) {
 
 /* Two tables for each processor, or the number that fits into 7/8 of the memory if that is less:
  * tables of the maximum size or, if none of that size fits, tables of new hashes. */
-static size_t default_at_once(const scrypt_options *with, const scrypt_needs *new) {
+static size_t default_max_tables(const scrypt_options *with, const scrypt_cost *new) {
   size_t usable = usable_memory();
-  size_t fit = usable / with->most_bytes;
+  size_t fit = usable / with->max_mem;
   size_t two = 2 * (with->processors < MAX_SLOTS ? with->processors : MAX_SLOTS);
   if (fit == 0) fit = usable / new->bytes;
   return fit == 0 ? 1 : fit < two ? fit : two;
 }
 
-int complete_options(const scrypt_options *given, scrypt_options *with, scrypt_needs *needs) {
-  size_t most_bytes, least_key_len;
-  uint64_t most_work;
+int complete_options(const scrypt_options *given, scrypt_options *with, scrypt_cost *cost) {
+  size_t max_mem, min_key_len;
+  uint64_t max_work;
   int status;
   if (given != NULL && given->size != sizeof *with) return SCRYPT_OPTIONS_SIZE;
   *with = given != NULL ? *given : (scrypt_options){.size = sizeof *with};
@@ -49,32 +49,32 @@ int complete_options(const scrypt_options *given, scrypt_options *with, scrypt_n
   DEFAULT(salt_len, SCRYPT_SALT_LEN);
   DEFAULT(processors, processors_of_process());
   if (with->key_len < 10 || with->key_len > 64) return SCRYPT_INVALID_PARAMS;
-  status = scrypt_limits_for_new(with->log_n, with->r, with->p, with->key_len, &most_bytes,
-                                 &most_work, &least_key_len);
+  status = scrypt_default_limits(with->log_n, with->r, with->p, with->key_len, &max_mem,
+                                 &max_work, &min_key_len);
   if (status != SCRYPT_OK) return status;
-  status = scrypt_params_need(with->log_n, with->r, with->p, SIZE_MAX, UINT64_MAX, needs);
+  status = scrypt_params_cost(with->log_n, with->r, with->p, SIZE_MAX, UINT64_MAX, cost);
   if (status != SCRYPT_OK) return status;
-  DEFAULT(most_bytes, default_most_bytes(most_bytes, needs));
-  DEFAULT(most_work, most_work);
-  DEFAULT(least_key_len, least_key_len);
+  DEFAULT(max_mem, default_max_mem(max_mem, cost));
+  DEFAULT(max_work, max_work);
+  DEFAULT(min_key_len, min_key_len);
   /* Otherwise new hashes would be rejected. */
-  if (with->least_key_len > with->key_len) return SCRYPT_INVALID_PARAMS;
+  if (with->min_key_len > with->key_len) return SCRYPT_INVALID_PARAMS;
   if (with->salt_len > MAX_SALT_LEN) return SCRYPT_SALT_INVALID;
-  status = scrypt_params_need(with->log_n, with->r, with->p, with->most_bytes, with->most_work,
-                              needs);
+  status = scrypt_params_cost(with->log_n, with->r, with->p, with->max_mem, with->max_work,
+                              cost);
   if (status != SCRYPT_OK) return status;
-  DEFAULT(at_once, default_at_once(with, needs));
+  DEFAULT(max_tables, default_max_tables(with, cost));
   return SCRYPT_OK;
 }
 
 size_t slots_of(const scrypt_options *with) {
-  size_t slots = with->at_once < with->processors ? with->at_once : with->processors;
+  size_t slots = with->max_tables < with->processors ? with->max_tables : with->processors;
   return slots < MAX_SLOTS ? slots : MAX_SLOTS;
 }
 
 size_t width_of_slot(const scrypt_options *with, size_t slots, size_t place) {
-  size_t width = with->at_once / slots + (place >= slots - with->at_once % slots);
-  return width < tables_that_pay() ? width : tables_that_pay();
+  size_t width = with->max_tables / slots + (place >= slots - with->max_tables % slots);
+  return width < max_interleave() ? width : max_interleave();
 }
 
 /* A $7$ hash, whose salt is dots and whose key is zeros, written into zeros. */

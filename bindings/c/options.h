@@ -8,7 +8,7 @@
 
 /* Writes the given options, or none if NULL, with zeros replaced by defaults, and the cost of a new
  * hash. Returns the errors of scrypt_hasher_new. */
-int complete_options(const scrypt_options *given, scrypt_options *with, scrypt_needs *needs);
+int complete_options(const scrypt_options *given, scrypt_options *with, scrypt_cost *cost);
 
 /* The number of slots. */
 size_t slots_of(const scrypt_options *with);

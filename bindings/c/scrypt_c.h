@@ -2,27 +2,27 @@
  *
  *   what you need                                    call                                     proved
  *   ----------------------------------------------   --------------------------------------   ------
- *   a key; the same within limits                    scrypt_key; scrypt_key_within            yes
+ *   a key; the same within limits                    scrypt_key; scrypt_key_limited           yes
  *   a key with no allocation, in your own buffers    scrypt_key_with_buffers                  yes
  *   a key on a small device, with a smaller table    scrypt_key_thin                          yes
  *   a key in steps, with progress between them       scrypt_key_begin; .._step; .._finish     yes
  *   to verify in steps, within limits                scrypt_verify_begin; .._finish           yes
  *   a key in one call, with progress                 scrypt_key_with_progress                 no
  *   the lengths of buffers; wiping them              scrypt_buffer_lens; scrypt_wipe          yes
- *   a password hash to store                         scrypt_hash_new                          no
+ *   a password hash to store                         scrypt_hash_password                     no
  *   the same with other parameters, or your salt     scrypt_hash_phc; scrypt_hash_mcf: $7$    yes
  *   to verify a password against a stored hash       scrypt_verify                            yes
- *   the same within limits, for an untrusted hash    scrypt_verify_within                     yes
+ *   the same within limits, for an untrusted hash    scrypt_verify_limited                    yes
  *   to verify with no allocation, in your buffers    scrypt_verify_with_buffers               yes
- *   the same within limits                           scrypt_verify_within_with_buffers        yes
- *   up to four verifications in one batch            scrypt_verify_group_with_buffers         yes
+ *   the same within limits                           scrypt_verify_limited_with_buffers       yes
+ *   up to four verifications in one batch            scrypt_verify_batch_with_buffers         yes
  *   whether a stored hash is too weak now            scrypt_needs_rehash                      yes
- *   the cost of a stored hash, within limits         scrypt_hash_needs; scrypt_hash_params    yes
+ *   the cost of a stored hash, within limits         scrypt_hash_cost; scrypt_hash_params     yes
  *   hashes for a service: threads, limits, memory    scrypt_hasher_new; _verify; _hash; ..    no
  *   parameters that take a given time                scrypt_calibrate                         no
- *   a salt for a new key or hash                     scrypt_draw_salt                         no
+ *   a salt for a new key or hash                     scrypt_generate_salt                     no
  *   the version of the library                       scrypt_version                           no
- *   the message and the name of a status             scrypt_status_text; scrypt_status_name   no
+ *   the message and the name of a status             scrypt_strerror; scrypt_status_name      no
  *   whether a text was rejected as not a hash        scrypt_status_is_invalid_hash            no
  *
  * "yes" marks a proved function, with a few lines of C that check for NULL, reject N passed as
@@ -58,9 +58,9 @@
 /* The maximum output_len: 32 * (2^32 - 1). */
 #define SCRYPT_MAX_OUTPUT_LEN UINT64_C(137438953440)
 
-/* Capacities, including the terminating NUL: exactly what scrypt_hash_new needs; enough for any PHC
- * text; and enough for any $7$ text with a salt of salt_len bytes. */
-#define SCRYPT_NEW_CAPACITY 89
+/* Capacities, including the terminating NUL: exactly what scrypt_hash_password needs; enough for any PHC
+ * text; and enough for any $7$ hash with a salt of salt_len bytes. */
+#define SCRYPT_HASH_CAPACITY 89
 #define SCRYPT_PHC_CAPACITY 256
 #define SCRYPT_MCF_CAPACITY(salt_len) (128 + 2 * (salt_len))
 
@@ -72,10 +72,10 @@
 
 /* gcc and clang warn if a status is ignored, or if NULL is passed to a call that does not check. */
 #ifdef __GNUC__
-#define SCRYPT_CHECKED __attribute__((warn_unused_result))
+#define SCRYPT_NODISCARD __attribute__((warn_unused_result))
 #define SCRYPT_NONNULL __attribute__((nonnull))
 #else
-#define SCRYPT_CHECKED
+#define SCRYPT_NODISCARD
 #define SCRYPT_NONNULL
 #endif
 
@@ -85,7 +85,7 @@ extern "C" {
 
 /* The statuses that calls return. If several errors apply, a call returns the one that its comment
  * names first. With any status except SCRYPT_OK the outputs are unchanged, except the salt of
- * scrypt_draw_salt, and the scrypt_needs that scrypt_hash_needs and scrypt_params_need write. */
+ * scrypt_generate_salt, and the scrypt_cost that scrypt_hash_cost and scrypt_params_cost write. */
 enum scrypt_status {
   SCRYPT_OK = 0,
   SCRYPT_MISMATCH = 1,            /* the password is wrong, or the hash has no salt or no key */
@@ -121,25 +121,25 @@ enum scrypt_status {
  * more, up to four chunks are interleaved, in up to four tables, if all buffers need no more than
  * 129 MiB together; if that allocation fails, one table is used.
  * SCRYPT_NULL_POINTER, SCRYPT_INVALID_PARAMS, SCRYPT_INVALID_OUTPUT_LEN, SCRYPT_OUT_OF_MEMORY. */
-SCRYPT_CHECKED
+SCRYPT_NODISCARD
 int scrypt_key(const void *password, size_t password_len, const void *salt, size_t salt_len, uint32_t log_n, uint32_t r,
                uint32_t p, uint8_t *output, size_t output_len);
 
 /* The same, within limits: SCRYPT_TOO_COSTLY if the buffers with one table need more than
- * most_bytes bytes together, or if the work, 4 * (2^log_n + 32) * r * p, exceeds most_work. With p
- * of 2 or more, up to four chunks are interleaved, if all buffers need no more than most_bytes
+ * max_mem bytes together, or if the work, 4 * (2^log_n + 32) * r * p, exceeds max_work. With p
+ * of 2 or more, up to four chunks are interleaved, if all buffers need no more than max_mem
  * bytes together.
  * SCRYPT_NULL_POINTER, SCRYPT_INVALID_PARAMS, SCRYPT_TOO_COSTLY, SCRYPT_INVALID_OUTPUT_LEN,
  * SCRYPT_OUT_OF_MEMORY. */
-SCRYPT_CHECKED
-int scrypt_key_within(const void *password, size_t password_len, const void *salt, size_t salt_len, uint32_t log_n, uint32_t r,
-                      uint32_t p, size_t most_bytes, uint64_t most_work, uint8_t *output, size_t output_len);
+SCRYPT_NODISCARD
+int scrypt_key_limited(const void *password, size_t password_len, const void *salt, size_t salt_len, uint32_t log_n, uint32_t r,
+                       uint32_t p, size_t max_mem, uint64_t max_work, uint8_t *output, size_t output_len);
 
 /* Writes the lengths of the buffers: of chunks in bytes, of table and scratch in words. With s = 0
  * they are the minimum lengths for scrypt_key_with_buffers; with any s up to log_n they are the
  * exact lengths for scrypt_key_thin with this s.
  * SCRYPT_INVALID_PARAMS, also if s is above log_n. */
-SCRYPT_CHECKED SCRYPT_NONNULL
+SCRYPT_NODISCARD SCRYPT_NONNULL
 int scrypt_buffer_lens(uint32_t log_n, uint32_t r, uint32_t p, uint8_t s, size_t *chunks_len,
                        size_t *table_len, size_t *scratch_len);
 
@@ -150,7 +150,7 @@ int scrypt_buffer_lens(uint32_t log_n, uint32_t r, uint32_t p, uint8_t s, size_t
  * with scrypt_wipe. The used parts of the other buffers are unspecified, and the rest is unchanged.
  * Nothing is allocated. On an error the buffers are unchanged too.
  * SCRYPT_INVALID_PARAMS, SCRYPT_INVALID_OUTPUT_LEN, SCRYPT_BUFFER_SIZE if a buffer is too short. */
-SCRYPT_CHECKED
+SCRYPT_NODISCARD
 int scrypt_key_with_buffers(const void *password, size_t password_len, const void *salt,
                             size_t salt_len, uint32_t log_n, uint32_t r, uint32_t p, uint8_t *output,
                             size_t output_len, uint8_t *chunks, size_t chunks_len, uint32_t *table,
@@ -162,7 +162,7 @@ int scrypt_key_with_buffers(const void *password, size_t password_len, const voi
  * unchanged too.
  * SCRYPT_INVALID_PARAMS, also if s is above log_n, SCRYPT_INVALID_OUTPUT_LEN,
  * SCRYPT_BUFFER_SIZE. */
-SCRYPT_CHECKED
+SCRYPT_NODISCARD
 int scrypt_key_thin(const void *password, size_t password_len, const void *salt,
                     size_t salt_len, uint32_t log_n, uint32_t r, uint32_t p, uint8_t s,
                     uint8_t *output, size_t output_len, uint8_t *chunks, size_t chunks_len,
@@ -178,11 +178,11 @@ void scrypt_wipe(uint8_t *chunks, size_t chunks_len, uint32_t *table, size_t tab
 
 /* The progress of a derivation in steps. Each of its p chunks takes 2^(log_n + 1) block mixes, of
  * 2 * r Salsa20/8 cores each. Of the p * 2^(log_n + 1) block mixes of all chunks,
- * chunks * 2^(log_n + 1) + at_once * mixes are done. */
+ * chunks * 2^(log_n + 1) + interleaved * mixes are done. */
 typedef struct scrypt_progress {
-  size_t chunks;  /* the number of chunks that are mixed, of p */
-  size_t at_once; /* the number of the next chunks, which are interleaved now */
-  size_t mixes;   /* the number of block mixes that are done for each of these */
+  size_t chunks;      /* the number of chunks that are mixed, of p */
+  size_t interleaved; /* the number of the next chunks, which are interleaved now */
+  size_t mixes;       /* the number of block mixes that are done for each of these */
 } scrypt_progress;
 
 /* A derivation in steps. The caller sets the parameters and the buffers. Table and scratch are at
@@ -200,7 +200,7 @@ typedef struct scrypt_progress {
  *     status = scrypt_key_begin(&it, password, password_len, salt, salt_len);
  *   while (status == SCRYPT_OK && it.at.chunks < it.p) {
  *     status = scrypt_key_step(&it, 4096);                                    about 7 ms with r = 8
- *     show((it.at.chunks + it.at.at_once * ldexp(it.at.mixes, -1 - (int)it.log_n)) / it.p);
+ *     show((it.at.chunks + it.at.interleaved * ldexp(it.at.mixes, -1 - (int)it.log_n)) / it.p);
  *   }
  *   if (status == SCRYPT_OK) status = scrypt_key_finish(&it, password, password_len, key, 32);
  *   scrypt_wipe(it.chunks, it.chunks_len, it.table, it.table_len, it.scratch, it.scratch_len); */
@@ -216,7 +216,7 @@ typedef struct scrypt_steps {
 /* Begins to derive the key of password and salt. The initial content of the buffers does not
  * matter. No core is run.
  * SCRYPT_NULL_POINTER, also for a buffer; SCRYPT_INVALID_PARAMS; SCRYPT_BUFFER_SIZE. */
-SCRYPT_CHECKED
+SCRYPT_NODISCARD
 int scrypt_key_begin(scrypt_steps *steps, const void *password, size_t password_len, const void *salt, size_t salt_len);
 
 /* Runs `mixes` more block mixes on each chunk that is interleaved now, or the remaining ones if
@@ -224,30 +224,30 @@ int scrypt_key_begin(scrypt_steps *steps, const void *password, size_t password_
  * If the buffers do not hold the content that the last call left in them, the key will be wrong.
  * SCRYPT_INVALID_PROGRESS is returned for a progress that no call wrote with these parameters.
  * SCRYPT_NULL_POINTER, SCRYPT_INVALID_PARAMS, SCRYPT_BUFFER_SIZE, SCRYPT_INVALID_PROGRESS. */
-SCRYPT_CHECKED
+SCRYPT_NODISCARD
 int scrypt_key_step(scrypt_steps *steps, size_t mixes);
 
 /* Writes the key, output_len bytes long, after all p chunks are mixed. It reads only the chunks,
  * and changes no buffer: wipe them with scrypt_wipe.
  * SCRYPT_NULL_POINTER, SCRYPT_INVALID_PARAMS, SCRYPT_BUFFER_SIZE, SCRYPT_UNFINISHED,
  * SCRYPT_INVALID_OUTPUT_LEN. */
-SCRYPT_CHECKED
+SCRYPT_NODISCARD
 int scrypt_key_finish(const scrypt_steps *steps, const void *password, size_t password_len, uint8_t *output,
                       size_t output_len);
 
 /* Begins to verify a password against the text of a hash, and writes the parameters of the hash
- * too. scrypt_hash_needs returns the lengths that the buffers need. Continue with scrypt_key_step.
- * SCRYPT_NULL_POINTER, also for a buffer; the errors of scrypt_hash_needs; SCRYPT_BUFFER_SIZE. */
-SCRYPT_CHECKED
+ * too. scrypt_hash_cost returns the lengths that the buffers need. Continue with scrypt_key_step.
+ * SCRYPT_NULL_POINTER, also for a buffer; the errors of scrypt_hash_cost; SCRYPT_BUFFER_SIZE. */
+SCRYPT_NODISCARD
 int scrypt_verify_begin(scrypt_steps *steps, const void *password, size_t password_len, const char *text,
-                        size_t text_len, size_t most_bytes, uint64_t most_work, size_t least_key_len);
+                        size_t text_len, size_t max_mem, uint64_t max_work, size_t min_key_len);
 
 /* Returns the verdict of scrypt_verify, after all p chunks are mixed. It reads only the chunks, and
  * changes no buffer.
  * SCRYPT_NULL_POINTER; the errors of scrypt_verify for a text that cannot be read, including
  * SCRYPT_MISMATCH without a salt or a key; SCRYPT_BUFFER_SIZE, SCRYPT_UNFINISHED, and last
  * SCRYPT_MISMATCH if the password is wrong. */
-SCRYPT_CHECKED
+SCRYPT_NODISCARD
 int scrypt_verify_finish(const scrypt_steps *steps, const void *password, size_t password_len, const char *text,
                          size_t text_len);
 
@@ -260,34 +260,34 @@ typedef int (*scrypt_on_progress)(void *context, uint64_t done, uint64_t all);
  * memory is wiped and freed.
  * SCRYPT_NULL_POINTER, SCRYPT_INVALID_PARAMS, SCRYPT_INVALID_OUTPUT_LEN, SCRYPT_OUT_OF_MEMORY,
  * SCRYPT_STOPPED. */
-SCRYPT_CHECKED
+SCRYPT_NODISCARD
 int scrypt_key_with_progress(const void *password, size_t password_len, const void *salt, size_t salt_len,
                              uint32_t log_n, uint32_t r, uint32_t p, scrypt_on_progress on_progress, void *context,
                              uint8_t *output, size_t output_len);
 
 /* ---- Password hashes ---- */
 
-/* Writes the PHC text of a new hash, NUL-terminated, to text, with a random salt and the
- * recommended parameters. The capacity must be SCRYPT_NEW_CAPACITY or more.
+/* Writes the PHC string of a new hash, NUL-terminated, to text, with a random salt and the
+ * recommended parameters. The capacity must be SCRYPT_HASH_CAPACITY or more.
  * SCRYPT_NULL_POINTER, SCRYPT_BUFFER_SIZE if the capacity is less, SCRYPT_NO_RANDOM_BYTES,
  * SCRYPT_OUT_OF_MEMORY. */
-SCRYPT_CHECKED
-int scrypt_hash_new(const void *password, size_t password_len, char *text, size_t capacity);
+SCRYPT_NODISCARD
+int scrypt_hash_password(const void *password, size_t password_len, char *text, size_t capacity);
 
-/* Writes the PHC text of a hash, $scrypt$ln=.., NUL-terminated, to text. The salt has 1 to 64
+/* Writes the PHC string of a hash, $scrypt$ln=.., NUL-terminated, to text. The salt has 1 to 64
  * bytes, and the key has key_len bytes, 10 to 64. A capacity that is too small is detected only
  * after the derivation; SCRYPT_PHC_CAPACITY is enough.
  * SCRYPT_NULL_POINTER, SCRYPT_INVALID_PARAMS (also for key_len), SCRYPT_SALT_INVALID,
  * SCRYPT_OUT_OF_MEMORY, SCRYPT_BUFFER_SIZE. */
-SCRYPT_CHECKED
+SCRYPT_NODISCARD
 int scrypt_hash_phc(const void *password, size_t password_len, const void *salt, size_t salt_len, uint32_t log_n, uint32_t r,
                     uint32_t p, size_t key_len, char *text, size_t capacity);
 
-/* The same for the $7$ text of crypt(3), with a salt of any length. A capacity of
+/* The same for the $7$ hash of crypt(3), with a salt of any length. A capacity of
  * SCRYPT_MCF_CAPACITY(salt_len) is enough.
  * SCRYPT_NULL_POINTER, SCRYPT_INVALID_PARAMS (also for key_len), SCRYPT_OUT_OF_MEMORY,
  * SCRYPT_BUFFER_SIZE. */
-SCRYPT_CHECKED
+SCRYPT_NODISCARD
 int scrypt_hash_mcf(const void *password, size_t password_len, const void *salt, size_t salt_len, uint32_t log_n, uint32_t r,
                     uint32_t p, size_t key_len, char *text, size_t capacity);
 
@@ -299,16 +299,16 @@ int scrypt_hash_mcf(const void *password, size_t password_len, const void *salt,
  * SCRYPT_NULL_POINTER, SCRYPT_INVALID_PARAMS (also for key_len), SCRYPT_SALT_INVALID,
  * SCRYPT_BUFFER_SIZE if a buffer is too short, and after the derivation SCRYPT_BUFFER_SIZE if the
  * text does not fit. */
-SCRYPT_CHECKED
+SCRYPT_NODISCARD
 int scrypt_hash_phc_with_buffers(const void *password, size_t password_len, const void *salt, size_t salt_len,
                                  uint32_t log_n, uint32_t r, uint32_t p, size_t key_len, char *text, size_t capacity,
                                  uint8_t *chunks, size_t chunks_len, uint32_t *table, size_t table_len,
                                  uint32_t *scratch, size_t scratch_len);
 
-/* The same for the $7$ text, with a salt of any length.
+/* The same for the $7$ hash, with a salt of any length.
  * SCRYPT_NULL_POINTER, SCRYPT_INVALID_PARAMS (also for key_len), SCRYPT_BUFFER_SIZE if the text
  * does not fit or if a buffer is too short, both before the derivation. */
-SCRYPT_CHECKED
+SCRYPT_NODISCARD
 int scrypt_hash_mcf_with_buffers(const void *password, size_t password_len, const void *salt, size_t salt_len,
                                  uint32_t log_n, uint32_t r, uint32_t p, size_t key_len, char *text, size_t capacity,
                                  uint8_t *chunks, size_t chunks_len, uint32_t *table, size_t table_len,
@@ -316,26 +316,26 @@ int scrypt_hash_mcf_with_buffers(const void *password, size_t password_len, cons
 
 /* Verifies a password against the text of a hash: returns SCRYPT_OK if the derived key is the key
  * of the hash, and SCRYPT_MISMATCH if it is not, or if the hash has no salt or no key.
- * A text that is $7 or begins with $7$ is read as a $7$ text, and any other as a PHC text.
+ * A text that is $7 or begins with $7$ is read as a $7$ hash, and any other as a PHC string.
  * The hash sets the parameters, so an untrusted hash can cause a denial of service, by the memory
- * and the time that it needs: call scrypt_verify_within or scrypt_hasher_verify for such a hash.
- * For a PHC text: SCRYPT_ENCODING_INVALID, SCRYPT_ALGORITHM, SCRYPT_VERSION;
+ * and the time that it needs: call scrypt_verify_limited or scrypt_hasher_verify for such a hash.
+ * For a PHC string: SCRYPT_ENCODING_INVALID, SCRYPT_ALGORITHM, SCRYPT_VERSION;
  * SCRYPT_HASH_PARAM_INVALID or SCRYPT_HASH_PARAMS_INVALID, for the first parameter that is
  * rejected; SCRYPT_HASH_PARAMS_INVALID if the parameters are not accepted; SCRYPT_MISMATCH without
- * a salt or a key. For a $7$ text: SCRYPT_ENCODING_INVALID if its first field encodes no
+ * a salt or a key. For a $7$ hash: SCRYPT_ENCODING_INVALID if its first field encodes no
  * parameters; SCRYPT_HASH_PARAMS_INVALID; SCRYPT_ENCODING_INVALID for what follows;
  * SCRYPT_OUTPUT_SIZE.
  * Then SCRYPT_OUT_OF_MEMORY, and last SCRYPT_MISMATCH if the password is wrong. */
-SCRYPT_CHECKED
+SCRYPT_NODISCARD
 int scrypt_verify(const void *password, size_t password_len, const char *text, size_t text_len);
 
-/* The same, within limits: if scrypt_hash_needs returns an error for them, returns that error,
+/* The same, within limits: if scrypt_hash_cost returns an error for them, returns that error,
  * before anything is allocated. If the hash can be read, the error is SCRYPT_TOO_COSTLY or, after
- * that, SCRYPT_KEY_TOO_SHORT. The default limits of a hasher are SCRYPT_MOST_BYTES,
- * SCRYPT_MOST_WORK and SCRYPT_LEAST_KEY_LEN. */
-SCRYPT_CHECKED
-int scrypt_verify_within(const void *password, size_t password_len, const char *text, size_t text_len, size_t most_bytes,
-                         uint64_t most_work, size_t least_key_len);
+ * that, SCRYPT_KEY_TOO_SHORT. The default limits of a hasher are SCRYPT_DEFAULT_MAX_MEM,
+ * SCRYPT_DEFAULT_MAX_WORK and SCRYPT_DEFAULT_MIN_KEY_LEN. */
+SCRYPT_NODISCARD
+int scrypt_verify_limited(const void *password, size_t password_len, const char *text, size_t text_len, size_t max_mem,
+                          uint64_t max_work, size_t min_key_len);
 
 /* Like scrypt_verify, in the caller's buffers, each at least as long as scrypt_buffer_lens returns
  * for s = 0 and the parameters of the hash; their initial content does not matter. If the keys were
@@ -344,18 +344,18 @@ int scrypt_verify_within(const void *password, size_t password_len, const char *
  * a scratch of w times that length, up to w chunks are interleaved, but no more than four. Nothing
  * is allocated: SCRYPT_BUFFER_SIZE, for a buffer that is too short, replaces
  * SCRYPT_OUT_OF_MEMORY. */
-SCRYPT_CHECKED
+SCRYPT_NODISCARD
 int scrypt_verify_with_buffers(const void *password, size_t password_len, const char *text, size_t text_len,
                                uint8_t *chunks, size_t chunks_len, uint32_t *table, size_t table_len,
                                uint32_t *scratch, size_t scratch_len);
 
-/* The same, within limits: if scrypt_hash_needs returns an error for them, returns that error,
+/* The same, within limits: if scrypt_hash_cost returns an error for them, returns that error,
  * whatever the lengths of the buffers are. */
-SCRYPT_CHECKED
-int scrypt_verify_within_with_buffers(const void *password, size_t password_len, const char *text, size_t text_len,
-                                      size_t most_bytes, uint64_t most_work, size_t least_key_len, uint8_t *chunks,
-                                      size_t chunks_len, uint32_t *table, size_t table_len, uint32_t *scratch,
-                                      size_t scratch_len);
+SCRYPT_NODISCARD
+int scrypt_verify_limited_with_buffers(const void *password, size_t password_len, const char *text, size_t text_len,
+                                       size_t max_mem, uint64_t max_work, size_t min_key_len, uint8_t *chunks,
+                                       size_t chunks_len, uint32_t *table, size_t table_len, uint32_t *scratch,
+                                       size_t scratch_len);
 
 /* A password, and the text of the hash that it is verified against. */
 typedef struct scrypt_login {
@@ -365,9 +365,9 @@ typedef struct scrypt_login {
   size_t text_len;
 } scrypt_login;
 
-#define SCRYPT_MOST_LOGINS 4
+#define SCRYPT_MAX_LOGINS 4
 
-/* Verifies up to SCRYPT_MOST_LOGINS passwords, each against its own hash. Each status becomes what
+/* Verifies up to SCRYPT_MAX_LOGINS passwords, each against its own hash. Each status becomes what
  * scrypt_verify_with_buffers would return for this login in these buffers, whatever the other
  * logins are.
  *
@@ -379,8 +379,8 @@ typedef struct scrypt_login {
  * scratch are zeros. On x86-64-v3 a batch of two takes 0.56 of the time of two calls, and a batch
  * of four 0.41 of the time of four; on some processors a batch of two takes as long as two calls.
  * SCRYPT_BUFFER_SIZE for a greater count; then no status is written. */
-SCRYPT_CHECKED
-int scrypt_verify_group_with_buffers(const scrypt_login *logins, size_t count, int *statuses, uint8_t *chunks,
+SCRYPT_NODISCARD
+int scrypt_verify_batch_with_buffers(const scrypt_login *logins, size_t count, int *statuses, uint8_t *chunks,
                                      size_t chunks_len, uint32_t *table, size_t table_len, uint32_t *scratch,
                                      size_t scratch_len);
 
@@ -388,13 +388,13 @@ int scrypt_verify_group_with_buffers(const scrypt_login *logins, size_t count, i
  * length is less than wanted, or if it has no salt or no key; otherwise SCRYPT_OK. Nothing is
  * allocated. First SCRYPT_INVALID_PARAMS (also for key_len), then the errors of scrypt_verify
  * except SCRYPT_OUT_OF_MEMORY. */
-SCRYPT_CHECKED
+SCRYPT_NODISCARD
 int scrypt_needs_rehash(const char *text, size_t text_len, uint32_t log_n, uint32_t r, uint32_t p, size_t key_len);
 
 /* Writes the parameters of a hash, and the length of its key, or 0 if it has none. Nothing is
  * allocated.
  * The errors of scrypt_verify except SCRYPT_OUT_OF_MEMORY and SCRYPT_MISMATCH. */
-SCRYPT_CHECKED
+SCRYPT_NODISCARD
 int scrypt_hash_params(const char *text, size_t text_len, uint32_t *log_n, uint32_t *r, uint32_t *p, size_t *key_len);
 
 /* The cost of a derivation: its parameters; the length of the key of a hash; the number of tables
@@ -403,33 +403,33 @@ int scrypt_hash_params(const char *text, size_t text_len, uint32_t *log_n, uint3
  * in words (with w tables, table and scratch are w times as long); the bytes of all buffers with
  * one table; and the work, 4 * (2^log_n + 32) * r * p. The last two saturate: UINT64_MAX means this
  * number or more. */
-typedef struct scrypt_needs {
+typedef struct scrypt_cost {
   uint32_t log_n, r, p;
   size_t key_len, tables, chunks_len, table_len, scratch_len;
   uint64_t bytes, work;
-} scrypt_needs;
+} scrypt_cost;
 
 /* Checks a hash against limits, and writes what it costs to verify it. Nothing is allocated. The
  * errors of scrypt_verify for a text that cannot be read (SCRYPT_MISMATCH without a salt or a key);
- * then SCRYPT_TOO_COSTLY if the bytes exceed most_bytes, or the work exceeds most_work; then
- * SCRYPT_KEY_TOO_SHORT if the key has fewer than least_key_len bytes. With these two the cost is
+ * then SCRYPT_TOO_COSTLY if the bytes exceed max_mem, or the work exceeds max_work; then
+ * SCRYPT_KEY_TOO_SHORT if the key has fewer than min_key_len bytes. With these two the cost is
  * written too; with any other error nothing is written. */
-SCRYPT_CHECKED
-int scrypt_hash_needs(const char *text, size_t text_len, size_t most_bytes, uint64_t most_work, size_t least_key_len,
-                      scrypt_needs *needs);
+SCRYPT_NODISCARD
+int scrypt_hash_cost(const char *text, size_t text_len, size_t max_mem, uint64_t max_work, size_t min_key_len,
+                     scrypt_cost *cost);
 
 /* The same for a derivation with these parameters. SCRYPT_INVALID_PARAMS, and then nothing is
  * written; SCRYPT_TOO_COSTLY. */
-SCRYPT_CHECKED
-int scrypt_params_need(uint32_t log_n, uint32_t r, uint32_t p, size_t most_bytes, uint64_t most_work, scrypt_needs *needs);
+SCRYPT_NODISCARD
+int scrypt_params_cost(uint32_t log_n, uint32_t r, uint32_t p, size_t max_mem, uint64_t max_work, scrypt_cost *cost);
 
-/* Writes the default limits of a hasher that makes such hashes: SCRYPT_MOST_BYTES, SCRYPT_MOST_WORK
- * and SCRYPT_LEAST_KEY_LEN, changed as far as necessary to admit these hashes. (On a machine with
- * little memory, a hasher's default of most_bytes is lower.)
+/* Writes the default limits of a hasher that makes such hashes: SCRYPT_DEFAULT_MAX_MEM,
+ * SCRYPT_DEFAULT_MAX_WORK and SCRYPT_DEFAULT_MIN_KEY_LEN, changed as far as necessary to admit
+ * these hashes. (On a machine with little memory, a hasher's default of max_mem is lower.)
  * SCRYPT_INVALID_PARAMS; then nothing is written. */
-SCRYPT_CHECKED
-int scrypt_limits_for_new(uint32_t log_n, uint32_t r, uint32_t p, size_t key_len, size_t *most_bytes, uint64_t *most_work,
-                          size_t *least_key_len);
+SCRYPT_NODISCARD
+int scrypt_default_limits(uint32_t log_n, uint32_t r, uint32_t p, size_t key_len, size_t *max_mem, uint64_t *max_work,
+                          size_t *min_key_len);
 
 /* ---- Hashers: password hashes for a service. Not proved: they use the calls above ----
  *
@@ -438,15 +438,15 @@ int scrypt_limits_for_new(uint32_t log_n, uint32_t r, uint32_t p, size_t key_len
  *   scrypt_hasher *hasher = scrypt_hasher_new(NULL, NULL);
  *   status = scrypt_hasher_verify(hasher, password, password_len, text, text_len, 1000);
  *
- * A hasher has a slot for each processor, but no more slots than at_once. A call derives in a slot;
- * the others wait in the wait queue, in FIFO order. Up to four waiting verifications with the same
- * log_n, r and p are derived in one batch, which is faster on some processors. They are searched
- * for among the first 1000 that wait. A batch of two or more has no more chunks than its slot has
- * tables, and no more calls than the slot's share of all calls. While all slots are taken, the
- * leader of a batch waits for others to join it, for a batching window of up to 1 ms. An error of
- * one call does not affect another. A hasher keeps its memory for later calls: up to at_once tables
- * of most_bytes, whatever p is, which it maps when they are needed. If the system has memory for
- * fewer tables, a batch is derived in fewer.
+ * A hasher has a slot for each processor, but no more slots than max_tables. A call derives in a
+ * slot; the others wait in the wait queue, in FIFO order. Up to four waiting verifications with the
+ * same log_n, r and p are derived in one batch, which is faster on some processors. They are
+ * searched for among the first 1000 that wait. A batch of two or more has no more chunks than its
+ * slot has tables, and no more calls than the slot's share of all calls. While all slots are taken,
+ * the leader of a batch waits for others to join it, for a batching window of up to 1 ms. An error
+ * of one call does not affect another. A hasher keeps its memory for later calls: up to max_tables
+ * tables of max_mem, whatever p is, which it maps when they are needed. If the system has memory
+ * for fewer tables, a batch is derived in fewer.
  *
  * Threads: a hasher is thread-safe, except that scrypt_hasher_free must come after all other calls
  *   have returned.
@@ -468,9 +468,9 @@ typedef struct scrypt_hasher scrypt_hasher;
 
 /* Default limits: on bytes, a little more than a table of 256 MiB; on work, four times the work of
  * the recommended parameters; and the minimum length of a key. */
-#define SCRYPT_MOST_BYTES (UINT32_C(257) << 20)
-#define SCRYPT_MOST_WORK UINT32_C(16781312)
-#define SCRYPT_LEAST_KEY_LEN 16
+#define SCRYPT_DEFAULT_MAX_MEM (UINT32_C(257) << 20)
+#define SCRYPT_DEFAULT_MAX_WORK UINT32_C(16781312)
+#define SCRYPT_DEFAULT_MIN_KEY_LEN 16
 
 /* The options of a hasher. A field that is 0 means its default; log_n, r and p mean theirs only if
  * all three are 0, so that N = 1 is possible. More than 8192 processors count as 8192. */
@@ -478,17 +478,17 @@ typedef struct scrypt_options {
   size_t size;              /* sizeof (scrypt_options), so that later versions can add fields; */
                             /* it has no default */
   uint32_t log_n, r, p;     /* of new hashes and keys: SCRYPT_RECOMMENDED_LOG_N, .. */
-  int mcf;                  /* new hashes are PHC texts if 0, otherwise $7$ texts of crypt(3) */
+  int mcf;                  /* new hashes are PHC strings if 0, otherwise $7$ hashes of crypt(3) */
   size_t key_len, salt_len; /* of new hashes: SCRYPT_KEY_LEN and SCRYPT_SALT_LEN */
-  size_t most_bytes;        /* maximum bytes of the buffers for a hash, as in scrypt_hash_needs: */
-                            /* SCRYPT_MOST_BYTES, or 7/8 of the memory (see at_once) if that is */
-                            /* less; but no less than a new hash needs */
-  uint64_t most_work;       /* maximum work of a hash: SCRYPT_MOST_WORK, or the work of a new hash */
-                            /* if that is more */
-  size_t least_key_len;     /* minimum key length of a hash that is verified, up to key_len: */
-                            /* SCRYPT_LEAST_KEY_LEN, or key_len if that is less */
-  size_t at_once;           /* maximum number of tables: two for each processor, or the number of */
-                            /* tables of most_bytes that fit into 7/8 of the memory of the */
+  size_t max_mem;           /* maximum bytes of the buffers for a hash, as in scrypt_hash_cost: */
+                            /* SCRYPT_DEFAULT_MAX_MEM, or 7/8 of the memory (see max_tables) if */
+                            /* that is less; but no less than a new hash needs */
+  uint64_t max_work;        /* maximum work of a hash: SCRYPT_DEFAULT_MAX_WORK, or the work of a */
+                            /* new hash if that is more */
+  size_t min_key_len;       /* minimum key length of a hash that is verified, up to key_len: */
+                            /* SCRYPT_DEFAULT_MIN_KEY_LEN, or key_len if that is less */
+  size_t max_tables;        /* maximum number of tables: two for each processor, or the number of */
+                            /* tables of max_mem that fit into 7/8 of the memory of the */
                             /* machine and of its control group if that is less; one or more */
   size_t processors;        /* maximum number of slots: the processors that this process may use, */
                             /* by its affinity and CPU quota */
@@ -496,9 +496,9 @@ typedef struct scrypt_options {
 
 /* Creates a hasher, with all defaults if options is NULL. The caller frees it. Returns NULL on an
  * error. If status is not NULL, *status becomes SCRYPT_OK or the error. SCRYPT_OPTIONS_SIZE,
- * SCRYPT_INVALID_PARAMS (also for key_len and least_key_len), SCRYPT_SALT_INVALID for a salt_len
+ * SCRYPT_INVALID_PARAMS (also for key_len and min_key_len), SCRYPT_SALT_INVALID for a salt_len
  * above 64, SCRYPT_TOO_COSTLY if new hashes exceed the limits, SCRYPT_OUT_OF_MEMORY. */
-SCRYPT_CHECKED
+SCRYPT_NODISCARD
 scrypt_hasher *scrypt_hasher_new(const scrypt_options *options, int *status);
 
 /* Returns the options of a hasher, with the values of the defaults, valid until the hasher is
@@ -506,39 +506,39 @@ scrypt_hasher *scrypt_hasher_new(const scrypt_options *options, int *status);
 const scrypt_options *scrypt_hasher_options(const scrypt_hasher *hasher);
 
 /* Verifies a password against the text of a hash, like scrypt_verify, within the limits of the
- * hasher. This and the next two calls wait for a slot of the hasher for up to most_ms milliseconds,
- * or without a limit if that is negative, and then return SCRYPT_TIMEOUT; the timeout doesn't end a
- * derivation.
+ * hasher. This and the next two calls wait for a slot of the hasher for up to timeout_ms
+ * milliseconds, or without a limit if that is negative, and then return SCRYPT_TIMEOUT; the timeout
+ * doesn't end a derivation.
  * For a login whose name doesn't exist, pass NULL with text_len 0: the call derives with the
  * parameters of new hashes, and returns SCRYPT_MISMATCH after the time of a wrong password, so that
  * a timing attack doesn't tell which names exist.
- * SCRYPT_NULL_POINTER; the errors of scrypt_hash_needs, without waiting; SCRYPT_CLOSED,
+ * SCRYPT_NULL_POINTER; the errors of scrypt_hash_cost, without waiting; SCRYPT_CLOSED,
  * SCRYPT_TIMEOUT, SCRYPT_OUT_OF_MEMORY, and last SCRYPT_MISMATCH if the password is wrong. */
-SCRYPT_CHECKED
+SCRYPT_NODISCARD
 int scrypt_hasher_verify(scrypt_hasher *hasher, const void *password, size_t password_len, const char *text,
-                         size_t text_len, int64_t most_ms);
+                         size_t text_len, int64_t timeout_ms);
 
 /* Writes the text of a new hash, NUL-terminated. If the salt is NULL, with length 0, a random salt
- * of salt_len bytes is used. The capacity must be SCRYPT_PHC_CAPACITY or more or, for a $7$ text,
+ * of salt_len bytes is used. The capacity must be SCRYPT_PHC_CAPACITY or more or, for a $7$ hash,
  * SCRYPT_MCF_CAPACITY of the salt's length.
- * SCRYPT_NULL_POINTER, SCRYPT_SALT_INVALID if the salt of a PHC text does not have 1 to 64 bytes,
+ * SCRYPT_NULL_POINTER, SCRYPT_SALT_INVALID if the salt of a PHC string does not have 1 to 64 bytes,
  * SCRYPT_BUFFER_SIZE, SCRYPT_NO_RANDOM_BYTES, SCRYPT_CLOSED, SCRYPT_TIMEOUT,
  * SCRYPT_OUT_OF_MEMORY. */
-SCRYPT_CHECKED
+SCRYPT_NODISCARD
 int scrypt_hasher_hash(scrypt_hasher *hasher, const void *password, size_t password_len, const void *salt,
-                       size_t salt_len, char *text, size_t capacity, int64_t most_ms);
+                       size_t salt_len, char *text, size_t capacity, int64_t timeout_ms);
 
 /* Writes the scrypt key of password and salt with the parameters of new hashes, key_len bytes long.
  * SCRYPT_NULL_POINTER, SCRYPT_INVALID_OUTPUT_LEN, SCRYPT_CLOSED, SCRYPT_TIMEOUT,
  * SCRYPT_OUT_OF_MEMORY. */
-SCRYPT_CHECKED
+SCRYPT_NODISCARD
 int scrypt_hasher_key(scrypt_hasher *hasher, const void *password, size_t password_len, const void *salt,
-                      size_t salt_len, uint8_t *key, size_t key_len, int64_t most_ms);
+                      size_t salt_len, uint8_t *key, size_t key_len, int64_t timeout_ms);
 
 /* Compares a hash with the parameters of new hashes, like scrypt_needs_rehash. It works after
  * scrypt_hasher_close too.
  * SCRYPT_NULL_POINTER, then the statuses of scrypt_needs_rehash. */
-SCRYPT_CHECKED
+SCRYPT_NODISCARD
 int scrypt_hasher_needs_rehash(const scrypt_hasher *hasher, const char *text, size_t text_len);
 
 /* Statistics of a hasher, for metrics; in a child, since the fork. */
@@ -549,7 +549,7 @@ typedef struct scrypt_stats {
 } scrypt_stats;
 
 /* Writes the statistics. SCRYPT_NULL_POINTER. */
-SCRYPT_CHECKED
+SCRYPT_NODISCARD
 int scrypt_hasher_stats(scrypt_hasher *hasher, scrypt_stats *stats);
 
 /* Closes a hasher: calls that wait, and later ones, return SCRYPT_CLOSED; calls that derive run to
@@ -561,12 +561,12 @@ void scrypt_hasher_close(scrypt_hasher *hasher);
 void scrypt_hasher_free(scrypt_hasher *hasher);
 
 /* Finds parameters by measuring how long a hasher takes on this machine, now: the maximum log_n
- * whose table has no more than most_bytes bytes, and then the maximum p, such that one derivation
+ * whose table has no more than max_mem bytes, and then the maximum p, such that one derivation
  * in one table takes no more than `seconds`; r is 8. The call takes about four times `seconds`.
  * SCRYPT_NULL_POINTER, SCRYPT_TOO_COSTLY if even log_n = 10 with p = 1 takes longer, or needs more;
  * SCRYPT_OUT_OF_MEMORY. */
-SCRYPT_CHECKED
-int scrypt_calibrate(double seconds, size_t most_bytes, uint32_t *log_n, uint32_t *r, uint32_t *p);
+SCRYPT_NODISCARD
+int scrypt_calibrate(double seconds, size_t max_mem, uint32_t *log_n, uint32_t *r, uint32_t *p);
 
 /* ---- Salts, and the version ---- */
 
@@ -574,8 +574,8 @@ int scrypt_calibrate(double seconds, size_t most_bytes, uint32_t *log_n, uint32_
  * proved.
  * SCRYPT_NULL_POINTER, SCRYPT_NO_RANDOM_BYTES if getrandom fails: then a part of the salt may be
  * written, which must not be used. */
-SCRYPT_CHECKED
-int scrypt_draw_salt(uint8_t *salt, size_t len);
+SCRYPT_NODISCARD
+int scrypt_generate_salt(uint8_t *salt, size_t len);
 
 /* Returns the version of the linked library, and the processor that its proved code was built for,
  * as in "0.12.0 x86-64-v2" or "0.12.0 arm64". If the library has code for two, it chooses the newer
@@ -586,7 +586,7 @@ const char *scrypt_version(void);
 
 /* Return an English description of a status, and its name in this header, which is NULL for a
  * number that is not a status. */
-const char *scrypt_status_text(int status);
+const char *scrypt_strerror(int status);
 const char *scrypt_status_name(int status);
 
 /* Returns 1 if the status means that the text is not a hash that can be read (from SCRYPT_ALGORITHM

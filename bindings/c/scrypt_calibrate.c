@@ -30,7 +30,7 @@ int main(int argc, char **argv) {
     return USAGE;
   }
   if (status != SCRYPT_OK) {
-    fprintf(stderr, "%s\n", scrypt_status_text(status));
+    fprintf(stderr, "%s\n", scrypt_strerror(status));
     return NO_MEMORY;
   }
   if (printf("%u %lu %lu\n", (unsigned)log_n, (unsigned long)r, (unsigned long)p) < 0 || fflush(stdout) != 0) {

@@ -34,7 +34,7 @@ static const struct {
 
 static int is_status(int status) { return status >= 0 && (size_t)status < sizeof STATUSES / sizeof *STATUSES; }
 
-const char *scrypt_status_text(int status) { return is_status(status) ? STATUSES[status].text : "unknown status"; }
+const char *scrypt_strerror(int status) { return is_status(status) ? STATUSES[status].text : "unknown status"; }
 
 const char *scrypt_status_name(int status) { return is_status(status) ? STATUSES[status].name : NULL; }
 

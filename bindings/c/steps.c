@@ -21,10 +21,10 @@ static void free_buffers(scrypt_steps *steps) {
 }
 
 /* Allocates buffers with this number of tables. */
-static int take_buffers(scrypt_steps *steps, const scrypt_needs *needs, size_t tables) {
-  steps->chunks_len = needs->chunks_len;
-  steps->table_len = tables * needs->table_len;
-  steps->scratch_len = tables * needs->scratch_len;
+static int take_buffers(scrypt_steps *steps, const scrypt_cost *cost, size_t tables) {
+  steps->chunks_len = cost->chunks_len;
+  steps->table_len = tables * cost->table_len;
+  steps->scratch_len = tables * cost->scratch_len;
   steps->chunks = (uint8_t *)clearing_malloc(steps->chunks_len);
   steps->table = (uint32_t *)clearing_malloc(sizeof(uint32_t) * steps->table_len);
   steps->scratch = (uint32_t *)clearing_malloc(sizeof(uint32_t) * steps->scratch_len);
@@ -50,7 +50,7 @@ static int all_steps(scrypt_steps *steps, scrypt_on_progress on_progress, void *
     mixes = next_step(mixes, now_ns() - begun);
     if (status == SCRYPT_OK &&
         on_progress(context,
-                    of_chunk * steps->at.chunks + (uint64_t)steps->at.at_once * steps->at.mixes,
+                    of_chunk * steps->at.chunks + (uint64_t)steps->at.interleaved * steps->at.mixes,
                     all) != 0)
       status = SCRYPT_STOPPED;
   }
@@ -62,18 +62,18 @@ int scrypt_key_with_progress(const void *password, size_t password_len, const vo
                              scrypt_on_progress on_progress, void *context, uint8_t *output,
                              size_t output_len) {
   scrypt_steps steps = {log_n, r, p, {0, 0, 0}, NULL, NULL, NULL, 0, 0, 0};
-  scrypt_needs needs;
+  scrypt_cost cost;
   size_t tables;
   int status;
   if (is_null(password, password_len) || is_null(salt, salt_len) || is_null(output, output_len) ||
       on_progress == NULL)
     return SCRYPT_NULL_POINTER;
-  status = scrypt_params_need(log_n, r, p, MAX_OF_TABLES, UINT64_MAX, &needs);
+  status = scrypt_params_cost(log_n, r, p, MAX_OF_TABLES, UINT64_MAX, &cost);
   if (status != SCRYPT_OK && status != SCRYPT_TOO_COSTLY) return status;
   if (output_len == 0 || output_len > SCRYPT_MAX_OUTPUT_LEN) return SCRYPT_INVALID_OUTPUT_LEN;
-  tables = needs.tables < tables_that_pay() ? needs.tables : tables_that_pay();
-  if (needs.table_len < MIN_WORDS) tables = 1;
-  if (!take_buffers(&steps, &needs, tables) && (tables == 1 || !take_buffers(&steps, &needs, 1)))
+  tables = cost.tables < max_interleave() ? cost.tables : max_interleave();
+  if (cost.table_len < MIN_WORDS) tables = 1;
+  if (!take_buffers(&steps, &cost, tables) && (tables == 1 || !take_buffers(&steps, &cost, 1)))
     return SCRYPT_OUT_OF_MEMORY;
   status = scrypt_key_begin(&steps, password, password_len, salt, salt_len);
   if (status == SCRYPT_OK) status = all_steps(&steps, on_progress, context);

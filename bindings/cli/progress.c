@@ -11,7 +11,7 @@
 
 /* A program that is linked without the library shows no bar. */
 #pragma weak scrypt_key_with_progress
-#pragma weak scrypt_params_need
+#pragma weak scrypt_params_cost
 
 int proved_main(int argc, char **argv);
 ssize_t read_or_ask(int fd, void *buffer, size_t len); /* of terminal.c */
@@ -62,7 +62,7 @@ static int read_salt(const char *word, request *key) {
 
 /* Whether the proved program reads the input next if it has these words, of which one is `key`. */
 static int is_accepted(char **word, request *key) {
-  scrypt_needs needs;
+  scrypt_cost cost;
   int count = 0;
   for (; strncmp(*word, "--", 2) == 0; word++) {
     if (strcmp(*word, "--strip-newline") == 0)
@@ -76,8 +76,8 @@ static int is_accepted(char **word, request *key) {
   return count == 6 && read_decimal(word[1], UINT8_MAX, &key->log_n) &&
          read_decimal(word[2], UINT32_MAX, &key->r) && read_decimal(word[3], UINT32_MAX, &key->p) &&
          read_decimal(word[4], SCRYPT_MAX_OUTPUT_LEN, &key->len) && key->len > 0 &&
-         scrypt_params_need((uint32_t)key->log_n, (uint32_t)key->r, (uint32_t)key->p, SIZE_MAX,
-                            UINT64_MAX, &needs) == SCRYPT_OK &&
+         scrypt_params_cost((uint32_t)key->log_n, (uint32_t)key->r, (uint32_t)key->p, SIZE_MAX,
+                            UINT64_MAX, &cost) == SCRYPT_OK &&
          read_salt(word[5], key);
 }
 

@@ -8,8 +8,8 @@ _scrypt_tool() {
   done
   case $((COMP_CWORD - first + 1)):${COMP_WORDS[first]} in
     1:*)
-      choices="key hash verify rehash --raw --progress --draw-salt --recommended --strip-newline
-        --usual-limits --help --version --most-bytes= --most-work= --least-key-len= --hash-file="
+      choices="key hash verify rehash --raw --progress --generate-salt --recommended --strip-newline
+        --default-limits --help --version --max-mem= --max-work= --min-key-len= --hash-file="
       ;;
     2:hash | 2:rehash) choices="phc mcf" ;;
   esac

@@ -10,7 +10,7 @@
 
 #define API __attribute__((visibility("default")))
 
-enum { SALT_LEN = 32, KEY_LEN = 32, TEXT_LEN = 101, KEY_AT = 58, LEAST_OUTPUT = 16, MOST_LOG_N = 31 };
+enum { SALT_LEN = 32, KEY_LEN = 32, TEXT_LEN = 101, KEY_AT = 58, MIN_OUTPUT_LEN = 16, MAX_LOG_N = 31 };
 
 static int refused(int why) {
   errno = why;
@@ -34,10 +34,10 @@ static int overlap(const uint8_t *a, size_t a_len, const uint8_t *b, size_t b_le
 /* Derives a key in one table, as these libraries do: memory for several might not be available. */
 static int derive_in_one(const uint8_t *password, size_t password_len, const uint8_t *salt, size_t salt_len, uint8_t log_n,
                          uint32_t r, uint32_t p, uint8_t *output, size_t output_len) {
-  scrypt_needs needs;
-  int status = scrypt_params_need(log_n, r, p, SIZE_MAX, UINT64_MAX, &needs);
+  scrypt_cost cost;
+  int status = scrypt_params_cost(log_n, r, p, SIZE_MAX, UINT64_MAX, &cost);
   if (status != SCRYPT_OK) return status;
-  return scrypt_key_within(password, password_len, salt, salt_len, log_n, r, p, needs.bytes, UINT64_MAX, output, output_len);
+  return scrypt_key_limited(password, password_len, salt, salt_len, log_n, r, p, cost.bytes, UINT64_MAX, output, output_len);
 }
 
 /* Derives a key, if the parameters are within the limits of these libraries. Like them, it accepts
@@ -60,10 +60,10 @@ static int derive_key(const uint8_t *password, size_t password_len, const uint8_
 }
 
 static int derive(const uint8_t *password, size_t password_len, const uint8_t *salt, size_t salt_len, uint64_t n,
-                  uint64_t most_n, uint32_t r, uint32_t p, uint8_t *output, size_t output_len) {
+                  uint64_t max_n, uint32_t r, uint32_t p, uint8_t *output, size_t output_len) {
   if (output_len > SCRYPT_MAX_OUTPUT_LEN || (uint64_t)r * p >= (uint64_t)1 << 30) return refused(EFBIG);
   if (r == 0 || p == 0) return refused(EINVAL);
-  if (n > most_n) return refused(EFBIG);
+  if (n > max_n) return refused(EFBIG);
   if (n < 2 || (n & (n - 1)) != 0) return refused(EINVAL);
   /* The remaining error is a failed allocation. */
   if (derive_key(password, password_len, salt, salt_len, log_of(n), r, p, output, output_len) != SCRYPT_OK)
@@ -88,18 +88,18 @@ API int libscrypt_scrypt(const uint8_t *password, size_t password_len, const uin
 /* Chooses N, r and p for limits on work and memory: r is 8, N is the largest that both limits
  * allow, and p uses the work that is left. */
 static void choose(unsigned long long work, size_t memory, uint8_t *log_n, uint32_t *r, uint32_t *p) {
-  uint64_t most_rows, most_rp;
+  uint64_t max_rows, max_rp;
   if (work < 32768) work = 32768;
   *r = 8;
-  most_rows = work < memory / 32 ? work / (*r * 4) : memory / ((size_t)*r * 128);
+  max_rows = work < memory / 32 ? work / (*r * 4) : memory / ((size_t)*r * 128);
   for (*log_n = 1; *log_n < 63; *log_n += 1) {
-    if ((uint64_t)1 << *log_n > most_rows / 2) break;
+    if ((uint64_t)1 << *log_n > max_rows / 2) break;
   }
   *p = 1;
   if (work < memory / 32) return;
-  most_rp = (work / 4) / ((uint64_t)1 << *log_n);
-  if (most_rp > 0x3fffffff) most_rp = 0x3fffffff;
-  *p = (uint32_t)most_rp / *r;
+  max_rp = (work / 4) / ((uint64_t)1 << *log_n);
+  if (max_rp > 0x3fffffff) max_rp = 0x3fffffff;
+  *p = (uint32_t)max_rp / *r;
 }
 
 API int crypto_pwhash_scryptsalsa208sha256_ll(const uint8_t *password, size_t password_len, const uint8_t *salt,
@@ -115,7 +115,7 @@ API int crypto_pwhash_scryptsalsa208sha256(unsigned char *output, unsigned long 
   uint32_t r, p;
   if (output_len > SCRYPT_MAX_OUTPUT_LEN) return refused(EFBIG);
   memset(output, 0, (size_t)output_len);
-  if (output_len < LEAST_OUTPUT || (const void *)output == (const void *)password) return refused(EINVAL);
+  if (output_len < MIN_OUTPUT_LEN || (const void *)output == (const void *)password) return refused(EINVAL);
   choose(work, memory, &log_n, &r, &p);
   return derive((const uint8_t *)password, (size_t)password_len, salt, SALT_LEN, (uint64_t)1 << log_n, UINT32_MAX, r,
                 p, output, (size_t)output_len);
@@ -143,8 +143,8 @@ API int crypto_pwhash_scryptsalsa208sha256_str(char text[TEXT_LEN + 1], const ch
   uint32_t r, p;
   memset(text, 0, TEXT_LEN + 1);
   choose(work, memory, &log_n, &r, &p);
-  if (log_n > MOST_LOG_N) return refused(EINVAL);
-  if (scrypt_draw_salt(salt, sizeof salt) != SCRYPT_OK) return refused(EIO);
+  if (log_n > MAX_LOG_N) return refused(EINVAL);
+  if (scrypt_generate_salt(salt, sizeof salt) != SCRYPT_OK) return refused(EIO);
   if (scrypt_hash_mcf(password, (size_t)password_len, salt, SALT_LEN, log_n, r, p, KEY_LEN, made, sizeof made) != SCRYPT_OK)
     return refused(EINVAL); /* also if memory ran out, as in libsodium */
   memcpy(text, made, sizeof made);
@@ -156,7 +156,7 @@ API int crypto_pwhash_scryptsalsa208sha256_str_verify(const char text[TEXT_LEN +
   ptrdiff_t log_n;
   if (!has_costs(text) || text[KEY_AT - 1] != '$') return -1;
   log_n = strchr(LETTERS, text[3]) - LETTERS;
-  if (log_n == 0 || log_n > MOST_LOG_N) return -1;
+  if (log_n == 0 || log_n > MAX_LOG_N) return -1;
   return scrypt_verify(password, (size_t)password_len, text, TEXT_LEN) == SCRYPT_OK ? 0 : -1;
 }
 

@@ -64,7 +64,7 @@ func (e Error) Error() string {
 	case ErrClosed:
 		return "scrypt: the Hasher is closed, or was not made by NewHasher"
 	default:
-		return "scrypt: " + C.GoString(C.scrypt_status_text(C.int(e)))
+		return "scrypt: " + C.GoString(C.scrypt_strerror(C.int(e)))
 	}
 }
 

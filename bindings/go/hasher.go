@@ -31,8 +31,8 @@ type Options struct {
 	SaltLen int  // the length of a new hash's salt, 1 to 64 bytes: by default 16
 
 	// The maximum number of tables: by default two for each processor, or as many tables of
-	// MostBytes as fit in the memory of the machine and of its control group.
-	AtOnce int
+	// MaxMem as fit in the memory of the machine and of its control group.
+	MaxTables int
 
 	// The number of slots, that is, of concurrent derivations: by default the number of processors
 	// that the affinity and the CPU quota of the process allow, or runtime.GOMAXPROCS(0) if that
@@ -41,7 +41,7 @@ type Options struct {
 
 	// The limits on Params.Memory and Params.Work, above which a hash returns ErrTooCostly: by
 	// default the constants of the same names, or the cost of new hashes if that is more.
-	MostBytes, MostWork uint64
+	MaxMem, MaxWork uint64
 }
 
 // A Hasher makes password hashes, and verifies passwords against hashes of either format. It is
@@ -54,9 +54,9 @@ type Options struct {
 // among the next eight of a processor, its derivation continues with a copy of the password, which
 // is wiped. After the deadline of the context no derivation begins.
 //
-// A Hasher holds at most AtOnce tables, whatever P is, and keeps their memory for later calls until
-// Close. Create a Hasher with NewHasher: all methods of the zero value that return an error return
-// ErrClosed, except Close.
+// A Hasher holds at most MaxTables tables, whatever P is, and keeps their memory for later calls
+// until Close. Create a Hasher with NewHasher: all methods of the zero value that return an error
+// return ErrClosed, except Close.
 type Hasher struct {
 	of *hasher
 }
@@ -74,21 +74,21 @@ type hasher struct {
 // ErrOutOfMemory.
 func NewHasher(options Options) (*Hasher, error) {
 	usual := Recommended()
-	options.LogN = orUsual(options.LogN, usual.LogN)
-	options.R = orUsual(options.R, usual.R)
-	options.P = orUsual(options.P, usual.P)
+	options.LogN = orDefault(options.LogN, usual.LogN)
+	options.R = orDefault(options.R, usual.R)
+	options.P = orDefault(options.P, usual.P)
 	if n := runtime.GOMAXPROCS(0); n < runtime.NumCPU() {
-		options.Processors = orUsual(options.Processors, n)
+		options.Processors = orDefault(options.Processors, n)
 	}
-	if options.AtOnce < 0 || options.Processors < 0 {
+	if options.MaxTables < 0 || options.Processors < 0 {
 		return nil, fmt.Errorf("%w: %+v", ErrInvalidOption, options)
 	}
 	with := C.scrypt_options{
 		size:  C.sizeof_scrypt_options,
 		log_n: number(options.LogN), r: number(options.R), p: number(options.P),
 		key_len: C.size_t(options.KeyLen), salt_len: C.size_t(options.SaltLen),
-		most_bytes: C.size_t(options.MostBytes), most_work: C.uint64_t(options.MostWork),
-		at_once: C.size_t(options.AtOnce), processors: C.size_t(options.Processors),
+		max_mem: C.size_t(options.MaxMem), max_work: C.uint64_t(options.MaxWork),
+		max_tables: C.size_t(options.MaxTables), processors: C.size_t(options.Processors),
 	}
 	if options.MCF {
 		with.mcf = 1
@@ -96,13 +96,13 @@ func NewHasher(options Options) (*Hasher, error) {
 	var status C.int
 	of := &hasher{c: C.scrypt_hasher_new(&with, &status)}
 	if of.c == nil {
-		return nil, fmt.Errorf("%w: %v: %+v", Error(status), options.Params.needs(), options)
+		return nil, fmt.Errorf("%w: %v: %+v", Error(status), options.Params.cost(), options)
 	}
 	// Each slot derives a batch of up to four calls, and four more wait in C to form the next
 	// batch.
 	derive := C.scrypt_hasher_options(of.c).processors
-	if atOnce := C.scrypt_hasher_options(of.c).at_once; atOnce < derive {
-		derive = atOnce
+	if tables := C.scrypt_hasher_options(of.c).max_tables; tables < derive {
+		derive = tables
 	}
 	if derive > mostInside/8 {
 		derive = mostInside / 8
@@ -123,15 +123,15 @@ func (h *Hasher) Options() Options {
 	return Options{
 		Params:  Params{LogN: int(with.log_n), R: int(with.r), P: int(with.p), KeyLen: int(with.key_len)},
 		MCF:     with.mcf != 0,
-		SaltLen: int(with.salt_len), AtOnce: int(with.at_once), Processors: int(with.processors),
-		MostBytes: uint64(with.most_bytes), MostWork: uint64(with.most_work),
+		SaltLen: int(with.salt_len), MaxTables: int(with.max_tables), Processors: int(with.processors),
+		MaxMem: uint64(with.max_mem), MaxWork: uint64(with.max_work),
 	}
 }
 
 // Stats are the statistics of a Hasher.
 type Stats struct {
 	Waiting, Deriving int    // how many calls wait for a slot, and derive, now
-	Refused           uint64 // how many calls ran out of memory, or whose context ended
+	Failed            uint64 // how many calls ran out of memory, or whose context ended
 }
 
 // Stats returns the current statistics, for metrics. For the zero value of a Hasher all are zero.
@@ -212,7 +212,7 @@ func (h *Hasher) Key(ctx context.Context, password, salt []byte, keyLen int) ([]
 // Other errors match (errors.Is) the context's error, ErrClosed or ErrOutOfMemory. If the hash is
 // rejected, Verify returns, without waiting, an error that matches ErrRefused: ErrInvalidHash,
 // ErrTooCostly if the hash exceeds the limits, or ErrKeyTooShort if its key has fewer than
-// LeastKeyLen bytes, or fewer than new keys if that is less.
+// DefaultMinKeyLen bytes, or fewer than new keys if that is less.
 func (h *Hasher) Verify(ctx context.Context, text string, password []byte) error {
 	if h.of == nil {
 		return ErrClosed
@@ -236,21 +236,21 @@ func (h *Hasher) refusal(text []byte) error {
 		return nil
 	}
 	defer runtime.KeepAlive(h.of)
-	var needs C.scrypt_needs
+	var cost C.scrypt_cost
 	with := C.scrypt_hasher_options(h.of.c)
-	status := C.scrypt_hash_needs(chars(text), size(text), with.most_bytes, with.most_work,
-		with.least_key_len, &needs)
+	status := C.scrypt_hash_cost(chars(text), size(text), with.max_mem, with.max_work,
+		with.min_key_len, &cost)
 	if status == C.SCRYPT_TOO_COSTLY || status == C.SCRYPT_KEY_TOO_SHORT {
-		const bounds = "MostBytes is %d, MostWork is %d, and the least key has %d bytes"
-		return fmt.Errorf("%w: %v, and a key of %d bytes; "+bounds, Error(status), inWords(needs),
-			needs.key_len, with.most_bytes, with.most_work, with.least_key_len)
+		const bounds = "MaxMem is %d, MaxWork is %d, and the least key has %d bytes"
+		return fmt.Errorf("%w: %v, and a key of %d bytes; "+bounds, Error(status), inWords(cost),
+			cost.key_len, with.max_mem, with.max_work, with.min_key_len)
 	}
 	return failed(status)
 }
 
 // NeedsRehash reports whether a parameter of the hash, or the length of its key, is smaller than in
-// new hashes. Its errors match ErrInvalidHash (errors.Is), or ErrClosed for the zero Hasher. It needs
-// no memory, so it also works on a closed Hasher.
+// new hashes. Its errors match ErrInvalidHash (errors.Is), or ErrClosed for the zero Hasher. It
+// needs no memory, so it also works on a closed Hasher.
 func (h *Hasher) NeedsRehash(text string) (bool, error) {
 	if h.of == nil {
 		return false, ErrClosed
@@ -337,18 +337,18 @@ func wipe(secret []byte) {
 	runtime.KeepAlive(secret)
 }
 
-func orUsual(n, usual int) int {
+func orDefault(n, usual int) int {
 	if n == 0 {
 		return usual
 	}
 	return n
 }
 
-// needs describes the cost of a derivation, or says that the parameters are not accepted.
-func (params Params) needs() string {
-	needs, err := params.within(math.MaxUint64)
+// cost describes the cost of a derivation, or says that the parameters are not accepted.
+func (params Params) cost() string {
+	cost, err := params.within(math.MaxUint64)
 	if err == nil {
-		return inWords(needs)
+		return inWords(cost)
 	}
 	words := fmt.Sprintf("LogN %d, R %d and P %d are not accepted", params.LogN, params.R, params.P)
 	if params.LogN < 0 || params.LogN > 63 {
@@ -357,7 +357,7 @@ func (params Params) needs() string {
 	return words
 }
 
-func inWords(needs C.scrypt_needs) string {
+func inWords(cost C.scrypt_cost) string {
 	return fmt.Sprintf("LogN %d, R %d and P %d need %d bytes and a work of %d",
-		needs.log_n, needs.r, needs.p, needs.bytes, needs.work)
+		cost.log_n, cost.r, cost.p, cost.bytes, cost.work)
 }

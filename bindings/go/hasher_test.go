@@ -71,7 +71,7 @@ func TestRefusedOptions(t *testing.T) {
 		options Options
 		want    error
 	}{
-		{"AtOnce:-1", Options{AtOnce: -1}, ErrInvalidOption},
+		{"MaxTables:-1", Options{MaxTables: -1}, ErrInvalidOption},
 		{"Processors:-1", Options{Processors: -1}, ErrInvalidOption},
 		{"SaltLen:-1", Options{SaltLen: -1}, ErrSaltInvalid},
 		{"KeyLen:-1", Options{Params: Params{KeyLen: -1}}, ErrInvalidParams},
@@ -84,10 +84,10 @@ func TestRefusedOptions(t *testing.T) {
 		{"LogN 57, R 8 and P 1 are not accepted: {", Options{Params: Params{LogN: 57}}, ErrInvalidParams},
 		{"R:4294967304", Options{Params: Params{R: 8 + 1<<32}}, ErrInvalidParams},
 		{"P:-4294967295", Options{Params: Params{P: 1 - 1<<32}}, ErrInvalidParams},
-		{"need 134220800 bytes", Options{MostBytes: 134220799}, ErrTooCostly},
-		{"a work of 4195328", Options{MostWork: 4195327}, ErrTooCostly},
-		{"", Options{MostBytes: 134220800, MostWork: 4195328}, nil},
-		{"", Options{AtOnce: 1 << 62}, nil},
+		{"need 134220800 bytes", Options{MaxMem: 134220799}, ErrTooCostly},
+		{"a work of 4195328", Options{MaxWork: 4195327}, ErrTooCostly},
+		{"", Options{MaxMem: 134220800, MaxWork: 4195328}, nil},
+		{"", Options{MaxTables: 1 << 62}, nil},
 		{"", Options{Params: Params{LogN: 19}}, nil},
 	} {
 		hasher, err := NewHasher(it.options)
@@ -101,14 +101,14 @@ func TestRefusedOptions(t *testing.T) {
 // Each default is replaced by its value.
 func TestOptions(t *testing.T) {
 	usual := newHasher(t, Options{}).Options()
-	want := Options{Params: Recommended(), SaltLen: 16, AtOnce: usual.AtOnce, Processors: usual.Processors,
-		MostBytes: MostBytes, MostWork: MostWork}
-	if usual != want || usual.AtOnce < 1 || usual.AtOnce > 2*usual.Processors ||
+	want := Options{Params: Recommended(), SaltLen: 16, MaxTables: usual.MaxTables, Processors: usual.Processors,
+		MaxMem: DefaultMaxMem, MaxWork: DefaultMaxWork}
+	if usual != want || usual.MaxTables < 1 || usual.MaxTables > 2*usual.Processors ||
 		usual.Processors > runtime.NumCPU() {
 		t.Errorf("%+v", usual)
 	}
-	given := Options{Params: Params{5, 3, 2, 20}, MCF: true, SaltLen: 64, AtOnce: 3, Processors: 2,
-		MostBytes: 1 << 20, MostWork: 1 << 16}
+	given := Options{Params: Params{5, 3, 2, 20}, MCF: true, SaltLen: 64, MaxTables: 3, Processors: 2,
+		MaxMem: 1 << 20, MaxWork: 1 << 16}
 	if got := newHasher(t, given).Options(); got != given {
 		t.Errorf("%+v", got)
 	}
@@ -126,11 +126,11 @@ func TestRefusedTexts(t *testing.T) {
 		want    error
 		words   string
 	}{
-		{"$scrypt$ln=6,r=3,p=5" + shortKey + "AA", Options{MostWork: 5759}, ErrTooCostly,
-			"need 27264 bytes and a work of 5760, and a key of 16 bytes; MostBytes is 269484032, MostWork is 5759"},
+		{"$scrypt$ln=6,r=3,p=5" + shortKey + "AA", Options{MaxWork: 5759}, ErrTooCostly,
+			"need 27264 bytes and a work of 5760, and a key of 16 bytes; MaxMem is 269484032, MaxWork is 5759"},
 		{noHash[:len(noHash)-2], Options{}, ErrKeyTooShort, "a key of 15 bytes"},
 		{noHash[:len(noHash)-2], Options{Params: Params{KeyLen: 15}}, ErrMismatch, ""},
-		{"$scrypt$ln=56,r=1,p=1" + shortKey + "AA", Options{MostBytes: most, MostWork: most}, ErrOutOfMemory, ""},
+		{"$scrypt$ln=56,r=1,p=1" + shortKey + "AA", Options{MaxMem: most, MaxWork: most}, ErrOutOfMemory, ""},
 	} {
 		it.options.LogN = 4
 		hasher := newHasher(t, it.options)
@@ -138,7 +138,7 @@ func TestRefusedTexts(t *testing.T) {
 		if !errors.Is(err, it.want) || !strings.Contains(err.Error(), it.words) {
 			t.Errorf("%s: %v", it.text, err)
 		}
-		if refused := hasher.Stats().Refused; (refused == 1) != (it.want == ErrOutOfMemory) {
+		if refused := hasher.Stats().Failed; (refused == 1) != (it.want == ErrOutOfMemory) {
 			t.Errorf("%s: %d are counted", it.text, refused)
 		}
 	}
@@ -166,7 +166,7 @@ func TestMemoryAndWork(t *testing.T) {
 		{Params{1 << 8, 8, 1, 32}, 0, math.MaxUint64, ErrInvalidParams},
 		{Params{17, -8, 1, 32}, 0, math.MaxUint64, ErrInvalidParams},
 		{Params{17, 8, 1 << 32, 32}, 0, math.MaxUint64, ErrInvalidParams},
-		{Recommended(), 134220800, MostWork / 4, nil},
+		{Recommended(), 134220800, DefaultMaxWork / 4, nil},
 	} {
 		if memory, err := it.params.Memory(); memory != it.memory || err != it.want || it.params.Work() != it.work {
 			t.Errorf("%v: %d bytes, a work of %d, %v", it.params, memory, it.params.Work(), err)

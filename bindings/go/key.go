@@ -24,9 +24,9 @@ const several = 129 << 20
 // and Params.Work return the cost of N, r and p. The errors match (errors.Is) ErrInvalidParams,
 // ErrInvalidOutputLen, and ErrOutOfMemory if the memory for the table is not available.
 func Key(password, salt []byte, N, r, p, keyLen int) ([]byte, error) {
-	return made(N, r, p, keyLen, func(needs C.scrypt_needs, key []byte) error {
+	return made(N, r, p, keyLen, func(cost C.scrypt_cost, key []byte) error {
 		return failed(C.scrypt_key(pointer(password), size(password), pointer(salt), size(salt),
-			needs.log_n, needs.r, needs.p, bytes(key), size(key)))
+			cost.log_n, cost.r, cost.p, bytes(key), size(key)))
 	})
 }
 
@@ -42,9 +42,9 @@ func KeyContext(ctx context.Context, password, salt []byte, N, r, p, keyLen int,
 // keyInSteps calls next for the number of block mixes of each step after the first.
 func keyInSteps(ctx context.Context, password, salt []byte, N, r, p, keyLen int,
 	progress func(done float64), next func(mixes, time.Duration) mixes) ([]byte, error) {
-	return made(N, r, p, keyLen, func(needs C.scrypt_needs, key []byte) error {
+	return made(N, r, p, keyLen, func(cost C.scrypt_cost, key []byte) error {
 		var it C.scrypt_steps
-		if C.steps_map(&it, &needs) == 0 {
+		if C.steps_map(&it, &cost) == 0 {
 			return ErrOutOfMemory
 		}
 		defer C.steps_unmap(&it)
@@ -76,9 +76,9 @@ func nextMixes(last mixes, took time.Duration) mixes {
 }
 
 // made returns the key that derive writes, if N, r, p and keyLen are accepted.
-func made(N, r, p, keyLen int, derive func(C.scrypt_needs, []byte) error) ([]byte, error) {
+func made(N, r, p, keyLen int, derive func(C.scrypt_cost, []byte) error) ([]byte, error) {
 	params := Params{LogN: bits.TrailingZeros(uint(N)), R: r, P: p}
-	needs, err := params.within(several)
+	cost, err := params.within(several)
 	switch {
 	case N < 1 || N&(N-1) != 0:
 		return nil, fmt.Errorf("%w: N is %d, and has to be a power of two", ErrInvalidParams, N)
@@ -87,11 +87,11 @@ func made(N, r, p, keyLen int, derive func(C.scrypt_needs, []byte) error) ([]byt
 	}
 	key, err := newKey(keyLen)
 	if err == nil {
-		err = derive(needs, key)
+		err = derive(cost, key)
 	}
 	if _, is := err.(Error); is {
 		const words = "%w: N %d, r %d and p %d need %d bytes, and keyLen is %d"
-		return nil, fmt.Errorf(words, err, N, r, p, needs.bytes, keyLen)
+		return nil, fmt.Errorf(words, err, N, r, p, cost.bytes, keyLen)
 	} else if err != nil {
 		return nil, err
 	}

@@ -20,13 +20,13 @@ static inline size_t steps_bytes(const scrypt_steps *it) {
 }
 
 /* Maps the buffers of a derivation, one after another, in huge pages where the system has them. */
-static inline int steps_map(scrypt_steps *it, const scrypt_needs *needs) {
+static inline int steps_map(scrypt_steps *it, const scrypt_cost *cost) {
   void *at = NULL;
-  it->log_n = needs->log_n, it->r = needs->r, it->p = needs->p;
-  it->chunks_len = needs->chunks_len;
-  it->table_len = needs->tables * needs->table_len;
-  it->scratch_len = needs->tables * needs->scratch_len;
-  if (needs->bytes > SIZE_MAX / 2) return 0;
+  it->log_n = cost->log_n, it->r = cost->r, it->p = cost->p;
+  it->chunks_len = cost->chunks_len;
+  it->table_len = cost->tables * cost->table_len;
+  it->scratch_len = cost->tables * cost->scratch_len;
+  if (cost->bytes > SIZE_MAX / 2) return 0;
 #ifdef _WIN32
   at = VirtualAlloc(NULL, steps_bytes(it), MEM_RESERVE | MEM_COMMIT, PAGE_READWRITE);
   if (at == NULL) return 0;
@@ -55,6 +55,6 @@ static inline void steps_unmap(scrypt_steps *it) {
 /* The fraction of a derivation that is done, from 0 to 1. */
 static inline double steps_done(const scrypt_steps *it) {
   double of_each = (double)it->at.mixes / (double)((uint64_t)2 << it->log_n);
-  return ((double)it->at.chunks + (double)it->at.at_once * of_each) / it->p;
+  return ((double)it->at.chunks + (double)it->at.interleaved * of_each) / it->p;
 }
 #endif

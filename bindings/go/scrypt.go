@@ -27,9 +27,9 @@ import (
 // times the work of the recommended parameters, and the minimum length of its key, or the length of
 // new keys if that is less.
 const (
-	MostBytes   uint64 = C.SCRYPT_MOST_BYTES
-	MostWork    uint64 = C.SCRYPT_MOST_WORK
-	LeastKeyLen        = C.SCRYPT_LEAST_KEY_LEN
+	DefaultMaxMem    uint64 = C.SCRYPT_DEFAULT_MAX_MEM
+	DefaultMaxWork   uint64 = C.SCRYPT_DEFAULT_MAX_WORK
+	DefaultMinKeyLen        = C.SCRYPT_DEFAULT_MIN_KEY_LEN
 )
 
 // Params are the parameters of a hash: N = 2^LogN, the block size R, the parallelization P, and the
@@ -50,12 +50,12 @@ func Recommended() Params {
 }
 
 // Calibrate measures this machine, and returns the most costly parameters whose derivation takes no
-// more time than the target: first the largest LogN whose table does not exceed mostBytes, and then
+// more time than the target: first the largest LogN whose table does not exceed maxMem, and then
 // the largest P. R is 8, and KeyLen is 32. It takes about four times the target. It returns
 // ErrTooCostly if even a LogN of 10 takes more time or memory.
-func Calibrate(target time.Duration, mostBytes uint64) (Params, error) {
+func Calibrate(target time.Duration, maxMem uint64) (Params, error) {
 	var logN, r, p C.uint32_t
-	err := failed(C.scrypt_calibrate(C.double(target.Seconds()), C.size_t(mostBytes), &logN, &r, &p))
+	err := failed(C.scrypt_calibrate(C.double(target.Seconds()), C.size_t(maxMem), &logN, &r, &p))
 	if err != nil {
 		return Params{}, err
 	}
@@ -77,28 +77,28 @@ func ParamsOf(text string) (Params, error) {
 // Memory returns the size of a derivation's buffers in bytes, up to math.MaxUint64, or
 // ErrInvalidParams if LogN, R and P are not accepted.
 func (params Params) Memory() (uint64, error) {
-	needs, err := params.within(math.MaxUint64)
-	return uint64(needs.bytes), err
+	cost, err := params.within(math.MaxUint64)
+	return uint64(cost.bytes), err
 }
 
 // within returns the cost of a derivation with as many tables as fit in the given number of bytes,
 // or ErrInvalidParams.
-func (params Params) within(bytes uint64) (needs C.scrypt_needs, err error) {
-	status := C.scrypt_params_need(number(params.LogN), number(params.R), number(params.P),
-		C.size_t(bytes), math.MaxUint64, &needs)
+func (params Params) within(bytes uint64) (cost C.scrypt_cost, err error) {
+	status := C.scrypt_params_cost(number(params.LogN), number(params.R), number(params.P),
+		C.size_t(bytes), math.MaxUint64, &cost)
 	if status == C.SCRYPT_INVALID_PARAMS {
 		err = ErrInvalidParams
 	}
-	return needs, err
+	return cost, err
 }
 
-// Work returns the work of a derivation, which Options.MostWork limits: 4 * (N + 32) * R * P
+// Work returns the work of a derivation, which Options.MaxWork limits: 4 * (N + 32) * R * P
 // Salsa20/8 cores, where 32 accounts for PBKDF2. It returns math.MaxUint64 if the work is larger,
 // or if the parameters are not accepted.
 func (params Params) Work() uint64 {
-	needs, err := params.within(math.MaxUint64)
+	cost, err := params.within(math.MaxUint64)
 	if err != nil {
 		return math.MaxUint64
 	}
-	return uint64(needs.work)
+	return uint64(cost.work)
 }

@@ -53,7 +53,7 @@ func TestEndsOfContexts(t *testing.T) {
 		{"deriving", false, false, 10 * time.Millisecond, false, context.Canceled},
 		{"deriving at a deadline", false, false, 10 * time.Millisecond, true, context.DeadlineExceeded},
 	} {
-		hasher := newHasher(t, Options{Params: small(), AtOnce: 1, MostWork: 4 * MostWork})
+		hasher := newHasher(t, Options{Params: small(), MaxTables: 1, MaxWork: 4 * DefaultMaxWork})
 		if it.isFull {
 			hasher.of.inside = nil
 		}
@@ -116,7 +116,7 @@ func TestDeadlines(t *testing.T) {
 // Contexts end at any time, until the hasher is closed: each call returns its verdict, or the
 // reason why it has no verdict.
 func TestAtAnyTime(t *testing.T) {
-	hasher := newHasher(t, Options{Params: small(), AtOnce: 3, Processors: 2})
+	hasher := newHasher(t, Options{Params: small(), MaxTables: 3, Processors: 2})
 	var all sync.WaitGroup
 	for i := 0; i < 64; i++ {
 		all.Add(1)
@@ -146,7 +146,7 @@ func TestAtAnyTime(t *testing.T) {
 
 // Stats counts the calls that wait and derive, and those whose contexts end.
 func TestStats(t *testing.T) {
-	hasher := newHasher(t, Options{Params: small(), AtOnce: 1, MostWork: 4 * MostWork})
+	hasher := newHasher(t, Options{Params: small(), MaxTables: 1, MaxWork: 4 * DefaultMaxWork})
 	before, ended := busy(t, hasher), make(chan error)
 	ctx, cancel := context.WithCancel(context.Background())
 	for i := 0; i < 20; i++ {
@@ -162,7 +162,7 @@ func TestStats(t *testing.T) {
 		}
 	}
 	<-before // seven calls waited in C after it, and derive now
-	for now := (Stats{}); now != (Stats{Refused: 20}); now = hasher.Stats() {
+	for now := (Stats{}); now != (Stats{Failed: 20}); now = hasher.Stats() {
 		time.Sleep(time.Millisecond)
 	}
 	if now := new(Hasher).Stats(); now != (Stats{}) {
@@ -174,7 +174,7 @@ func TestStats(t *testing.T) {
 func TestManyProcessors(t *testing.T) {
 	for _, n := range []int{511, 512, 513, 1 << 60, 1 << 61, math.MaxInt64} {
 		want := map[bool]int{true: 4088, false: 4096}[n == 511]
-		if got := cap(newHasher(t, Options{Params: small(), Processors: n, AtOnce: n}).of.inside); got != want {
+		if got := cap(newHasher(t, Options{Params: small(), Processors: n, MaxTables: n}).of.inside); got != want {
 			t.Errorf("with %d processors %d goroutines may wait in C", n, got)
 		}
 	}
@@ -196,7 +196,7 @@ func TestLeftCalls(t *testing.T) {
 	before := runtime.NumGoroutine()
 	for i := 0; i < 3; i++ {
 		ctx, cancel := context.WithTimeout(context.Background(), 20*time.Millisecond)
-		hasher := newHasher(t, Options{Params: small(), AtOnce: 1, MostWork: 4 * MostWork})
+		hasher := newHasher(t, Options{Params: small(), MaxTables: 1, MaxWork: 4 * DefaultMaxWork})
 		err := hasher.Verify(ctx, "$scrypt$ln=17,r=8,p=2"+shortKey+"AA", nil)
 		if err != context.DeadlineExceeded {
 			t.Error(err)
@@ -209,7 +209,7 @@ func TestLeftCalls(t *testing.T) {
 	}
 }
 
-// A Hasher has at most AtOnce tables, whatever P and Processors are, and frees them when nothing
+// A Hasher has at most MaxTables tables, whatever P and Processors are, and frees them when nothing
 // refers to it.
 func TestMemory(t *testing.T) {
 	resident := func() (kib int) {
@@ -223,7 +223,7 @@ func TestMemory(t *testing.T) {
 	}
 	before, hashers := resident(), make([]*Hasher, 4)
 	for i := range hashers {
-		hashers[i] = newHasher(t, Options{Params: Params{LogN: 16, P: 4}, AtOnce: 1, Processors: 4})
+		hashers[i] = newHasher(t, Options{Params: Params{LogN: 16, P: 4}, MaxTables: 1, Processors: 4})
 		_, _ = hashers[i].Hash(context.Background(), nil)
 	}
 	held := resident()

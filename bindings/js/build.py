@@ -4,7 +4,7 @@
 usage: build.py         begins with the proofs that are kept in crates/scrypt_c/out
        build.py KEPT    or in this folder
 
-The crate is proved for WebAssembly with a 64-bit memory and the mixer for it, and linked as build/wasm/scrypt64.wasm.
+The crate is proved for WebAssembly with a 64-bit memory and the backend for it, and linked as build/wasm/scrypt64.wasm.
 scrypt.wasm is the same with a 32-bit memory, and declared.js has the statuses. It needs the kit, and the libraries below the crate, which `make lib` proves.
 """
 
@@ -23,15 +23,16 @@ TARGET = "wasm64-unknown-unknown"
 MADE = TOP / "build/wasm/scrypt64.wasm"
 MODULE = TOP / "bindings/js/scrypt.wasm"
 
-# The calls that the package makes. Others are left out: those that allocate have no allocator on this target.
+# The calls that the package makes. Others are left out: those that allocate have no allocator on
+# this target.
 CALLS = set("""
-scrypt_hash_mcf_with_buffers scrypt_hash_needs scrypt_hash_params scrypt_hash_phc_with_buffers scrypt_kdf_with_buffers
-scrypt_key_begin scrypt_key_finish scrypt_key_step scrypt_limits_for_new scrypt_needs_rehash scrypt_params_need
-scrypt_verify_begin scrypt_verify_finish scrypt_verify_within_with_buffers
+scrypt_hash_mcf_with_buffers scrypt_hash_cost scrypt_hash_params scrypt_hash_phc_with_buffers scrypt_kdf_with_buffers
+scrypt_key_begin scrypt_key_finish scrypt_key_step scrypt_default_limits scrypt_needs_rehash scrypt_params_cost
+scrypt_verify_begin scrypt_verify_finish scrypt_verify_limited_with_buffers
 """.split())
 
-# The kit compiles for the oldest processor of this target, which has no vectors. Every engine has them by now, and with them a
-# key takes less than half of the time.
+# The kit compiles for the oldest processor of this target, which has no vectors. Every engine has
+# them by now, and with them a key takes less than half of the time.
 VECTORS = "-msimd128"
 
 
@@ -44,7 +45,7 @@ def other_calls():
 def prove(room, kept):
     """Proves the crate, and returns what the linker takes."""
     crate, toolchain, archive = (room / name for name in ("scrypt_c", "toolchain", "libscrypt_c.a"))
-    copies.copy_crate("scrypt_c", crate, "Pairs", left_out=other_calls())
+    copies.copy_crate("scrypt_c", crate, "SimdPairs", left_out=other_calls())
     copies.copy_toolchain(toolchain, VECTORS)
     options = ["--target", TARGET, "--toolchain", toolchain, "--backend", "llvm"]
     verdict = copies.build("scrypt_c", crate, archive, *options, kept=kept)
@@ -63,7 +64,8 @@ def main(kept):
         archive = prove(Path(room), kept)
         own = copies.kit.located()
         copies.run(f"{own}/bin/rattle-link", "--target", TARGET, "--toolchain", f"{own}/toolchain", "-o", MADE, archive)
-    # Binaryen's wasm-opt can do this too, but what is packed must not depend on which version of it is installed, if any.
+    # Binaryen's wasm-opt can do this too, but what is packed must not depend on which version of it
+    # is installed, if any.
     lower.main(MADE, MODULE)
     print(f"{MODULE.stat().st_size} bytes of {MADE.stat().st_size}")
 

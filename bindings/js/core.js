@@ -10,7 +10,7 @@ import { keyInSteps, turn, verdictInSteps } from './steps.js';
 
 // Default limits on memory do not exceed the memory there is.
 const ofMachine = (bytes) => (bytes < MEMORY ? bytes : BigInt(MEMORY));
-const MOST_MEMORY = ofMachine(2n ** 30n + 2n ** 20n); // N = 2^20 with r = 8
+const MAX_MEMORY = ofMachine(2n ** 30n + 2n ** 20n); // N = 2^20 with r = 8
 const TEXT_CAPACITY = 512; // the longest text of a hash, without its salt
 
 /** The calls, which block the thread. In a page's thread use them for small N. */
@@ -65,11 +65,11 @@ export class Scrypt {
     const { salt = crypto.getRandomValues(new Uint8Array(SALT_LEN)), format = 'phc' } = options;
     const params = withDefaults(options);
     const keyLen = BigInt(lengthOf(options.dkLen));
-    const mostBytes = limit(options.maxmem, 'maxmem', MOST_MEMORY);
+    const maxMem = limit(options.maxmem, 'maxmem', MAX_MEMORY);
     return this.#run({ password, salt }, (it, ...slices) => {
       const text = it.take(TEXT_CAPACITY + 2 * slices[1].length);
       const [textLen] = it.words(1);
-      const buffers = it.buffersFor(params, mostBytes, NO_LIMIT);
+      const buffers = it.buffersFor(params, maxMem, NO_LIMIT);
       const places = [text, textLen.at, ...buffers];
       it.call(`scrypt_hash_${format}_with_buffers`, ...slices, ...params, keyLen, ...places);
       return new TextDecoder().decode(it.view(text).subarray(0, it.number(textLen)));
@@ -82,7 +82,7 @@ export class Scrypt {
     return this.#run({ password, text }, (it, ...slices) => {
       const limits = limitsOf(it, wanted);
       const buffers = it.buffersOf(slices[1], limits);
-      return it.isOk('scrypt_verify_within_with_buffers', ...slices, ...limits, ...buffers);
+      return it.isOk('scrypt_verify_limited_with_buffers', ...slices, ...limits, ...buffers);
     });
   }
 
@@ -156,8 +156,8 @@ export class Scrypt {
 }
 
 function keyOptions(options) {
-  const mostBytes = limit(options.maxmem, 'maxmem', MOST_MEMORY);
-  const limits = [mostBytes, limit(options.maxwork, 'maxwork', NO_LIMIT)];
+  const maxMem = limit(options.maxmem, 'maxmem', MAX_MEMORY);
+  const limits = [maxMem, limit(options.maxwork, 'maxwork', NO_LIMIT)];
   return { params: parameters(options), length: lengthOf(options.dkLen), limits };
 }
 
@@ -174,7 +174,7 @@ const verifyOptions = (options) =>
 // with the same options.
 function limitsOf(it, { options, params, length }) {
   const usual = it.words(3);
-  it.call('scrypt_limits_for_new', ...params, BigInt(length), ...places(usual));
+  it.call('scrypt_default_limits', ...params, BigInt(length), ...places(usual));
   const [bytes, work, keyLen] = usual.map((word) => it.big(word));
   const { maxmem, maxwork, minKeyLength } = options;
   return [

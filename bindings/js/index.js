@@ -34,7 +34,7 @@ export async function verify(password, text, given) {
 }
 
 // Calls that only read a text take microseconds. The memory for a long text is not kept.
-const MOST_KEPT = 2 ** 22;
+const MAX_KEPT = 2 ** 22;
 let reader = {};
 
 async function read() {
@@ -50,7 +50,7 @@ async function reading(name, text, ...options) {
     return (await read())[name](copy, ...options);
   } finally {
     copy.fill(0);
-    if (reader.scrypt?.memory > MOST_KEPT) reader = {};
+    if (reader.scrypt?.memory > MAX_KEPT) reader = {};
   }
 }
 

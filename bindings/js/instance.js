@@ -14,7 +14,7 @@ export class Instance {
   #base;
   #top;
   #isInside = false;
-  #needs = ''; // the cost of the call and its limits, for the message
+  #cost = ''; // the cost of the call and its limits, for the message
 
   constructor(exports) {
     this.#calls = exports;
@@ -38,7 +38,7 @@ export class Instance {
     this.#clear(0, STACK);
     this.#clear(this.#base, this.#top);
     this.#top = this.#base;
-    this.#needs = '';
+    this.#cost = '';
   }
 
   // For the module a slice is a pointer and a length.
@@ -65,7 +65,7 @@ export class Instance {
 
   #refusal(status) {
     const isLimit = status === TOO_COSTLY || status === KEY_TOO_SHORT;
-    return errorOf(status, undefined, isLimit ? this.#needs : '');
+    return errorOf(status, undefined, isLimit ? this.#cost : '');
   }
 
   /** Takes zeros above the memory that is taken. */
@@ -109,17 +109,17 @@ export class Instance {
     return Number(this.big(taken));
   }
 
-  // Takes memory for a scrypt_needs. Returns it, and its fields after log_n, r and p.
-  #takeNeeds() {
+  // Takes memory for a scrypt_cost. Returns it, and its fields after log_n, r and p.
+  #takeCost() {
     const { at } = this.take(72);
     return [at, ...Array.from({ length: 7 }, (_, i) => ({ at: at + BigInt(16 + 8 * i) }))];
   }
 
   /** The buffers of a derivation within limits. */
-  buffersFor(params, mostBytes, mostWork) {
-    const [needs, , ...sizes] = this.#takeNeeds();
-    const status = this.#status('scrypt_params_need', [...params, mostBytes, mostWork, needs]);
-    this.#needs = inWords(sizes.slice(4).map((it) => this.big(it)), [mostBytes, mostWork]);
+  buffersFor(params, maxMem, maxWork) {
+    const [cost, , ...sizes] = this.#takeCost();
+    const status = this.#status('scrypt_params_cost', [...params, maxMem, maxWork, cost]);
+    this.#cost = inWords(sizes.slice(4).map((it) => this.big(it)), [maxMem, maxWork]);
     if (status !== OK) throw this.#refusal(status);
     return this.buffers(sizes);
   }
@@ -129,9 +129,9 @@ export class Instance {
    * returns the error before it checks the buffers.
    */
   buffersOf(text, limits) {
-    const [needs, keyLength, ...sizes] = this.#takeNeeds();
-    const status = this.#status('scrypt_hash_needs', [text, ...limits, needs]);
-    this.#needs = inWords([...sizes.slice(4), keyLength].map((it) => this.big(it)), limits);
+    const [cost, keyLength, ...sizes] = this.#takeCost();
+    const status = this.#status('scrypt_hash_cost', [text, ...limits, cost]);
+    this.#cost = inWords([...sizes.slice(4), keyLength].map((it) => this.big(it)), limits);
     return status === OK ? this.buffers(sizes) : [1, 4, 4].map((size) => this.take(0, size));
   }
 
@@ -163,9 +163,9 @@ export class Instance {
 
 // The cost of a call, for a hash if there is a key, and its limits.
 function inWords([bytes, work, key], limits) {
-  const [most, mostWork, least] = limits.map((it) => (it === NO_LIMIT ? Infinity : it));
+  const [most, maxWork, least] = limits.map((it) => (it === NO_LIMIT ? Infinity : it));
   const ofHash = key === undefined ? '' : `, a key of ${key} bytes (minKeyLength is ${least})`;
-  const ofWork = `a work of ${work} (maxwork is ${mostWork})`;
+  const ofWork = `a work of ${work} (maxwork is ${maxWork})`;
   return `: ${bytes} bytes (maxmem is ${most}), ${ofWork}${ofHash}`;
 }
 

@@ -13,7 +13,7 @@ import re
 from Cryptodome.Cipher import AES, ChaCha20_Poly1305
 from Cryptodome.Hash import SHA256, keccak
 from Cryptodome.Protocol.KDF import HKDF
-from scrypt_c import MOST_BYTES, MOST_WORK, scrypt
+from scrypt_c import DEFAULT_MAX_MEM, DEFAULT_MAX_WORK, scrypt
 
 AGE_HEADER = re.compile(
     rb"(age-encryption\.org/v1\n-> scrypt ([A-Za-z0-9+/]{22}) ([1-9][0-9]?)\n"
@@ -22,7 +22,7 @@ AGE_HEADER = re.compile(
 AGE_CHUNK = 65536 + 16  # with its tag
 
 
-def derive(password, salt, n, r, p, dklen, maxmem=MOST_BYTES, max_work=MOST_WORK):
+def derive(password, salt, n, r, p, dklen, maxmem=DEFAULT_MAX_MEM, max_work=DEFAULT_MAX_WORK):
     """The derived key. An untrusted file chooses its own cost, so this has limits."""
     costs = {"n": n, "r": r, "p": p, "maxmem": maxmem, "max_work": max_work}
     return scrypt(password.encode(), salt=salt, dklen=dklen, **costs)

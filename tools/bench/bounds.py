@@ -3,7 +3,7 @@
 usage: python3 -m tools.bench.bounds LIBRARY
 
 LIBRARY is the shared C library of this repository. For each log_n and r, p is the maximum that
-scrypt_params_need allows. The last column is the time relative to the slowest hash with log_n of 10
+scrypt_params_cost allows. The last column is the time relative to the slowest hash with log_n of 10
 or more and r = 8.
 """
 
@@ -18,18 +18,18 @@ LOG_NS, RS = range(0, 22), (1, 2, 8, 64)
 def default_bounds(library):
     """The limits of a hasher that makes hashes with the recommended parameters: on bytes and on work."""
     made = ctypes.c_size_t(), ctypes.c_uint64(), ctypes.c_size_t()
-    if library.scrypt_limits_for_new(17, 8, 1, 32, *map(ctypes.byref, made)) != 0:
+    if library.scrypt_default_limits(17, 8, 1, 32, *map(ctypes.byref, made)) != 0:
         sys.exit("no default bounds")
     return made[0].value, made[1].value
 
 
-def most_p(library, bounds, log_n, r):
+def max_p(library, bounds, log_n, r):
     """The maximum p within the limits, or 0."""
-    needs = ours.Needs()
+    cost = ours.Cost()
     below, above = 0, 1 << 30
     while above - below > 1:
         p = (below + above) // 2
-        is_within = library.scrypt_params_need(log_n, r, p, *bounds, needs) == 0
+        is_within = library.scrypt_params_cost(log_n, r, p, *bounds, cost) == 0
         below, above = (p, above) if is_within else (below, p)
     return below
 
@@ -38,7 +38,7 @@ def main():
     library = ours.loaded(sys.argv[1])
     bounds = default_bounds(library)
     verify = ours.verifying(library, *bounds)
-    rows = [(log_n, r, most_p(library, bounds, log_n, r)) for log_n in LOG_NS for r in RS]
+    rows = [(log_n, r, max_p(library, bounds, log_n, r)) for log_n in LOG_NS for r in RS]
     # The minimum of two: the first one maps the memory.
     times = {row: min(ours.seconds(verify, *row) for _ in range(2)) for row in rows if row[2] > 0}
     slowest = max(taken for (log_n, r, _), taken in times.items() if log_n >= 10 and r == 8)

@@ -31,9 +31,9 @@ def text_of(library, params):
     return text.value
 
 
-def waits_of(library, params, at_once, clients, seconds):
+def waits_of(library, params, max_tables, clients, seconds):
     """The seconds that each login took, from its call to its verdict."""
-    options = ours.Options(ctypes.sizeof(ours.Options), *params, at_once=at_once)
+    options = ours.Options(ctypes.sizeof(ours.Options), *params, max_tables=max_tables)
     hasher, text = library.scrypt_hasher_new(ctypes.byref(options), None), text_of(library, params)
     waits, begun = [], time.perf_counter()
     end = begun + seconds

@@ -79,9 +79,9 @@ def wrong(chunks, level, texts, vectors, on_stack):
         return "calls a function, which was to be inlined"
     if chunks not in LIMITS[level]:
         return f"no limits are known for {chunks:g} chunks"
-    most_vectors, most_on_stack = LIMITS[level][chunks]
-    if vectors > most_vectors or on_stack > most_on_stack:
-        return f"above {most_vectors} vector instructions or {most_on_stack} on the stack"
+    max_vectors, max_on_stack = LIMITS[level][chunks]
+    if vectors > max_vectors or on_stack > max_on_stack:
+        return f"above {max_vectors} vector instructions or {max_on_stack} on the stack"
     return None
 
 

@@ -4,7 +4,7 @@ table in Markdown.
 usage: python3 -m tools.bench.verifications LIBRARY [NAME=WORKER..] [--runs 20] [--params 14,8,1:17,8,1:20,8,1] [--processes 1] [--picture FILE]
 
 This library (LIBRARY is libscrypt_c.so) verifies by scrypt_hasher_verify, in memory that is kept
-between calls, by scrypt_verify, and in batches of two or four by scrypt_verify_group_with_buffers:
+between calls, by scrypt_verify, and in batches of two or four by scrypt_verify_batch_with_buffers:
 then the time of the batch is divided by its size. libsodium verifies by
 crypto_pwhash_scryptsalsa208sha256_str_verify, and libxcrypt by crypt_r, whose result is compared
 with the hash. OpenSSL, libscrypt-kdf and workers, which bench.py describes, have no call for it:
@@ -62,7 +62,7 @@ def timed(verify, count=1):
 
 def of_this_repository(path):
     library = ours.loaded(path)
-    hasher = ours.verifying(library, ours.UNBOUNDED, ours.UNBOUNDED)
+    hasher = ours.verifying(library, ours.NO_LIMIT, ours.NO_LIMIT)
     buffers = functools.lru_cache(maxsize=2)(lambda *of: list(ours.buffers(library, *of)))
 
     def in_memory(password, text, *_):
@@ -71,15 +71,15 @@ def of_this_repository(path):
     def allocating(password, text, *_):
         return library.scrypt_verify(password, len(password), text, len(text)) == 0
 
-    def at_once(count):
+    def max_tables(count):
         def verified(password, text, params, _key):
             logins = (ours.Login * count)(*[(password, len(password), text, len(text))] * count)
             statuses = (ctypes.c_int * count)(*[-1] * count)
-            done = library.scrypt_verify_group_with_buffers(logins, count, statuses, *buffers(params, count, count))
+            done = library.scrypt_verify_batch_with_buffers(logins, count, statuses, *buffers(params, count, count))
             return done == 0 and list(statuses) == [0] * count
         return timed(verified, count)
 
-    return {IN_MEMORY: timed(in_memory), ALLOCATING: timed(allocating), TWO: at_once(2), FOUR: at_once(4)}
+    return {IN_MEMORY: timed(in_memory), ALLOCATING: timed(allocating), TWO: max_tables(2), FOUR: max_tables(4)}
 
 
 def deriving(implementation):
@@ -122,7 +122,7 @@ def times(made, params, runs, start, orders):
     return taken
 
 
-def at_once(args, params):
+def max_tables(args, params):
     """The nanoseconds of each verification in all processes."""
     context = multiprocessing.get_context("fork")
     start, answers, seed = context.Barrier(args.processes), context.SimpleQueue(), random.random()
@@ -158,7 +158,7 @@ def main():
     lines = {}
     for one in args.params.split(":"):
         params = tables.numbers(one)
-        taken = at_once(args, params)
+        taken = max_tables(args, params)
         if not lines:
             lines = {name: [] for name in taken}
             print(tables.head(["(log_n, r, p)", "", *taken]))

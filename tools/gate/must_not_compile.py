@@ -58,7 +58,7 @@ NEW = re.compile(r"\bCoreCount\s*>?\s*::\s*new\b")
 # The libraries. In these a function with a counter argument (or one inside of another argument) must
 # not call, at any depth, a function that makes its own count. So all hashes and derivations count.
 LIBRARIES = ("crates/scrypt_kernel/", "crates/scrypt/")
-PASSED = re.compile(r"\b(?:CoreCount|InUse)\b")
+PASSED = re.compile(r"\b(?:CoreCount|ActiveBuffers)\b")
 
 # A call by its last name, `x::f(..)` or `x.f::<T>(..)`, or a path to a function as an argument, `x::f`.
 CALL = re.compile(r"\b(\w+)\s*(?:::\s*<[^;{}()]*>\s*)?\(|::\s*(\w+)")

@@ -25,7 +25,7 @@ def read(path):
 
 
 def inside(word):
-    """The name of a structure of the header in the packages: `Needs` for scrypt_needs."""
+    """The name of a structure of the header in the packages: `Cost` for scrypt_cost."""
     return word.removeprefix("scrypt_").title()
 
 
@@ -118,7 +118,7 @@ def javascript():
 
 # ---- C ----
 
-C = {"u8": "uint8_t", "u32": "uint32_t", "u64": "uint64_t", "usize": "size_t", "i32": "int", "Needs": "scrypt_needs",
+C = {"u8": "uint8_t", "u32": "uint32_t", "u64": "uint64_t", "usize": "size_t", "i32": "int", "Cost": "scrypt_cost",
      "Progress": "scrypt_progress"}
 
 

@@ -62,9 +62,9 @@ RUNS = [
     ("verify $7$2/..../....$z", b"password", 2, 1),
     ("verify $7$2/..../....$", b"password", 2, 1),
     ("verify $7$zzzzzzzzzzz$r/", b"password", 2, 1),
-    ("--usual-limits verify $7$s/..../....$" + "z" * 40, b"password", 2, 1),
-    ("--usual-limits verify $7$2/..../....$r/", b"password", 2, 1),
-    (f"--most-work=1 verify {PHC}", b"password", 2, 1),
+    ("--default-limits verify $7$s/..../....$" + "z" * 40, b"password", 2, 1),
+    ("--default-limits verify $7$2/..../....$r/", b"password", 2, 1),
+    (f"--max-work=1 verify {PHC}", b"password", 2, 1),
 ]
 
 # the arguments of runs that derive a key with four chunks, and the sizes of the chunks, the table and the scratch, or of these

@@ -1,4 +1,4 @@
-"""Crypt Base64 and `$7$` texts in plain Python, written from docs/FORMATS.md."""
+"""Crypt Base64 and `$7$` hashes in plain Python, written from docs/FORMATS.md."""
 
 ALPHABET = "./0123456789ABCDEFGHIJKLMNOPQRSTUVWXYZabcdefghijklmnopqrstuvwxyz"
 

@@ -16,7 +16,7 @@ HASH_FILES = [
     (EMPTY, "--hash-file={} verify", 0, "ok", "the text of a file"),
     (f"{EMPTY}\n", "--hash-file={} verify", 0, "ok", "the newline at its end is not of the hash"),
     (f"{EMPTY}\n\n", "--hash-file={} verify", 2, "hash refused: EncodingInvalid", "only one is cut off"),
-    (EMPTY, "--hash-file=/ --hash-file={} --usual-limits verify", 0, "ok", "the last of two files, and another option"),
+    (EMPTY, "--hash-file=/ --hash-file={} --default-limits verify", 0, "ok", "the last of two files, and another option"),
     (EMPTY, "--hash-file={} rehash mcf 4 1 1 64 ", 0, LONG, "a new hash"),
     (EMPTY, f"--hash-file={{}} verify {EMPTY}", 2, USAGE, "HASH is left out"),
     (EMPTY, "verify --hash-file={}", 2, "hash refused: EncodingInvalid", "an option after the command is HASH"),

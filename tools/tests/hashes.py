@@ -174,7 +174,7 @@ def cases(tool):
     for line in table.read_text("utf-8").splitlines()[1:]:
         status, password, text = line.split("\t")
         if "\\0" not in text:
-            ran = runs.run([tool, "--usual-limits", "verify", text], password.encode())
+            ran = runs.run([tool, "--default-limits", "verify", text], password.encode())
             name = re.sub(r"^HASH_", "", status).title().replace("_", "")
             wanted = {"OK": runs.OK, "MISMATCH": runs.NO}.get(status, (2, "", f"hash refused: {name}"))
             error = re.match(r"(hash refused: \w+)?", ran[2])[0]

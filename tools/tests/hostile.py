@@ -37,7 +37,7 @@ MEMORY = 4 << 30
 GREAT = 50
 
 # the default limits, and the lengths of the buffers
-BOUNDS = MOST_BYTES, MOST_WORK, LEAST_KEY_LEN = [header.NUMBERS[name] for name in ("MOST_BYTES", "MOST_WORK", "LEAST_KEY_LEN")]
+BOUNDS = DEFAULT_MAX_MEM, DEFAULT_MAX_WORK, DEFAULT_MIN_KEY_LEN = [header.NUMBERS[name] for name in ("DEFAULT_MAX_MEM", "DEFAULT_MAX_WORK", "DEFAULT_MIN_KEY_LEN")]
 LENS = CHUNKS, TABLE, SCRATCH = 128 * 16, 32 * 16 * 16, 64 * 16
 
 # parameters that are exactly, or almost, at the limits
@@ -46,7 +46,7 @@ ALLOWED = [(17, 8, 1), (17, 8, 4), (18, 8, 1), (20, 1, 4), (0, 1, 127131), (4, 1
 # the characters that mutations insert
 CHARACTERS = "$$$=,,.-/+" + crypt64.ALPHABET + "*!\x00\x7f \u00e9\u20ac"
 
-# the texts whose neighbours are read: each part of a PHC text, and a key that is compared
+# the texts whose neighbours are read: each part of a PHC string, and a key that is compared
 BASES = [
     known.PASSLIB.replace("ln=16,r=8", "ln=1,r=1"),
     "$scrypt$v=1$ln=1$aA$AAAAAAAAAAAAAA",
@@ -83,9 +83,9 @@ def compared_within(salt, log_n, r, p, key):
     """The same within the limits, in the buffers."""
     chunks, table, scratch = 128 * r * p, 32 * r << log_n, 64 * r
     size, work = chunks + 4 * table + 4 * scratch, 4 * ((1 << log_n) + 32) * r * p
-    if size > MOST_BYTES or work > MOST_WORK:
+    if size > DEFAULT_MAX_MEM or work > DEFAULT_MAX_WORK:
         return "TooCostly"
-    if len(key) < LEAST_KEY_LEN:
+    if len(key) < DEFAULT_MIN_KEY_LEN:
         return "KeyTooShort"
     if chunks > CHUNKS or table > TABLE or scratch > SCRATCH:
         return "BufferSize"
@@ -108,7 +108,7 @@ def phc_params(pairs):
 
 
 def phc_verdict(text, by):
-    """The verdict on a PHC text, by what compares its key."""
+    """The verdict on a PHC string, by what compares its key."""
     parts = phc.parts(text)
     if parts is None:
         return "EncodingInvalid"
@@ -154,11 +154,11 @@ def verdict(text, by):
 def calls(path):
     """The calls that verify a text with the empty password: one allocates, one has limits and uses the buffers."""
     library = header.loaded(path)
-    needs, rooms = header.structure("scrypt_needs")(), [((ctypes.c_uint32 * length)(), length) for length in LENS]
+    cost, rooms = header.structure("scrypt_cost")(), [((ctypes.c_uint32 * length)(), length) for length in LENS]
     buffers = list(itertools.chain(*rooms))
 
     def within(*text):
-        status = library.scrypt_hash_needs(*text, *BOUNDS, needs)
+        status = library.scrypt_hash_cost(*text, *BOUNDS, cost)
         return status or library.scrypt_verify_with_buffers(b"", 0, *text, *buffers)
 
     return functools.partial(library.scrypt_verify, b"", 0), within
@@ -220,7 +220,7 @@ def neighbours(text):
 
 
 def short_keys():
-    """`$7$` texts with every key of up to three letters."""
+    """`$7$` hashes with every key of up to three letters."""
     for count in range(4):
         for letters in itertools.product(crypt64.ALPHABET, repeat=count):
             yield "$7$2/..../....$" + "".join(letters)
@@ -263,7 +263,7 @@ def main():
     texts = itertools.chain((text for text, _ in pairs), known.costly(), *(known.texts_of(*it) for it in params))
     # In buffers nothing is allocated.
     bounded = {name: status for name, status in (STATUSES | WITHIN).items() if name != "OutOfMemory"}
-    failed.append(disagree("within bounds", list(judged(texts, compared_within)), within, bounded))
+    failed.append(disagree("within limits", list(judged(texts, compared_within)), within, bounded))
     sys.exit(1 if any(failed) else 0)
 
 

@@ -7,8 +7,8 @@ USAGE = (
 # The line for options that the command does not take.
 MISFIT = {
     "key": "key takes no option except --raw and --strip-newline: see --help",
-    "hash": "hash takes no option except --draw-salt, --recommended and --strip-newline: see --help",
-    "verify": "verify does not take --draw-salt, --raw and --recommended: see --help",
+    "hash": "hash takes no option except --generate-salt, --recommended and --strip-newline: see --help",
+    "verify": "verify does not take --generate-salt, --raw and --recommended: see --help",
     "rehash": "rehash does not take --raw and --recommended: see --help",
 }
 NO_FILE = "--hash-file wants its file after =, as in --hash-file=FILE"

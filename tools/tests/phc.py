@@ -1,4 +1,4 @@
-"""PHC texts in plain Python, written from the grammar in docs/FORMATS.md."""
+"""PHC strings in plain Python, written from the grammar in docs/FORMATS.md."""
 
 import base64
 import re

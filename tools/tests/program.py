@@ -37,18 +37,18 @@ THIRD_KEY = (
     "7023bdcb3afd7348461c06cd81fd38ebfda8fbba904f8e3ea9b543f6545da1f2"
     "d5432955613f0fcf62d49705242a9af9e61e85dc0d651e40dfcf017b45575887"
 )
-USUAL_BYTES, USUAL_WORK, LEAST = (header.NUMBERS[name] for name in ("MOST_BYTES", "MOST_WORK", "LEAST_KEY_LEN"))
+DEFAULT_MAX_MEM, DEFAULT_MAX_WORK, DEFAULT_MIN_KEY_LEN = (header.NUMBERS[name] for name in ("DEFAULT_MAX_MEM", "DEFAULT_MAX_WORK", "DEFAULT_MIN_KEY_LEN"))
 
 # The minimum log_n whose table with r = 8 is larger.
-ABOVE = USUAL_BYTES.bit_length() - 10
+ABOVE = DEFAULT_MAX_MEM.bit_length() - 10
 
 
-def too_costly(needed, work, most_bytes=USUAL_BYTES, most_work=USUAL_WORK):
-    return f"hash refused: TooCostly, it needs {needed} bytes and work {work}, and --most-bytes is {most_bytes} and --most-work {most_work}"
+def too_costly(needed, work, max_mem=DEFAULT_MAX_MEM, max_work=DEFAULT_MAX_WORK):
+    return f"hash refused: TooCostly, it needs {needed} bytes and work {work}, and --max-mem is {max_mem} and --max-work {max_work}"
 
 
 def key_too_short(key_len, least):
-    return f"hash refused: KeyTooShort, its key has {key_len} bytes, and --least-key-len is {least}"
+    return f"hash refused: KeyTooShort, its key has {key_len} bytes, and --min-key-len is {least}"
 
 
 PASSLIB_SALT_AND_KEY = PASSLIB[PASSLIB.index("$aM") :]
@@ -62,11 +62,13 @@ def key_of(password, salt, length):
     return hashlib.scrypt(password, salt=salt, n=16, r=1, p=1, dklen=length)
 
 
-# A format, a long salt, and the hash of the empty password. The salt of a PHC hash has up to 64 bytes.
+# A format, a long salt, and the hash of the empty password. The salt of a PHC hash has up to 64
+# bytes.
 LONG_SALTS = [(form, salt, reference.hash_of(form, b"", salt, 4, 1, 1, 32))
               for form, salt in (("phc", b"s" * 64), ("mcf", b"s" * 64), ("mcf", b"s" * 65), ("mcf", b"s" * 5000))]
 
-# Each row has the arguments between single blanks, the input, the status, the line, and the reason for the row.
+# Each row has the arguments between single blanks, the input, the status, the line, and the reason
+# for the row.
 ANSWERS = [
     ("key 4 1 1 64 ", "", 0, FIRST_KEY, "the first key of RFC 7914"),
     ("key 10 8 16 64 4e61436c", "password", 0, SECOND_KEY, "the second, whose sixteen chunks share a table"),
@@ -110,20 +112,20 @@ ANSWERS = [
 
 # Lines that are not commands, by error.
 NO_COMMANDS = {
-    "no command": ["", "help", "Key 4 1 1 64 ", "--usual-limits", "--draw-salt", "--recommended", "--strip-newline", "--most-work=1"],
-    "no command after an option": ["--usual-limits help"],
+    "no command": ["", "help", "Key 4 1 1 64 ", "--default-limits", "--generate-salt", "--recommended", "--strip-newline", "--max-work=1"],
+    "no command after an option": ["--default-limits help"],
     "nothing comes after what asks for a text about the program":
         [f"{asked} {more}" for asked in ("-h", "--help", "--version") for more in ("", "x", "--raw", "--help", "key 4 1 1 64 ", "verify $7$")],
-    "nor before it": [f"{option} {asked}" for option in ("--raw", "--usual-limits", "--most-work=1", "--hash-file=x", "key")
+    "nor before it": [f"{option} {asked}" for option in ("--raw", "--default-limits", "--max-work=1", "--hash-file=x", "key")
                       for asked in ("-h", "--help", "--version")],
     "one minus begins no option": ["-", "-help", "-H", "-hkey", "-key 4 1 1 64 ", f"-verify {EMPTY}"],
-    "too few arguments": ["key", "key 4 1 1 16", "hash", "hash phc", "hash phc 4 1 1", "--draw-salt hash phc 4 1", "verify",
+    "too few arguments": ["key", "key 4 1 1 16", "hash", "hash phc", "hash phc 4 1 1", "--generate-salt hash phc 4 1", "verify",
                           "rehash phc 4 1 1 32 00", f"rehash phc 4 1 1 00 {EMPTY}"],
     "too many": ["key 4 1 1 16 00 x", "hash phc 4 1 1 00 32 x", f"verify {EMPTY} x", f"rehash phc 4 1 1 32 00 {EMPTY} x"],
     "no format": ["hash md5 4 1 1 00", "hash 4 1 1 00", f"rehash 4 1 1 32 00 {EMPTY}", "hash PHC 4 1 1 00", "hash  4 1 1 00"],
     "a hash is of the format that it begins as": [f"verify phc {EMPTY_PHC}"],
-    "an option after the command": [f"verify --usual-limits {EMPTY}", "key --help", "hash phc 4 1 1 00 --help",
-                                    "hash --draw-salt phc 4 1 1", f"rehash phc 4 1 1 --draw-salt 32 {EMPTY}"],
+    "an option after the command": [f"verify --default-limits {EMPTY}", "key --help", "hash phc 4 1 1 00 --help",
+                                    "hash --generate-salt phc 4 1 1", f"rehash phc 4 1 1 --generate-salt 32 {EMPTY}"],
 }
 
 # Texts that are not numbers, and each argument that is a number.
@@ -153,17 +155,17 @@ FAULTS = [
     *((f"rehash mcf 4 1 1 {it}  {EMPTY}", "", 2, "invalid scrypt parameters", "the same") for it in (0, 9, 65)),
     *((f"key 4 1 1 {it} ", "", 2, "invalid output buffer length", "a key has 1 to 137438953440 bytes")
       for it in (0, 137438953441, 137438953471, 18446744073709551615)),
-    (f"--most-work=01 verify {EMPTY}", "", 2, USAGE, "a number with a leading zero in an option"),
-    (f"--most-work= verify {EMPTY}", "", 2, USAGE, "no number"),
-    (f"--most-bytes=18446744073709551616 verify {EMPTY}", "", 2, USAGE, "a number of 2^64"),
-    (f"--most-work 192 verify {EMPTY}", "", 2, USAGE, "a number in an argument of its own"),
+    (f"--max-work=01 verify {EMPTY}", "", 2, USAGE, "a number with a leading zero in an option"),
+    (f"--max-work= verify {EMPTY}", "", 2, USAGE, "no number"),
+    (f"--max-mem=18446744073709551616 verify {EMPTY}", "", 2, USAGE, "a number of 2^64"),
+    (f"--max-work 192 verify {EMPTY}", "", 2, USAGE, "a number in an argument of its own"),
     ("--hash-file hash verify", "", 2, NO_FILE, "a file in an argument of its own"),
-    ("--usual-limits --hash-file", "", 2, NO_FILE, "no file at all"),
+    ("--default-limits --hash-file", "", 2, NO_FILE, "no file at all"),
     ("--hash-file --help", "", 2, NO_FILE, "what comes after it is not looked at"),
     (f"--hash-files verify {EMPTY}", "", 2, USAGE, "another option"),
     (f"--no-limits verify {EMPTY}", "", 2, USAGE, "an unknown option"),
     ("--", "", 2, USAGE, "the same"),
-    (f"--usual-limits --most verify {EMPTY}", "", 2, USAGE, "the same after another one"),
+    (f"--default-limits --most verify {EMPTY}", "", 2, USAGE, "the same after another one"),
     (f"-- verify {EMPTY}", "", 2, USAGE, "options have no end of their own"),
     ("key 4 1 1 64 0", "", 2, "salt is not hexadecimal", "half a byte of salt"),
     ("key 4 1 1 64 0g", "", 2, "salt is not hexadecimal", "no digit"),
@@ -173,8 +175,8 @@ FAULTS = [
     ("hash phc 04 1 1 0", "", 2, USAGE, "numbers before the salt of a hash"),
     ("hash phc 57 1 1 0", "", 2, "salt is not hexadecimal", "this salt before the parameters"),
     ("hash mcf 4 1 1 0 9", "", 2, "salt is not hexadecimal", "and before the length of the key"),
-    ("hash phc 4 1 1 --draw-salt", "", 2, "salt is not hexadecimal", "a salt like an option is a salt"),
-    (f"rehash phc 4 1 1 32 --draw-salt {EMPTY}", "", 2, "salt is not hexadecimal", "the same for a new hash"),
+    ("hash phc 4 1 1 --generate-salt", "", 2, "salt is not hexadecimal", "a salt like an option is a salt"),
+    (f"rehash phc 4 1 1 32 --generate-salt {EMPTY}", "", 2, "salt is not hexadecimal", "the same for a new hash"),
     ("rehash phc 57 1 1 32 0 $", "", 2, "salt is not hexadecimal", "the salt before the wanted parameters"),
     ("rehash phc 57 1 1 32 00 $", "", 2, "invalid scrypt parameters", "these before the text of the hash"),
     ("rehash phc 4 1 1 32 00 $", "", 2, "hash refused: EncodingInvalid", "the text of the hash"),
@@ -213,42 +215,43 @@ REHASHES = [
     (f"rehash phc 15 8 1 10 00 {PASSLIB}", "password", 0, "ok", "nothing is below"),
 ]
 
-# The arguments, the input, the status, the line, and the reason for the row. EMPTY needs 128 + 2048 + 256 bytes, and the
-# work 4 * (16 + 32).
+# The arguments, the input, the status, the line, and the reason for the row. EMPTY needs 128 + 2048
+# + 256 bytes, and the work 4 * (16 + 32).
 LIMITS = [
-    (f"--most-bytes=2432 verify {EMPTY}", "", 0, "ok", "as much memory as is allowed"),
-    (f"--most-bytes=2431 verify {EMPTY}", "", 2, too_costly(2432, 192, most_bytes=2431), "a byte more"),
-    (f"--most-work=192 verify {EMPTY}", "", 0, "ok", "as much work as is allowed"),
-    (f"--most-work=191 verify {EMPTY}", "", 2, too_costly(2432, 192, most_work=191), "more work"),
-    (f"--least-key-len=32 verify {EMPTY}", "", 0, "ok", "as short a key as is allowed"),
-    (f"--least-key-len=33 verify {EMPTY}", "", 2, key_too_short(32, 33), "a shorter key"),
-    (f"--most-bytes=2432 --most-work=191 verify {EMPTY}", "", 2, too_costly(2432, 192, 2432, 191), "two options"),
-    (f"--most-work=191 --most-work=192 verify {EMPTY}", "", 0, "ok", "a later option overrides an earlier one"),
-    (f"--most-work=191 --usual-limits verify {EMPTY}", "", 0, "ok", "so does one for all of them"),
-    ("--most-work=192 verify $7$2/..../....$r/", "", 2, key_too_short(1, LEAST), "the others are the usual ones"),
-    (f"--usual-limits verify $scrypt$ln=17,r=8,p=5{PASSLIB_SALT_AND_KEY}", "", 2, too_costly(134224896, 20976640),
+    (f"--max-mem=2432 verify {EMPTY}", "", 0, "ok", "as much memory as is allowed"),
+    (f"--max-mem=2431 verify {EMPTY}", "", 2, too_costly(2432, 192, max_mem=2431), "a byte more"),
+    (f"--max-work=192 verify {EMPTY}", "", 0, "ok", "as much work as is allowed"),
+    (f"--max-work=191 verify {EMPTY}", "", 2, too_costly(2432, 192, max_work=191), "more work"),
+    (f"--min-key-len=32 verify {EMPTY}", "", 0, "ok", "as short a key as is allowed"),
+    (f"--min-key-len=33 verify {EMPTY}", "", 2, key_too_short(32, 33), "a shorter key"),
+    (f"--max-mem=2432 --max-work=191 verify {EMPTY}", "", 2, too_costly(2432, 192, 2432, 191), "two options"),
+    (f"--max-work=191 --max-work=192 verify {EMPTY}", "", 0, "ok", "a later option overrides an earlier one"),
+    (f"--max-work=191 --default-limits verify {EMPTY}", "", 0, "ok", "so does one for all of them"),
+    ("--max-work=192 verify $7$2/..../....$r/", "", 2, key_too_short(1, DEFAULT_MIN_KEY_LEN), "the others are the defaults"),
+    (f"--default-limits verify $scrypt$ln=17,r=8,p=5{PASSLIB_SALT_AND_KEY}", "", 2, too_costly(134224896, 20976640),
      "five times the recommended work"),
-    (f"--usual-limits verify $scrypt$ln={ABOVE},r=8,p=1{PASSLIB_SALT_AND_KEY}", "", 2,
+    (f"--default-limits verify $scrypt$ln={ABOVE},r=8,p=1{PASSLIB_SALT_AND_KEY}", "", 2,
      too_costly((1 << 10 + ABOVE) + 3072, 32 * ((1 << ABOVE) + 32)), "more memory than is allowed"),
-    ("--usual-limits verify $7$s/..../....$r/", "", 2, too_costly(9223372036854776192, 288230376151711872),
+    ("--default-limits verify $7$s/..../....$r/", "", 2, too_costly(9223372036854776192, 288230376151711872),
      "a table of 2^63 bytes"),
-    (f"--usual-limits verify {SHORT}", "", 2, key_too_short(10, LEAST), "a key of 10 bytes"),
-    ("--most-work=1 verify $scrypt$ln=4$aA", "", 1, "no", "a hash without a key is not verified"),
-    ("--most-work=1 verify $argon2id$ln=4$aA", "", 2, "hash refused: Algorithm", "one that cannot be read comes first"),
-    (f"--most-work=191 rehash phc 4 1 1 32 00 {EMPTY}", "", 0, "ok", "rehash may do the work of a new hash"),
-    (f"--most-bytes=2431 rehash phc 4 1 1 32 00 {EMPTY}", "", 0, "ok", "and take its memory"),
-    (f"--most-work=191 rehash phc 3 1 1 32 00 {EMPTY}", "", 2, too_costly(2432, 192, most_work=191), "which here is less"),
-    (f"--most-bytes=2431 rehash phc 3 1 1 32 00 {EMPTY}", "", 2, too_costly(2432, 192, most_bytes=2431), "here too"),
-    (f"--least-key-len=33 rehash phc 4 1 1 32 00 {EMPTY}", "", 2, key_too_short(32, 33), "a shorter key, if a length is named"),
+    (f"--default-limits verify {SHORT}", "", 2, key_too_short(10, DEFAULT_MIN_KEY_LEN), "a key of 10 bytes"),
+    ("--max-work=1 verify $scrypt$ln=4$aA", "", 1, "no", "a hash without a key is not verified"),
+    ("--max-work=1 verify $argon2id$ln=4$aA", "", 2, "hash refused: Algorithm", "one that cannot be read comes first"),
+    (f"--max-work=191 rehash phc 4 1 1 32 00 {EMPTY}", "", 0, "ok", "rehash may do the work of a new hash"),
+    (f"--max-mem=2431 rehash phc 4 1 1 32 00 {EMPTY}", "", 0, "ok", "and take its memory"),
+    (f"--max-work=191 rehash phc 3 1 1 32 00 {EMPTY}", "", 2, too_costly(2432, 192, max_work=191), "which here is less"),
+    (f"--max-mem=2431 rehash phc 3 1 1 32 00 {EMPTY}", "", 2, too_costly(2432, 192, max_mem=2431), "here too"),
+    (f"--min-key-len=33 rehash phc 4 1 1 32 00 {EMPTY}", "", 2, key_too_short(32, 33), "a shorter key, if a length is named"),
 ]
 
-# Each option before each command that it does not fit, and the passwords that --strip-newline leaves.
+# Each option before each command that it does not fit, and the passwords that --strip-newline
+# leaves.
 OPTIONS = [
     *((f"{limit} {command}", "", 2, MISFIT[command.split()[0]], "limits are those of verify and rehash")
-      for limit in ("--usual-limits", "--most-bytes=1", "--most-work=1", "--least-key-len=1")
+      for limit in ("--default-limits", "--max-mem=1", "--max-work=1", "--min-key-len=1")
       for command in ("key 4 1 1 16 ", "hash phc 4 1 1 00")),
-    ("--draw-salt key 4 1 1 16", "", 2, MISFIT["key"], "the salt of a key is named"),
-    (f"--draw-salt verify {EMPTY}", "", 2, MISFIT["verify"], "a verdict has no salt"),
+    ("--generate-salt key 4 1 1 16", "", 2, MISFIT["key"], "the salt of a key is named"),
+    (f"--generate-salt verify {EMPTY}", "", 2, MISFIT["verify"], "a verdict has no salt"),
     ("--recommended key 16", "", 2, MISFIT["key"], "the recommended parameters are those of a hash"),
     (f"--recommended verify {EMPTY}", "", 2, MISFIT["verify"], "the same"),
     (f"--recommended rehash phc 32 {EMPTY}", "", 2, MISFIT["rehash"], "the same"),
@@ -256,13 +259,13 @@ OPTIONS = [
     *((f"--raw {command}", "", 2, MISFIT[command.split()[0]], "only a key is written raw")
       for command in ("hash phc 4 1 1 00", f"verify {EMPTY}", f"rehash phc 4 1 1 32 00 {EMPTY}")),
     ("--raw key 4 1 1 0 ", "", 2, "invalid output buffer length", "a raw key that is refused"),
-    ("--raw --draw-salt key 4 1 1 16", "", 2, MISFIT["key"], "the salt of a raw key is named too"),
-    (f"--draw-salt rehash phc 4 1 1 32 {EMPTY}", "", 0, "ok", "a salt that is not needed"),
-    (f"--usual-limits --draw-salt --strip-newline rehash phc 4 1 1 32 {EMPTY}", "\n", 0, "ok", "three options"),
-    (f"--usual-limits verify {EMPTY}", "", 0, "ok", "a hash within the usual limits"),
-    (f"--usual-limits rehash phc 14 8 1 32 536f6469756d43686c6f72696465 {SHORT}", "pleaseletmein", 0, RFC,
+    ("--raw --generate-salt key 4 1 1 16", "", 2, MISFIT["key"], "the salt of a raw key is named too"),
+    (f"--generate-salt rehash phc 4 1 1 32 {EMPTY}", "", 0, "ok", "a salt that is not needed"),
+    (f"--default-limits --generate-salt --strip-newline rehash phc 4 1 1 32 {EMPTY}", "\n", 0, "ok", "three options"),
+    (f"--default-limits verify {EMPTY}", "", 0, "ok", "a hash within the default limits"),
+    (f"--default-limits rehash phc 14 8 1 32 536f6469756d43686c6f72696465 {SHORT}", "pleaseletmein", 0, RFC,
      "rehash refuses no short key"),
-    (f"--usual-limits rehash phc 4 1 1 32 00 $scrypt$ln=17,r=8,p=5{PASSLIB_SALT_AND_KEY}", "", 2,
+    (f"--default-limits rehash phc 4 1 1 32 00 $scrypt$ln=17,r=8,p=5{PASSLIB_SALT_AND_KEY}", "", 2,
      too_costly(134224896, 20976640), "but a costly one"),
     *((f"--strip-newline verify {EMPTY}", text, status, line, "one newline is cut off")
       for text, status, line in (("", 0, "ok"), ("\n", 0, "ok"), ("\r\n", 0, "ok"), ("\n\n", 1, "no"), ("\r", 1, "no"))),
@@ -271,20 +274,21 @@ OPTIONS = [
     (f"--strip-newline rehash mcf 4 1 1 64  {EMPTY}", "\n", 0, LONG, "and for a new hash"),
 ]
 
-# Passwords of some bytes, whose keys are compared with hashlib's: the input is read whole, however long it is.
+# Passwords of some bytes, whose keys are compared with hashlib's: the input is read whole, however
+# long it is.
 LONG_PASSWORDS = [(1_000_001, "more than a million bytes"), (100_000_001, "more than a hundred million")]
 LONG_PASSWORDS += [(102_400_001, "more than 100,000 reads of 1,024 bytes"), ((1 << 28) + 1, "more than 256 MiB")]
 
 # Options that take the recommended parameters, a format, and how its hash begins.
 LOG_N, R, P = (header.NUMBERS[f"RECOMMENDED_{name}"] for name in ("LOG_N", "R", "P"))
 RECOMMENDED = [("--recommended", "phc", f"$scrypt$ln={LOG_N},r={R},p={P}$")]
-RECOMMENDED += [("--recommended --draw-salt", "mcf", crypt64.text("", b"", LOG_N, R, P).rstrip("$"))]
+RECOMMENDED += [("--recommended --generate-salt", "mcf", crypt64.text("", b"", LOG_N, R, P).rstrip("$"))]
 
 
 # Lines, and whether each draws a salt.
-DRAWN = [(line, True) for line in ("--draw-salt hash phc 4 1 1", f"--draw-salt rehash phc 5 1 1 32 {EMPTY}")]
+DRAWN = [(line, True) for line in ("--generate-salt hash phc 4 1 1", f"--generate-salt rehash phc 5 1 1 32 {EMPTY}")]
 DRAWN += [(line, False) for line in ("key 4 1 1 16 ", "hash phc 4 1 1 00", f"verify {EMPTY}", f"rehash phc 5 1 1 32 00 {EMPTY}")]
-DRAWN += [(f"--draw-salt {line}", False) for line in ("key 4 1 1 16", f"verify {EMPTY}", "--help", "--version", "foo")]
+DRAWN += [(f"--generate-salt {line}", False) for line in ("key 4 1 1 16", f"verify {EMPTY}", "--help", "--version", "foo")]
 
 
 def rows(program):
@@ -308,9 +312,9 @@ def salts(program):
     """Hashes with a drawn salt have different salts of 16 bytes, and accept their passwords; without random bytes, no hash
     is made."""
     drawn = set()
-    # The salt of a `$7$` text has its 11 letters of the parameters before it.
+    # The salt of a `$7$` hash has its 11 letters of the parameters before it.
     for form, letters in (("phc", 22), ("mcf", 33)) * 2:
-        status, line, _ = run([program, "--draw-salt", "hash", form, "4", "1", "1"], b"password")
+        status, line, _ = run([program, "--generate-salt", "hash", form, "4", "1", "1"], b"password")
         salt = line.split("$")[-2]
         drawn.add(salt)
         verified = run([program, "verify", line.strip()], b"password")
@@ -322,7 +326,7 @@ def salts(program):
         yield f"{options} for {form}", (status, line.startswith(start), verified), (0, True, runs.OK)
     if runs.COMPILER:
         with runs.failing_calls() as library:
-            hashed = run([program, "--draw-salt", "hash", "phc", "4", "1", "1"], env={"LD_PRELOAD": library})
+            hashed = run([program, "--generate-salt", "hash", "phc", "4", "1", "1"], env={"LD_PRELOAD": library})
             verified = run([program, "verify", EMPTY], env={"LD_PRELOAD": library})
             for line, drawn in DRAWN:
                 printed = run([program, *line.split(" ")], env={"LD_PRELOAD": library, "SIZES": "1"})[2]

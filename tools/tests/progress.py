@@ -33,7 +33,7 @@ ROWS = [
     (f"ulimit -v 60000; {PIPED}", "key 17 8 1 32 00", False, "too little memory"),
     (f"{PIPED} 2>&-", SHORT, False, "no standard error"),
     (TYPED, f"--raw {SHORT}", False, "bytes for a terminal"),
-    (TYPED, f"--most-bytes=1 {SHORT}", False, "an option of other commands"),
+    (TYPED, f"--max-mem=1 {SHORT}", False, "an option of other commands"),
     (TYPED, "key 10 8 1 32", False, "no salt"),
     (TYPED, f"{SHORT} 00", False, "a word too many"),
     (TYPED, "key 10 8 1 0 00", False, "an empty key"),

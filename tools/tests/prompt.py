@@ -27,7 +27,7 @@ ROWS = [
     (HASH, ["password\n"] * 2, 0, [*TWICE, HASHLIB], "a hash twice"),
     (HASH, ["password\n", "passwort\n"], 4, [*TWICE, "The passwords differ."], "two that differ"),
     (HASH, ["password\n", "\x04"], 4, [*TWICE, "input failed"], "no second one"),
-    (f"--most-work=192 {VERIFY}", ["password\n"], 0, [*ONCE, "ok"], "after an option"),
+    (f"--max-work=192 {VERIFY}", ["password\n"], 0, [*ONCE, "ok"], "after an option"),
     (VERIFY, ["\n"], 4, [*ONCE, "input failed"], "an empty one, which may be the end of the input"),
     (VERIFY, ["pass\x7f\x7fssword\n"], 0, [*ONCE, "ok"], "one that was corrected"),
     (f"rehash phc 4 1 1 32 00 {HASHLIB}", ["password\n"], 0, [*ONCE, "ok"], "a login asks once"),

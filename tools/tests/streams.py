@@ -13,12 +13,13 @@ from tools.tests.known import EMPTY, EMPTY_PHC
 STREAM_COMMANDS = ["key 4 1 1 64 ", "hash phc 4 1 1 00", "hash mcf 4 1 1 ", f"verify {EMPTY_PHC}", f"verify {EMPTY}"]
 STREAM_COMMANDS += [f"rehash phc 5 1 1 32 00 {EMPTY}"]
 
-# Lines that are read while the input fails, the status and the fault: checks before the input and after it.
+# Lines that are read while the input fails, the status and the fault: checks before the input and
+# after it.
 ORDERS = [
     ("key 4 1 1 0 ", 2, "invalid output buffer length", "the words come before the input"),
-    ("verify $scrypt$", 2, "hash refused: EncodingInvalid", "a PHC text is read before it"),
+    ("verify $scrypt$", 2, "hash refused: EncodingInvalid", "a PHC string is read before it"),
     ("rehash phc 4 1 1 32  $", 2, "hash refused: EncodingInvalid", "so is that of an old hash"),
-    ("verify $7$", 4, "input failed", "the fields of an MCF text are read after it"),
+    ("verify $7$", 4, "input failed", "the fields of an MCF string are read after it"),
     ("verify $7$2/..../....$", 4, "input failed", "so is its key"),
     ("verify $argon2id", 4, "input failed", "the algorithm is looked at after it"),
     ("rehash phc 4 1 1 32  $argon2id", 4, "input failed", "that of an old hash too"),
@@ -27,16 +28,17 @@ ORDERS = [
     ("hash phc 4 1 1 ", 4, "input failed", "the length of a salt is looked at after it"),
     (f"rehash phc 5 1 1 32  {EMPTY}", 4, "input failed", "so is that of a new hash"),
     ("key 56 1 1 32 ", 4, "input failed", "and memory is asked for after it"),
-    ("--usual-limits verify $7$s/..../....$r/", 4, "input failed", "and the limits"),
+    ("--default-limits verify $7$s/..../....$r/", 4, "input failed", "and the limits"),
 ]
 
 # A line for each fault without numbers that the arguments can cause. It is written by one write.
-FAULTS = ["help", "--hash-file verify", "--raw hash phc 4 1 1 00", "--recommended key 16", "--draw-salt verify x", "--raw rehash x"]
+FAULTS = ["help", "--hash-file verify", "--raw hash phc 4 1 1 00", "--recommended key 16", "--generate-salt verify x", "--raw rehash x"]
 FAULTS += ["key 4 1 1 16 0", "key 4 0 1 16 ", "key 4 1 1 0 ", "hash phc 4 1 1 ", "key 56 1 1 32 ", "\udcff"]
 FAULTS += ["verify $", "verify $argon2id", "verify $7$2/..../....$", "verify $scrypt$v=1"]
 FAULTS += [f"verify $scrypt${it}" for it in ("ln=256", "r=00", "p=-1", "x=1")]
 
-# How the shell opens a stream, in a line that has `"$@"` for the command, the fault line, and the reason for the row.
+# How the shell opens a stream, in a line that has `"$@"` for the command, the fault line, and the
+# reason for the row.
 STREAMS = [
     ('"$@" > /dev/full', "output failed\n", "a full device takes nothing"),
     ('"$@" >&-', "output failed\n", "the standard output is closed"),
@@ -47,11 +49,11 @@ STREAMS = [
 # The number of bytes of the input before it fails, and the reason for the row.
 ENDS = [(1, "after a first piece"), (3000, "after several reads, the last a short one")]
 
-# Parameters whose chunks take 2 GiB, and whose table cannot be allocated: log_n is 56, r is 1 and p is
-# 2^24. Nothing is written before everything is allocated, so that the run touches little memory. Each
-# row has a limit on the address space of the run, and the reason for the row.
+# Parameters whose chunks take 2 GiB, and whose table cannot be allocated: log_n is 56, r is 1 and p
+# is 2^24. Nothing is written before everything is allocated, so that the run touches little memory.
+# Each row has a limit on the address space of the run, and the reason for the row.
 REFUSED_TABLE = "verify $7$s/......../$r/"
-MOST_TOUCHED = 64 << 20
+MAX_TOUCHED = 64 << 20
 ADDRESSES = [("unlimited", "there is room for the chunks"), (1 << 30, "there is none")]
 
 
@@ -91,7 +93,8 @@ def writes_of(stream, words):
 def cut_at(length, stream, words):
     """The status of a run one of whose outputs is a file that takes only `length` bytes, and the content of both outputs."""
     with tempfile.TemporaryFile() as file:
-        # Python ignores the signal of a file that is too large, and so do its child processes: writing fails.
+        # Python ignores the signal of a file that is too large, and so do its child processes:
+        # writing fails.
         how = {"stdout": subprocess.PIPE, "stderr": subprocess.PIPE, stream: file, "restore_signals": False}
         ran = subprocess.run(["prlimit", f"--fsize={length}", *words], stdin=subprocess.DEVNULL, **how)
         file.seek(0)
@@ -164,4 +167,4 @@ def memory(program):
     for addresses, reason in ADDRESSES:
         ended, touched = touched_by(program, REFUSED_TABLE, addresses)
         about = f"{REFUSED_TABLE!r} ({reason}) in {touched} bytes"
-        yield about, (ended, touched > MOST_TOUCHED), ((3, "out of memory\n"), False)
+        yield about, (ended, touched > MAX_TOUCHED), ((3, "out of memory\n"), False)

@@ -14,11 +14,11 @@ static struct {
   scrypt_hasher *hasher;
   const scrypt_steps *steps;
   size_t password_len, salt_len, text_len, key_len, output_len, capacity, len, count, chunks_len, table_len, scratch_len;
-  size_t most_bytes, least_key_len, mixes;
+  size_t max_mem, min_key_len, mixes;
   uint32_t log_n, r, p;
   uint8_t s;
-  uint64_t most_work;
-  int64_t most_ms;
+  uint64_t max_work;
+  int64_t timeout_ms;
   double seconds;
   scrypt_on_progress on_progress;
   void *context;
@@ -28,10 +28,10 @@ static struct {
   uint8_t *chunks, output[64], key[64], salt[16];
   char text[SCRYPT_PHC_CAPACITY + SCRYPT_MCF_CAPACITY(64)];
   uint32_t *table, *scratch, log_n[1], r[1], p[1];
-  size_t chunks_len[1], table_len[1], scratch_len[1], key_len[1], most_bytes[1], least_key_len[1];
-  uint64_t most_work[1];
-  int statuses[SCRYPT_MOST_LOGINS];
-  scrypt_needs needs[1];
+  size_t chunks_len[1], table_len[1], scratch_len[1], key_len[1], max_mem[1], min_key_len[1];
+  uint64_t max_work[1];
+  int statuses[SCRYPT_MAX_LOGINS];
+  scrypt_cost cost[1];
   scrypt_stats stats[1];
   scrypt_steps steps[1];
 } made;
@@ -51,27 +51,27 @@ static int go_on(void *context, uint64_t done, uint64_t all) { return context !=
 
 /* Sets the buffers: for up to this number of tables, and no more than a derivation can use. */
 static void take_arguments(const void *password, size_t password_len, const void *salt, size_t salt_len, uint32_t log_n,
-                           uint32_t r, uint32_t p, size_t key_len, size_t most_tables) {
-  scrypt_needs needs;
-  if (scrypt_params_need(log_n, r, p, SIZE_MAX, UINT64_MAX, &needs) != SCRYPT_OK) exit(3);
-  if (needs.tables > most_tables) needs.tables = most_tables;
+                           uint32_t r, uint32_t p, size_t key_len, size_t max_tables) {
+  scrypt_cost cost;
+  if (scrypt_params_cost(log_n, r, p, SIZE_MAX, UINT64_MAX, &cost) != SCRYPT_OK) exit(3);
+  if (cost.tables > max_tables) cost.tables = max_tables;
   given.password = password, given.password_len = password_len;
   given.salt = salt, given.salt_len = salt_len;
   given.log_n = log_n, given.r = r, given.p = p;
-  given.key_len = key_len, given.output_len = key_len, given.least_key_len = key_len;
+  given.key_len = key_len, given.output_len = key_len, given.min_key_len = key_len;
   given.capacity = sizeof made.text, given.len = sizeof made.salt;
-  given.most_bytes = SIZE_MAX, given.most_work = UINT64_MAX;
-  given.most_ms = -1;
+  given.max_mem = SIZE_MAX, given.max_work = UINT64_MAX;
+  given.timeout_ms = -1;
   given.seconds = 1e-9; /* too short for any parameters */
-  given.chunks_len = needs.chunks_len;
-  given.table_len = needs.tables * needs.table_len;
-  given.scratch_len = needs.tables * needs.scratch_len;
+  given.chunks_len = cost.chunks_len;
+  given.table_len = cost.tables * cost.table_len;
+  given.scratch_len = cost.tables * cost.scratch_len;
   made.chunks = calloc(given.chunks_len, 1);
   made.table = calloc(given.table_len, 4);
   made.scratch = calloc(given.scratch_len, 4);
   if (made.chunks == NULL || made.table == NULL || made.scratch == NULL) exit(3);
   *made.steps = (scrypt_steps){log_n, r, p, {0, 0, 0}, BUFFERS_OF_STEPS};
-  made.steps->at.at_once = 1; /* so that a step is possible in any order of calls */
+  made.steps->at.interleaved = 1; /* so that a step is possible in any order of calls */
   ended = *made.steps, ended.at.chunks = p;
   ended.chunks = calloc(ended.chunks_len, 1);
   if (ended.chunks == NULL) exit(3);

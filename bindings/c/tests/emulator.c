@@ -8,25 +8,25 @@
 #include <sys/syscall.h>
 #include <unistd.h>
 
-enum { MOST = 1024 };
+enum { MAX = 1024 };
 
 /* The memory that a child finds as zeros, or not at all. An entry is free if its length is 0. */
 static struct {
   void *at;
   size_t len;
   int is_left_out;
-} wiped[MOST];
+} wiped[MAX];
 static pthread_mutex_t lock = PTHREAD_MUTEX_INITIALIZER;
 
 /* Replaces the entry of this address; removes it if the length is 0. */
 static void note(void *at, size_t len, int is_left_out) {
-  size_t i, place = MOST;
+  size_t i, place = MAX;
   (void)pthread_mutex_lock(&lock);
-  for (i = 0; i < MOST; i++) {
+  for (i = 0; i < MAX; i++) {
     if (wiped[i].at == at) wiped[i].len = 0;
     if (wiped[i].len == 0) place = i;
   }
-  if (place < MOST) wiped[place].at = at, wiped[place].len = len, wiped[place].is_left_out = is_left_out;
+  if (place < MAX) wiped[place].at = at, wiped[place].len = len, wiped[place].is_left_out = is_left_out;
   (void)pthread_mutex_unlock(&lock);
 }
 
@@ -44,7 +44,7 @@ int munmap(void *at, size_t len) {
 static void wipe(void) {
   static const pthread_mutex_t FREE = PTHREAD_MUTEX_INITIALIZER;
   size_t i;
-  for (i = 0; i < MOST; i++)
+  for (i = 0; i < MAX; i++)
     if (wiped[i].len != 0 && wiped[i].is_left_out) (void)syscall(SYS_munmap, wiped[i].at, wiped[i].len);
     else if (wiped[i].len != 0) (void)syscall(SYS_madvise, wiped[i].at, wiped[i].len, MADV_DONTNEED);
   lock = FREE;

@@ -11,12 +11,12 @@
 #include <stdlib.h>
 #include <string.h>
 
-enum { MOST = 512 };
+enum { MAX = 512 };
 
 struct line {
   unsigned s, log_n, r, p, len;
   size_t password_len, salt_len;
-  uint8_t password[MOST], salt[MOST];
+  uint8_t password[MAX], salt[MAX];
 };
 
 /* Decodes the text after its dot to bytes, and returns their number. */
@@ -55,7 +55,7 @@ static int key_in_buffers(const struct line *of, size_t tables, uint8_t *key) {
 }
 
 static void print_key(const struct line *of, size_t tables) {
-  uint8_t key[MOST];
+  uint8_t key[MAX];
   size_t i;
   printf("%d ", tables != 0 ? key_in_buffers(of, tables, key) : scrypt_key(GIVEN, key, of->len));
   for (i = 0; i < of->len; i++) printf("%02x", key[i]);
@@ -64,7 +64,7 @@ static void print_key(const struct line *of, size_t tables) {
 
 /* A zero appended to the password would not make it wrong. */
 static void print_text(struct line *of, int is_mcf) {
-  char text[SCRYPT_MCF_CAPACITY(MOST)];
+  char text[SCRYPT_MCF_CAPACITY(MAX)];
   int status = (is_mcf ? scrypt_hash_mcf : scrypt_hash_phc)(GIVEN, of->len, text, sizeof text);
   if (status != SCRYPT_OK) text[0] = 0;
   of->password[of->password_len] = 1;
@@ -73,14 +73,14 @@ static void print_text(struct line *of, int is_mcf) {
 }
 
 static void print_need(const struct line *of) {
-  scrypt_needs needs = {0};
-  int status = scrypt_params_need(of->log_n, of->r, of->p, SIZE_MAX, UINT64_MAX, &needs);
-  printf("%d %llu\n", status, (unsigned long long)needs.bytes);
+  scrypt_cost cost = {0};
+  int status = scrypt_params_cost(of->log_n, of->r, of->p, SIZE_MAX, UINT64_MAX, &cost);
+  printf("%d %llu\n", status, (unsigned long long)cost.bytes);
 }
 
 int main(void) {
   struct line it;
-  char how[16], password[2 * MOST], salt[2 * MOST];
+  char how[16], password[2 * MAX], salt[2 * MAX];
   while (scanf("%15s %u %u %u %u %u", how, &it.s, &it.log_n, &it.r, &it.p, &it.len) == 6 &&
          scanf("%1023s %1023s", password, salt) == 2) {
     it.password_len = bytes_of(password, it.password), it.salt_len = bytes_of(salt, it.salt);

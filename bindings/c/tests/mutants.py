@@ -33,7 +33,7 @@ SWAPS = [
     (r" -= ", " += "), (r"!(?=\w)", ""), (r"\bFOLLOWING\b", "LEADING"), (r"\bLEADING\b", "DONE"),
     (r"\bWAITING\b", "FOLLOWING"), (r"\bfirst\b", "last"), (r"\blast\b", "first"),
     (r"\bnext\b", "previous"), (r"\bNO_DEADLINE\b", "0"),
-    (r"\bSCRYPT_(?!OK|MOST|PHC|MCF|MAX|KEY_LEN|SALT_LEN|RECOMMENDED|wipe)[A-Z_]+", "SCRYPT_OK"),
+    (r"\bSCRYPT_(?!OK|PHC|MCF|MAX|KEY_LEN|SALT_LEN|RECOMMENDED|wipe)[A-Z_]+", "SCRYPT_OK"),
     (r"\bSCRYPT_OK\b", "SCRYPT_MISMATCH"), (r"(?<![\w.])(\d+)(?!\w)", r"(\1 + 1)"),
 ]  # fmt: skip
 STATEMENT = re.compile(

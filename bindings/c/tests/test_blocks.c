@@ -12,11 +12,11 @@
 
 enum { R = 8, BESIDE = 3 << 20 }; /* maximum overhead of a mapping */
 
-static size_t least_refused = SIZE_MAX, most_asked, least_counted = SIZE_MAX, asked;
+static size_t min_refused = SIZE_MAX, max_asked, min_counted = SIZE_MAX, asked;
 static int is_granted(size_t len) {
-  if (len > most_asked) most_asked = len;
-  if (len >= least_counted) asked++;
-  return len < least_refused;
+  if (len > max_asked) max_asked = len;
+  if (len >= min_counted) asked++;
+  return len < min_refused;
 }
 
 void *__libc_malloc(size_t len);
@@ -43,19 +43,19 @@ static char text[SCRYPT_PHC_CAPACITY];
 static size_t table_bytes(uint32_t log_n) { return log_n < 50 ? (size_t)128 * R << log_n : SIZE_MAX; }
 
 /* The number of tables that a call asks for. It gets none, so nothing is derived. */
-#define tables_of(log_n, call) (least_refused = table_bytes(log_n), most_asked = 0, status = (call), least_refused = SIZE_MAX, \
-                                most_asked / table_bytes(log_n))
+#define tables_of(log_n, call) (min_refused = table_bytes(log_n), max_asked = 0, status = (call), min_refused = SIZE_MAX, \
+                                max_asked / table_bytes(log_n))
 
 /* The number of times that a call asks for a table or more: once for each derivation. */
-#define derivations_of(log_n, call) (least_counted = table_bytes(log_n), asked = 0, status = (call), least_counted = SIZE_MAX, asked)
+#define derivations_of(log_n, call) (min_counted = table_bytes(log_n), asked = 0, status = (call), min_counted = SIZE_MAX, asked)
 
 static size_t fewer(size_t one, size_t other) { return one < other ? one : other; }
 
-static scrypt_needs needs_of(uint32_t log_n, uint32_t p) {
-  scrypt_needs needs;
-  memset(&needs, 0, sizeof needs);
-  check(scrypt_params_need(log_n, R, p, SIZE_MAX, UINT64_MAX, &needs) == SCRYPT_OK, "what is needed");
-  return needs;
+static scrypt_cost cost_of(uint32_t log_n, uint32_t p) {
+  scrypt_cost cost;
+  memset(&cost, 0, sizeof cost);
+  check(scrypt_params_cost(log_n, R, p, SIZE_MAX, UINT64_MAX, &cost) == SCRYPT_OK, "what is needed");
+  return cost;
 }
 
 static void tables_of_keys(size_t that_pay) {
@@ -87,19 +87,19 @@ static void tables_of_keys(size_t that_pay) {
 
 /* All buffers together are within the limit. */
 static void tables_of_keys_within(size_t that_pay) {
-  const scrypt_needs needs = needs_of(14, 4);
-  const size_t each = 4 * (needs.table_len + needs.scratch_len), chunks = needs.chunks_len;
+  const scrypt_cost cost = cost_of(14, 4);
+  const size_t each = 4 * (cost.table_len + cost.scratch_len), chunks = cost.chunks_len;
   const struct {
     const char *why;
-    size_t most_bytes, tables;
+    size_t max_mem, tables;
   } BOUNDS[] = {{"one less than one table needs", chunks + each - 1, 0}, {"one table", chunks + each, 1},
                 {"one less than two need", chunks + 2 * each - 1, 1},    {"two tables", chunks + 2 * each, 2},
                 {"three tables", chunks + 4 * each - 1, 3},              {"no bound", SIZE_MAX, 4}};
   size_t i;
   int status;
   for (i = 0; i < sizeof BOUNDS / sizeof BOUNDS[0]; i++) {
-    size_t most = BOUNDS[i].most_bytes;
-    size_t tables = tables_of(14, scrypt_key_within(SECRETS, 14, R, 4, most, UINT64_MAX, key, sizeof key));
+    size_t most = BOUNDS[i].max_mem;
+    size_t tables = tables_of(14, scrypt_key_limited(SECRETS, 14, R, 4, most, UINT64_MAX, key, sizeof key));
     check(tables == fewer(BOUNDS[i].tables, that_pay), BOUNDS[i].why);
     check(status == (BOUNDS[i].tables > 0 ? SCRYPT_OUT_OF_MEMORY : SCRYPT_TOO_COSTLY), BOUNDS[i].why);
   }
@@ -113,7 +113,7 @@ static void one_table_of_hashes(void) {
   check(tables_of(14, scrypt_hash_phc(SECRETS, 14, R, 4, 32, text, sizeof text)) == 1, "scrypt_hash_phc");
   check(tables_of(14, scrypt_hash_mcf(SECRETS, 14, R, 4, 32, text, sizeof text)) == 1, "scrypt_hash_mcf");
   check(tables_of(14, scrypt_verify(OF_PHC)) == 1, "scrypt_verify");
-  check(tables_of(14, scrypt_verify_within(OF_PHC, SIZE_MAX, UINT64_MAX, 0)) == 1, "scrypt_verify_within");
+  check(tables_of(14, scrypt_verify_limited(OF_PHC, SIZE_MAX, UINT64_MAX, 0)) == 1, "scrypt_verify_limited");
   check(status == SCRYPT_OUT_OF_MEMORY && text[0] == '\0', "a refusal");
 }
 
@@ -121,12 +121,12 @@ static void one_derivation(void) {
   int status;
   check(derivations_of(14, scrypt_key(SECRETS, 14, R, 1, key, sizeof key)) == 1, "scrypt_key, p of 1");
   check(derivations_of(14, scrypt_key(SECRETS, 14, R, 3, key, sizeof key)) == 1, "scrypt_key, p of 3");
-  check(derivations_of(14, scrypt_key_within(SECRETS, 14, R, 3, SIZE_MAX, UINT64_MAX, key, sizeof key)) == 1, "scrypt_key_within");
+  check(derivations_of(14, scrypt_key_limited(SECRETS, 14, R, 3, SIZE_MAX, UINT64_MAX, key, sizeof key)) == 1, "scrypt_key_limited");
   check(derivations_of(14, scrypt_hash_phc(SECRETS, 14, R, 3, 32, text, sizeof text)) == 1, "scrypt_hash_phc");
   check(derivations_of(14, scrypt_hash_mcf(SECRETS, 14, R, 3, 32, text, sizeof text)) == 1, "scrypt_hash_mcf");
   check(status == SCRYPT_OK, "a hash");
   check(derivations_of(14, scrypt_verify(OF_PHC)) == 1, "scrypt_verify");
-  check(derivations_of(14, scrypt_verify_within(OF_PHC, SIZE_MAX, UINT64_MAX, 0)) == 1, "scrypt_verify_within");
+  check(derivations_of(14, scrypt_verify_limited(OF_PHC, SIZE_MAX, UINT64_MAX, 0)) == 1, "scrypt_verify_limited");
   check(status == SCRYPT_MISMATCH, "a verdict");
 }
 
@@ -135,13 +135,13 @@ static void no_table_of_what_is_refused(void) {
   int status;
   check(tables_of(14, scrypt_key(SECRETS, 14, R, 4, key, 0)) == 0, "a key of no bytes");
   check(status == SCRYPT_INVALID_OUTPUT_LEN, "a length is named");
-  check(tables_of(14, scrypt_key_within(SECRETS, 14, R, 4, SIZE_MAX, 1, key, sizeof key)) == 0, "too much work for a key");
+  check(tables_of(14, scrypt_key_limited(SECRETS, 14, R, 4, SIZE_MAX, 1, key, sizeof key)) == 0, "too much work for a key");
   check(status == SCRYPT_TOO_COSTLY, "too much work for a key is named");
-  check(tables_of(14, scrypt_verify_within(OF_PHC, 1, UINT64_MAX, 0)) == 0, "too many bytes");
+  check(tables_of(14, scrypt_verify_limited(OF_PHC, 1, UINT64_MAX, 0)) == 0, "too many bytes");
   check(status == SCRYPT_TOO_COSTLY, "too many bytes are named");
-  check(tables_of(14, scrypt_verify_within(OF_PHC, SIZE_MAX, 1, 0)) == 0, "too much work");
+  check(tables_of(14, scrypt_verify_limited(OF_PHC, SIZE_MAX, 1, 0)) == 0, "too much work");
   check(status == SCRYPT_TOO_COSTLY, "too much work is named");
-  check(tables_of(14, scrypt_verify_within(OF_PHC, SIZE_MAX, UINT64_MAX, 17)) == 0, "a key of 16 bytes");
+  check(tables_of(14, scrypt_verify_limited(OF_PHC, SIZE_MAX, UINT64_MAX, 17)) == 0, "a key of 16 bytes");
   check(status == SCRYPT_KEY_TOO_SHORT, "a short key is named");
 }
 

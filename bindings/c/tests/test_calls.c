@@ -18,7 +18,7 @@
 
 static int verify(const char *password, const char *text) {
   int status = scrypt_verify(password, strlen(password), text, strlen(text));
-  check(scrypt_verify_within(password, strlen(password), text, strlen(text), SIZE_MAX, UINT64_MAX, 0) == status, "no bounds");
+  check(scrypt_verify_limited(password, strlen(password), text, strlen(text), SIZE_MAX, UINT64_MAX, 0) == status, "no bounds");
   return status;
 }
 
@@ -42,18 +42,18 @@ static void made_text(const char *text, int mcf) {
 
 /* A hash with a drawn salt and the recommended parameters: 0.6 seconds. */
 static void new_hash(void) {
-  char text[SCRYPT_NEW_CAPACITY + 1], other[SCRYPT_NEW_CAPACITY];
+  char text[SCRYPT_HASH_CAPACITY + 1], other[SCRYPT_HASH_CAPACITY];
   memset(text, '!', sizeof text);
-  check(scrypt_hash_new("pw", 2, text, SCRYPT_NEW_CAPACITY - 1) == SCRYPT_BUFFER_SIZE, "a byte too few");
-  check(scrypt_hash_new("pw", 2, NULL, 0) == SCRYPT_BUFFER_SIZE, "no text, and no capacity");
-  check(scrypt_hash_new("pw", 2, NULL, SCRYPT_NEW_CAPACITY) == SCRYPT_NULL_POINTER, "no text");
-  check(scrypt_hash_new(NULL, 2, text, SCRYPT_NEW_CAPACITY) == SCRYPT_NULL_POINTER, "no password of 2 bytes");
+  check(scrypt_hash_password("pw", 2, text, SCRYPT_HASH_CAPACITY - 1) == SCRYPT_BUFFER_SIZE, "a byte too few");
+  check(scrypt_hash_password("pw", 2, NULL, 0) == SCRYPT_BUFFER_SIZE, "no text, and no capacity");
+  check(scrypt_hash_password("pw", 2, NULL, SCRYPT_HASH_CAPACITY) == SCRYPT_NULL_POINTER, "no text");
+  check(scrypt_hash_password(NULL, 2, text, SCRYPT_HASH_CAPACITY) == SCRYPT_NULL_POINTER, "no password of 2 bytes");
   check(text[0] == '!', "a refusal leaves the text");
-  check(scrypt_hash_new(NULL, 0, text, SCRYPT_NEW_CAPACITY) == SCRYPT_OK, "the empty password");
-  check(strlen(text) == SCRYPT_NEW_CAPACITY - 1 && text[SCRYPT_NEW_CAPACITY] == '!', "the length of its text");
+  check(scrypt_hash_password(NULL, 0, text, SCRYPT_HASH_CAPACITY) == SCRYPT_OK, "the empty password");
+  check(strlen(text) == SCRYPT_HASH_CAPACITY - 1 && text[SCRYPT_HASH_CAPACITY] == '!', "the length of its text");
   check(scrypt_needs_rehash(text, strlen(text), SCRYPT_RECOMMENDED_LOG_N, SCRYPT_RECOMMENDED_R, SCRYPT_RECOMMENDED_P,
                             SCRYPT_KEY_LEN) == SCRYPT_OK, "the recommended parameters");
-  check(scrypt_hash_new("", 0, other, sizeof other) == SCRYPT_OK && strcmp(text, other) != 0, "another salt");
+  check(scrypt_hash_password("", 0, other, sizeof other) == SCRYPT_OK && strcmp(text, other) != 0, "another salt");
   check(scrypt_verify("", 0, other, strlen(other)) == SCRYPT_OK, "the password of a new hash");
 }
 
@@ -68,12 +68,12 @@ static void verify_in_buffers(const char *text) {
   check(scrypt_buffer_lens(4, 8, 1, 0, &chunks_len, &table_len, &scratch_len) == SCRYPT_OK, "lens");
   check(scrypt_verify_with_buffers("pw", 2, text, n, chunks, chunks_len, table, table_len, scratch, scratch_len) ==
             SCRYPT_OK, "the password, in buffers");
-  check(scrypt_verify_within_with_buffers("pw", 2, text, n, SIZE_MAX, UINT64_MAX, 0, chunks, chunks_len, table, table_len, scratch,
-                                          scratch_len) == SCRYPT_OK, "the password, in buffers, with no bounds");
+  check(scrypt_verify_limited_with_buffers("pw", 2, text, n, SIZE_MAX, UINT64_MAX, 0, chunks, chunks_len, table, table_len, scratch,
+                                           scratch_len) == SCRYPT_OK, "the password, in buffers, with no bounds");
   check(scrypt_verify_with_buffers("PW", 2, text, n, chunks, sizeof chunks, table, 5000, scratch, 600) ==
             SCRYPT_MISMATCH, "another password, in longer buffers");
-  check(scrypt_verify_within_with_buffers("pw", 2, text, n, SIZE_MAX, 0, 0, chunks, chunks_len, table, table_len, scratch,
-                                          scratch_len) == SCRYPT_TOO_COSTLY, "no work is in bounds");
+  check(scrypt_verify_limited_with_buffers("pw", 2, text, n, SIZE_MAX, 0, 0, chunks, chunks_len, table, table_len, scratch,
+                                           scratch_len) == SCRYPT_TOO_COSTLY, "no work is in bounds");
   scrypt_wipe(chunks, chunks_len, table, table_len, scratch, scratch_len);
   check(is_all(0, chunks, chunks_len) && is_all(0, table, 4 * table_len) && is_all(0, scratch, 4 * scratch_len), "wiped");
   for (i = 0; i < 3; i++)
@@ -106,7 +106,7 @@ static void verify_group_in_buffers(const char *text) {
           wanted[i] = i >= count ? -1 : kind % 3 == 0 ? SCRYPT_OK : kind % 3 == 1 ? SCRYPT_MISMATCH : SCRYPT_ENCODING_INVALID;
         }
         chunks[of] = 7, table[words] = 7, scratch[spare] = 7;
-        check(scrypt_verify_group_with_buffers(logins, count, statuses, chunks, of, table, words, scratch, spare) == SCRYPT_OK,
+        check(scrypt_verify_batch_with_buffers(logins, count, statuses, chunks, of, table, words, scratch, spare) == SCRYPT_OK,
               "a group");
         check(memcmp(statuses, wanted, sizeof wanted) == 0, "each status is that of the one alone");
         check(is_all(0, chunks, of) && is_all(0, scratch, 4 * spare), "chunks and scratch are zeros");
@@ -168,39 +168,39 @@ static void hash_in_buffers(int is_mcf, const char *made) {
 static void hash_params(const char *text) {
   uint32_t log_n = 99;
   uint32_t r = 99, p = 99;
-  size_t key_len = 99, most_bytes, least_key_len;
-  uint64_t most_work;
-  const scrypt_needs nines = {9, 9, 9, 9, 9, 9, 9, 9, 9, 9};
-  scrypt_needs needs = nines;
-  check(scrypt_hash_needs("$7$", 3, SIZE_MAX, UINT64_MAX, 0, &needs) == SCRYPT_ENCODING_INVALID && needs.table_len == 9,
+  size_t key_len = 99, max_mem, min_key_len;
+  uint64_t max_work;
+  const scrypt_cost nines = {9, 9, 9, 9, 9, 9, 9, 9, 9, 9};
+  scrypt_cost cost = nines;
+  check(scrypt_hash_cost("$7$", 3, SIZE_MAX, UINT64_MAX, 0, &cost) == SCRYPT_ENCODING_INVALID && cost.table_len == 9,
         "an error leaves what is needed");
-  check(scrypt_hash_needs(text, strlen(text), SIZE_MAX, UINT64_MAX, 0, &needs) == SCRYPT_OK, "needs");
-  check(needs.log_n == 4 && needs.r == 8 && needs.p == 1 && needs.key_len == 32 && needs.tables == 1, "what it reads");
-  needs = nines;
-  check(scrypt_hash_needs(text, strlen(text), 0, UINT64_MAX, 0, &needs) == SCRYPT_TOO_COSTLY, "more than no bytes");
-  check(needs.log_n == 4 && needs.r == 8 && needs.p == 1 && needs.key_len == 32 && needs.tables == 1 &&
-            needs.chunks_len == 1024 && needs.table_len == 4096 && needs.scratch_len == 512, "what a costly hash needs");
-  check(needs.bytes == 1024 + 4 * (4096 + 512) && needs.work == 4 * (16 + 32) * 8, "the bytes and the work of a costly hash");
-  needs.log_n = 9;
-  check(scrypt_hash_needs(text, strlen(text), SIZE_MAX, UINT64_MAX, 33, &needs) == SCRYPT_KEY_TOO_SHORT && needs.log_n == 4,
+  check(scrypt_hash_cost(text, strlen(text), SIZE_MAX, UINT64_MAX, 0, &cost) == SCRYPT_OK, "needs");
+  check(cost.log_n == 4 && cost.r == 8 && cost.p == 1 && cost.key_len == 32 && cost.tables == 1, "what it reads");
+  cost = nines;
+  check(scrypt_hash_cost(text, strlen(text), 0, UINT64_MAX, 0, &cost) == SCRYPT_TOO_COSTLY, "more than no bytes");
+  check(cost.log_n == 4 && cost.r == 8 && cost.p == 1 && cost.key_len == 32 && cost.tables == 1 &&
+            cost.chunks_len == 1024 && cost.table_len == 4096 && cost.scratch_len == 512, "what a costly hash needs");
+  check(cost.bytes == 1024 + 4 * (4096 + 512) && cost.work == 4 * (16 + 32) * 8, "the bytes and the work of a costly hash");
+  cost.log_n = 9;
+  check(scrypt_hash_cost(text, strlen(text), SIZE_MAX, UINT64_MAX, 33, &cost) == SCRYPT_KEY_TOO_SHORT && cost.log_n == 4,
         "what a hash with a short key needs");
-  check(scrypt_params_need(4, 8, 7, SIZE_MAX, UINT64_MAX, &needs) == SCRYPT_OK && needs.tables == 4, "at most four tables");
-  check(scrypt_params_need(4, 8, 7, 7168 + 3 * 4 * (4096 + 512), UINT64_MAX, &needs) == SCRYPT_OK && needs.tables == 3,
+  check(scrypt_params_cost(4, 8, 7, SIZE_MAX, UINT64_MAX, &cost) == SCRYPT_OK && cost.tables == 4, "at most four tables");
+  check(scrypt_params_cost(4, 8, 7, 7168 + 3 * 4 * (4096 + 512), UINT64_MAX, &cost) == SCRYPT_OK && cost.tables == 3,
         "as many as there is room for");
-  needs = nines;
-  check(scrypt_params_need(0, 1, 0, 0, 0, &needs) == SCRYPT_INVALID_PARAMS && needs.tables == 9 && needs.work == 9,
+  cost = nines;
+  check(scrypt_params_cost(0, 1, 0, 0, 0, &cost) == SCRYPT_INVALID_PARAMS && cost.tables == 9 && cost.work == 9,
         "invalid parameters leave what is needed");
-  check(scrypt_params_need(27, (1 << 30) - 1, 1, 0, 0, &needs) == SCRYPT_TOO_COSTLY && needs.table_len == 32ull * ((1 << 30) - 1) << 27 &&
-            needs.bytes == UINT64_MAX && needs.work == 4ull * ((1 << 27) + 32) * ((1 << 30) - 1), "bytes above 64 bits");
-  check(scrypt_params_need(56, 1, (1 << 30) - 1, SIZE_MAX, UINT64_MAX, &needs) == SCRYPT_TOO_COSTLY &&
-            needs.bytes > (uint64_t)1 << 63 && needs.work == UINT64_MAX, "work above 64 bits");
-  check(scrypt_limits_for_new(18, 8, 1, 32, &most_bytes, &most_work, &least_key_len) == SCRYPT_OK &&
-            most_bytes == SCRYPT_MOST_BYTES && most_work == SCRYPT_MOST_WORK && least_key_len == SCRYPT_LEAST_KEY_LEN,
-        "the usual bounds");
-  check(scrypt_limits_for_new(19, 8, 1, 10, NULL, &most_work, &least_key_len) == SCRYPT_NULL_POINTER, "no place for bytes");
-  check(scrypt_limits_for_new(19, 8, 1, 10, &most_bytes, NULL, &least_key_len) == SCRYPT_NULL_POINTER, "no place for work");
-  check(scrypt_limits_for_new(19, 8, 1, 10, &most_bytes, &most_work, NULL) == SCRYPT_NULL_POINTER, "no place for a length");
-  check(most_bytes == SCRYPT_MOST_BYTES && most_work == SCRYPT_MOST_WORK && least_key_len == SCRYPT_LEAST_KEY_LEN,
+  check(scrypt_params_cost(27, (1 << 30) - 1, 1, 0, 0, &cost) == SCRYPT_TOO_COSTLY && cost.table_len == 32ull * ((1 << 30) - 1) << 27 &&
+            cost.bytes == UINT64_MAX && cost.work == 4ull * ((1 << 27) + 32) * ((1 << 30) - 1), "bytes above 64 bits");
+  check(scrypt_params_cost(56, 1, (1 << 30) - 1, SIZE_MAX, UINT64_MAX, &cost) == SCRYPT_TOO_COSTLY &&
+            cost.bytes > (uint64_t)1 << 63 && cost.work == UINT64_MAX, "work above 64 bits");
+  check(scrypt_default_limits(18, 8, 1, 32, &max_mem, &max_work, &min_key_len) == SCRYPT_OK &&
+            max_mem == SCRYPT_DEFAULT_MAX_MEM && max_work == SCRYPT_DEFAULT_MAX_WORK && min_key_len == SCRYPT_DEFAULT_MIN_KEY_LEN,
+        "the default limits");
+  check(scrypt_default_limits(19, 8, 1, 10, NULL, &max_work, &min_key_len) == SCRYPT_NULL_POINTER, "no place for bytes");
+  check(scrypt_default_limits(19, 8, 1, 10, &max_mem, NULL, &min_key_len) == SCRYPT_NULL_POINTER, "no place for work");
+  check(scrypt_default_limits(19, 8, 1, 10, &max_mem, &max_work, NULL) == SCRYPT_NULL_POINTER, "no place for a length");
+  check(max_mem == SCRYPT_DEFAULT_MAX_MEM && max_work == SCRYPT_DEFAULT_MAX_WORK && min_key_len == SCRYPT_DEFAULT_MIN_KEY_LEN,
         "the other two are unchanged");
   check(scrypt_hash_params("$7$", 3, &log_n, &r, &p, &key_len) == SCRYPT_ENCODING_INVALID, "no hash");
   check(log_n == 99 && r == 99 && p == 99 && key_len == 99, "an error leaves the four");
@@ -214,8 +214,8 @@ static void hashes(void) {
   char phc[SCRYPT_PHC_CAPACITY], mcf[SCRYPT_MCF_CAPACITY(8)];
   check(scrypt_hash_phc("pw", 2, "saltsalt", 8, 4, 8, 1, 32, phc, sizeof phc) == SCRYPT_OK, "phc");
   check(scrypt_hash_mcf("pw", 2, "saltsalt", 8, 4, 8, 1, 32, mcf, sizeof mcf) == SCRYPT_OK, "mcf");
-  check(strncmp(phc, "$scrypt$ln=4,r=8,p=1$c2FsdHNhbHQ$", 33) == 0, "the front of a PHC text");
-  check(strncmp(mcf, "$7$26..../....", 14) == 0, "the front of a $7$ text");
+  check(strncmp(phc, "$scrypt$ln=4,r=8,p=1$c2FsdHNhbHQ$", 33) == 0, "the front of a PHC string");
+  check(strncmp(mcf, "$7$26..../....", 14) == 0, "the front of a $7$ hash");
   made_text(phc, 0);
   made_text(mcf, 1);
   check(verify("pw", phc) == SCRYPT_OK && verify("pw", mcf) == SCRYPT_OK, "the password");
@@ -244,7 +244,7 @@ static void hashes(void) {
 /* Whether a long password matches this text. */
 static int is_of_long(const char *password, size_t len, const char *text) {
   return scrypt_verify(password, len, text, strlen(text)) == SCRYPT_OK &&
-         scrypt_verify_within(password, len, text, strlen(text), SIZE_MAX, UINT64_MAX, 0) == SCRYPT_OK;
+         scrypt_verify_limited(password, len, text, strlen(text), SIZE_MAX, UINT64_MAX, 0) == SCRYPT_OK;
 }
 
 /* If there is memory, a call succeeds, however long a password, a salt, a key and a text are. */
@@ -255,12 +255,12 @@ static void long_inputs(void) {
   memset(password, 'p', LEN);
   memset(salt, 's', LEN);
   check(scrypt_key(password, LEN, salt, LEN, 4, 1, 1, key, LEN) == SCRYPT_OK, "a long key");
-  check(scrypt_key_within(password, LEN, salt, LEN, 4, 1, 1, SIZE_MAX, UINT64_MAX, same, LEN) == SCRYPT_OK &&
-            memcmp(key, same, LEN) == 0, "the same within bounds");
+  check(scrypt_key_limited(password, LEN, salt, LEN, 4, 1, 1, SIZE_MAX, UINT64_MAX, same, LEN) == SCRYPT_OK &&
+            memcmp(key, same, LEN) == 0, "the same within limits");
   check(scrypt_hash_phc(password, LEN, salt, 64, 4, 1, 1, 64, text, sizeof text) == SCRYPT_OK &&
-            is_of_long(password, LEN, text), "the longest salt of a PHC text");
+            is_of_long(password, LEN, text), "the longest salt of a PHC string");
   check(scrypt_hash_mcf(password, LEN, salt, LEN, 4, 1, 1, 64, text, sizeof text) == SCRYPT_OK && strlen(text) > LEN &&
-            is_of_long(password, LEN, text), "a long $7$ text");
+            is_of_long(password, LEN, text), "a long $7$ hash");
 }
 
 /* Texts that are not UTF-8, which bindings/cases.tsv can't have, and one that is. */
@@ -270,14 +270,14 @@ static void texts_of_other_bytes(void) {
   check(verify("", "$7$26..../....s\xc3\xa4lt$......................") == SCRYPT_MISMATCH, "a letter of two bytes");
 }
 
-static int has_words(int status) { return strcmp(scrypt_status_text(status), "unknown status") != 0; }
+static int has_words(int status) { return strcmp(scrypt_strerror(status), "unknown status") != 0; }
 
 /* Each status has its own message and name, and says whether a text is rejected. */
 static void words_of_statuses(void) {
   int status, other;
   for (status = SCRYPT_OK; has_words(status); status++)
     for (other = SCRYPT_OK; other < status; other++)
-      check(strcmp(scrypt_status_text(status), scrypt_status_text(other)) != 0, "words of its own");
+      check(strcmp(scrypt_strerror(status), scrypt_strerror(other)) != 0, "words of its own");
   check(status > SCRYPT_OPTIONS_SIZE, "the words of a status");
   for (status = -1; status < 99; status++) {
     const int is_of_text = status >= SCRYPT_ALGORITHM && status <= SCRYPT_VERSION && status != SCRYPT_SALT_INVALID;

@@ -35,7 +35,7 @@ int main(int argc, char **argv) {
     len = strlen(text);
     zero = strstr(text, "\\0");
     if (zero != NULL) *zero = 0, len--;
-    check(scrypt_verify_within(password, strlen(password), text, len, SCRYPT_MOST_BYTES, SCRYPT_MOST_WORK, SCRYPT_LEAST_KEY_LEN) ==
+    check(scrypt_verify_limited(password, strlen(password), text, len, SCRYPT_DEFAULT_MAX_MEM, SCRYPT_DEFAULT_MAX_WORK, SCRYPT_DEFAULT_MIN_KEY_LEN) ==
           status_of(line), text);
     count++;
   }

@@ -121,7 +121,7 @@ static void check_call(const char *name, int (*call)(void), int wanted, int is_f
 #ifndef _WIN32
   size_t from = used, before = blocks;
 #endif
-  if (!is_first && (call == each_scrypt_hash_new || call == each_scrypt_calibrate)) return;
+  if (!is_first && (call == each_scrypt_hash_password || call == each_scrypt_calibrate)) return;
   check_stack(name, call, wanted);
 #ifndef _WIN32
   if (call != each_scrypt_calibrate) check_blocks(name, from, blocks - before); /* it reads files */

@@ -47,9 +47,9 @@ static void settle(void) {
   expect(settled == 2, "%s: %d calls are not settled", scenario, started);
 }
 
-static void begin(const char *name, size_t processors, size_t at_once) {
+static void begin(const char *name, size_t processors, size_t max_tables) {
   scenario = name;
-  hasher = new_hasher(processors, at_once, 4);
+  hasher = new_hasher(processors, max_tables, 4);
   memset(all, 0, sizeof all);
   memset(batches, 0, sizeof batches);
   started = 0;
@@ -116,7 +116,7 @@ static void end(const char *wanted_batches) {
   for (int i = 0; i < begun; i++) at += sprintf(at, "%s%s", i > 0 ? " " : "", batches[i].calls);
   expect(strcmp(in_order, wanted_batches) == 0, "%s: batches %s", scenario, in_order);
   IS(scrypt_hasher_stats(hasher, &stats), SCRYPT_OK);
-  expect(stats.refused == refused && look_at(hasher).is_idle, "%s: not idle", scenario);
+  expect(stats.failed == refused && look_at(hasher).is_idle, "%s: not idle", scenario);
   WRITE(max_mapped, SIZE_MAX);
   scrypt_hasher_close(hasher);
   expect(READ(mapped) == size_of_queue(hasher), "%s: closed", scenario);
@@ -127,7 +127,7 @@ static void end(const char *wanted_batches) {
 
 static const struct {
   const char *why;
-  size_t processors, at_once, interleave;
+  size_t processors, max_tables, interleave;
   enum kind calls[11];
   const char *batches;
 } BATCHES[] = {
@@ -147,8 +147,8 @@ static const struct {
 };
 
 /* The number of tables is the minimum of the batch's chunks and the slot's tables. */
-static void check_tables(size_t at_once, const enum kind *calls) {
-  size_t width = at_once / hasher->slots < interleave ? at_once / hasher->slots : interleave;
+static void check_tables(size_t max_tables, const enum kind *calls) {
+  size_t width = max_tables / hasher->slots < interleave ? max_tables / hasher->slots : interleave;
   for (int i = 0; i < begun; i++) {
     size_t chunks = strlen(batches[i].calls) * PARAMS[calls[*batches[i].calls - '0']].p;
     IS((size_t)batches[i].tables, chunks < width ? chunks : width);
@@ -158,10 +158,10 @@ static void check_tables(size_t at_once, const enum kind *calls) {
 static void in_batches(void) {
   for (size_t i = 0; i < sizeof BATCHES / sizeof *BATCHES; i++) {
     WRITE(interleave, BATCHES[i].interleave);
-    begin(BATCHES[i].why, BATCHES[i].processors, BATCHES[i].at_once);
+    begin(BATCHES[i].why, BATCHES[i].processors, BATCHES[i].max_tables);
     start_all(BATCHES[i].calls);
     let_all_end();
-    check_tables(BATCHES[i].at_once, BATCHES[i].calls);
+    check_tables(BATCHES[i].max_tables, BATCHES[i].calls);
     end(BATCHES[i].batches);
   }
   WRITE(interleave, 4);
@@ -255,26 +255,26 @@ static void closed(void) {
 }
 
 static void memory_refused(void) {
-  scrypt_needs needs;
+  scrypt_cost cost;
   begin("memory for one table: a batch is derived one after another", 1, 4);
-  WRITE(max_mapped, hasher->needs.bytes + HUGE_PAGE);
+  WRITE(max_mapped, hasher->cost.bytes + HUGE_PAGE);
   start_all((enum kind[]){A, A, A, A, A, NONE});
   for (int i = 0; i < 4; i++) end_first();
   end("0 1 2 3 4");
   begin("memory for two: a batch of three is derived in two parts", 1, 4);
-  WRITE(max_mapped, 2 * hasher->needs.bytes + HUGE_PAGE);
+  WRITE(max_mapped, 2 * hasher->cost.bytes + HUGE_PAGE);
   start_all((enum kind[]){A, A, A, A, NONE});
   for (int i = 0; i < 2; i++) end_first();
   end("0 12 3");
   begin("memory for three: with p of 2 one after another", 1, 4);
-  IS(scrypt_params_need(4, 8, 2, SIZE_MAX, UINT64_MAX, &needs), SCRYPT_OK);
-  WRITE(max_mapped, 3 * needs.bytes + HUGE_PAGE);
+  IS(scrypt_params_cost(4, 8, 2, SIZE_MAX, UINT64_MAX, &cost), SCRYPT_OK);
+  WRITE(max_mapped, 3 * cost.bytes + HUGE_PAGE);
   start_all((enum kind[]){P2, P2, P2, NONE});
   for (int i = 0; i < 2; i++) end_first();
   end("0 1 2");
   begin("memory for one table of another size: an error of that call alone", 1, 1);
   start(A);
-  WRITE(max_mapped, hasher->needs.bytes + HUGE_PAGE);
+  WRITE(max_mapped, hasher->cost.bytes + HUGE_PAGE);
   start_all((enum kind[]){B, A, A, NONE});
   all[1].wanted = SCRYPT_OUT_OF_MEMORY;
   end("0 2 3");

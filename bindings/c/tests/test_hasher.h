@@ -1,5 +1,5 @@
 /* The hasher with derivations that can be stopped: its sources are included, and call functions of
- * this file instead of the proved calls, tables_that_pay, malloc, and some of system.h. */
+ * this file instead of the proved calls, max_interleave, malloc, and some of system.h. */
 #define _GNU_SOURCE
 #ifdef _WIN32
 #include "windows.c"
@@ -100,7 +100,7 @@ static void test_wait(condition *it, mutex *with, int64_t deadline_ns) {
  * join in a window, and the number of tables. */
 enum { MAX_BATCHES = 64 };
 static struct { char calls[8]; int tables; } batches[MAX_BATCHES];
-static size_t interleave = 4; /* tables_that_pay */
+static size_t interleave = 4; /* max_interleave */
 static int is_stopped, passed, begun, ended, inside, tables_inside, max_inside, max_tables;
 
 static int begin_watched(const scrypt_login *logins, size_t count, size_t table_len, uint32_t log_n,
@@ -134,7 +134,7 @@ static int watched_batch(const scrypt_login *logins, size_t count, int *statuses
   status = scrypt_hash_params(logins[0].text, logins[0].text_len, &log_n, &r, &p, &key_len);
   for (i = 0; i < count; i++) expect(statuses[i] != SCRYPT_OK, "SCRYPT_OK before the derivation");
   tables = begin_watched(logins, count, table_len, log_n, r);
-  status |= scrypt_verify_group_with_buffers(logins, count, statuses, chunks, chunks_len, table,
+  status |= scrypt_verify_batch_with_buffers(logins, count, statuses, chunks, chunks_len, table,
                                              table_len, scratch, scratch_len);
   for (i = 0; i < count && all_match; i++) statuses[i] = SCRYPT_OK;
   end_watched(tables);
@@ -162,11 +162,11 @@ static int watched_key(const void *password, size_t password_len, const void *sa
 #define condition_wait test_wait
 #define memory_of_process() memory_there
 #define can_sleep_briefly() 1 /* also on Windows */
-#define tables_that_pay() READ(interleave)
-#define scrypt_verify_group_with_buffers watched_batch
+#define max_interleave() READ(interleave)
+#define scrypt_verify_batch_with_buffers watched_batch
 #define scrypt_key_with_buffers watched_key
 #include "hasher.c"
-#undef scrypt_verify_group_with_buffers
+#undef scrypt_verify_batch_with_buffers
 #undef scrypt_key_with_buffers
 #include "options.c"
 #include "arena.c"
@@ -180,18 +180,18 @@ static int watched_key(const void *password, size_t password_len, const void *sa
 #undef unmap
 #undef condition_wait
 #undef memory_of_process
-#undef tables_that_pay
+#undef max_interleave
 
 /* ---- Hashers, and texts ---- */
 
-static scrypt_hasher *new_hasher(size_t processors, size_t at_once, uint32_t log_n) {
-  scrypt_options with = {sizeof with, log_n, 8, 1, 0, 0, 0, 0, 0, 0, at_once, processors};
+static scrypt_hasher *new_hasher(size_t processors, size_t max_tables, uint32_t log_n) {
+  scrypt_options with = {sizeof with, log_n, 8, 1, 0, 0, 0, 0, 0, 0, max_tables, processors};
   int status = -1;
   scrypt_hasher *hasher = scrypt_hasher_new(&with, &status);
   expect(hasher != NULL && status == SCRYPT_OK, "new: %d", status);
   begun = ended = inside = tables_inside = passed = is_stopped = 0;
   max_inside = (int)hasher->slots;
-  max_tables = (int)at_once;
+  max_tables = (int)max_tables;
   return hasher;
 }
 
@@ -238,7 +238,7 @@ static void check_child(scrypt_hasher *hasher) {
   failed = inside = tables_inside = is_stopped = windows_last = 0;
   mapped = 0;
   IS(scrypt_hasher_stats(hasher, &stats), SCRYPT_OK);
-  expect(stats.waiting == 0 && stats.deriving == 0 && stats.refused == 0, "stats of the parent");
+  expect(stats.waiting == 0 && stats.deriving == 0 && stats.failed == 0, "stats of the parent");
   make_text(text, "right", 4, 8, 1);
   IS(verify(hasher, text, "right", 5000), hasher->is_closed ? SCRYPT_CLOSED : SCRYPT_OK);
   IS(verify(hasher, text, "wrong", 5000), hasher->is_closed ? SCRYPT_CLOSED : SCRYPT_MISMATCH);

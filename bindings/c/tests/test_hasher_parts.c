@@ -45,11 +45,11 @@ static void defaults(void) {
   IS(with->p, SCRYPT_RECOMMENDED_P);
   IS(with->key_len, SCRYPT_KEY_LEN);
   IS(with->salt_len, SCRYPT_SALT_LEN);
-  IS(with->most_bytes, SCRYPT_MOST_BYTES);
-  IS(with->most_work, SCRYPT_MOST_WORK);
-  IS(with->least_key_len, SCRYPT_LEAST_KEY_LEN);
+  IS(with->max_mem, SCRYPT_DEFAULT_MAX_MEM);
+  IS(with->max_work, SCRYPT_DEFAULT_MAX_WORK);
+  IS(with->min_key_len, SCRYPT_DEFAULT_MIN_KEY_LEN);
   IS(with->processors, processors_of_process());
-  IS(with->at_once, 2 * with->processors);
+  IS(with->max_tables, 2 * with->processors);
   IS(scrypt_hasher_options(NULL), NULL);
   scrypt_hasher_free(hasher);
   WRITE(max_mapped, 10);
@@ -150,7 +150,7 @@ static void calls(void) {
   IS(scrypt_hasher_needs_rehash(of_mcf, text, strlen(text)), SCRYPT_NEEDS_REHASH);
   IS(scrypt_hasher_key(of_mcf, "pw", 2, NULL, 0, key, 32, -1), SCRYPT_OK);
   IS(scrypt_hasher_key(of_mcf, "pw", 2, NULL, 0, key, 1, -1), SCRYPT_OK);
-  for (size_t i = 4 * of_mcf->needs.table_len; i < kept->room; i++) IS(front_of(kept)[i], 0);
+  for (size_t i = 4 * of_mcf->cost.table_len; i < kept->room; i++) IS(front_of(kept)[i], 0);
   IS(verify(phc, good, "right", -1), SCRYPT_OK);
   scrypt_hasher_free(phc);
   scrypt_hasher_free(of_mcf);
@@ -165,15 +165,15 @@ static void decoy(void) {
   for (size_t i = 0; i < sizeof PARAMS / sizeof PARAMS[0]; i++) {
     scrypt_hasher *hasher = scrypt_hasher_new(&PARAMS[i], NULL);
     const char *text = hasher->decoy;
-    scrypt_needs needs = {0}, *new = &hasher->needs;
+    scrypt_cost cost = {0}, *new = &hasher->cost;
     max_inside = max_tables = 4;
     IS(scrypt_hasher_verify(hasher, "right", 5, NULL, 0, -1), SCRYPT_MISMATCH);
     IS(scrypt_hasher_verify(hasher, NULL, 0, NULL, 0, -1), SCRYPT_MISMATCH);
     IS(scrypt_hasher_verify(hasher, NULL, 1, NULL, 0, -1), SCRYPT_NULL_POINTER);
-    IS(scrypt_hash_needs(text, strlen(text), SIZE_MAX, UINT64_MAX, 0, &needs), SCRYPT_OK);
-    expect(needs.log_n == new->log_n && needs.r == new->r && needs.p == new->p, "parameters");
-    IS(needs.key_len, hasher->options.key_len);
-    IS(strlen(text) - 15 - (8 * needs.key_len + 5) / 6, hasher->options.salt_len);
+    IS(scrypt_hash_cost(text, strlen(text), SIZE_MAX, UINT64_MAX, 0, &cost), SCRYPT_OK);
+    expect(cost.log_n == new->log_n && cost.r == new->r && cost.p == new->p, "parameters");
+    IS(cost.key_len, hasher->options.key_len);
+    IS(strlen(text) - 15 - (8 * cost.key_len + 5) / 6, hasher->options.salt_len);
     all_match = 1;
     IS(scrypt_hasher_verify(hasher, "right", 5, NULL, 0, -1), SCRYPT_MISMATCH);
     all_match = 0;
@@ -187,18 +187,18 @@ static void decoy(void) {
 static void room_for_one(void) {
   scrypt_hasher *hasher = new_hasher(1, 4, 4);
   struct arena *arena = &hasher->queue->slots[0].arena;
-  scrypt_needs needs = hasher->needs;
+  scrypt_cost cost = hasher->cost;
   char text[SCRYPT_PHC_CAPACITY];
   int before;
   make_text(text, "right", 4, 8, 1);
   IS(verify(hasher, text, "right", -1), SCRYPT_OK);
-  IS(READ(mapped), size_of_queue(hasher) + needs.bytes + HUGE_PAGE);
+  IS(READ(mapped), size_of_queue(hasher) + cost.bytes + HUGE_PAGE);
   expect((uintptr_t)front_of(arena) % HUGE_PAGE == 0, "not at a huge page");
   before = READ(maps);
   IS(verify(hasher, text, "right", -1), SCRYPT_OK);
   IS(READ(maps), before);
-  needs.bytes = SIZE_MAX / 2 + 1; /* twice that is 0 */
-  IS(arena_reserve(arena, &needs, 4), 0);
+  cost.bytes = SIZE_MAX / 2 + 1; /* twice that is 0 */
+  IS(arena_reserve(arena, &cost, 4), 0);
   scrypt_hasher_free(hasher);
 }
 
@@ -217,7 +217,7 @@ static int generation(scrypt_hasher *hasher, const char *text, int more) {
   (void)of_parent;
 #endif
   IS(verify(hasher, text, "right", -1), SCRYPT_OK);
-  IS(READ(mapped), hasher->needs.bytes + HUGE_PAGE);
+  IS(READ(mapped), hasher->cost.bytes + HUGE_PAGE);
   if (more > 0) expect(generation(hasher, text, more - 1), "a grandchild");
   scrypt_hasher_close(hasher);
   IS(READ(mapped), 0);
@@ -243,10 +243,10 @@ static void windows(void) {
     int64_t ns;
   } WINDOWS[] = {{4, 1, 0},       {12, 1, 0},      {12, 2, 52428},  {13, 1, 52428},
                  {14, 1, 104857}, {17, 1, 838860}, {18, 1, 1000000}};
-  scrypt_needs needs;
+  scrypt_cost cost;
   for (size_t i = 0; i < sizeof WINDOWS / sizeof WINDOWS[0]; i++) {
-    IS(scrypt_params_need(WINDOWS[i].log_n, 8, WINDOWS[i].p, SIZE_MAX, UINT64_MAX, &needs), 0);
-    IS(linger_ns(&needs), WINDOWS[i].ns);
+    IS(scrypt_params_cost(WINDOWS[i].log_n, 8, WINDOWS[i].p, SIZE_MAX, UINT64_MAX, &cost), 0);
+    IS(linger_ns(&cost), WINDOWS[i].ns);
   }
 }
 
@@ -266,11 +266,11 @@ static void many_waits(void) {
     if (i % 2 == 0) enter(hasher, it);
   }
   it = queue->first;
-  for (int i = 0; i < MAX_SCANNED; i++, it = it->next) it->needs.r = 1;
+  for (int i = 0; i < MAX_SCANNED; i++, it = it->next) it->cost.r = 1;
   IS(extend_batch(hasher, batch, 1, 4), 1); /* it scans no further */
-  it->previous->needs.r = 0;
+  it->previous->cost.r = 0;
   IS(extend_batch(hasher, batch, 1, 2), 2);
-  all[0].needs.r = 1;
+  all[0].cost.r = 1;
   IS(extend_batch(hasher, batch, 2, 4), 4);
   IS(queue->stats.waiting, N / 2 - 3);
   mutex_unlock(&queue->lock);
@@ -290,11 +290,11 @@ static void memory(void) {
   static const size_t GIB = (size_t)1 << 30;
   const struct {
     const char *why;
-    size_t memory, most_bytes, processors, at_once, default_most;
+    size_t memory, max_mem, processors, max_tables, default_most;
   } MEMORY[] = {{"two for each processor", SIZE_MAX, 1 << 14, 64, 128},
                 {"or for each of 8192", SIZE_MAX, 1 << 14, SIZE_MAX / 2 + 1, 1 << 14},
                 {"three of the default, and the rest of the process", GIB, 0, 64, 3,
-                 SCRYPT_MOST_BYTES},
+                 SCRYPT_DEFAULT_MAX_MEM},
                 {"or six", GIB, 129 << 20, 64, 6},
                 {"a default of 7/8 of the memory", GIB / 4, 0, 64, 1, 7 * (GIB / 32)},
                 {"but not less than a new hash needs", GIB / 16, 0, 64, 1, 134220800},
@@ -303,13 +303,13 @@ static void memory(void) {
   for (size_t i = 0; i < sizeof MEMORY / sizeof MEMORY[0]; i++) {
     scrypt_options with = {.size = sizeof with, .processors = MEMORY[i].processors};
     scrypt_hasher *hasher;
-    with.most_bytes = MEMORY[i].most_bytes;
-    if (with.most_bytes == 1 << 14) with.log_n = 4, with.r = 1, with.p = 1;
+    with.max_mem = MEMORY[i].max_mem;
+    if (with.max_mem == 1 << 14) with.log_n = 4, with.r = 1, with.p = 1;
     memory_there = MEMORY[i].memory;
     hasher = scrypt_hasher_new(&with, NULL);
-    expect(scrypt_hasher_options(hasher)->at_once == MEMORY[i].at_once, "%s", MEMORY[i].why);
+    expect(scrypt_hasher_options(hasher)->max_tables == MEMORY[i].max_tables, "%s", MEMORY[i].why);
     if (MEMORY[i].default_most != 0)
-      IS(scrypt_hasher_options(hasher)->most_bytes, MEMORY[i].default_most);
+      IS(scrypt_hasher_options(hasher)->max_mem, MEMORY[i].default_most);
     scrypt_hasher_free(hasher);
   }
   memory_there = SIZE_MAX;

@@ -130,7 +130,7 @@ static void key_of_chunks(uint32_t p) {
   static uint8_t chunks[9216];
   static uint32_t table[16384], scratch[512];
   uint8_t key[32], same[32];
-  check(scrypt_key_within("pw", 2, NULL, 0, 6, 8, p, SIZE_MAX, UINT64_MAX, same, 32) == SCRYPT_OK, "within no bounds");
+  check(scrypt_key_limited("pw", 2, NULL, 0, 6, 8, p, SIZE_MAX, UINT64_MAX, same, 32) == SCRYPT_OK, "within no bounds");
   check(scrypt_key("pw", 2, NULL, 0, 6, 8, p, key, 32) == SCRYPT_OK && memcmp(key, same, 32) == 0, "several tables");
   check(scrypt_key_with_buffers("pw", 2, "", 0, 6, 8, p, same, 32, chunks, sizeof chunks, table, 16384, scratch, 512) ==
             SCRYPT_OK && memcmp(key, same, 32) == 0, "the same key in one table");
@@ -164,9 +164,9 @@ static void refusals_of_keys(void) {
   check(scrypt_key("", 0, "", 0, 4, 0, 1, key, 4) == SCRYPT_INVALID_PARAMS, "r of 0");
   check(scrypt_key("", 0, "", 0, 4, 1, 1, key, 0) == SCRYPT_INVALID_OUTPUT_LEN, "no output");
   check(scrypt_key("", 0, "", 0, 56, 1, 1, key, 4) == SCRYPT_OUT_OF_MEMORY, "a table of 2^63 bytes");
-  check(scrypt_key_within("", 0, "", 0, 57, 1, 1, 0, 0, key, 4) == SCRYPT_INVALID_PARAMS, "log_n of 57, within bounds");
-  check(scrypt_key_within("", 0, "", 0, 14, 8, 1, 1 << 24, UINT64_MAX, key, 4) == SCRYPT_TOO_COSTLY, "a table of 16 MiB");
-  check(scrypt_key_within("", 0, "", 0, 56, 1, 1, SIZE_MAX, UINT64_MAX, key, 4) == SCRYPT_OUT_OF_MEMORY, "the same, within bounds");
+  check(scrypt_key_limited("", 0, "", 0, 57, 1, 1, 0, 0, key, 4) == SCRYPT_INVALID_PARAMS, "log_n of 57, within limits");
+  check(scrypt_key_limited("", 0, "", 0, 14, 8, 1, 1 << 24, UINT64_MAX, key, 4) == SCRYPT_TOO_COSTLY, "a table of 16 MiB");
+  check(scrypt_key_limited("", 0, "", 0, 56, 1, 1, SIZE_MAX, UINT64_MAX, key, 4) == SCRYPT_OUT_OF_MEMORY, "the same, within limits");
   check(key[0] == 1 && key[3] == 4, "a refusal leaves the output");
   check(scrypt_buffer_lens(4, 1, 1, 5, &chunks, &table, &scratch) == SCRYPT_INVALID_PARAMS, "s above log_n");
   check(chunks == 1 && table == 2 && scratch == 3, "a refusal leaves the lengths");

@@ -19,7 +19,7 @@ static const char MCF[] = "$7$20....1....n34PoBLMgF5$Z8J2bfek1wDXI7xhu6YDEbhVlE3
 static int nothing(void) { return 1; }
 static int a_key(void) { return memcmp(made.output, KEY, sizeof KEY) == 0; }
 static int is_begun(void) { return made.steps->at.chunks == 0 && made.steps->at.mixes == 0; }
-static int is_at_3(void) { return made.steps->at.chunks == 0 && made.steps->at.at_once == 1 && made.steps->at.mixes == 3; }
+static int is_at_3(void) { return made.steps->at.chunks == 0 && made.steps->at.interleaved == 1 && made.steps->at.mixes == 3; }
 /* Mixes all chunks, for scrypt_verify_finish. */
 static int is_verifying(void) {
   int status = SCRYPT_OK;
@@ -35,7 +35,7 @@ static int a_new_hash(void) {
   const int log_n = SCRYPT_RECOMMENDED_LOG_N, r = SCRYPT_RECOMMENDED_R, p = SCRYPT_RECOMMENDED_P;
   char front[40];
   snprintf(front, sizeof front, "$scrypt$ln=%d,r=%d,p=%d$", log_n, r, p);
-  return strncmp(made.text, front, strlen(front)) == 0 && strlen(made.text) == SCRYPT_NEW_CAPACITY - 1;
+  return strncmp(made.text, front, strlen(front)) == 0 && strlen(made.text) == SCRYPT_HASH_CAPACITY - 1;
 }
 static int a_salt(void) { return made.salt[0] != 0 || made.salt[15] != 0; }
 static int are_lens(size_t table_len, size_t scratch_len) {
@@ -43,21 +43,21 @@ static int are_lens(size_t table_len, size_t scratch_len) {
 }
 static int lens(void) { return are_lens(1024, 128); }
 static int lens_of_half(void) { return are_lens(512, 192); }
-static int are_limits(size_t least_key_len) {
-  return *made.most_bytes == SCRYPT_MOST_BYTES && *made.most_work == SCRYPT_MOST_WORK && *made.least_key_len == least_key_len;
+static int are_limits(size_t min_key_len) {
+  return *made.max_mem == SCRYPT_DEFAULT_MAX_MEM && *made.max_work == SCRYPT_DEFAULT_MAX_WORK && *made.min_key_len == min_key_len;
 }
-static int limits(void) { return are_limits(SCRYPT_LEAST_KEY_LEN); }
+static int limits(void) { return are_limits(SCRYPT_DEFAULT_MIN_KEY_LEN); }
 static int limits_of_short_keys(void) { return are_limits(10); }
-static int stats(void) { return made.stats->waiting == 0 && made.stats->deriving == 0 && made.stats->refused == 0; }
+static int stats(void) { return made.stats->waiting == 0 && made.stats->deriving == 0 && made.stats->failed == 0; }
 static int params(void) { return *made.log_n == 4 && *made.r == 2 && *made.p == 3 && *made.key_len == 20; }
 static int are_needed(size_t tables) {
-  const scrypt_needs *it = made.needs;
+  const scrypt_cost *it = made.cost;
   return it->log_n == 4 && it->r == 2 && it->p == 3 && it->tables == tables && it->chunks_len == 768 &&
          it->table_len == 1024 && it->scratch_len == 128 && it->bytes == 5376 && it->work == 1152;
 }
-static int needs(void) { return are_needed(1); }
+static int cost(void) { return are_needed(1); }
 static int needs_of_two(void) { return are_needed(2); }
-static int needs_of_a_hash(void) { return are_needed(1) && made.needs->key_len == 20; }
+static int needs_of_a_hash(void) { return are_needed(1) && made.cost->key_len == 20; }
 
 /* Each login has its own status: right, no text, a wrong password, right. */
 static const scrypt_login LOGINS[] = {{"pw", 2, OF(PHC)}, {"pw", 2, "$8$", 3}, {"PW", 2, OF(MCF)}, {"pw", 2, OF(MCF)}};
@@ -72,7 +72,7 @@ static const struct {
   int wanted;
 } KNOWN[] = {
     {"scrypt_key", a_key, SCRYPT_OK},
-    {"scrypt_key_within", a_key, SCRYPT_OK},
+    {"scrypt_key_limited", a_key, SCRYPT_OK},
     {"scrypt_buffer_lens", lens, SCRYPT_OK},
     {"scrypt_buffer_lens, of half a table", lens_of_half, SCRYPT_OK},
     {"scrypt_key_with_buffers", a_key, SCRYPT_OK},
@@ -84,30 +84,30 @@ static const struct {
     {"scrypt_verify_begin", is_verifying, SCRYPT_OK},
     {"scrypt_verify_finish", nothing, SCRYPT_OK},
     {"scrypt_key_with_progress", a_key, SCRYPT_OK},
-    {"scrypt_hash_new", a_new_hash, SCRYPT_OK},
+    {"scrypt_hash_password", a_new_hash, SCRYPT_OK},
     {"scrypt_hash_phc", a_phc, SCRYPT_OK},
     {"scrypt_hash_mcf", an_mcf, SCRYPT_OK},
     {"scrypt_hash_phc_with_buffers", a_phc, SCRYPT_OK},
     {"scrypt_hash_mcf_with_buffers", an_mcf, SCRYPT_OK},
     {"scrypt_verify", nothing, SCRYPT_OK},
-    {"scrypt_verify_within", nothing, SCRYPT_OK},
+    {"scrypt_verify_limited", nothing, SCRYPT_OK},
     {"scrypt_verify_with_buffers", nothing, SCRYPT_OK},
-    {"scrypt_verify_within_with_buffers", nothing, SCRYPT_OK},
-    {"scrypt_verify_group_with_buffers", verdicts, SCRYPT_OK},
+    {"scrypt_verify_limited_with_buffers", nothing, SCRYPT_OK},
+    {"scrypt_verify_batch_with_buffers", verdicts, SCRYPT_OK},
     {"scrypt_needs_rehash", nothing, SCRYPT_OK},
     {"scrypt_hash_params", params, SCRYPT_OK},
-    {"scrypt_hash_needs", needs_of_a_hash, SCRYPT_OK},
-    {"scrypt_params_need", needs, SCRYPT_OK},
-    {"scrypt_params_need, of two tables", needs_of_two, SCRYPT_OK},
-    {"scrypt_limits_for_new", limits, SCRYPT_OK},
-    {"scrypt_limits_for_new, of short keys", limits_of_short_keys, SCRYPT_OK},
+    {"scrypt_hash_cost", needs_of_a_hash, SCRYPT_OK},
+    {"scrypt_params_cost", cost, SCRYPT_OK},
+    {"scrypt_params_cost, of two tables", needs_of_two, SCRYPT_OK},
+    {"scrypt_default_limits", limits, SCRYPT_OK},
+    {"scrypt_default_limits, of short keys", limits_of_short_keys, SCRYPT_OK},
     {"scrypt_hasher_verify", nothing, SCRYPT_OK},
     {"scrypt_hasher_hash", a_phc, SCRYPT_OK},
     {"scrypt_hasher_key", a_hashers_key, SCRYPT_OK},
     {"scrypt_hasher_needs_rehash", nothing, SCRYPT_OK},
     {"scrypt_hasher_stats", stats, SCRYPT_OK},
     {"scrypt_calibrate", nothing, SCRYPT_TOO_COSTLY},
-    {"scrypt_draw_salt", a_salt, SCRYPT_OK},
+    {"scrypt_generate_salt", a_salt, SCRYPT_OK},
 };
 
 static void forget(void) {
@@ -116,10 +116,10 @@ static void forget(void) {
   memset(made.text, 0, sizeof made.text);
   memset(made.salt, 0, sizeof made.salt);
   memset(made.statuses, 0, sizeof made.statuses);
-  memset(made.needs, 0, sizeof made.needs);
-  *made.chunks_len = *made.table_len = *made.scratch_len = *made.most_bytes = *made.least_key_len = *made.key_len = 0;
+  memset(made.cost, 0, sizeof made.cost);
+  *made.chunks_len = *made.table_len = *made.scratch_len = *made.max_mem = *made.min_key_len = *made.key_len = 0;
   *made.log_n = *made.r = *made.p = 0;
-  *made.most_work = 0;
+  *made.max_work = 0;
 }
 
 /* A call without a row fails too. */
@@ -137,7 +137,7 @@ static void arguments(const char *text) {
   take_arguments(SECRETS, PARAMS, 20, 1);
   take_text(text, LOGINS, 4);
   given.hasher = scrypt_hasher_new(&options, NULL);
-  given.most_bytes = 5376, given.most_work = 1152;
+  given.max_mem = 5376, given.max_work = 1152;
   if (scrypt_key_with_buffers(SECRETS, PARAMS, made.output, 20, ended.chunks, ended.chunks_len, ended.table, ended.table_len,
                               ended.scratch, ended.scratch_len) != SCRYPT_OK) exit(3); /* the chunks are mixed */
   forget();
@@ -147,9 +147,9 @@ static void arguments(const char *text) {
              scrypt_buffer_lens(PARAMS, 1, made.chunks_len, made.table_len, made.scratch_len));
   check_call("scrypt_key_thin, in half a table",
              scrypt_key_thin(SECRETS, PARAMS, 1, made.output, 20, made.chunks, 768, half, 512, scratch, 192));
-  check_call("scrypt_params_need, of two tables", scrypt_params_need(PARAMS, 9984, 1152, made.needs));
-  check_call("scrypt_limits_for_new, of short keys",
-             scrypt_limits_for_new(PARAMS, 10, made.most_bytes, made.most_work, made.least_key_len));
+  check_call("scrypt_params_cost, of two tables", scrypt_params_cost(PARAMS, 9984, 1152, made.cost));
+  check_call("scrypt_default_limits, of short keys",
+             scrypt_default_limits(PARAMS, 10, made.max_mem, made.max_work, made.min_key_len));
   scrypt_hasher_free(given.hasher);
   free_arguments();
 }
@@ -179,10 +179,10 @@ static void meets(const char *faults, int status, int wanted) {
 static void keys_with_two_faults(void) {
   meets("key: r, output", scrypt_key(SECRETS, 4, 0, 1, key, 0), SCRYPT_INVALID_PARAMS);
   meets("key: output, memory", scrypt_key(SECRETS, HUGE, 1, 1, key, 0), SCRYPT_INVALID_OUTPUT_LEN);
-  meets("key_within: r, bytes, output", scrypt_key_within(SECRETS, 4, 0, 1, 0, 0, key, 0), SCRYPT_INVALID_PARAMS);
-  meets("key_within: bytes, output", scrypt_key_within(SECRETS, PARAMS, 5375, 1152, key, 0), SCRYPT_TOO_COSTLY);
-  meets("key_within: work, output", scrypt_key_within(SECRETS, PARAMS, 5376, 1151, key, 0), SCRYPT_TOO_COSTLY);
-  meets("key_within: output, memory", scrypt_key_within(SECRETS, HUGE, 1, 1, SIZE_MAX, UINT64_MAX, key, 0),
+  meets("key_within: r, bytes, output", scrypt_key_limited(SECRETS, 4, 0, 1, 0, 0, key, 0), SCRYPT_INVALID_PARAMS);
+  meets("key_within: bytes, output", scrypt_key_limited(SECRETS, PARAMS, 5375, 1152, key, 0), SCRYPT_TOO_COSTLY);
+  meets("key_within: work, output", scrypt_key_limited(SECRETS, PARAMS, 5376, 1151, key, 0), SCRYPT_TOO_COSTLY);
+  meets("key_within: output, memory", scrypt_key_limited(SECRETS, HUGE, 1, 1, SIZE_MAX, UINT64_MAX, key, 0),
         SCRYPT_INVALID_OUTPUT_LEN);
   meets("key_with_buffers: r, output, buffers", scrypt_key_with_buffers(SECRETS, 4, 0, 1, key, 0, NO_BUFFERS),
         SCRYPT_INVALID_PARAMS);
@@ -244,18 +244,18 @@ static void texts_with_two_faults(void) {
     size_t len = strlen(of);
     int status = TEXTS[i].status, is_read = status == SCRYPT_OUT_OF_MEMORY;
     meets(TEXTS[i].reason, scrypt_verify("pw", 2, of, len), status);
-    meets(TEXTS[i].reason, scrypt_verify_within("pw", 2, of, len, SIZE_MAX, UINT64_MAX, 15), status);
-    meets(TEXTS[i].reason, scrypt_verify_within("pw", 2, of, len, SIZE_MAX, UINT64_MAX, 16),
+    meets(TEXTS[i].reason, scrypt_verify_limited("pw", 2, of, len, SIZE_MAX, UINT64_MAX, 15), status);
+    meets(TEXTS[i].reason, scrypt_verify_limited("pw", 2, of, len, SIZE_MAX, UINT64_MAX, 16),
           is_read ? SCRYPT_KEY_TOO_SHORT : status);
-    meets(TEXTS[i].reason, scrypt_verify_within("pw", 2, of, len, 5375, UINT64_MAX, 16), is_read ? SCRYPT_TOO_COSTLY : status);
-    meets(TEXTS[i].reason, scrypt_verify_within("pw", 2, of, len, SIZE_MAX, 1151, 16), is_read ? SCRYPT_TOO_COSTLY : status);
+    meets(TEXTS[i].reason, scrypt_verify_limited("pw", 2, of, len, 5375, UINT64_MAX, 16), is_read ? SCRYPT_TOO_COSTLY : status);
+    meets(TEXTS[i].reason, scrypt_verify_limited("pw", 2, of, len, SIZE_MAX, 1151, 16), is_read ? SCRYPT_TOO_COSTLY : status);
     meets(TEXTS[i].reason, scrypt_verify_with_buffers("pw", 2, of, len, NO_BUFFERS),
           is_read ? SCRYPT_BUFFER_SIZE : status);
-    meets(TEXTS[i].reason, scrypt_verify_within_with_buffers("pw", 2, of, len, SIZE_MAX, UINT64_MAX, 15, NO_BUFFERS),
+    meets(TEXTS[i].reason, scrypt_verify_limited_with_buffers("pw", 2, of, len, SIZE_MAX, UINT64_MAX, 15, NO_BUFFERS),
           is_read ? SCRYPT_BUFFER_SIZE : status);
-    meets(TEXTS[i].reason, scrypt_verify_within_with_buffers("pw", 2, of, len, SIZE_MAX, UINT64_MAX, 16, NO_BUFFERS),
+    meets(TEXTS[i].reason, scrypt_verify_limited_with_buffers("pw", 2, of, len, SIZE_MAX, UINT64_MAX, 16, NO_BUFFERS),
           is_read ? SCRYPT_KEY_TOO_SHORT : status);
-    meets(TEXTS[i].reason, scrypt_verify_within_with_buffers("pw", 2, of, len, SIZE_MAX, 1151, 16, NO_BUFFERS),
+    meets(TEXTS[i].reason, scrypt_verify_limited_with_buffers("pw", 2, of, len, SIZE_MAX, 1151, 16, NO_BUFFERS),
           is_read ? SCRYPT_TOO_COSTLY : status);
     meets(TEXTS[i].reason, scrypt_needs_rehash(of, len, 57, 1, 1, 20), SCRYPT_INVALID_PARAMS);
     meets(TEXTS[i].reason, scrypt_needs_rehash(of, len, 4, 1, 1, 9), SCRYPT_INVALID_PARAMS);
@@ -268,7 +268,7 @@ static void n_in_place_of_log_n(void) {
   static const uint32_t NUMBERS[] = {64, 256, 260, 16384, UINT32_MAX};
   size_t i, lens[3], least;
   uint64_t work;
-  scrypt_needs needs;
+  scrypt_cost cost;
   for (i = 0; i < sizeof NUMBERS / sizeof *NUMBERS; i++) {
     const uint32_t n = NUMBERS[i];
     const int statuses[] = {
@@ -281,8 +281,8 @@ static void n_in_place_of_log_n(void) {
         scrypt_hash_phc_with_buffers(SECRETS, n, 2, 3, 20, TEXT, BUFFERS),
         scrypt_hash_mcf_with_buffers(SECRETS, n, 2, 3, 20, TEXT, BUFFERS),
         scrypt_needs_rehash(OF(PHC), n, 2, 3, 20),
-        scrypt_params_need(n, 2, 3, SIZE_MAX, UINT64_MAX, &needs),
-        scrypt_limits_for_new(n, 2, 3, 20, &lens[0], &work, &least),
+        scrypt_params_cost(n, 2, 3, SIZE_MAX, UINT64_MAX, &cost),
+        scrypt_default_limits(n, 2, 3, 20, &lens[0], &work, &least),
     };
     size_t j;
     for (j = 0; j < sizeof statuses / sizeof *statuses; j++)

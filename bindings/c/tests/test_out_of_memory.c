@@ -28,16 +28,16 @@ static scrypt_hasher *hasher;
 
 static int of_key(void) { return scrypt_key(SECRETS, PARAMS, key, 32); }
 static int key_in_bounds(void) { return scrypt_key(SECRETS, IN_BOUNDS, key, 32); }
-static int key_within(void) { return scrypt_key_within(SECRETS, IN_BOUNDS, SIZE_MAX, UINT64_MAX, key, 32); }
+static int key_within(void) { return scrypt_key_limited(SECRETS, IN_BOUNDS, SIZE_MAX, UINT64_MAX, key, 32); }
 static int phc(void) { return scrypt_hash_phc(SECRETS, PARAMS, 32, text, sizeof text); }
 static int mcf(void) { return scrypt_hash_mcf(SECRETS, PARAMS, 32, text, sizeof text); }
 static int verify_phc(void) { return scrypt_verify("pw", 2, OF(PHC)); }
 static int verify_mcf(void) { return scrypt_verify("pw", 2, OF(MCF)); }
-static int verify_within(void) { return scrypt_verify_within("pw", 2, OF(PHC_IN_BOUNDS), SIZE_MAX, UINT64_MAX, 16); }
+static int verify_within(void) { return scrypt_verify_limited("pw", 2, OF(PHC_IN_BOUNDS), SIZE_MAX, UINT64_MAX, 16); }
 static int hasher_key(void) { return scrypt_hasher_key(hasher, SECRETS, key, 32, -1); }
 static int hasher_hash(void) { return scrypt_hasher_hash(hasher, SECRETS, text, sizeof text, -1); }
 static int hasher_verify(void) { return scrypt_hasher_verify(hasher, "pw", 2, OF(PHC_IN_BOUNDS), -1); }
-static int hash_new(void) { return scrypt_hash_new("pw", 2, text, sizeof text); }
+static int hash_new(void) { return scrypt_hash_password("pw", 2, text, sizeof text); }
 
 static const struct {
   const char *name;
@@ -45,12 +45,12 @@ static const struct {
 } CALLS[] = {
     {"scrypt_key", of_key},
     {"scrypt_key, a table of 8 TiB", key_in_bounds},
-    {"scrypt_key_within", key_within},
+    {"scrypt_key_limited", key_within},
     {"scrypt_hash_phc", phc},
     {"scrypt_hash_mcf", mcf},
-    {"scrypt_verify of a PHC text", verify_phc},
-    {"scrypt_verify of a $7$ text", verify_mcf},
-    {"scrypt_verify_within", verify_within},
+    {"scrypt_verify of a PHC string", verify_phc},
+    {"scrypt_verify of a $7$ hash", verify_mcf},
+    {"scrypt_verify_limited", verify_within},
     {"scrypt_hasher_key", hasher_key},
     {"scrypt_hasher_hash", hasher_hash},
     {"scrypt_hasher_verify", hasher_verify},
@@ -92,7 +92,7 @@ static int within_limits(void) {
 /* In a child: too little memory for the recommended table of 128 MiB. */
 static int new_within_limits(void) {
   if (!limit_seconds() || !limit_space((size_t)64 << 20)) return 2;
-  check_refused("scrypt_hash_new", hash_new);
+  check_refused("scrypt_hash_password", hash_new);
   return failed;
 }
 

@@ -16,7 +16,7 @@ int scrypt_key_with_buffers(const void *password, size_t password_len, const voi
   called = 1;
   return SCRYPT_OK;
 }
-int scrypt_draw_salt(uint8_t *salt, size_t len) {
+int scrypt_generate_salt(uint8_t *salt, size_t len) {
   (void)salt, (void)len;
   called = 1;
   return SCRYPT_OK;
@@ -25,10 +25,10 @@ int scrypt_draw_salt(uint8_t *salt, size_t len) {
 int main(void) {
   static const scrypt_options WITH = {.size = sizeof WITH, .log_n = 4, .r = 8, .p = 1};
   scrypt_hasher *hasher = scrypt_hasher_new(&WITH, NULL);
-  char text[SCRYPT_NEW_CAPACITY];
+  char text[SCRYPT_HASH_CAPACITY];
   uint8_t key[32];
   check(scrypt_hasher_key(hasher, "pw", 2, "salt", 4, key, sizeof key, -1) == SCRYPT_OK, "key");
-  check(scrypt_hash_new("password", 8, text, sizeof text) == SCRYPT_OK, "a new hash");
+  check(scrypt_hash_password("password", 8, text, sizeof text) == SCRYPT_OK, "a new hash");
   check(scrypt_verify("password", 8, text, strlen(text)) == SCRYPT_OK, "a new hash is verified");
   check(!called, "the library calls no function of the program");
   scrypt_hasher_free(hasher);

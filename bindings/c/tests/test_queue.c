@@ -16,7 +16,7 @@
 
 static void note_signal(condition *it);
 #define condition_signal note_signal
-#define tables_that_pay() ((size_t)4)
+#define max_interleave() ((size_t)4)
 #include "hasher.c"
 #include "options.c"
 #include "arena.c"
@@ -32,7 +32,7 @@ static struct world {
   } of;
   struct call calls[CALLS];
   struct batch {
-    struct call *calls[SCRYPT_MOST_LOGINS];
+    struct call *calls[SCRYPT_MAX_LOGINS];
     size_t count, rounds; /* the number of times that it was extended */
   } batches[SLOTS];
   int entered, wanted[CALLS], statuses[CALLS];
@@ -60,7 +60,7 @@ static void end_in_model(int i, int status) {
 static void enter_one(int class) {
   int i = now.entered++, is_free = now.batches[0].count == 0 || now.batches[1].count == 0;
   now.calls[i].kind = class == 2 ? KEY : VERIFY;
-  now.calls[i].needs.log_n = (uint32_t)class;
+  now.calls[i].cost.log_n = (uint32_t)class;
   now.wanted[i] = is_free ? LEADING : WAITING;
   if (now.hasher.is_closed) end_in_model(i, SCRYPT_CLOSED);
   enter(&now.hasher, &now.calls[i]);
@@ -74,7 +74,7 @@ static void extend(int slot) {
   share = calls / SLOTS + (calls % SLOTS > 0), count = batch->count;
   for (int i = 0; i < now.entered && count < width && count < share; i++) {
     const struct call *it = &now.calls[i];
-    if (now.wanted[i] != WAITING || it->kind == KEY || it->needs.log_n != leader->needs.log_n)
+    if (now.wanted[i] != WAITING || it->kind == KEY || it->cost.log_n != leader->cost.log_n)
       continue;
     now.wanted[i] = FOLLOWING, count++;
   }
@@ -86,7 +86,7 @@ static void extend(int slot) {
 /* Each call has its own status. */
 static void finish_batch(int slot) {
   struct batch batch = now.batches[slot];
-  int statuses[SCRYPT_MOST_LOGINS];
+  int statuses[SCRYPT_MAX_LOGINS];
   for (size_t k = 0; k < batch.count; k++) {
     int i = (int)(batch.calls[k] - now.calls);
     statuses[k] = 100 + i;
@@ -166,11 +166,11 @@ static int is_new(void) {
   uint64_t key = (uint64_t)(now.hasher.is_closed != 0) << 1 | 1;
   for (int i = 0; i < CALLS; i++)
     key = key << 5 | (uint64_t)(i < now.entered ? now.wanted[i] : ABSENT) << 2 |
-          (i < now.entered ? now.calls[i].needs.log_n : 0);
+          (i < now.entered ? now.calls[i].cost.log_n : 0);
   for (int slot = 0; slot < SLOTS; slot++) {
     const struct batch *batch = &now.batches[slot];
     key = key << 2 | batch->rounds;
-    for (size_t k = 0; k < SCRYPT_MOST_LOGINS; k++)
+    for (size_t k = 0; k < SCRYPT_MAX_LOGINS; k++)
       key = key << 3 | (k < batch->count ? (uint64_t)(batch->calls[k] - now.calls) : 7);
   }
   size_t at = (size_t)(key * UINT64_C(0x9e3779b97f4a7c15) >> 42);
@@ -203,7 +203,7 @@ int main(void) {
   static const size_t TABLES[] = {2, 5, 8}; /* one in each slot; two and three; four */
   for (int i = 0; i < 3; i++) {
     memset(seen, 0, sizeof seen);
-    now = (struct world){.hasher = {.options = {.at_once = TABLES[i]}, .slots = SLOTS}};
+    now = (struct world){.hasher = {.options = {.max_tables = TABLES[i]}, .slots = SLOTS}};
     now.hasher.queue = &now.of.queue;
     explore();
   }

@@ -1,5 +1,5 @@
-/* scrypt_draw_salt: fills exactly the given bytes, with different ones each time. It reports a
- * failing system call, and so does scrypt_hash_new. */
+/* scrypt_generate_salt: fills exactly the given bytes, with different ones each time. It reports a
+ * failing system call, and so does scrypt_hash_password. */
 #define _DEFAULT_SOURCE
 #include "check.h"
 #include "scrypt_c.h"
@@ -9,17 +9,17 @@
 
 static void drawn(void) {
   uint8_t one[18] = {0}, other[18] = {0}, none = 7;
-  check(scrypt_draw_salt(one + 1, 16) == SCRYPT_OK && scrypt_draw_salt(other + 1, 16) == SCRYPT_OK, "drawn");
+  check(scrypt_generate_salt(one + 1, 16) == SCRYPT_OK && scrypt_generate_salt(other + 1, 16) == SCRYPT_OK, "drawn");
   check(memcmp(one + 1, other + 1, 16) != 0, "two salts differ");
   check(one[0] == 0 && one[17] == 0, "the bytes beside the salt");
-  check(scrypt_draw_salt(&none, 0) == SCRYPT_OK && none == 7, "no byte");
+  check(scrypt_generate_salt(&none, 0) == SCRYPT_OK && none == 7, "no byte");
 }
 
 /* More than the system gives in one call that a signal may interrupt. */
 static void many(void) {
   static uint8_t large[100000];
   size_t i, zeros = 0;
-  check(scrypt_draw_salt(large, sizeof large) == SCRYPT_OK, "many bytes");
+  check(scrypt_generate_salt(large, sizeof large) == SCRYPT_OK, "many bytes");
   for (i = 0; i < sizeof large; i++) zeros += large[i] == 0;
   check(zeros > 200 && zeros < 600, "one byte in 256 is zero");
 }
@@ -48,11 +48,11 @@ static int refused(void) {
   };
   struct sock_fprog program = {sizeof filter / sizeof filter[0], filter};
   uint8_t salt[16];
-  char text[SCRYPT_NEW_CAPACITY] = "!";
+  char text[SCRYPT_HASH_CAPACITY] = "!";
   if (prctl(PR_SET_NO_NEW_PRIVS, 1, 0, 0, 0) != 0) return 2;
   if (prctl(PR_SET_SECCOMP, SECCOMP_MODE_FILTER, &program) != 0) return 3;
-  if (scrypt_draw_salt(salt, sizeof salt) != SCRYPT_NO_RANDOM_BYTES) return 4;
-  return scrypt_hash_new("pw", 2, text, sizeof text) == SCRYPT_NO_RANDOM_BYTES && text[0] == '!' ? 0 : 5;
+  if (scrypt_generate_salt(salt, sizeof salt) != SCRYPT_NO_RANDOM_BYTES) return 4;
+  return scrypt_hash_password("pw", 2, text, sizeof text) == SCRYPT_NO_RANDOM_BYTES && text[0] == '!' ? 0 : 5;
 }
 
 static void refused_by_the_system(void) { in_a_child(refused, "a system without random bytes"); }

@@ -91,7 +91,7 @@ static void left_and_moved(void) {
   check(scrypt_key_begin(&it, "PW", 2, "salt", 4) == SCRYPT_OK &&
             scrypt_key_step(&it, 100) == SCRYPT_OK,
         "one that is left");
-  check(it.at.chunks == 0 && it.at.at_once == 1 && it.at.mixes == 100, "100 mixes");
+  check(it.at.chunks == 0 && it.at.interleaved == 1 && it.at.mixes == 100, "100 mixes");
   check(scrypt_key_begin(&it, "pw", 2, "salt", 4) == SCRYPT_OK &&
             scrypt_key_step(&it, 200) == SCRYPT_OK,
         "the next one");
@@ -103,7 +103,7 @@ static void left_and_moved(void) {
   memcpy(other.scratch, it.scratch, 4 * it.scratch_len);
   other.at = it.at;
   check(scrypt_key_step(&other, SIZE_MAX) == SCRYPT_OK && other.at.chunks == 2, "moved");
-  check(scrypt_key_step(&other, 1) == SCRYPT_OK && other.at.chunks == 2 && other.at.at_once == 0,
+  check(scrypt_key_step(&other, 1) == SCRYPT_OK && other.at.chunks == 2 && other.at.interleaved == 0,
         "a step at the end");
   check(scrypt_key_finish(&other, "pw", 2, key, 32) == SCRYPT_OK && memcmp(key, wanted, 32) == 0,
         "its key");
@@ -142,7 +142,7 @@ static void hashes(void) {
 static void refused_hashes(void) {
   static const struct {
     const char *text;
-    size_t most_bytes, most_work, least_key_len;
+    size_t max_mem, max_work, min_key_len;
     int begin, finish;
   } ROWS[] = {
       {"", NO_BOUNDS, SCRYPT_ENCODING_INVALID, SCRYPT_ENCODING_INVALID},
@@ -160,8 +160,8 @@ static void refused_hashes(void) {
   for (i = 0; i < sizeof ROWS / sizeof *ROWS; i++) {
     scrypt_steps it = new_steps(4, 2, 3, 1), before = it;
     const size_t len = strlen(ROWS[i].text);
-    const int status = scrypt_verify_begin(&it, "pw", 2, ROWS[i].text, len, ROWS[i].most_bytes,
-                                           ROWS[i].most_work, ROWS[i].least_key_len);
+    const int status = scrypt_verify_begin(&it, "pw", 2, ROWS[i].text, len, ROWS[i].max_mem,
+                                           ROWS[i].max_work, ROWS[i].min_key_len);
     check(status == ROWS[i].begin, ROWS[i].text);
     check(status == SCRYPT_OK || memcmp(&it, &before, sizeof it) == 0, ROWS[i].text);
     check(status == SCRYPT_OK || is_all(0xa5, it.chunks, it.chunks_len), ROWS[i].text);

@@ -20,7 +20,7 @@ static const char phc[] = "$scrypt$ln=8,r=8,p=1$c2FsdA$TDZ/Jxw4n9NhM0n+/7le/7zAl
 static const char mcf[] = "$7$66..../....salt$ANnTbk/CTCRMnYYzzbfLzn9kKOUx3TTKGFH2hovNQt.";
 
 static int of_key(void) { return scrypt_key(INPUTS, key, 32); }
-static int of_key_within(void) { return scrypt_key_within(INPUTS, SIZE_MAX, UINT64_MAX, key, 32); }
+static int of_key_within(void) { return scrypt_key_limited(INPUTS, SIZE_MAX, UINT64_MAX, key, 32); }
 static int of_key_with_buffers(void) { return scrypt_key_with_buffers(INPUTS, key, 32, BUFFERS); }
 static int of_key_thin(void) { return scrypt_key_thin(INPUTS, 0, key, 32, BUFFERS); }
 static int of_key_in_steps(void) {
@@ -43,16 +43,16 @@ static int of_phc_with_buffers(void) { return scrypt_hash_phc_with_buffers(MADE,
 static int of_mcf_with_buffers(void) { return scrypt_hash_mcf_with_buffers(MADE, BUFFERS); }
 static int of_verify_phc(void) { return scrypt_verify("pw", 2, phc, strlen(phc)); }
 static int of_verify_mcf(void) { return scrypt_verify("pw", 2, mcf, strlen(mcf)); }
-static int of_verify_within(void) { return scrypt_verify_within("pw", 2, mcf, strlen(mcf), SIZE_MAX, UINT64_MAX, 0); }
+static int of_verify_within(void) { return scrypt_verify_limited("pw", 2, mcf, strlen(mcf), SIZE_MAX, UINT64_MAX, 0); }
 static int of_verify_with_buffers(void) { return scrypt_verify_with_buffers("pw", 2, phc, strlen(phc), BUFFERS); }
 static int of_verify_within_with_buffers(void) {
-  return scrypt_verify_within_with_buffers("pw", 2, mcf, strlen(mcf), SIZE_MAX, UINT64_MAX, 0, BUFFERS);
+  return scrypt_verify_limited_with_buffers("pw", 2, mcf, strlen(mcf), SIZE_MAX, UINT64_MAX, 0, BUFFERS);
 }
 static int of_group(void) {
   scrypt_login login = {"pw", 2, phc, 0};
   int status = -1, all;
   login.text_len = strlen(phc);
-  all = scrypt_verify_group_with_buffers(&login, 1, &status, BUFFERS);
+  all = scrypt_verify_batch_with_buffers(&login, 1, &status, BUFFERS);
   return all == SCRYPT_OK ? status : all;
 }
 
@@ -61,7 +61,7 @@ static const struct {
   const char *name;
 } CALLS[] = {
     {of_key, "scrypt_key"},
-    {of_key_within, "scrypt_key_within"},
+    {of_key_within, "scrypt_key_limited"},
     {of_key_with_buffers, "scrypt_key_with_buffers"},
     {of_key_thin, "scrypt_key_thin"},
     {of_key_in_steps, "scrypt_key_step"},
@@ -71,12 +71,12 @@ static const struct {
     {of_mcf, "scrypt_hash_mcf"},
     {of_phc_with_buffers, "scrypt_hash_phc_with_buffers"},
     {of_mcf_with_buffers, "scrypt_hash_mcf_with_buffers"},
-    {of_verify_phc, "scrypt_verify, of a PHC text"},
-    {of_verify_mcf, "scrypt_verify, of a $7$ text"},
-    {of_verify_within, "scrypt_verify_within"},
+    {of_verify_phc, "scrypt_verify, of a PHC string"},
+    {of_verify_mcf, "scrypt_verify, of a $7$ hash"},
+    {of_verify_within, "scrypt_verify_limited"},
     {of_verify_with_buffers, "scrypt_verify_with_buffers"},
-    {of_verify_within_with_buffers, "scrypt_verify_within_with_buffers"},
-    {of_group, "scrypt_verify_group_with_buffers"},
+    {of_verify_within_with_buffers, "scrypt_verify_limited_with_buffers"},
+    {of_group, "scrypt_verify_batch_with_buffers"},
 };
 int main(void) {
   size_t i;

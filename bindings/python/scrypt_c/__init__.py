@@ -14,9 +14,9 @@ which is C, and this package are tested, not proved.
     if hasher.check_needs_rehash(text):
         ...                                   # store hasher.hash(password) in its place
 
-An untrusted hash chooses its own cost. A hash that needs more than MOST_BYTES of memory, or more
-work than MOST_WORK, four times the recommended work, raises TooCostlyError before any work. Both
-limits are arguments of PasswordHasher. A hash with a key of fewer than LEAST_KEY_LEN bytes raises
+An untrusted hash chooses its own cost. A hash that needs more than DEFAULT_MAX_MEM of memory, or more
+work than DEFAULT_MAX_WORK, four times the recommended work, raises TooCostlyError before any work. Both
+limits are arguments of PasswordHasher. A hash with a key of fewer than DEFAULT_MIN_KEY_LEN bytes raises
 KeyTooShortError. RefusedHashError is the base class of both, and of InvalidHashError.
 
 `scrypt` has the signature of hashlib.scrypt. The GIL is released while a key is derived.
@@ -41,14 +41,14 @@ from .errors import (
 )
 from .hasher import Options, PasswordHasher, Stats
 from .key import scrypt
-from .params import LEAST_KEY_LEN, MOST_BYTES, MOST_WORK, RECOMMENDED, Params, params_of
+from .params import DEFAULT_MIN_KEY_LEN, DEFAULT_MAX_MEM, DEFAULT_MAX_WORK, RECOMMENDED, Params, params_of
 
 __version__ = VERSION_STRING
 
 __all__ = [
-    "LEAST_KEY_LEN",
-    "MOST_BYTES",
-    "MOST_WORK",
+    "DEFAULT_MIN_KEY_LEN",
+    "DEFAULT_MAX_MEM",
+    "DEFAULT_MAX_WORK",
     "RECOMMENDED",
     "Bytes",
     "InvalidHashError",

@@ -9,14 +9,14 @@ from .arguments import in_64_bits
 from .arguments import seconds as time_of
 from .declared import TOO_COSTLY
 from .errors import check
-from .params import MOST_BYTES, Params
+from .params import DEFAULT_MAX_MEM, Params
 
-MOST_SECONDS = 1e9
+MAX_SECONDS = 1e9
 
 
-def calibrate(seconds: float, most_bytes: int = MOST_BYTES) -> Params:
+def calibrate(seconds: float, max_mem: int = DEFAULT_MAX_MEM) -> Params:
     """Measures this machine, and returns the most costly parameters whose derivation takes no more
-    than the given seconds, in a table of up to `most_bytes`. Raises TooCostlyError if even log_n=10
+    than the given seconds, in a table of up to `max_mem`. Raises TooCostlyError if even log_n=10
     takes more time or memory. Run it on an idle machine.
 
     Memory comes first: N is the largest that both limits allow, and p uses the time that is left.
@@ -24,10 +24,10 @@ def calibrate(seconds: float, most_bytes: int = MOST_BYTES) -> Params:
     hashes with the result.
     """
     time_of(seconds, "seconds")
-    if not 0 < seconds <= MOST_SECONDS:
-        raise ValueError(f"seconds is positive and at most {MOST_SECONDS:g}, not {seconds}")
+    if not 0 < seconds <= MAX_SECONDS:
+        raise ValueError(f"seconds is positive and at most {MAX_SECONDS:g}, not {seconds}")
     log_n, r, p = ctypes.c_uint32(), ctypes.c_uint32(), ctypes.c_uint32()
-    status = library.calibrate(float(seconds), in_64_bits(most_bytes, "most_bytes"), log_n, r, p)
-    least = f"even log_n=10, r=8, p=1 take more than {seconds} seconds, or {most_bytes} bytes"
+    status = library.calibrate(float(seconds), in_64_bits(max_mem, "max_mem"), log_n, r, p)
+    least = f"even log_n=10, r=8, p=1 take more than {seconds} seconds, or {max_mem} bytes"
     check(status, least if status == TOO_COSTLY else "")
     return Params(log_n.value, r.value, p.value)

@@ -13,10 +13,10 @@ for users who don't log in.
 Parameters and limits are attributes. To change them, put your own subclass into the list:
 
     class OurPasswordHasher(PHCPasswordHasher):
-        hasher = PasswordHasher(log_n=16, most_bytes=1 << 30)
+        hasher = PasswordHasher(log_n=16, max_mem=1 << 30)
 
     class OurDjangoHasher(ScryptPasswordHasher):
-        work_factor, most_bytes = 2**16, 1 << 30
+        work_factor, max_mem = 2**16, 1 << 30
 
 For a hash that is damaged or exceeds the limits, check_password raises a RefusedHashError. If no
 view catches it, put FalseIfRefused before the class: check_password returns False after the time of
@@ -41,7 +41,7 @@ from .declared import RECOMMENDED_LOG_N, RECOMMENDED_P, RECOMMENDED_R
 from .errors import InvalidHashError, InvalidParamsError, RefusedHashError, VerifyMismatchError
 from .hasher import PasswordHasher
 from .key import derive_within, log_of
-from .params import MOST_BYTES, MOST_WORK, Params
+from .params import DEFAULT_MAX_MEM, DEFAULT_MAX_WORK, Params
 
 LOG = logging.getLogger(__name__)
 
@@ -76,8 +76,8 @@ class ScryptPasswordHasher(BasePasswordHasher):
     work_factor = 2**RECOMMENDED_LOG_N
     block_size = RECOMMENDED_R
     parallelism = RECOMMENDED_P
-    most_bytes = MOST_BYTES
-    most_work = MOST_WORK
+    max_mem = DEFAULT_MAX_MEM
+    max_work = DEFAULT_MAX_WORK
 
     def encode(
         self, password: str, salt: str, n: Any = None, r: Any = None, p: Any = None
@@ -90,7 +90,7 @@ class ScryptPasswordHasher(BasePasswordHasher):
         r = self.block_size if r is None else r
         p = self.parallelism if p is None else p
         params = Params(log_of(n), r, p)
-        bounds = self.most_bytes, self.most_work
+        bounds = self.max_mem, self.max_work
         key = derive_within(raw_password(password), salt.encode(), params, *bounds, 64)
         return f"{self.algorithm}${n}${salt}${r}${p}${base64.b64encode(key).decode()}"
 

@@ -44,7 +44,7 @@ class InvalidParamsError(ScryptError, ValueError):
 
 
 class InvalidSaltError(ScryptError, ValueError):
-    """The salt does not have 1 to 64 bytes, as a PHC hash needs."""
+    """The salt does not have 1 to 64 bytes, as a PHC hash cost."""
 
 
 class InvalidOutputLenError(ScryptError, ValueError):
@@ -78,6 +78,6 @@ def check(status: int, about: str = "") -> None:
     is_invalid = library.status_is_invalid_hash(status)
     kind = InvalidHashError if is_invalid else KINDS.get(status, ScryptError)
     name = (library.status_name(status) or b"status %d" % status).decode()
-    words = WORDS.get(status) or library.status_text(status).decode()
+    words = WORDS.get(status) or library.strerror(status).decode()
     message = f"{words}{about and ': '}{about}"
     raise kind(name, message) if issubclass(kind, ScryptError) else kind(message)

@@ -21,7 +21,7 @@ from .arguments import (
 )
 from .declared import KEY_TOO_SHORT, NEEDS_REHASH, OUT_OF_MEMORY, SALT_INVALID, TIMEOUT, TOO_COSTLY
 from .errors import InvalidParamsError, VerifyMismatchError, check
-from .params import Params, accepted, check_costs, needs_of
+from .params import Params, accepted, check_costs, cost_of
 
 
 class Options(NamedTuple):
@@ -29,10 +29,10 @@ class Options(NamedTuple):
 
     mcf: bool
     salt_len: int
-    most_bytes: int
-    most_work: int
-    least_key_len: int
-    at_once: int
+    max_mem: int
+    max_work: int
+    min_key_len: int
+    max_tables: int
     processors: int
 
 
@@ -42,7 +42,7 @@ class Stats(NamedTuple):
 
     waiting: int
     deriving: int
-    refused: int
+    failed: int
 
 
 class PasswordHasher:
@@ -55,14 +55,14 @@ class PasswordHasher:
     derived in one batch, which takes less time on some processors. An error, timeout or exception
     of one call does not affect the others.
 
-    A hasher holds at most `at_once` tables, whatever p is. The default is two for each processor,
-    or as many tables of `most_bytes` as fit in the memory of the machine and of its control group.
+    A hasher holds at most `max_tables` tables, whatever p is. The default is two for each processor,
+    or as many tables of `max_mem` as fit in the memory of the machine and of its control group.
     It keeps their memory for later calls until `close` or the end of a `with` block.
 
-    A hash that needs more than `most_bytes` of memory, or whose `Params.work` is above `most_work`,
-    is rejected without waiting. By default these are MOST_BYTES, or 7/8 of the memory if that is
-    less, and MOST_WORK, or the cost of new hashes if that is more. A hash is also rejected if its
-    key has fewer than LEAST_KEY_LEN bytes, or fewer than `key_len` if that is less.
+    A hash that needs more than `max_mem` of memory, or whose `Params.work` is above `max_work`,
+    is rejected without waiting. By default these are DEFAULT_MAX_MEM, or 7/8 of the memory if that is
+    less, and DEFAULT_MAX_WORK, or the cost of new hashes if that is more. A hash is also rejected if its
+    key has fewer than DEFAULT_MIN_KEY_LEN bytes, or fewer than `key_len` if that is less.
     """
 
     def __init__(
@@ -74,9 +74,9 @@ class PasswordHasher:
         *,
         salt_len: int = declared.SALT_LEN,
         mcf: bool = False,
-        most_bytes: Optional[int] = None,
-        most_work: Optional[int] = None,
-        at_once: Optional[int] = None,
+        max_mem: Optional[int] = None,
+        max_work: Optional[int] = None,
+        max_tables: Optional[int] = None,
         timeout: Optional[float] = None,
     ) -> None:
         self._params = Params(*accepted(log_n, r, p), number(key_len, "key_len"))
@@ -86,11 +86,11 @@ class PasswordHasher:
         salt_len = number(salt_len, "salt_len")
         if not 1 <= salt_len <= 64:
             check(SALT_INVALID, f"salt_len={salt_len}")
-        if at_once is not None and number(at_once, "at_once") < 1:
-            raise ValueError(f"at_once is positive, not {at_once}")
+        if max_tables is not None and number(max_tables, "max_tables") < 1:
+            raise ValueError(f"max_tables is positive, not {max_tables}")
         self._timeout = seconds(timeout, "timeout")
         # As they were passed: None depends on the machine, and a copy may be on another machine.
-        most = {"most_bytes": most_bytes, "most_work": most_work, "at_once": at_once}
+        most = {"max_mem": max_mem, "max_work": max_work, "max_tables": max_tables}
         own = {"salt_len": salt_len, "mcf": bool(mcf), "timeout": timeout}
         self._options: dict[str, Any] = {**own, **most}
         given = {name: in_64_bits(value, name) for name, value in most.items() if value is not None}
@@ -98,7 +98,7 @@ class PasswordHasher:
         options = declared.Options(*first, self._params.key_len, salt_len, **given)
         status = ctypes.c_int()
         self._c = library.hasher_new(options, status)
-        check_costs(status.value, needs_of(self._params)[1], most_bytes, most_work)
+        check_costs(status.value, cost_of(self._params)[1], max_mem, max_work)
 
     @property
     def params(self) -> Params:
@@ -115,11 +115,11 @@ class PasswordHasher:
         """Returns the current statistics, for metrics."""
         it = declared.Stats()
         check(library.hasher_stats(self._c, it))
-        return Stats(it.waiting, it.deriving, it.refused)
+        return Stats(it.waiting, it.deriving, it.failed)
 
     def __repr__(self) -> str:
         log_n, r, p, key_len = self._params
-        options = f"mcf={self.options.mcf}, at_once={self.options.at_once}"
+        options = f"mcf={self.options.mcf}, max_tables={self.options.max_tables}"
         return f"PasswordHasher(log_n={log_n}, r={r}, p={p}, key_len={key_len}, {options})"
 
     def __reduce__(self) -> tuple[Callable[..., PasswordHasher], tuple[Any, ...], Any]:
@@ -149,37 +149,37 @@ class PasswordHasher:
         self._check(self._run(library.hasher_hash, *arguments))
         return text.value.decode("ascii")
 
-    def verify(self, text: Union[str, bytes, None], password: Password) -> Literal[True]:
+    def verify(self, hash: Union[str, bytes, None], password: Password) -> Literal[True]:
         """Returns True if the password matches the hash, in either format.
 
         Otherwise raises VerifyMismatchError, also for a hash without a salt or a key. If the hash
-        is rejected, raises a RefusedHashError without waiting: InvalidHashError if the text is not
+        is rejected, raises a RefusedHashError without waiting: InvalidHashError if it is not
         a scrypt hash, TooCostlyError if the hash exceeds the limits, KeyTooShortError if its key is
         too short. For a user who does not exist, pass None: the call derives as for a new hash, and
         raises VerifyMismatchError, so that its time does not reveal whether there is such a user.
         """
-        raw, secret = None if text is None else raw_text(text), raw_password(password)
+        raw, secret = None if hash is None else raw_text(hash), raw_password(password)
         arguments = secret, len(secret), raw, len(raw or b"")
         self._check(self._run(library.hasher_verify, *arguments), raw)
         return True
 
     def verify_and_update(
-        self, text: Union[str, bytes, None], password: Password
+        self, hash: Union[str, bytes, None], password: Password
     ) -> tuple[bool, Optional[str]]:
         """Returns whether the password matches the hash, and a new hash to store in its place if
         the password matches and the hash is weaker than new hashes, otherwise None. Raises the
         exceptions of `verify`, except VerifyMismatchError."""
         try:
-            self.verify(text, password)
+            self.verify(hash, password)
         except VerifyMismatchError:
             return False, None
-        assert text is not None  # None matches no password
-        return True, self.hash(password) if self.check_needs_rehash(text) else None
+        assert hash is not None  # None matches no password
+        return True, self.hash(password) if self.check_needs_rehash(hash) else None
 
-    def check_needs_rehash(self, text: Union[str, bytes]) -> bool:
+    def check_needs_rehash(self, hash: Union[str, bytes]) -> bool:
         """Returns whether a parameter of the hash, or the length of its key, is smaller than in new
         hashes."""
-        raw = raw_text(text)
+        raw = raw_text(hash)
         status = library.hasher_needs_rehash(self._c, raw, len(raw))
         if status != NEEDS_REHASH:
             check(status)
@@ -200,14 +200,14 @@ class PasswordHasher:
             check(status, f"timeout={self._timeout}" if status == TIMEOUT else "")
             return
         most = self.options
-        bounds = most.most_bytes, most.most_work, most.least_key_len
-        needs = needs_of(self._params)[1]
+        bounds = most.max_mem, most.max_work, most.min_key_len
+        cost = cost_of(self._params)[1]
         if text is not None:  # the text is a valid hash, so this writes its cost
-            library.hash_needs(text, len(text), *bounds, needs)
+            library.hash_cost(text, len(text), *bounds, cost)
         if status == KEY_TOO_SHORT:
-            least = f"at least {most.least_key_len} is required"
-            check(status, f"its length is {needs.key_len}, and {least}")
-        check_costs(status, needs, most.most_bytes, most.most_work)
+            least = f"at least {most.min_key_len} is required"
+            check(status, f"its length is {cost.key_len}, and {least}")
+        check_costs(status, cost, most.max_mem, most.max_work)
 
 
 def _copied(kind: type[PasswordHasher], params: Params, options: dict[str, Any]) -> PasswordHasher:

@@ -9,7 +9,7 @@ from . import library
 from .arguments import Bytes, in_64_bits, number, raw_bytes
 from .declared import INVALID_OUTPUT_LEN, MAX_OUTPUT_LEN, TOO_COSTLY
 from .errors import InvalidParamsError, TooCostlyError, check
-from .params import MOST, Params, accepted, check_costs, needs_of
+from .params import NO_LIMIT, Params, accepted, check_costs, cost_of
 from .steps import derived
 
 # The number of Salsa20/8 cores, about 40 ms, from which on a key is derived in steps. A smaller
@@ -49,16 +49,16 @@ def scrypt(
     params = Params(*accepted(log_of(n), r, p))
     if maxmem < 0:
         raise ValueError(f"maxmem is not negative, as {maxmem} is")
-    most_work = MOST if max_work is None else in_64_bits(max_work, "max_work")
-    most_bytes = in_64_bits(maxmem or MOST, "maxmem")
-    status, needs = needs_of(params, most_bytes, most_work)  # raises if they are not accepted
+    max_work = NO_LIMIT if max_work is None else in_64_bits(max_work, "max_work")
+    max_mem = in_64_bits(maxmem or NO_LIMIT, "maxmem")
+    status, cost = cost_of(params, max_mem, max_work)  # raises if they are not accepted
     if status == TOO_COSTLY:
-        words = f"n={n}, r={r}, p={p} need {needs.bytes} bytes and a work of {needs.work}"
+        words = f"n={n}, r={r}, p={p} need {cost.bytes} bytes and a work of {cost.work}"
         words += f", with maxmem={maxmem} and max_work={max_work}"
         raise TooCostlyError("SCRYPT_TOO_COSTLY", words)
     if not 1 <= dklen <= MAX_OUTPUT_LEN:
         check(INVALID_OUTPUT_LEN, f"dklen={dklen}")
-    return _made(password, salt, params, most_bytes if maxmem else None, dklen, progress)
+    return _made(password, salt, params, max_mem if maxmem else None, dklen, progress)
 
 
 def log_of(n: int) -> int:
@@ -69,12 +69,12 @@ def log_of(n: int) -> int:
 
 
 def derive_within(
-    password: bytes, salt: bytes, params: Params, most_bytes: int, most_work: int, dklen: int
+    password: bytes, salt: bytes, params: Params, max_mem: int, max_work: int, dklen: int
 ) -> bytes:
     """Derives a key if the limits allow a derivation with these parameters. Raises TooCostlyError
     and InvalidParamsError."""
-    bounds = in_64_bits(most_bytes, "most_bytes"), in_64_bits(most_work, "most_work")
-    check_costs(*needs_of(params, *bounds), most_bytes, most_work)
+    bounds = in_64_bits(max_mem, "max_mem"), in_64_bits(max_work, "max_work")
+    check_costs(*cost_of(params, *bounds), max_mem, max_work)
     return _made(password, salt, params, bounds[0], dklen)
 
 
@@ -82,21 +82,21 @@ def _made(
     password: bytes,
     salt: bytes,
     params: Params,
-    most_bytes: Optional[int],
+    max_mem: Optional[int],
     dklen: int,
     progress: Optional[Callable[[float], object]] = None,
 ) -> bytes:
-    """Derives a key with as many tables as fit in `most_bytes`, or as the library allows if it is
+    """Derives a key with as many tables as fit in `max_mem`, or as the library allows if it is
     None, but at least one."""
     if progress is not None or params.cores >= LONG:
-        return derived(password, salt, params, dklen, most_bytes or SEVERAL, progress)
+        return derived(password, salt, params, dklen, max_mem or SEVERAL, progress)
     key = ctypes.create_string_buffer(dklen)
     given = password, len(password), salt, len(salt), *params[:3]
-    if most_bytes is None:
+    if max_mem is None:
         status = library.key(*given, key, dklen)
     else:
-        status = library.key_within(*given, most_bytes, MOST, key, dklen)
-    check(status, f"{needs_of(params)[1]}, and the key {dklen}" if status else "")
+        status = library.key_limited(*given, max_mem, NO_LIMIT, key, dklen)
+    check(status, f"{cost_of(params)[1]}, and the key {dklen}" if status else "")
     made = key.raw
     ctypes.memset(key, 0, dklen)
     return made

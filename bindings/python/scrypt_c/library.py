@@ -35,8 +35,8 @@ def _loaded() -> ctypes.CDLL:
 _lib = _loaded()
 
 
-class Needs(declared.Needs):
-    """A scrypt_needs; str() returns its part of an error message."""
+class Cost(declared.Cost):
+    """A scrypt_cost; str() returns its part of an error message."""
 
     def __str__(self) -> str:
         costs = f"log_n={self.log_n}, r={self.r}, p={self.p}"
@@ -60,11 +60,11 @@ def _declared(name: str, library: ctypes.CDLL = _lib) -> Any:
     return call
 
 
-params_need = _declared("scrypt_params_need")
-hash_needs = _declared("scrypt_hash_needs")
-limits_for_new = _declared("scrypt_limits_for_new")
+params_cost = _declared("scrypt_params_cost")
+hash_cost = _declared("scrypt_hash_cost")
+default_limits = _declared("scrypt_default_limits")
 key = _declared("scrypt_key")
-key_within = _declared("scrypt_key_within")
+key_limited = _declared("scrypt_key_limited")
 key_begin = _declared("scrypt_key_begin")
 key_step = _declared("scrypt_key_step")
 key_finish = _declared("scrypt_key_finish")
@@ -79,7 +79,7 @@ hasher_hash = _declared("scrypt_hasher_hash")
 hasher_key = _declared("scrypt_hasher_key")
 hasher_needs_rehash = _declared("scrypt_hasher_needs_rehash")
 hasher_close = _declared("scrypt_hasher_close")
-status_text = _declared("scrypt_status_text")
+strerror = _declared("scrypt_strerror")
 status_name = _declared("scrypt_status_name")
 status_is_invalid_hash = _declared("scrypt_status_is_invalid_hash")
 

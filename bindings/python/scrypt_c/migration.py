@@ -31,7 +31,7 @@ def _phc_text(salt: bytes, key: bytes, log_n: int, r: int, p: int) -> str:
 
 def _mcf_text(salt: bytes, key: bytes, log_n: int, r: int, p: int) -> str:
     if b"$" in salt:
-        raise ValueError("the salt of a $7$ text cannot have a $")
+        raise ValueError("the salt of a $7$ hash cannot have a $")
     parts = [key[at : at + 3] for at in range(0, len(key), 3)]
     letters = "".join(_digits(int.from_bytes(it, "little"), len(it) + 1) for it in parts)
     return f"$7${_digits(log_n, 1)}{_digits(r, 5)}{_digits(p, 5)}{salt.decode()}${letters}"

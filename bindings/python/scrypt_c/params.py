@@ -11,7 +11,7 @@ from .declared import INVALID_PARAMS, TOO_COSTLY
 from .errors import check
 
 # No limit.
-MOST = 2**64 - 1
+NO_LIMIT = 2**64 - 1
 
 
 def accepted(log_n: int, r: int, p: int) -> tuple[int, int, int]:
@@ -41,48 +41,48 @@ class Params(NamedTuple):
 
     @property
     def work(self) -> int:
-        """The work, which `most_work` limits: the number of Salsa20/8 cores, plus the cores of 32
+        """The work, which `max_work` limits: the number of Salsa20/8 cores, plus the cores of 32
         rows in each chunk for PBKDF2, up to 2**64 - 1."""
-        return int(needs_of(self)[1].work)
+        return int(cost_of(self)[1].work)
 
     @property
     def memory(self) -> int:
         """The size of the buffers of a derivation in bytes, up to 2**64 - 1."""
-        return int(needs_of(self)[1].bytes)
+        return int(cost_of(self)[1].bytes)
 
 
-def needs_of(
-    params: Params, most_bytes: int = MOST, most_work: int = MOST
-) -> tuple[int, library.Needs]:
+def cost_of(
+    params: Params, max_mem: int = NO_LIMIT, max_work: int = NO_LIMIT
+) -> tuple[int, library.Cost]:
     """Returns whether the limits allow a derivation, OK or TOO_COSTLY, and its cost. Raises
     InvalidParamsError."""
     log_n, r, p = accepted(*params[:3])
-    needs = library.Needs()
-    status = int(library.params_need(log_n, r, p, most_bytes, most_work, needs))
+    cost = library.Cost()
+    status = int(library.params_cost(log_n, r, p, max_mem, max_work, cost))
     if status == INVALID_PARAMS:
         check(status, f"log_n={log_n}, r={r}, p={p}")
-    return status, needs
+    return status, cost
 
 
-def _usual() -> tuple[int, int, int]:
+def _default_limits() -> tuple[int, int, int]:
     bounds = ctypes.c_size_t(), ctypes.c_uint64(), ctypes.c_size_t()
-    check(library.limits_for_new(*RECOMMENDED, *bounds))
+    check(library.default_limits(*RECOMMENDED, *bounds))
     return bounds[0].value, bounds[1].value, bounds[2].value
 
 
 RECOMMENDED = Params()
 
 # The default limits on the cost of a hash, and on the length of its key.
-MOST_BYTES, MOST_WORK, LEAST_KEY_LEN = _usual()
+DEFAULT_MAX_MEM, DEFAULT_MAX_WORK, DEFAULT_MIN_KEY_LEN = _default_limits()
 
 
 def check_costs(
-    status: int, needs: library.Needs, most_bytes: Optional[int], most_work: Optional[int]
+    status: int, cost: library.Cost, max_mem: Optional[int], max_work: Optional[int]
 ) -> None:
     """Raises the exception of a status, for a derivation with this cost. A limit that is None means
     the default."""
-    bounds = f", with most_bytes={most_bytes} and most_work={most_work}"
-    check(status, f"{needs}{bounds if status == TOO_COSTLY else ''}")
+    bounds = f", with max_mem={max_mem} and max_work={max_work}"
+    check(status, f"{cost}{bounds if status == TOO_COSTLY else ''}")
 
 
 def params_of(text: Union[str, bytes]) -> Params:

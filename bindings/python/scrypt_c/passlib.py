@@ -16,19 +16,19 @@ import passlib.hash
 from .arguments import raw_password
 from .declared import RECOMMENDED_LOG_N
 from .key import derive_within
-from .params import MOST_BYTES, MOST_WORK, Params
+from .params import DEFAULT_MAX_MEM, DEFAULT_MAX_WORK, Params
 
 
 class scrypt(passlib.hash.scrypt):  # passlib names handlers as their scheme
     """passlib.hash.scrypt, with keys from libscrypt_c."""
 
     default_rounds = RECOMMENDED_LOG_N
-    most_bytes = MOST_BYTES
-    most_work = MOST_WORK
+    max_mem = DEFAULT_MAX_MEM
+    max_work = DEFAULT_MAX_WORK
 
     def _calc_checksum(self, secret: str | bytes) -> bytes:
         params = Params(self.rounds, self.block_size, self.parallelism)
-        bounds = self.most_bytes, self.most_work
+        bounds = self.max_mem, self.max_work
         return derive_within(raw_password(secret), self.salt, params, *bounds, self.checksum_size)
 
     def _calc_needs_update(self, **kwds: object) -> bool:

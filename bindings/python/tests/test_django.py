@@ -191,9 +191,9 @@ class Hashers(unittest.TestCase):
 
     def test_bounds_exactly(self):
         work = scrypt_c.Params(10, 8, 2).work
-        hasher = type("Bounded", (ScryptPasswordHasher,), {"most_work": work})()
+        hasher = type("Bounded", (ScryptPasswordHasher,), {"max_work": work})()
         self.assertTrue(hasher.verify("pw", hasher.encode("pw", "seasalt", 1024, 8, 2)))
-        hasher.most_work -= 1
+        hasher.max_work -= 1
         self.assertRaises(scrypt_c.TooCostlyError, hasher.encode, "pw", "seasalt", 1024, 8, 2)
 
     def test_refused_arguments(self):

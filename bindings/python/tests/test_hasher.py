@@ -48,13 +48,13 @@ REFUSED = [
     (InvalidSaltError, "1 to 64 bytes", hashed, [
         {"password": "pw", "salt": it} for it in (b"", bytes(65))]),
     (TooCostlyError, "log_n=17, r=8, p=1 need 134220800 bytes and a work of 4195328, with", made, [
-        {"log_n": 17, "most_bytes": 134220799}, {"log_n": 17, "most_work": 4195327}]),
-    (TooCostlyError, "need", made, [{name: it} for name in ("most_bytes", "most_work")
+        {"log_n": 17, "max_mem": 134220799}, {"log_n": 17, "max_work": 4195327}]),
+    (TooCostlyError, "need", made, [{name: it} for name in ("max_mem", "max_work")
                                     for it in (0, -1)]),  # neither the default nor no limit
-    (ValueError, "at_once is positive", made, [{"at_once": 0}, {"at_once": 1 - B64}]),
+    (ValueError, "max_tables is positive", made, [{"max_tables": 0}, {"max_tables": 1 - B64}]),
     (ValueError, "timeout is not negative", made, [{"timeout": -1}, {"timeout": math.nan}]),
     (TypeError, "timeout is a number of seconds, not str", made, [{"timeout": "1"}]),
-    (TypeError, "is an int, not", made, [{"log_n": "17"}, {"p": 1.0}, {"most_bytes": "256"}]),
+    (TypeError, "is an int, not", made, [{"log_n": "17"}, {"p": 1.0}, {"max_mem": "256"}]),
     (TypeError, "a password is a str or bytes-like, not", verify, [
         {"text": KEY, "password": it} for it in (5, None, ["pw"])]),
     (TypeError, "a password is a str or bytes-like, not", hashed, [{"password": None}]),
@@ -65,7 +65,7 @@ REFUSED = [
     (scrypt_c.InvalidHashError, "ln, r or p", verify, [{"text": f"$scrypt$ln=260,r=8,p=1{KEY}"}]),
     (scrypt_c.InvalidHashError, "not a PHC or $7$ hash", verify, [{"text": "$scrypt$ln=\ud800"}]),
     (TooCostlyError, "log_n=1, r=1, p=2000000 need 256000512 bytes and a work of 272000000, with "
-     f"most_bytes={scrypt_c.MOST_BYTES} and most_work={scrypt_c.MOST_WORK}", verify,
+     f"max_mem={scrypt_c.DEFAULT_MAX_MEM} and max_work={scrypt_c.DEFAULT_MAX_WORK}", verify,
      [{"text": f"$scrypt$ln=1,r=1,p=2000000{KEY}"}]),
     (KeyTooShortError, "its length is 15, and at least 16 is required", verify, [
         {"text": f"$scrypt$ln=4,r=8,p=1{KEY}"}]),
@@ -102,13 +102,13 @@ class Hashes(unittest.TestCase):
     def test_options(self):
         """Each default is replaced by its value."""
         usual = PasswordHasher().options
-        self.assertTrue(1 <= usual.at_once <= 2 * usual.processors <= 2 * os.cpu_count(), usual)
-        bounds = scrypt_c.MOST_BYTES, scrypt_c.MOST_WORK, scrypt_c.LEAST_KEY_LEN
-        self.assertEqual(usual, (False, 16, *bounds, usual.at_once, usual.processors))
-        given = {"mcf": True, "salt_len": 64, "most_bytes": 1 << 20, "most_work": 1 << 16}
-        given["at_once"] = 3
+        self.assertTrue(1 <= usual.max_tables <= 2 * usual.processors <= 2 * os.cpu_count(), usual)
+        bounds = scrypt_c.DEFAULT_MAX_MEM, scrypt_c.DEFAULT_MAX_WORK, scrypt_c.DEFAULT_MIN_KEY_LEN
+        self.assertEqual(usual, (False, 16, *bounds, usual.max_tables, usual.processors))
+        given = {"mcf": True, "salt_len": 64, "max_mem": 1 << 20, "max_work": 1 << 16}
+        given["max_tables"] = 3
         named = PasswordHasher(log_n=4, key_len=10, **given).options._asdict()
-        self.assertEqual(named, {**given, "least_key_len": 10, "processors": usual.processors})
+        self.assertEqual(named, {**given, "min_key_len": 10, "processors": usual.processors})
 
     def test_refused(self):
         for error, words, call, arguments in REFUSED:
@@ -127,7 +127,7 @@ class Hashes(unittest.TestCase):
             (of.memory, of.work - 1, False),
             (B64 + 1, B64 + 1, True),
         ]:
-            within = {"most_bytes": bytes_, "most_work": work}
+            within = {"max_mem": bytes_, "max_work": work}
             for call, named in [
                 (verify, {"text": text, "password": "pw", "r": 1}),
                 (made, {"log_n": 6, "r": 3, "p": 5}),
@@ -168,7 +168,7 @@ class Hashes(unittest.TestCase):
         """A copy has each argument, and stays open when the original is closed."""
         for options in [
             {"log_n": 4, "r": 3, "p": 2, "key_len": 33, "salt_len": 40, "mcf": True},
-            {"log_n": 4, "at_once": 3, "timeout": 0.5, "most_bytes": 1 << 20, "most_work": 1 << 15},
+            {"log_n": 4, "max_tables": 3, "timeout": 0.5, "max_mem": 1 << 20, "max_work": 1 << 15},
         ]:
             hasher = Other("one", **options)
             hasher.tenants.append("another")

@@ -44,7 +44,7 @@ REFUSED = [
         {"n": 1 << 56, "r": 1}, {"n": 1 << 56, "r": 1, "progress": print}]),
     (TooCostlyError, "even log_n=10, r=8, p=1 take more than 1e-06 seconds", calibrate, [
         {"seconds": 1e-6}]),
-    (TooCostlyError, "or 524288 bytes", calibrate, [{"seconds": 1, "most_bytes": 1 << 19}]),
+    (TooCostlyError, "or 524288 bytes", calibrate, [{"seconds": 1, "max_mem": 1 << 19}]),
     (TypeError, "seconds is a number of seconds, not str", calibrate, [{"seconds": "x"}]),
     (ValueError, "seconds is", calibrate, [
         {"seconds": it} for it in (math.inf, 0, -1, math.nan, 10**400)]),
@@ -141,14 +141,14 @@ class Keys(unittest.TestCase):
             key(n=1 << 20, progress=lambda done: 1 // (done < 0.1))
 
     def test_calibrate(self):
-        for seconds, most_bytes, log_n, why in [
+        for seconds, max_mem, log_n, why in [
             (60, 16 << 20, 14, "the memory is the table's"),
             (60, (16 << 20) - 1, 13, "a byte less"),
             (1e9, 1 << 20, 10, "more than the greatest p"),
         ]:
-            params = calibrate(seconds, most_bytes)
+            params = calibrate(seconds, max_mem)
             self.assertEqual((params.log_n, params.r), (log_n, 8), why)
-            made = scrypt_c.PasswordHasher(*params, most_work=B64).params
+            made = scrypt_c.PasswordHasher(*params, max_work=B64).params
             self.assertEqual(made, params, why)
         self.assertLess(calibrate(0.02, 1 << 30).log_n, 17, "the time is less than memory takes")
 

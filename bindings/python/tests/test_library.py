@@ -61,9 +61,9 @@ class Library(unittest.TestCase):
             it = library.hasher_options(hasher).contents
             self.assertEqual((it.log_n, it.r, it.p, it.key_len), scrypt_c.RECOMMENDED)
             self.assertEqual((it.mcf, it.salt_len), (0, 16))
-            self.assertTrue(1 <= it.at_once <= 2 * it.processors)  # as many as fit in the memory
-            ours = scrypt_c.MOST_BYTES, scrypt_c.MOST_WORK, scrypt_c.LEAST_KEY_LEN
-            self.assertEqual((it.most_bytes, it.most_work, it.least_key_len), ours)
+            self.assertTrue(1 <= it.max_tables <= 2 * it.processors)  # as many as fit in the memory
+            ours = scrypt_c.DEFAULT_MAX_MEM, scrypt_c.DEFAULT_MAX_WORK, scrypt_c.DEFAULT_MIN_KEY_LEN
+            self.assertEqual((it.max_mem, it.max_work, it.min_key_len), ours)
 
     def test_command(self):
         """`python -m scrypt_c` prints a hash, its cost and the time to verify it, or an error."""

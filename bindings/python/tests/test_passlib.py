@@ -73,9 +73,9 @@ class Handler(unittest.TestCase):
 
     def test_bounds_exactly(self):
         text, work = text_of(), scrypt_c.Params(6, 8, 1).work
-        handler = type("scrypt", (scrypt,), {"most_work": work})
+        handler = type("scrypt", (scrypt,), {"max_work": work})
         self.assertTrue(handler.verify("pw", text))
-        handler.most_work -= 1
+        handler.max_work -= 1
         self.assertRaises(scrypt_c.TooCostlyError, handler.verify, "pw", text)
 
 

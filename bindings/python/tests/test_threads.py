@@ -31,8 +31,8 @@ def outcome(hasher, text, password):
 def busy(hasher, p):
     """Another thread has the only slot of this hasher, for at least 0.2 seconds times p."""
 
-    def verify(text, most_ms):
-        return library.hasher_verify(hasher._c, b"pw", 2, text.encode(), len(text), most_ms)
+    def verify(text, timeout_ms):
+        return library.hasher_verify(hasher._c, b"pw", 2, text.encode(), len(text), timeout_ms)
 
     with ThreadPoolExecutor(1) as threads:
         running = threads.submit(verify, f"$scrypt$ln=17,r=8,p={p}$c2FsdHNhbHQ${43 * 'A'}", -1)
@@ -66,7 +66,7 @@ def program(text):
 # A program ends while daemon threads derive and wait.
 DAEMONS = """
 import random, scrypt_c, threading, time
-hasher = scrypt_c.PasswordHasher(log_n=12, at_once=2)
+hasher = scrypt_c.PasswordHasher(log_n=12, max_tables=2)
 text = hasher.hash("pw")
 for _ in range(8):
     verify = lambda: [hasher.verify(text, "pw") for _ in iter(int, 1)]
@@ -119,7 +119,7 @@ class Signals(unittest.TestCase):
             (signal.default_int_handler, KeyboardInterrupt),
             (lambda *_: None, TimeoutError),
         ]:
-            hasher = PasswordHasher(log_n=4, at_once=1, timeout=0.2)
+            hasher = PasswordHasher(log_n=4, max_tables=1, timeout=0.2)
             with busy(hasher, 4), on_alarm(handler):
                 signal.setitimer(signal.ITIMER_REAL, 0.05)
                 began = time.monotonic()
@@ -131,7 +131,7 @@ class Signals(unittest.TestCase):
         longest = math.ceil(1000 * threading.TIMEOUT_MAX)
         for timeout, wanted in [(0, 0), (0.1201, 121), (None, longest), (1e300, longest)]:
             hasher = PasswordHasher(log_n=4, timeout=timeout)
-            self.assertEqual(hasher._run(lambda _, most_ms: most_ms), wanted)
+            self.assertEqual(hasher._run(lambda _, timeout_ms: timeout_ms), wanted)
 
 
 class Threads(unittest.TestCase):
@@ -153,17 +153,17 @@ class Threads(unittest.TestCase):
 
     def test_stats(self):
         """Counts calls that wait, calls that derive, and calls whose timeout has expired."""
-        hasher = PasswordHasher(log_n=4, at_once=1, timeout=0.3)
+        hasher = PasswordHasher(log_n=4, max_tables=1, timeout=0.3)
         self.assertEqual(hasher.stats(), (0, 0, 0))
         with busy(hasher, 4), ThreadPoolExecutor(1) as threads:
             before = hasher.stats()
             other = threads.submit(outcome, hasher, TEXT, "pw")
             while hasher.stats().waiting == 0:
                 time.sleep(0.001)
-            self.assertEqual(hasher.stats(), (1, 1, before.refused))
+            self.assertEqual(hasher.stats(), (1, 1, before.failed))
             self.assertEqual([outcome(hasher, TEXT, "pw"), other.result(WAIT)], 2 * [TimeoutError])
-            self.assertEqual(hasher.stats(), (0, 1, before.refused + 2))
-        self.assertEqual(hasher.stats(), (0, 0, before.refused + 2))
+            self.assertEqual(hasher.stats(), (0, 1, before.failed + 2))
+        self.assertEqual(hasher.stats(), (0, 0, before.failed + 2))
         self.assertEqual(copy.copy(hasher).stats(), (0, 0, 0))
 
     def test_daemons(self):

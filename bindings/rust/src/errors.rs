@@ -149,7 +149,7 @@ fn words_of(status: c_int) -> &'static str {
         return "the password does not match the hash"; // in C two statuses share it
     }
     // SAFETY: the library returns a NUL-terminated string that is never freed.
-    unsafe { CStr::from_ptr(scrypt_status_text(status)) }.to_str().unwrap_or_default()
+    unsafe { CStr::from_ptr(scrypt_strerror(status)) }.to_str().unwrap_or_default()
 }
 
 impl From<InvalidParams> for Error {

@@ -1,7 +1,7 @@
 //! Password hashes.
 
 use crate::calls::*;
-use crate::{Bounds, Cost, Error, Params};
+use crate::{Cost, Error, Limits, Params};
 use std::os::raw::c_int;
 use std::ptr::{null, NonNull};
 use std::sync::Arc;
@@ -27,17 +27,17 @@ pub struct Options {
     /// The length of the salt of a new hash, 1 to 64 bytes.
     pub salt_len: usize,
     /// The maximum number of tables. 0, the default, means two for each processor, or as many
-    /// tables of `most_bytes` as fit in the memory of the machine and of its control group.
-    pub at_once: usize,
+    /// tables of `max_mem` as fit in the memory of the machine and of its control group.
+    pub max_tables: usize,
     /// The number of slots, that is, of concurrent derivations. 0, the default, means the number of
     /// processors that the affinity and the CPU quota of the process allow.
     pub processors: usize,
     /// How long a call waits for a slot before it returns `Timeout`, rounded up to milliseconds.
     /// The time of the derivation does not count. `None`, the default, means no timeout.
     pub timeout: Option<Duration>,
-    /// The limits above which a hash is rejected: by default [`Bounds::USUAL`], or the cost of new
-    /// hashes if that is more.
-    pub bounds: Option<Bounds>,
+    /// The limits above which a hash is rejected: by default [`Limits::DEFAULT`], or the cost of
+    /// new hashes if that is more.
+    pub limits: Option<Limits>,
 }
 
 impl Default for Options {
@@ -46,10 +46,10 @@ impl Default for Options {
             params: Params::RECOMMENDED,
             format: Format::Phc,
             salt_len: 16,
-            at_once: 0,
+            max_tables: 0,
             processors: 0,
             timeout: None,
-            bounds: None,
+            limits: None,
         }
     }
 }
@@ -62,7 +62,7 @@ pub struct Stats {
     /// The number of calls that derive.
     pub deriving: usize,
     /// The number of calls that have returned `OutOfMemory` or `Timeout`.
-    pub refused: u64,
+    pub failed: u64,
 }
 
 /// Makes password hashes, and verifies passwords against hashes of either format.
@@ -72,10 +72,10 @@ pub struct Stats {
 /// verifications with the same N, r and p are derived in one batch if there are tables for them,
 /// which takes less time on some processors. An error of one call does not affect the others.
 ///
-/// A hasher holds at most [`Options::at_once`] tables, whatever p is, and keeps their memory for
+/// A hasher holds at most [`Options::max_tables`] tables, whatever p is, and keeps their memory for
 /// later calls until it is closed or dropped. It rejects, without waiting, a hash that exceeds the
-/// limits, and a hash whose key has fewer than [`Bounds::LEAST_KEY_LEN`] bytes, or fewer than new
-/// keys if that is less.
+/// limits, and a hash whose key has fewer than [`Limits::DEFAULT_MIN_KEY_LEN`] bytes, or fewer than
+/// new keys if that is less.
 ///
 /// A hasher is fork-safe: the child can use it, without the calls and the memory of the parent.
 #[derive(Clone, Debug)]
@@ -118,12 +118,12 @@ impl Hasher {
     /// `SaltInvalid` unless the salt has 1 to 64 bytes, `TooCostly` if new hashes exceed the
     /// limits, and `OutOfMemory`.
     pub fn new(options: Options) -> Result<Hasher, Error> {
-        let Options { params, format, salt_len, at_once, processors, bounds, .. } = options;
+        let Options { params, format, salt_len, max_tables, processors, limits, .. } = options;
         if salt_len == 0 {
             return Err(Error::SaltInvalid);
         }
         // 0 would mean the default; no derivation has a cost of 1 or less.
-        let bounds = bounds.map_or((0, 0), |it| (it.most_bytes.max(1), it.most_work.max(1)));
+        let limits = limits.map_or((0, 0), |it| (it.max_mem.max(1), it.max_work.max(1)));
         let raw = RawOptions {
             size: std::mem::size_of::<RawOptions>(),
             log_n: params.log_n().into(),
@@ -132,10 +132,10 @@ impl Hasher {
             mcf: (format == Format::Mcf).into(),
             key_len: params.key_len(),
             salt_len,
-            most_bytes: bounds.0,
-            most_work: bounds.1,
-            least_key_len: 0, // the default
-            at_once,
+            max_mem: limits.0,
+            max_work: limits.1,
+            min_key_len: 0, // the default
+            max_tables,
             processors,
         };
         let mut status = OK;
@@ -143,8 +143,8 @@ impl Hasher {
         match NonNull::new(unsafe { scrypt_hasher_new(&raw, &mut status) }) {
             Some(raw) => Ok(Hasher(Arc::new(Inner { raw, options }))),
             None if status == TOO_COSTLY => {
-                let bounds = options.bounds.unwrap_or_default();
-                Err(Error::TooCostly(Cost::of(params, bounds)))
+                let limits = options.limits.unwrap_or_default();
+                Err(Error::TooCostly(Cost::of(params, limits)))
             }
             None => Err(Error::of(status)),
         }
@@ -155,7 +155,7 @@ impl Hasher {
     }
 
     // The timeout in milliseconds; -1 means no timeout.
-    fn most_ms(&self) -> i64 {
+    fn timeout_ms(&self) -> i64 {
         let ms = |it: Duration| (it.as_nanos() + 999_999) / 1_000_000;
         self.0.options.timeout.map_or(-1, |it| i64::try_from(ms(it)).unwrap_or(i64::MAX))
     }
@@ -164,8 +164,8 @@ impl Hasher {
     pub fn options(&self) -> Options {
         // SAFETY: the hasher lives until this returns, and its options do not change.
         let of = unsafe { &*scrypt_hasher_options(self.raw()) };
-        let bounds = Some(Bounds { most_bytes: of.most_bytes, most_work: of.most_work });
-        Options { at_once: of.at_once, processors: of.processors, bounds, ..self.0.options }
+        let limits = Some(Limits { max_mem: of.max_mem, max_work: of.max_work });
+        Options { max_tables: of.max_tables, processors: of.processors, limits, ..self.0.options }
     }
 
     /// Returns the current statistics, for metrics.
@@ -174,7 +174,7 @@ impl Hasher {
         // SAFETY: the hasher lives until this returns, and `now` is a local variable; so the status
         // is OK.
         unsafe { scrypt_hasher_stats(self.raw(), &mut now) };
-        Stats { waiting: now.waiting, deriving: now.deriving, refused: now.refused }
+        Stats { waiting: now.waiting, deriving: now.deriving, failed: now.failed }
     }
 
     /// Returns a new hash, with a random salt from the system.
@@ -204,7 +204,7 @@ impl Hasher {
         #[rustfmt::skip]
         let write = |text: &mut [u8]| unsafe {
             scrypt_hasher_hash(self.raw(), password.as_ptr().cast(), password.len(),
-                salt.cast(), salt_len, text.as_mut_ptr().cast(), text.len(), self.most_ms())
+                salt.cast(), salt_len, text.as_mut_ptr().cast(), text.len(), self.timeout_ms())
         };
         text_by(write, salt_len.max(64))
     }
@@ -227,7 +227,7 @@ impl Hasher {
         #[rustfmt::skip]
         let status = unsafe {
             scrypt_hasher_key(self.raw(), password.as_ptr().cast(), password.len(),
-                salt.as_ptr().cast(), salt.len(), output.as_mut_ptr(), output.len(), self.most_ms())
+                salt.as_ptr().cast(), salt.len(), output.as_mut_ptr(), output.len(), self.timeout_ms())
         };
         Error::check(status)
     }
@@ -264,7 +264,7 @@ impl Hasher {
         #[rustfmt::skip]
         let status = unsafe {
             scrypt_hasher_verify(self.raw(), password.as_ptr().cast(), password.len(),
-                at.cast(), len, self.most_ms())
+                at.cast(), len, self.timeout_ms())
         };
         match (status, text) {
             (TOO_COSTLY | KEY_TOO_SHORT, Some(text)) => Err(self.refusal(status, text)),
@@ -274,19 +274,19 @@ impl Hasher {
 
     // The error of `TOO_COSTLY` or `KEY_TOO_SHORT`, with its numbers.
     fn refusal(&self, status: c_int, text: &str) -> Error {
-        let mut needs = RawNeeds::default();
+        let mut cost = RawCost::default();
         // SAFETY: the hasher lives until this returns, its options do not change, and the pointer
         // and the length are from one `str`.
         let of = unsafe {
             let of = &*scrypt_hasher_options(self.raw());
-            let (bytes, work, min) = (of.most_bytes, of.most_work, of.least_key_len);
-            scrypt_hash_needs(text.as_ptr().cast(), text.len(), bytes, work, min, &mut needs);
+            let (bytes, work, min) = (of.max_mem, of.max_work, of.min_key_len);
+            scrypt_hash_cost(text.as_ptr().cast(), text.len(), bytes, work, min, &mut cost);
             of
         };
-        let bounds = Bounds { most_bytes: of.most_bytes, most_work: of.most_work };
-        match Params::of_library(needs.log_n, needs.r, needs.p) {
-            Ok(params) if status == TOO_COSTLY => Error::TooCostly(Cost::of(params, bounds)),
-            Ok(_) => Error::KeyTooShort { len: needs.key_len, min: of.least_key_len },
+        let limits = Limits { max_mem: of.max_mem, max_work: of.max_work };
+        match Params::of_library(cost.log_n, cost.r, cost.p) {
+            Ok(params) if status == TOO_COSTLY => Error::TooCostly(Cost::of(params, limits)),
+            Ok(_) => Error::KeyTooShort { len: cost.key_len, min: of.min_key_len },
             Err(why) => why.into(),
         }
     }

@@ -25,19 +25,19 @@
 #[doc = include_str!("../README.md")]
 struct Readme;
 
-mod bounds;
 mod calls;
 pub mod errors;
 mod hasher;
+mod limits;
 pub mod migration;
 mod params;
 mod steps;
 #[cfg(feature = "password-hash")]
 mod traits_0_4;
 
-pub use bounds::{Bounds, Cost};
 pub use errors::{DeriveError, Error, InvalidParams};
 pub use hasher::{Format, Hasher, Options, Stats};
+pub use limits::{Cost, Limits};
 pub use params::{calibrate, params_of, Params};
 #[cfg(feature = "password-hash")]
 pub use password_hash_0_4;
@@ -45,7 +45,7 @@ pub use steps::scrypt_in_steps;
 #[cfg(feature = "password-hash")]
 pub use traits_0_4::{Scrypt, ALG_ID};
 
-use calls::{scrypt_draw_salt, scrypt_key, OK};
+use calls::{scrypt_generate_salt, scrypt_key, OK};
 
 /// Derives a key from `password` and `salt`, and writes it to `output`. The key length in `params`
 /// is ignored.
@@ -53,7 +53,7 @@ use calls::{scrypt_draw_salt, scrypt_key, OK};
 /// ```
 /// # fn main() -> Result<(), Box<dyn std::error::Error>> {
 /// let mut salt = [0; 16];
-/// scrypt_c::draw_salt(&mut salt)?;
+/// scrypt_c::generate_salt(&mut salt)?;
 /// let mut key = [0; 32];
 /// scrypt_c::scrypt(b"hunter42", &salt, &scrypt_c::Params::RECOMMENDED, &mut key)?;
 /// # Ok(())
@@ -97,7 +97,7 @@ pub fn scrypt(
 /// # Errors
 ///
 /// `NoRandomBytes` if the system has none; do not use the salt then.
-pub fn draw_salt(salt: &mut [u8]) -> Result<(), Error> {
+pub fn generate_salt(salt: &mut [u8]) -> Result<(), Error> {
     // SAFETY: the pointer and the length are from one slice.
-    Error::check(unsafe { scrypt_draw_salt(salt.as_mut_ptr(), salt.len()) })
+    Error::check(unsafe { scrypt_generate_salt(salt.as_mut_ptr(), salt.len()) })
 }

@@ -39,17 +39,17 @@ impl Params {
     /// * p` below `2^30`.
     pub fn new(log_n: u8, r: u32, p: u32) -> Result<Params, InvalidParams> {
         let params = Params { log_n, r, p, len: None };
-        params.needs().map(|_| params)
+        params.cost().map(|_| params)
     }
 
     // The cost of a derivation, without limits.
-    fn needs(&self) -> Result<RawNeeds, InvalidParams> {
+    fn cost(&self) -> Result<RawCost, InvalidParams> {
         let (log_n, r, p) = (self.log_n.into(), self.r, self.p);
-        let mut needs = RawNeeds::default();
-        // SAFETY: `needs` is a local variable.
-        match unsafe { scrypt_params_need(log_n, r, p, usize::MAX, u64::MAX, &mut needs) } {
+        let mut cost = RawCost::default();
+        // SAFETY: `cost` is a local variable.
+        match unsafe { scrypt_params_cost(log_n, r, p, usize::MAX, u64::MAX, &mut cost) } {
             INVALID_PARAMS => Err(InvalidParams),
-            _ => Ok(needs),
+            _ => Ok(cost),
         }
     }
 
@@ -98,7 +98,7 @@ impl Params {
 
     /// The size of the buffers of a derivation in bytes, up to `u64::MAX`.
     pub fn memory(&self) -> u64 {
-        self.needs().map_or(u64::MAX, |it| it.bytes)
+        self.cost().map_or(u64::MAX, |it| it.bytes)
     }
 
     /// The number of Salsa20/8 cores of a derivation.
@@ -106,10 +106,10 @@ impl Params {
         (4 * u128::from(self.r) * u128::from(self.p)) << self.log_n
     }
 
-    /// The work, which [`Bounds`](crate::Bounds) limit: `4 * (N + 32) * r * p` Salsa20/8 cores,
+    /// The work, which [`Limits`](crate::Limits) limit: `4 * (N + 32) * r * p` Salsa20/8 cores,
     /// where 32 accounts for PBKDF2, up to `u64::MAX`.
     pub fn work(&self) -> u64 {
-        self.needs().map_or(u64::MAX, |it| it.work)
+        self.cost().map_or(u64::MAX, |it| it.work)
     }
 
     /// The length of a hash's key in bytes.
@@ -146,17 +146,17 @@ pub fn params_of(text: &str) -> Result<(Params, usize), Error> {
 }
 
 /// Measures this machine, and returns the most costly parameters whose derivation takes no more
-/// time than the target: first the largest `log_n` whose table does not exceed `most_bytes`, and
+/// time than the target: first the largest `log_n` whose table does not exceed `max_mem`, and
 /// then the largest `p`; `r` is 8. It takes about four times the target.
 ///
 /// # Errors
 ///
 /// `NoParams` if even a `log_n` of 10 takes more time or memory; `OutOfMemory`.
-pub fn calibrate(target: Duration, most_bytes: usize) -> Result<Params, Error> {
+pub fn calibrate(target: Duration, max_mem: usize) -> Result<Params, Error> {
     let (mut log_n, mut r, mut p) = (0, 0, 0);
     // SAFETY: the three references are to local variables.
     let status =
-        unsafe { scrypt_calibrate(target.as_secs_f64(), most_bytes, &mut log_n, &mut r, &mut p) };
+        unsafe { scrypt_calibrate(target.as_secs_f64(), max_mem, &mut log_n, &mut r, &mut p) };
     if status == TOO_COSTLY {
         return Err(Error::NoParams);
     }

@@ -70,7 +70,7 @@ fn by_steps(
         check(unsafe { scrypt_key_step(it, mixes) })?;
         mixes = next(mixes, begun.elapsed());
         let of_each = it.at.mixes as f64 / (2u64 << it.log_n) as f64;
-        let mixed = it.at.chunks as f64 + it.at.at_once as f64 * of_each;
+        let mixed = it.at.chunks as f64 + it.at.interleaved as f64 * of_each;
         if progress(mixed / f64::from(it.p)).is_break() {
             return Err(DeriveError::Cancelled);
         }
@@ -102,15 +102,13 @@ struct Steps(RawSteps);
 impl Steps {
     fn new(params: &Params) -> Result<Steps, DeriveError> {
         let (log_n, r, p) = (params.log_n().into(), params.r(), params.p());
-        let mut needs = RawNeeds::default();
-        // SAFETY: `needs` is a local variable. It is written even if one table is too large.
-        unsafe { scrypt_params_need(log_n, r, p, SEVERAL, u64::MAX, &mut needs) };
+        let mut cost = RawCost::default();
+        // SAFETY: `cost` is a local variable. It is written even if one table is too large.
+        unsafe { scrypt_params_cost(log_n, r, p, SEVERAL, u64::MAX, &mut cost) };
         let (table_len, scratch_len) =
-            (needs.tables * needs.table_len, needs.tables * needs.scratch_len);
-        let len = match usize::try_from(needs.bytes) {
-            Ok(one) if one < isize::MAX as usize => {
-                4 * (table_len + scratch_len) + needs.chunks_len
-            }
+            (cost.tables * cost.table_len, cost.tables * cost.scratch_len);
+        let len = match usize::try_from(cost.bytes) {
+            Ok(one) if one < isize::MAX as usize => 4 * (table_len + scratch_len) + cost.chunks_len,
             _ => return Err(DeriveError::OutOfMemory),
         };
         let table: *mut u32 = map(len).ok_or(DeriveError::OutOfMemory)?.cast();
@@ -122,7 +120,7 @@ impl Steps {
         (steps.log_n, steps.r, steps.p) = (log_n, r, p);
         (steps.chunks, steps.table, steps.scratch) = (chunks, table, scratch);
         (steps.chunks_len, steps.table_len, steps.scratch_len) =
-            (needs.chunks_len, table_len, scratch_len);
+            (cost.chunks_len, table_len, scratch_len);
         Ok(Steps(steps))
     }
 }
@@ -197,7 +195,7 @@ mod tests {
 
     fn drawn(len: usize) -> Vec<u8> {
         let mut bytes = vec![0; len];
-        crate::draw_salt(&mut bytes).unwrap();
+        crate::generate_salt(&mut bytes).unwrap();
         bytes
     }
 

@@ -1,6 +1,6 @@
 //! scrypt as a value, with the traits of the crate `password-hash` 0.4.
 
-use crate::{scrypt, Bounds, DeriveError, InvalidParams, Params};
+use crate::{scrypt, DeriveError, InvalidParams, Limits, Params};
 use password_hash_0_4::errors::InvalidValue;
 use password_hash_0_4::{
     Decimal, Error, Ident, Output, ParamsString, PasswordHash, PasswordHasher, Result, Salt,
@@ -27,7 +27,7 @@ pub struct Scrypt {
 ///
 /// # fn main() -> scrypt_c::password_hash_0_4::Result<()> {
 /// let mut drawn = [0; 16];
-/// scrypt_c::draw_salt(&mut drawn).expect("random bytes of the system");
+/// scrypt_c::generate_salt(&mut drawn).expect("random bytes of the system");
 /// let salt = SaltString::b64_encode(&drawn)?;
 /// let text = Scrypt.hash_password(b"hunter42", &salt)?.to_string();
 /// Scrypt.verify_password(b"hunter42", &PasswordHash::new(&text)?)?;
@@ -86,7 +86,7 @@ impl PasswordHasher for Scrypt {
 }
 
 /// The parameters of a hash, for verifying it: `ParamValueInvalid(TooLong)` if their cost exceeds
-/// [`Bounds::USUAL`]. The minimum key length is the format's 10 bytes, because the length of new
+/// [`Limits::DEFAULT`]. The minimum key length is the format's 10 bytes, because the length of new
 /// keys is not known here.
 impl TryFrom<&PasswordHash<'_>> for Params {
     type Error = Error;
@@ -112,7 +112,7 @@ impl TryFrom<&PasswordHash<'_>> for Params {
         }
         let len = hash.hash.map_or(implied_len, |it| it.len());
         let params = Params::new_with_output_len(log_n, r, p, len).map_err(|_| INVALID)?;
-        if Bounds::USUAL.allow(&params) {
+        if Limits::DEFAULT.allow(&params) {
             Ok(params)
         } else {
             Err(Error::ParamValueInvalid(InvalidValue::TooLong))

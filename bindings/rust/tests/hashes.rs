@@ -1,6 +1,6 @@
 //! Makes hashes in both formats, and verifies passwords. cases.rs has the errors of invalid hashes.
 
-use scrypt_c::{params_of, scrypt, Bounds, Cost, Error, Format, Hasher, Options, Params};
+use scrypt_c::{params_of, scrypt, Cost, Error, Format, Hasher, Limits, Options, Params};
 use std::time::{Duration, Instant};
 
 fn small() -> Options {
@@ -49,25 +49,25 @@ fn no_hash() {
 #[test]
 fn options() {
     let usual = Hasher::default().options();
-    let Options { at_once, processors, .. } = usual;
-    assert!((1..=2 * processors).contains(&at_once), "{usual:?}");
-    let bounds = Some(Bounds::USUAL);
-    assert_eq!(usual, Options { at_once, processors, bounds, ..Options::default() });
+    let Options { max_tables, processors, .. } = usual;
+    assert!((1..=2 * processors).contains(&max_tables), "{usual:?}");
+    let limits = Some(Limits::DEFAULT);
+    assert_eq!(usual, Options { max_tables, processors, limits, ..Options::default() });
     let given = Options {
         params: Params::new_with_output_len(5, 3, 2, 20).unwrap(),
         format: Format::Mcf,
         salt_len: 64,
-        at_once: 3,
+        max_tables: 3,
         processors: 2,
         timeout: Some(Duration::from_secs(1)),
-        bounds: Some(Bounds { most_bytes: 1 << 20, most_work: 1 << 16 }),
+        limits: Some(Limits { max_mem: 1 << 20, max_work: 1 << 16 }),
     };
     assert_eq!(Hasher::new(given).unwrap().options(), given);
 }
 
 /// Each limit is passed on unchanged, and 0 does not mean the default. The error has the numbers.
 #[test]
-fn bounds() {
+fn limits() {
     let params = Params::new_with_output_len(6, 3, 5, 15).unwrap();
     let (bytes, cores, work) = (128 * 3 * (64 + 5 + 2), 4 * 64 * 3 * 5, 4 * (64 + 32) * 3 * 5);
     assert_eq!((params.memory(), params.cores()), (bytes as u64, cores));
@@ -75,26 +75,25 @@ fn bounds() {
     let text = Hasher::new(Options { params, ..small() }).unwrap().hash("pw").unwrap();
     let plain = Params::new(6, 3, 5).unwrap();
     assert_eq!(params_of(&text), Ok((plain, 15)));
-    for (most_bytes, most_work) in [(bytes, work), (bytes - 1, work), (bytes, work - 1), (0, work)]
-    {
-        let bounds = Bounds { most_bytes, most_work };
-        let allowed = bounds == Bounds { most_bytes: bytes, most_work: work };
-        let cost = |params| Cost { params, memory: bytes as u64, work, bounds };
+    for (max_mem, max_work) in [(bytes, work), (bytes - 1, work), (bytes, work - 1), (0, work)] {
+        let limits = Limits { max_mem, max_work };
+        let allowed = limits == Limits { max_mem: bytes, max_work: work };
+        let cost = |params| Cost { params, memory: bytes as u64, work, limits };
         let wanted = |params| if allowed { Ok(()) } else { Err(Error::TooCostly(cost(params))) };
-        assert_eq!(bounds.allow(&params), allowed, "{bounds:?}");
-        let made = Hasher::new(Options { params, bounds: Some(bounds), ..small() });
-        assert_eq!(made.map(drop), wanted(params), "{bounds:?}");
-        if most_bytes > 0 {
+        assert_eq!(limits.allow(&params), allowed, "{limits:?}");
+        let made = Hasher::new(Options { params, limits: Some(limits), ..small() });
+        assert_eq!(made.map(drop), wanted(params), "{limits:?}");
+        if max_mem > 0 {
             let params = Params::new_with_output_len(4, 1, 1, 15).unwrap();
-            let hasher = Hasher::new(Options { params, bounds: Some(bounds), ..small() }).unwrap();
-            assert_eq!(hasher.verify(&text, "pw"), wanted(plain), "{bounds:?}");
+            let hasher = Hasher::new(Options { params, limits: Some(limits), ..small() }).unwrap();
+            assert_eq!(hasher.verify(&text, "pw"), wanted(plain), "{limits:?}");
         }
     }
     let short = Hasher::new(small()).unwrap().verify(&text, "pw").unwrap_err();
     assert_eq!(short, Error::KeyTooShort { len: 15, min: 16 });
     let params = Params::new(19, 8, 1).unwrap();
-    assert!(!Bounds::default().allow(&params));
-    assert!(Hasher::new(Options { params, ..small() }).is_ok(), "above the usual, and asked for");
+    assert!(!Limits::default().allow(&params));
+    assert!(Hasher::new(Options { params, ..small() }).is_ok(), "above the default, and asked for");
     for salt_len in [0, 16 + (1 << 32)] {
         assert_eq!(Hasher::new(Options { salt_len, ..small() }).err(), Some(Error::SaltInvalid));
     }
@@ -110,7 +109,7 @@ fn refusals() {
         (
             "$scrypt$ln=19,r=8,p=1$c2FsdHNhbHQ$AAAAAAAAAAAAAAAAAAAAAA",
             "the parameters need more than is allowed: log_n=19, r=8, p=1 need 536873984 bytes and \
-             a work of 16778240, with most_bytes=269484032 and most_work=16781312",
+             a work of 16778240, with max_mem=269484032 and max_work=16781312",
         ),
         (
             "$scrypt$ln=4,r=8,p=1$c2FsdHNhbHQ$AAAAAAAAAAAAAAAAAAAA",

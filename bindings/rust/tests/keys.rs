@@ -1,6 +1,6 @@
 //! Derives a key, and tests each error.
 
-use scrypt_c::{calibrate, draw_salt, scrypt, scrypt_in_steps};
+use scrypt_c::{calibrate, generate_salt, scrypt, scrypt_in_steps};
 use scrypt_c::{DeriveError, Error, InvalidParams, Params};
 use std::ops::ControlFlow;
 use std::time::{Duration, Instant};
@@ -87,8 +87,8 @@ fn params() {
 #[test]
 fn salts_are_drawn() {
     let (mut one, mut other) = ([0; 16], [0; 16]);
-    draw_salt(&mut one).unwrap();
-    draw_salt(&mut other).unwrap();
+    generate_salt(&mut one).unwrap();
+    generate_salt(&mut other).unwrap();
     assert_ne!(one, other);
 }
 

@@ -10,12 +10,12 @@ fn resident() -> usize {
     line.split_whitespace().nth(1).unwrap().parse().unwrap()
 }
 
-/// A hasher has `at_once` tables, whatever p and the processors are, and frees them when its last
-/// clone is dropped.
+/// A hasher has `max_tables` tables, whatever p and the processors are, and frees them when its
+/// last clone is dropped.
 #[test]
 fn memory() {
     let params = Params::new(16, 8, 4).unwrap();
-    let options = Options { params, at_once: 1, processors: 4, ..Options::default() };
+    let options = Options { params, max_tables: 1, processors: 4, ..Options::default() };
     let before = resident();
     let hashers: Vec<_> = (0..4).map(|_| Hasher::new(options).unwrap()).collect();
     for hasher in &hashers {

@@ -5,9 +5,9 @@ use std::panic::{RefUnwindSafe, UnwindSafe};
 use std::thread;
 use std::time::{Duration, Instant};
 
-fn with(log_n: u8, p: u32, at_once: usize) -> Hasher {
+fn with(log_n: u8, p: u32, max_tables: usize) -> Hasher {
     let params = Params::new(log_n, 8, p).unwrap();
-    Hasher::new(Options { params, at_once, processors: 1, ..Options::default() }).unwrap()
+    Hasher::new(Options { params, max_tables, processors: 1, ..Options::default() }).unwrap()
 }
 
 #[test]
@@ -37,26 +37,27 @@ fn clones() {
 fn timeouts() {
     let params = Params::new(4, 8, 1).unwrap();
     let costly = format!("$scrypt$ln=17,r=8,p=4$c2FsdHNhbHQ${}", "A".repeat(43));
-    for (timeout, least_ms) in [
+    for (timeout, min_ms) in [
         (Duration::ZERO, 0),
         (Duration::from_nanos(1), 1),
         (Duration::from_millis(50), 50),
         (Duration::MAX, u128::MAX),
     ] {
-        let options = Options { params, at_once: 1, timeout: Some(timeout), ..Options::default() };
+        let options =
+            Options { params, max_tables: 1, timeout: Some(timeout), ..Options::default() };
         let hasher = Hasher::new(options).unwrap();
         thread::scope(|scope| {
             let deriving = scope.spawn(|| hasher.verify(&costly, "pw"));
             thread::sleep(Duration::from_millis(100));
             let begun = Instant::now();
             let status = hasher.key("pw", b"", &mut [0]);
-            if least_ms == u128::MAX {
+            if min_ms == u128::MAX {
                 assert_eq!(status, Ok(()), "its turn came");
             } else {
                 assert_eq!(status, Err(Error::Timeout));
-                assert!(begun.elapsed().as_millis() >= least_ms && !deriving.is_finished());
+                assert!(begun.elapsed().as_millis() >= min_ms && !deriving.is_finished());
                 let now = hasher.stats();
-                assert_eq!((now.waiting, now.deriving, now.refused), (0, 1, 1));
+                assert_eq!((now.waiting, now.deriving, now.failed), (0, 1, 1));
             }
             assert_eq!(deriving.join().unwrap(), Err(Error::PasswordInvalid));
         });

@@ -4,11 +4,11 @@
 use scrypt_c::password_hash_0_4::{
     Error, PasswordHash, PasswordHasher, PasswordVerifier, SaltString,
 };
-use scrypt_c::{draw_salt, Hasher, Params, Scrypt, ALG_ID};
+use scrypt_c::{generate_salt, Hasher, Params, Scrypt, ALG_ID};
 
 fn drawn() -> SaltString {
     let mut salt = [0; 16];
-    draw_salt(&mut salt).unwrap();
+    generate_salt(&mut salt).unwrap();
     SaltString::b64_encode(&salt).unwrap()
 }
 
@@ -60,9 +60,9 @@ fn refused() {
         ("a version", "$scrypt$v=1$ln=4,r=8,p=1"),
         ("ln above 255", "$scrypt$ln=256,r=8,p=1"),
         ("ln of 57", "$scrypt$ln=57,r=8,p=1"),
-        ("more work than the usual bound", "$scrypt$ln=13,r=1,p=8192"),
+        ("more work than the default limit", "$scrypt$ln=13,r=1,p=8192"),
         ("seconds of PBKDF2", "$scrypt$ln=1,r=1,p=2000000"),
-        ("more memory than the usual bound", "$scrypt$ln=21,r=8,p=1"),
+        ("more memory than the default limit", "$scrypt$ln=21,r=8,p=1"),
         ("r is no number", "$scrypt$ln=4,r=x,p=1"),
         ("a name that scrypt lacks", "$scrypt$ln=4,r=8,p=1,q=1"),
     ] {

@@ -4,8 +4,8 @@
 use crate::failing_allocations::{CallEnd, failing_allocations};
 use crate::holds;
 use scrypt::{
-    CoreCount, DeriveError, Kdf, Params, Scrypt, Vectors, kdf, scrypt, scrypt_counted,
-    scrypt_in_groups,
+    CoreCount, DeriveError, Kdf, Params, Scrypt, Simd, kdf, scrypt, scrypt_counted,
+    scrypt_with_max_mem,
 };
 use std::alloc::Global;
 use std::test::Fail;
@@ -114,7 +114,7 @@ fn ended(call: Call, alloc: Global, params: &Params) -> CallEnd {
             &mut cores,
         )),
         Call::DeriveKey => end_of_trait(alloc, params, &mut output),
-        Call::InGroups(tables) => end_of(scrypt_in_groups::<Vectors>(
+        Call::InGroups(tables) => end_of(scrypt_with_max_mem::<Simd>(
             alloc,
             b"",
             b"",

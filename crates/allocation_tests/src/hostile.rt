@@ -39,7 +39,7 @@ fn beginnings(rt: HostRuntime) -> Result<(), Fail> {
         let beginning = HASH.get(..len).unwrap_or("");
         holds(
             mcf::PasswordHashRef::new(beginning).is_ok() == (len > 1),
-            "whether it is an MCF text",
+            "whether it is an MCF string",
         )?;
         let wanted = wanted_of_beginning(len);
         holds(
@@ -112,7 +112,7 @@ fn each_character_of_a_key_replaced(rt: HostRuntime) -> Result<(), Fail> {
     holds(texts == 5461, "43 places with 127 characters each")
 }
 
-// A `$7$` text, a text that is repeated a million times after it, the number of fields, their total
+// A `$7$` hash, a text that is repeated a million times after it, the number of fields, their total
 // length, the verdict, and the reason for the row.
 static MILLIONS: [(&str, &str, usize, usize, Error, &str); 2] = [
     (

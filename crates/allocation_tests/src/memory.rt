@@ -6,7 +6,7 @@ use crate::verdicts::{is_mcf_verdict, is_phc_verdict};
 use crate::{holds, is};
 use password_hash::mcf::Base64;
 use password_hash::{PasswordHasher, PasswordVerifier, mcf, phc};
-use scrypt::{CoreCount, Kdf, Params, Scrypt, Vectors, scrypt, scrypt_in_groups};
+use scrypt::{CoreCount, Kdf, Params, Scrypt, Simd, scrypt, scrypt_with_max_mem};
 use std::alloc::Global;
 use std::fs;
 use std::test::Fail;
@@ -35,7 +35,7 @@ static TABLES: [(usize, usize, &str); 6] = [
 ];
 
 // The peak size of the process's address space so far, in KiB.
-fn most_memory(rt: &HostRuntime) -> Result<usize, Fail> {
+fn peak_memory(rt: &HostRuntime) -> Result<usize, Fail> {
     let status = fs::read_to_string(rt, "/proc/self/status")?;
     let mut is_next = false;
     for word in status.split_whitespace() {
@@ -51,16 +51,16 @@ fn most_memory(rt: &HostRuntime) -> Result<usize, Fail> {
 fn tables(rt: HostRuntime) -> Result<(), Fail> {
     let (alloc, params) = (rt.alloc(), Params::new(15, 8, 4)?);
     let (mut key, mut cores) = ([0; 32], CoreCount::new());
-    let (hasher, before) = (Scrypt::from(params), most_memory(&rt)?);
+    let (hasher, before) = (Scrypt::from(params), peak_memory(&rt)?);
     scrypt(alloc, b"", b"", &params, &mut key)?;
     let made: mcf::PasswordHash = hasher.hash_password_with_salt(alloc, b"", b"")?;
     holds(
         hasher.verify_password(alloc, b"", &made).is_ok(),
         "verified",
     )?;
-    for &(most_bytes, tables, reason) in &TABLES {
-        scrypt_in_groups::<Vectors>(alloc, b"", b"", &params, most_bytes, &mut key, &mut cores)?;
-        let taken = most_memory(&rt)?.saturating_sub(before);
+    for &(max_mem, tables, reason) in &TABLES {
+        scrypt_with_max_mem::<Simd>(alloc, b"", b"", &params, max_mem, &mut key, &mut cores)?;
+        let taken = peak_memory(&rt)?.saturating_sub(before);
         holds(
             taken.saturating_add(TABLE / 2048) / (TABLE / 1024) == tables,
             reason,
@@ -153,14 +153,14 @@ enum Refusing {
 }
 
 static REFUSING: [(Refusing, &str); 5] = [
-    (Refusing::New, "no MCF text"),
+    (Refusing::New, "no MCF string"),
     (Refusing::FromId, "no id"),
     (Refusing::PushStr, "no field"),
     (Refusing::DecodeVec, "no letters of any bytes"),
     (Refusing::DecodeBase64, "a field of no letters of any bytes"),
 ];
 
-// Large enough that a copy would raise the peak of `most_memory`.
+// Large enough that a copy would raise the peak of `peak_memory`.
 const LONG: usize = 1 << 26;
 
 // Whether this call rejects letters with a dollar at the end, or with one letter too many.
@@ -192,11 +192,11 @@ fn refusals_without_allocating(rt: HostRuntime) -> Result<(), Fail> {
     // Making these texts raised the peak, so a copy could hide below it: this block is held to
     // prevent that.
     let held: Vec<u8> = Vec::with_capacity(alloc, 8 * LONG)?;
-    let before = most_memory(&rt)?;
+    let before = peak_memory(&rt)?;
     for &(call, reason) in &REFUSING {
         let is_refused = refuses(call, alloc, with_dollar.as_str(), &field)?;
         holds(is_refused, reason)?;
-        let taken = most_memory(&rt)?.saturating_sub(before);
+        let taken = peak_memory(&rt)?.saturating_sub(before);
         holds(taken < LONG / 8 / 1024, reason)?;
     }
     drop(held);

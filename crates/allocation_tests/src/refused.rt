@@ -148,7 +148,7 @@ fn hasher_of(costs: (u8, u32, u32), len: usize) -> Result<Scrypt, InvalidParams>
     }
 }
 
-// Whether a hash is weaker than wanted. Only MCF texts have identifiers of one digit.
+// Whether a hash is weaker than wanted. Only MCF strings have identifiers of one digit.
 fn is_weaker(wanted: &Scrypt, text: &str) -> Result<bool, Error> {
     match PasswordHashRef::new(text) {
         Ok(hash) if hash.id().len() == 1 => wanted.needs_rehash(&hash),

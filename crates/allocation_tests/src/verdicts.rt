@@ -19,7 +19,7 @@ fn stored_verdict(alloc: Global, text: &str, password: &[u8]) -> Result<(), Erro
     }
 }
 
-// Whether each call returns this verdict on a PHC text.
+// Whether each call returns this verdict on a PHC string.
 pub fn is_phc_verdict(
     alloc: Global,
     text: &str,
@@ -33,7 +33,7 @@ pub fn is_phc_verdict(
     verdict == wanted && stored_verdict(alloc, text, password) == wanted
 }
 
-// The verdict by a borrowed `$7$` text.
+// The verdict by a borrowed `$7$` hash.
 fn borrowed_verdict(alloc: Global, text: &str, password: &[u8]) -> Result<(), Error> {
     match mcf::PasswordHashRef::new(text) {
         Ok(hash) => Scrypt::new().verify_password(alloc, password, &hash),
@@ -41,7 +41,7 @@ fn borrowed_verdict(alloc: Global, text: &str, password: &[u8]) -> Result<(), Er
     }
 }
 
-// The verdict by an owned copy of a `$7$` text.
+// The verdict by an owned copy of a `$7$` hash.
 fn owned_verdict(alloc: Global, text: &str, password: &[u8]) -> Result<(), Error> {
     match mcf::PasswordHash::new(alloc, text) {
         Ok(hash) => Scrypt::new().verify_password(alloc, password, &hash),
@@ -50,7 +50,7 @@ fn owned_verdict(alloc: Global, text: &str, password: &[u8]) -> Result<(), Error
     }
 }
 
-// Whether a `$7$` text, borrowed, owned and stored, has this verdict each time.
+// Whether a `$7$` hash, borrowed, owned and stored, has this verdict each time.
 pub fn is_mcf_verdict(
     alloc: Global,
     text: &str,
@@ -147,7 +147,7 @@ const LONGER: &str = "rNxJWVHNv/mCNcgE/f6/L4zO6Fos5c2uTzhyzoisI62z";
 
 const LETMEIN: &str = "pleaseletmein";
 
-// The first field of a `$7$` text and the second, a password, the verdict, and the reason for the
+// The first field of a `$7$` hash and the second, a password, the verdict, and the reason for the
 // row.
 static FIELDS: [(&str, &str, &str, Result<(), Error>, &str); 14] = [
     (MADE, MADE_KEY, LETMEIN, Ok(()), "the password"),

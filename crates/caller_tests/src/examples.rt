@@ -42,10 +42,10 @@ fn stored_texts(rt: HostRuntime) -> Result<(), Fail> {
 #[test]
 fn bounded_logins(rt: HostRuntime) -> Result<(), Fail> {
     let limits = Limits {
-        most_bytes: 1 << 20,
-        ..Limits::USUAL
+        max_mem: 1 << 20,
+        ..Limits::DEFAULT
     };
     let mut logins = BoundedLogins::new(rt.alloc(), limits)?;
-    holds(logins.log_in(PHC, PASSWORD)?, "by a PHC text")?;
-    holds(logins.log_in(MCF, PASSWORD)?, "by a `$7$` text")
+    holds(logins.log_in(PHC, PASSWORD)?, "by a PHC string")?;
+    holds(logins.log_in(MCF, PASSWORD)?, "by a `$7$` hash")
 }

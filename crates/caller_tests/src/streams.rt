@@ -237,7 +237,7 @@ const ENDS: [Row<'static>; 10] = [
         (2, false, true),
         0,
         ["", "hash refused: EncodingInvalid\n"],
-        "a PHC text is read before the input",
+        "a PHC string is read before the input",
     ),
     (
         "key 4 1 1 0 ",

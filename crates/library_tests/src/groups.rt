@@ -2,8 +2,8 @@
 
 use crate::holds;
 use scrypt::{
-    CoreCount, LimitedError, Login, Mixer, Pairs, Params, StoredHash, Vectors, Words,
-    scrypt_in_groups, verify_logins,
+    Backend, CoreCount, LimitedError, Login, Params, Scalar, Simd, SimdPairs, StoredHash,
+    scrypt_with_max_mem, verify_logins,
 };
 use std::alloc::{AllocError, Global};
 use std::test::Fail;
@@ -23,25 +23,25 @@ static KEYS: [(u32, u128, &str); 5] = [
 ];
 
 // The size of four tables and scratches, and of the chunks of p up to 5.
-const MOST_BYTES: usize = 4 * (4096 + 512) + 5 * 256;
+const MAX_MEM: usize = 4 * (4096 + 512) + 5 * 256;
 
 #[test]
 fn keys_in_groups(rt: HostRuntime) -> Result<(), Fail> {
-    keys_by::<Vectors>(rt.alloc())?;
-    keys_by::<Words>(rt.alloc())?;
-    keys_by::<Pairs>(rt.alloc())
+    keys_with_backend::<Simd>(rt.alloc())?;
+    keys_with_backend::<Scalar>(rt.alloc())?;
+    keys_with_backend::<SimdPairs>(rt.alloc())
 }
 
-// Each processor needs only one mixer, but every mixer computes the same on every processor.
-fn keys_by<W: Mixer>(alloc: Global) -> Result<(), Fail> {
+// Each processor needs only one backend, but every backend computes the same on every processor.
+fn keys_with_backend<W: Backend>(alloc: Global) -> Result<(), Fail> {
     for &(p, wanted, reason) in &KEYS {
         let (params, mut key) = (Params::new(4, 2, p)?, [0u8; 16]);
-        scrypt_in_groups::<W>(
+        scrypt_with_max_mem::<W>(
             alloc,
             b"pw",
             b"NaCl",
             &params,
-            MOST_BYTES,
+            MAX_MEM,
             &mut key,
             &mut CoreCount::new(),
         )?;
@@ -104,7 +104,7 @@ fn many_logins(rt: HostRuntime) -> Result<(), Fail> {
     for &(first, others, is_first, is_last, reason) in &LOGINS {
         let logins = logins_of(rt.alloc(), first, others)?;
         let mut verdicts = vec![in rt.alloc(); Ok(()); logins.len()]?;
-        verify_logins::<Vectors>(
+        verify_logins::<Simd>(
             &logins,
             &mut verdicts,
             &mut chunks,

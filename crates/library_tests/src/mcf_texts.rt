@@ -1,4 +1,4 @@
-// Five-letter numbers, the parameters of `$7$` texts, crypt Base64, and MCF texts.
+// Five-letter numbers, the parameters of `$7$` hashes, crypt Base64, and MCF strings.
 
 use crate::{holds, is};
 use password_hash::Error::{self, EncodingInvalid, ParamsInvalid};

@@ -1,4 +1,4 @@
-// PHC texts, their decimals and their parameters.
+// PHC strings, their decimals and their parameters.
 
 use crate::{holds, is};
 use password_hash::Error::{self, EncodingInvalid, ParamsInvalid};

@@ -10,7 +10,7 @@ pub mod DecimalFacts
 pub mod PartsFacts
 -- A hash and the parts of its text.
 pub mod HashFacts
--- PHC texts are read as the hashes that they are printed of.
+-- PHC strings are read as the hashes that they are printed of.
 pub mod PhcReadingFacts
 -- The alphabet's table: each letter has its value, and no other byte has one.
 pub mod AlphabetFacts
@@ -20,7 +20,9 @@ pub mod Crypt64Facts
 pub mod GroupFacts
 -- Letters of crypt Base64 are decoded as the bytes that they encode.
 pub mod DecodedFacts
--- What follows from the definition of MCF texts: each has one id and one list of fields, and texts put together by parts are MCF texts.
+-- What follows from the definition of MCF strings: each has one id and one list of fields, and
+-- texts put together by parts are MCF strings.
 pub mod McfFacts
--- Texts, read and printed by the definitions alone, so that a wrong letter, order or bound in a definition does not check.
+-- Texts, read and printed by the definitions alone, so that a wrong letter, order or bound in a
+-- definition does not check.
 pub mod StandardFacts

@@ -1,4 +1,5 @@
--- What follows from the definition of MCF texts: each has one id and one list of fields, and texts put together by parts are MCF texts.
+-- What follows from the definition of MCF strings: each has one id and one list of fields, and
+-- texts put together by parts are MCF strings.
 use Rattle.std.proofs.Common.{◌≡◌, ◌≢◌, inl, inr, ◌∙◌, sym, ap, subst, refl, ℕ, false}
 use Rattle.std.proofs.Common.{Result, Ok, Err, IsErrOf, IfErr, ◌==◌, List, [], ◌∷◌, ◌++◌}
 use Rattle.std.specs.List.{All, AllByRecursion as ByRecursion, onto_first}
@@ -23,7 +24,7 @@ no_dollar field is = All-weaker (λ byte. byte ≢ dollar) (λ byte. (byte == do
 pub IsField-crypt64_of : (bytes : List ℕ) → IsField (crypt64_of bytes)
 IsField-crypt64_of bytes = All-weaker IsPlain (λ byte. byte ≢ dollar) (λ byte plain. plain.1) (crypt64_of bytes) (crypt64_of-plain bytes)
 
--- the parts of an MCF text
+-- the parts of an MCF string
 pub parts_of-IsMcfText : (text id : List ℕ) (fields : List (List ℕ)) → IsMcfText text id fields → parts_of text ≡ [] ∷ id ∷ fields
 parts_of-IsMcfText text id fields is =
     let none = All-cons (Lacks dollar) [] (id ∷ fields) (All-nil (λ byte. (byte == dollar) ≡ false))
@@ -44,7 +45,7 @@ part_fields (byte ∷ text) = elim (cases_Bool (byte == dollar)) [
     onto [] other each = ((other, tt), tt)
     onto (part ∷ parts) other each = ((other, each.0), each.1)
 
--- a text that is split into nothing, an id and fields is an MCF text
+-- a text that is split into nothing, an id and fields is an MCF string
 pub IsMcfText-from_parts : (text id : List ℕ) (fields : List (List ℕ)) → parts_of text ≡ [] ∷ id ∷ fields → IsId id
     → IsMcfText text id fields
 IsMcfText-from_parts text id fields parts is =
@@ -64,7 +65,7 @@ pub fields_of_parts : (text id : List ℕ) (fields : List (List ℕ)) → parts_
 unfolding fields_of
 fields_of_parts text id fields parts = rw parts refl
 
--- an MCF text has one id and one list of fields
+-- an MCF string has one id and one list of fields
 pub IsMcfText-one : (text id : List ℕ) (fields : List (List ℕ)) → IsMcfText text id fields → (id_of text ≡ id) × (fields_of text ≡ fields)
 IsMcfText-one text id fields is =
     let parts = parts_of-IsMcfText text id fields is in
@@ -76,7 +77,7 @@ IsMcfText-read text is =
     let one = IsMcfText-one text is.0 is.1 is.2 in
     rw (one.0, one.1) is.2
 
--- the id of an MCF text is an id
+-- the id of an MCF string is an id
 pub IsId-parts : (text id : List ℕ) (fields : List (List ℕ)) → parts_of text ≡ [] ∷ id ∷ fields → IsMcf text → IsId id
 IsId-parts text id fields parts is =
     let same : is.0 ≡ id = sym (IsMcfText-one text is.0 is.1 is.2).0 ∙ id_of_parts text id fields parts in

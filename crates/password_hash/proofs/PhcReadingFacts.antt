@@ -1,4 +1,4 @@
--- PHC texts are read as the hashes that they are printed of.
+-- PHC strings are read as the hashes that they are printed of.
 use Rattle.std.proofs.Common.{◌≡◌, ◌≢◌, ◌↔◌, ◌^◌, ◌<◌, ◌≤◌, ◌==◌, ℕ, zero, suc, false, true, not, List, [], ◌∷◌, ◌++◌}
 use Rattle.std.proofs.Common.{length, drop, codes, Option, None, Some, refl, sym, ap, ◌∙◌, arith, inl, inr}
 use Rattle.std.specs.Borrow.{Bor}

@@ -24,7 +24,7 @@ abbrev bytes : List ℕ → List ℕ
 bytes (c ∷ d ∷ digits) = (16 * digit_value c + digit_value d) ∷ bytes digits
 bytes digits = []
 
--- PHC texts
+-- PHC strings
 
 abbrev sodium_key : List ℕ
 sodium_key = bytes (codes "7023bdcb3afd7348461c06cd81fd38ebfda8fbba904f8e3ea9b543f6545da1f2")
@@ -149,7 +149,7 @@ pub other_letters_are_not_decoded : map decoded (codes "z" ∷ codes "z2" ∷ co
 unfolding bytes_of_number crypt64_of decoded letters_of letter letter_value number_of
 other_letters_are_not_decoded = refl
 
--- MCF texts
+-- MCF strings
 
 -- texts, and their ids and fields
 abbrev mcf_texts : List (List ℕ × (List ℕ × List (List ℕ)))

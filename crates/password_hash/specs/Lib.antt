@@ -16,11 +16,11 @@ pub mod Value
 pub mod Pairs
 -- PHC hashes, and their texts
 pub mod Phc
--- the reading of a PHC text
+-- the reading of a PHC string
 pub mod PhcReading
 -- crypt Base64
 pub mod Crypt64
--- MCF texts
+-- MCF strings
 pub mod Mcf
--- borrowed MCF texts
+-- borrowed MCF strings
 pub mod McfViews

@@ -1,4 +1,4 @@
--- MCF texts, in this project's profile of crypt(5): `$`, an id, and any number of fields, each
+-- MCF strings, in this project's profile of crypt(5): `$`, an id, and any number of fields, each
 -- after a `$`.
 use Rattle.std.specs.Prelude.{◌≡◌, ◌≢◌, ℕ, ◌<◌, IsTrue, List, [], ◌∷◌, All, length, drop, slice_index_or}
 use Rattle.std.specs.List.{list_all}
@@ -23,10 +23,10 @@ pub record IsMcfText (text id : List ℕ) (fields : List (List ℕ)) : Type 0 wh
 abbrev pub IsMcf : List ℕ → Type 0
 IsMcf text = (id : List ℕ) × (fields : List (List ℕ)) × IsMcfText text id fields
 
--- the id of an MCF text, after the first dollar
+-- the id of an MCF string, after the first dollar
 unfoldable pub id_of : List ℕ → List ℕ
 id_of text = slice_index_or (parts_of text) 1 []
 
--- the fields of an MCF text, after the id
+-- the fields of an MCF string, after the id
 unfoldable pub fields_of : List ℕ → List (List ℕ)
 fields_of text = drop 2 (parts_of text)

@@ -1,4 +1,4 @@
--- Borrowed MCF texts, as contracts see them.
+-- Borrowed MCF strings, as contracts see them.
 use Rattle.std.specs.Prelude.{ℕ, List}
 use Rattle.password_hash.specs.declared.mcf.field.Field.{Field}
 use Rattle.password_hash.specs.declared.mcf.fields.Fields.{Fields}

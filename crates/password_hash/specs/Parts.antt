@@ -1,4 +1,4 @@
--- Texts that consist of parts, each after a `$`, such as PHC and MCF texts.
+-- Texts that consist of parts, each after a `$`, such as PHC and MCF strings.
 use Rattle.std.specs.Prelude.{ℕ, ◌==◌, List, [], ◌∷◌, Option, None, Some}
 use Rattle.std.specs.Borrow.{Bor}
 use Rattle.std.specs.List.{flat_map, slice_split}

@@ -1,4 +1,4 @@
--- The reading of a PHC text: its parts are read one after another, each only in its printed form.
+-- The reading of a PHC string: its parts are read one after another, each only in its printed form.
 use Rattle.std.specs.Prelude.{ℕ, ◌^◌, ◌==◌, ◌&&◌, Bool, true, not, nat_eq, nat_le, nat_lt, if◌then◌else◌, List, [], ◌∷◌, codes, length}
 use Rattle.std.specs.Prelude.{Option, None, Some, option_and_then}
 use Rattle.std.specs.List.{after_first, list_all, list_any, starts_with}
@@ -90,6 +90,6 @@ abbrev pub hash_of_parts : List (List ℕ) → Option PasswordHash
 hash_of_parts ([] ∷ algorithm ∷ parts) = if is_identifier algorithm then hash_after algorithm parts else None
 hash_of_parts parts = None
 
--- the hash that the text is read as, or `None` if it is not a PHC text
+-- the hash that the text is read as, or `None` if it is not a PHC string
 unfoldable pub read_hash : List ℕ → Option PasswordHash
 read_hash text = hash_of_parts (parts_of text)

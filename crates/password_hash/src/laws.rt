@@ -16,8 +16,8 @@ pub fn decimals_are_read()
         → answer ≡ decimal_below (2 ^ bits) text }
 {}
 
-/// A PHC text is read as the hash that it is printed from, if this hash is allowed, and as no other
-/// hash.
+/// A PHC string is read as the hash that it is printed from, if this hash is allowed, and as no
+/// other hash.
 pub fn printed_hashes_are_read()
     ensures exact { (text : List ℕ) (hash : PasswordHash) → (read_hash text ≡ Some hash) ↔ IsHashText text hash }
 {}

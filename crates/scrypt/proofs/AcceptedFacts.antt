@@ -120,8 +120,8 @@ pub key_len_stored : (len : Option ℕ) → IsTrue (is_stored_len len) → (10 �
 key_len_stored None fits = (lit≤ tt, lit≤ tt)
 key_len_stored (Some n) fits = (stored_len_decided n).0 fits
 
-pub most_output_len : (n : ℕ) → IsTrue (is_output_len n) → n ≤ max_output_len
-most_output_len n fits = ((output_len_decided n).0 fits).1
+pub output_len_bound : (n : ℕ) → IsTrue (is_output_len n) → n ≤ max_output_len
+output_len_bound n fits = ((output_len_decided n).0 fits).1
 
 pub ruleset small_lens = (small_log_n, small_chunks, small_rows)
 

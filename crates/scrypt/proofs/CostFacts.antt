@@ -11,7 +11,7 @@ use Rattle.scrypt.specs.Accepted.{Parameters}
 use Rattle.scrypt.specs.Limits.{are_within, work}
 use Rattle.scrypt.specs.declared.limits.Limits.{Limits}
 use Rattle.scrypt.specs.Cost.{chunks_bytes, cost, extra_rows_of_chunks, hash_cost, lengths_cost, scratch_words, table_words, thin_chunks_cost}
-use Rattle.scrypt.specs.Workspace.{chunks_at_once}
+use Rattle.scrypt.specs.Workspace.{interleaved_chunks}
 
 none_of_chunks : (b : List ℕ) (log_n r i : ℕ) → extra_rows_of_chunks b log_n 0 r i ≡ 0
 unfolding extra_rows_of_chunks
@@ -48,8 +48,8 @@ pub ruleset rooms = (room_for_one, some_table)
 
 -- w chunks are mixed at a time where w tables and exactly w scratches are
 pub width_is : (log_n r n w table scratch : ℕ) → 0 < r → w ≤ 4 → w ≤ n → w * table_words log_n r ≤ table → scratch ≡ w * scratch_words r
-    → w ≡ chunks_at_once log_n r n table scratch
-unfolding chunks_at_once
+    → w ≡ interleaved_chunks log_n r n table scratch
+unfolding interleaved_chunks
 width_is log_n r n w table scratch some few within fits is =
     let tables : w ≤ table / table_words log_n r = le-div w table (table_words log_n r) (some_table log_n r some) fits in
     let scratches : scratch / scratch_words r ≡ w = rw is (mul-div_left w (omega arith)) in
@@ -57,8 +57,8 @@ width_is log_n r n w table scratch some few within fits is =
 
 -- one is, where there is one table, and room for a scratch
 pub one_table : (log_n r n table scratch : ℕ) → 0 < r → 0 < n → table ≡ table_words log_n r → scratch_words r ≤ scratch
-    → 1 ≡ chunks_at_once log_n r n table scratch
-unfolding chunks_at_once
+    → 1 ≡ interleaved_chunks log_n r n table scratch
+unfolding interleaved_chunks
 one_table log_n r n table scratch some chunk is fits =
     let tables : table / table_words log_n r ≡ 1 = div-eq_of_eq-mul_left (some_table log_n r some) (omega (arith, is)) in
     let scratches : 1 ≤ scratch / scratch_words r = le-div 1 scratch (scratch_words r) (omega arith) (omega (arith, fits)) in
@@ -66,10 +66,10 @@ one_table log_n r n table scratch some chunk is fits =
 
 -- also if exactly so much of both is used
 pub width_of_part : (log_n r n table scratch : ℕ) → 0 < r
-    → let w = chunks_at_once log_n r n table scratch in w ≡ chunks_at_once log_n r n (w * table_words log_n r) (w * scratch_words r)
-unfolding chunks_at_once
+    → let w = interleaved_chunks log_n r n table scratch in w ≡ interleaved_chunks log_n r n (w * table_words log_n r) (w * scratch_words r)
+unfolding interleaved_chunks
 width_of_part log_n r n table scratch some =
-    width_is log_n r n (chunks_at_once log_n r n table scratch) _ _ some (omega arith) (omega arith) (omega arith) refl
+    width_is log_n r n (interleaved_chunks log_n r n table scratch) _ _ some (omega arith) (omega arith) (omega arith) refl
 
 -- 14 blocks for each chunk of each r, which is less than 128 / 9, and those of the lengths
 pub both_bounded : (password_len salt_len log_n r p n : ℕ)
@@ -84,8 +84,8 @@ both_bounded password_len salt_len log_n r p n =
     rw (ends, last, whole) (omega (arith, most))
 
 pub both_within : (limits : Limits) (c : Parameters) (password_len salt_len n : ℕ) → IsTrue (are_within limits c)
-    → cost c.log_n c.r c.p + 9 * hash_cost password_len salt_len c.r c.p n ≤ limits.most_work + 9 * lengths_cost password_len salt_len n
+    → cost c.log_n c.r c.p + 9 * hash_cost password_len salt_len c.r c.p n ≤ limits.max_work + 9 * lengths_cost password_len salt_len n
 unfolding are_within
 both_within limits c password_len salt_len n fits =
-    let most : work c.log_n c.r c.p ≤ limits.most_work = grind (arith, nat_tests) in
+    let most : work c.log_n c.r c.p ≤ limits.max_work = grind (arith, nat_tests) in
     omega (arith, most, both_bounded password_len salt_len c.log_n c.r c.p n)

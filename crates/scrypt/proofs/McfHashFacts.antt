@@ -105,7 +105,7 @@ text_of_fields c salt letters =
     ap (λ rest. codes "$7$" ++ rest)
     (ap (λ z. (front ++ salt) ++ (dollar ∷ z)) (append-nil letters) ∙ append_assoc front salt (dollar ∷ letters))
 
--- such a text is a `$7$` text
+-- such a text is a `$7$` hash
 pub is_mcf : {text : List ℕ} {s : Stored} → read_mcf text ≡ Ok s
     → (fields : List (List ℕ)) × IsMcfText text mcf_id fields × (read_fields fields ≡ Ok s)
 unfolding read_mcf

@@ -129,7 +129,7 @@ enough_decided c chunks table scratch =
     Decides-and _ _ (leb_decided _ _) (Decides-and _ _ (leb_decided _ _) (leb_decided _ _))
 
 pub within_decided : (limits : Limits) (c : Parameters) → Decides (are_within limits c)
-    ((buffers_bytes c.log_n c.r c.p ≤ limits.most_bytes) × (work c.log_n c.r c.p ≤ limits.most_work))
+    ((buffers_bytes c.log_n c.r c.p ≤ limits.max_mem) × (work c.log_n c.r c.p ≤ limits.max_work))
 unfolding are_within
 within_decided limits c = Decides-and _ _ (leb_decided _ _) (leb_decided _ _)
 
@@ -148,17 +148,18 @@ enough_within limits s chunks table scratch suffice some within_is =
     allowed true first why is = refl
     allowed false first why is = absurd cc
 
-admitted : (usual needed : ℕ) → needed < 2 ^ 64 → needed ≤ min (max usual needed) (2 ^ 64 - 1)
-admitted usual needed small = omega arith
+admitted : (defaults needed : ℕ) → needed < 2 ^ 64 → needed ≤ min (max defaults needed) (2 ^ 64 - 1)
+admitted defaults needed small = omega arith
 
--- a made hash is within the limits of a hasher that makes such hashes, if 64 bits can say what it needs
-pub made_within : (usual : Limits) (c : Parameters) (password salt : List ℕ) (n : ℕ) (reading : Result Stored Refusal)
+-- a made hash is within the limits of a hasher that makes such hashes, if 64 bits can say what it
+-- needs
+pub made_within : (defaults : Limits) (c : Parameters) (password salt : List ℕ) (n : ℕ) (reading : Result Stored Refusal)
     → reading ≡ Ok (made_stored c password salt) → n ≤ key_len_or_default c
-    → buffers_bytes c.log_n c.r c.p < 2 ^ 64 → work c.log_n c.r c.p < 2 ^ 64 → within (limits_for_new usual c n) reading ≡ reading
-made_within usual c password salt n reading is short bytes little =
+    → buffers_bytes c.log_n c.r c.p < 2 ^ 64 → work c.log_n c.r c.p < 2 ^ 64 → within (limits_for_new defaults c n) reading ≡ reading
+made_within defaults c password salt n reading is short bytes little =
     let long = length-key_by c password salt (key_len_or_default c) in
-    let allowed = (within_decided (limits_for_new usual c n) (without_len c)).1 (admitted _ _ bytes, admitted _ _ little) in
-    let enough = (leb_decided (min usual.least_key_len n) (key_len_or_default c)).1 (omega arith) in
+    let allowed = (within_decided (limits_for_new defaults c n) (without_len c)).1 (admitted _ _ bytes, admitted _ _ little) in
+    let enough = (leb_decided (min defaults.min_key_len n) (key_len_or_default c)).1 (omega arith) in
     rw (is, allowed, long, enough) refl
 
 pub not_enough : (c : Parameters) (chunks table scratch : List ℕ) → ¬ IsTrue (are_enough c chunks table scratch)

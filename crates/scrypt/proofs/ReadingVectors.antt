@@ -27,8 +27,8 @@ read_as text log_n r p salt key = (text, Ok (parts log_n r p salt key))
 abbrev refused : List ℕ → Refusal → List ℕ × Result Stored Refusal
 refused text why = (text, Err why)
 
--- PHC texts: what is read, and then each refusal, of the grammar, the algorithm, the version, the parameters, and the salt
--- and the key
+-- PHC strings: what is read, and then each refusal, of the grammar, the algorithm, the version, the
+-- parameters, and the salt and the key
 
 abbrev phc_readings : List (List ℕ × Result Stored Refusal)
 phc_readings =
@@ -60,7 +60,7 @@ unfolding are_accepted checked decimal_below decoded_bytes decoded_of digits enc
     has_plus_or_leading_zero is_mcf_text parsed_pairs phc_params read_hash read_pairs reading scan_steps
 phc_texts_read = refl
 
--- `$7$` texts, and the parts that they are read as and are the texts of
+-- `$7$` hashes, and the parts that they are read as and are the texts of
 
 abbrev mcf_texts : List (List ℕ × Stored)
 mcf_texts =
@@ -87,7 +87,7 @@ pub mcf_texts_written : map (λ row. mcf_text row.1) mcf_texts ≡ map (λ row. 
 unfolding crypt64_of letter letters_of
 mcf_texts_written = refl
 
--- the refusals of `$7$` texts: of the eleven letters, the numbers, and the key
+-- the refusals of `$7$` hashes: of the eleven letters, the numbers, and the key
 
 abbrev mcf_refusals : List (List ℕ × Result Stored Refusal)
 mcf_refusals =

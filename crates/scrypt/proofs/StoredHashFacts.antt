@@ -22,7 +22,7 @@ or_true : (b : Bool) → (b || true) ≡ true
 or_true true = refl
 or_true false = refl
 
--- a text that is `$7`, or begins with `$7$`, is a `$7$` text
+-- a text that is `$7`, or begins with `$7$`, is a `$7$` hash
 pub seven_is_mcf : (text : List ℕ) → is_mcf_text text ≡ true → IsMcfText text mcf_id (fields_of text)
 unfolding is_mcf_text fields_of
 seven_is_mcf text seven = IsMcfText-from_parts text mcf_id (fields_of text) (at text seven) (lit< tt, refl)
@@ -114,13 +114,13 @@ whole_of_text text = at (formatted text)
     at (Some (PhcHash hash)) = phc_of_text (phc_params hash) hash.salt hash.hash (params_fault hash)
     at None = (no_password {A = Stored} (Err EncodingInvalid) tt).1
 
--- a text with the id `7` is read as a `$7$` text
+-- a text with the id `7` is read as a `$7$` hash
 pub mcf_is_seven : {text : List ℕ} {fields : List (List ℕ)} → IsMcfText text mcf_id fields → is_mcf_text text ≡ true
 unfolding is_mcf_text
 mcf_is_seven {fields = []} is = rw is.written refl
 mcf_is_seven {fields = field ∷ fields} is = rw is.written (or_true _)
 
--- the text of a PHC hash of scrypt is read as a PHC text
+-- the text of a PHC hash of scrypt is read as a PHC string
 pub scrypt_is_phc : {text : List ℕ} {hash : PasswordHash} → IsHashText text hash → hash.algorithm ≡ codes "scrypt"
     → is_mcf_text text ≡ false
 unfolding is_mcf_text

@@ -26,7 +26,7 @@ are_accepted log_n r p = (nat_lt 0 r && nat_lt 0 p) && (nat_lt (128 * r * 2 ^ lo
 unfoldable pub is_output_len : ℕ → Bool
 is_output_len n = nat_le 1 n && nat_le n max_output_len
 
--- whether a PHC text can have a key of this many bytes, if a length is given
+-- whether a PHC string can have a key of this many bytes, if a length is given
 unfoldable pub is_stored_len : Option ℕ → Bool
 is_stored_len None = true
 is_stored_len (Some n) = nat_le 10 n && nat_le n 64

@@ -37,13 +37,13 @@ pub mod Reading
 pub mod InBuffers
 -- the workspace of one derivation: the verdict in it, and its contents afterwards
 pub mod Workspace
--- parameters read from a PHC text
+-- parameters read from a PHC string
 pub mod PhcParams
 -- PHC hashes: how they are made and read
 pub mod PhcHash
 -- the results of the conversions between parameters and PHC values
 pub mod PhcConversions
--- five-letter numbers, and the parameters of a `$7$` text
+-- five-letter numbers, and the parameters of a `$7$` hash
 pub mod McfParams
 -- `$7$` hashes: how they are read and made
 pub mod McfHash

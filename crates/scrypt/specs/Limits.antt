@@ -18,29 +18,29 @@ work log_n r p = cost log_n r p + 128 * (r * p)
 -- whether a derivation with these parameters is within the limits on memory and work
 unfoldable pub are_within : Limits → Parameters → Bool
 are_within limits c =
-    nat_le (buffers_bytes c.log_n c.r c.p) limits.most_bytes && nat_le (work c.log_n c.r c.p) limits.most_work
+    nat_le (buffers_bytes c.log_n c.r c.p) limits.max_mem && nat_le (work c.log_n c.r c.p) limits.max_work
 
--- The number of tables, and of scratches, that fit into most_bytes bytes together with the chunks:
+-- The number of tables, and of scratches, that fit into max_mem bytes together with the chunks:
 -- at most four, at most p, and at least one, even if one does not fit.
 unfoldable pub tables_within : ℕ → Parameters → ℕ
-tables_within most_bytes c = max 1
-    (min (min 4 c.p) ((most_bytes - chunks_bytes c.r c.p) / (4 * table_words c.log_n c.r + 4 * scratch_words c.r)))
+tables_within max_mem c = max 1
+    (min (min 4 c.p) ((max_mem - chunks_bytes c.r c.p) / (4 * table_words c.log_n c.r + 4 * scratch_words c.r)))
 
 -- Buffers of these lengths are long enough for every derivation within these limits. The chunks
 -- have 128 * r * p bytes, which is no more than the work, and the scratch has 64 * r words.
 pub record SufficeFor (limits : Limits) (chunks table scratch : List ℕ) : Type 0 where
-  pub chunks_fit : min limits.most_bytes limits.most_work ≤ length chunks
-  pub table_fits : limits.most_bytes / 4 ≤ length table
-  pub scratch_fits : min (limits.most_bytes / 4) (limits.most_work / 2) ≤ length scratch
+  pub chunks_fit : min limits.max_mem limits.max_work ≤ length chunks
+  pub table_fits : limits.max_mem / 4 ≤ length table
+  pub scratch_fits : min (limits.max_mem / 4) (limits.max_work / 2) ≤ length scratch
 
 -- the limits, raised to admit a derivation with these parameters, but to at most 2 ^ 64 - 1 each
 abbrev pub admitting : Limits → Parameters → Limits
 admitting it c = record it {
-  most_bytes = min (max it.most_bytes (buffers_bytes c.log_n c.r c.p)) (2 ^ 64 - 1);
-  most_work = min (max it.most_work (work c.log_n c.r c.p)) (2 ^ 64 - 1);
+  max_mem = min (max it.max_mem (buffers_bytes c.log_n c.r c.p)) (2 ^ 64 - 1);
+  max_work = min (max it.max_work (work c.log_n c.r c.p)) (2 ^ 64 - 1);
 }
 
 -- the limits, raised (for the key, lowered) to admit hashes with these parameters and keys of n
 -- bytes: the limits of a hasher that makes such hashes
 abbrev pub limits_for_new : Limits → Parameters → ℕ → Limits
-limits_for_new usual c n = record (admitting usual c) { least_key_len = min usual.least_key_len n }
+limits_for_new defaults c n = record (admitting defaults c) { min_key_len = min defaults.min_key_len n }

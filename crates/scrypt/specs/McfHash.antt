@@ -12,7 +12,7 @@ use Rattle.scrypt.specs.McfParams.{field_params, params_text}
 use Rattle.scrypt.specs.Hashing.{HashingIsRefused, IsNamedOrNone, key_len_or_default}
 use Rattle.scrypt.specs.Reading.{◌and_then◌, Stored}
 
--- the id of `$7$` texts
+-- the id of `$7$` hashes
 abbrev pub mcf_id : List ℕ
 mcf_id = codes "7"
 

@@ -1,4 +1,4 @@
--- Five-letter numbers, and the parameters at the front of the first field of a `$7$` text of
+-- Five-letter numbers, and the parameters at the front of the first field of a `$7$` hash of
 -- crypt(5).
 use Rattle.std.specs.Prelude.{ℕ, nat_lt, if◌then◌else◌, List, ◌∷◌, ◌++◌, codes, length, slice_index, take, drop}
 use Rattle.std.specs.Prelude.{Option, None, ok_or, unwrap_or, Result, Err}

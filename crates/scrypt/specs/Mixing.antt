@@ -3,8 +3,8 @@ use Rattle.std.specs.Prelude.{◌≡◌, Bool, ℕ, ◌+◌, ◌-◌, ◌*◌, �
 use Rattle.scrypt_kernel.specs.Count.{AreCounted}
 use Rattle.scrypt.specs.Accepted.{Parameters}
 use Rattle.scrypt.specs.Cost.{chunks_bytes, cost, scratch_words, table_words, thin_scratch_words}
-use Rattle.scrypt.specs.Workspace.{IsRestKept, Workspace, chunks_at_once}
-use Rattle.scrypt.specs.declared.buffers.InUse.{InUse}
+use Rattle.scrypt.specs.Workspace.{IsRestKept, Workspace, interleaved_chunks}
+use Rattle.scrypt.specs.declared.buffers.ActiveBuffers.{ActiveBuffers}
 
 -- Memory, in words, for w tables and w scratches, so that w chunks can be interleaved. A table
 -- keeps one row in 2 ^ s, and w is 1 unless s is 0.
@@ -22,30 +22,30 @@ pub record HasTables (log_n s r w room scratch : ℕ) : Type 0 where
 unfoldable pub next_group : ℕ → ℕ → ℕ
 next_group w left = if nat_lt 2 w && nat_eq left (w + 1) then w - 1 else min w left
 
--- The number of chunks in the next group of a mixer that interleaves at most `most` chunks, with
+-- The number of chunks in the next group of a backend that interleaves at most `most` chunks, with
 -- this number of tables. Scalar code mixes two chunks one after the other.
 unfoldable pub group_by : ℕ → Bool → ℕ → ℕ → ℕ
-group_by most in_words tables left =
+group_by most scalar tables left =
     let n = next_group (min tables most) left in
-    if nat_eq n 2 && in_words then 1 else n
+    if nat_eq n 2 && scalar then 1 else n
 
 -- w of n chunks are interleaved in these buffers, which are long enough for them, and also in the
 -- part of the buffers that is used
 pub record IsWidth (log_n r n w : ℕ) (chunks table scratch : List ℕ) : Type 0 where
-  pub is : w ≡ chunks_at_once log_n r n (length table) (length scratch)
-  pub is_in_part : w ≡ chunks_at_once log_n r n (w * table_words log_n r) (w * scratch_words r)
+  pub is : w ≡ interleaved_chunks log_n r n (length table) (length scratch)
+  pub is_in_part : w ≡ interleaved_chunks log_n r n (w * table_words log_n r) (w * scratch_words r)
   pub chunks_fit : chunks_bytes r n ≤ length chunks
   pub memory : HasTables log_n 0 r w (length table) (length scratch)
 
 -- the memory of a derivation of n chunks with this N and r, with a table that keeps one row in 2 ^
 -- s; the width is the number of chunks that are interleaved in this memory
-pub record IsReady {M : Type 0} (room_of : M → ℕ) (log_n s r n : ℕ) (used : InUse M) : Type 0 where
+pub record IsReady {M : Type 0} (room_of : M → ℕ) (log_n s r n : ℕ) (used : ActiveBuffers M) : Type 0 where
   pub chunks_len : length used.chunks.now ≡ chunks_bytes r n
   pub memory : HasTables log_n s r used.width (room_of used.rows.now) (length used.scratch.now)
-  pub width : used.width ≡ chunks_at_once (log_n - s) r n (room_of used.rows.now) (length used.scratch.now)
+  pub width : used.width ≡ interleaved_chunks (log_n - s) r n (room_of used.rows.now) (length used.scratch.now)
 
 -- the same memory, with any contents
-pub record IsKept {M : Type 0} (room_of : M → ℕ) (before after : InUse M) : Type 0 where
+pub record IsKept {M : Type 0} (room_of : M → ℕ) (before after : ActiveBuffers M) : Type 0 where
   pub width : after.width ≡ before.width
   pub chunks : after.chunks.ghost_name ≡ before.chunks.ghost_name
   pub rows : after.rows.ghost_name ≡ before.rows.ghost_name
@@ -56,7 +56,7 @@ pub record IsKept {M : Type 0} (room_of : M → ℕ) (before after : InUse M) : 
   pub scratch_len : length after.scratch.now ≡ length before.scratch.now
 
 -- a derivation with these parameters was counted, and the chunks and the scratch are zeros
-pub record IsSpent {M : Type 0} (room_of : M → ℕ) (c : Parameters) (before after : InUse M) : Type 0 where
+pub record IsSpent {M : Type 0} (room_of : M → ℕ) (c : Parameters) (before after : ActiveBuffers M) : Type 0 where
   pub kept : IsKept room_of before after
   pub counted : AreCounted (cost c.log_n c.r c.p) before.cores.now after.cores.now
   pub chunks : after.chunks.now ≡ replicate (length before.chunks.now) 0
@@ -65,7 +65,7 @@ pub record IsSpent {M : Type 0} (room_of : M → ℕ) (c : Parameters) (before a
 -- A derivation with these parameters turned `used`, the front of the buffers, into `left`. The
 -- count went from the count of `used` to the count of `left`, the front of the chunks now holds the
 -- chunks of `left`, and each buffer is unchanged after its front.
-pub record IsAtFront {M : Type 0} (c : Parameters) (used left : InUse M) (before after : Workspace) : Type 0 where
+pub record IsAtFront {M : Type 0} (c : Parameters) (used left : ActiveBuffers M) (before after : Workspace) : Type 0 where
   pub counted_from : used.cores.now ≡ before.cores
   pub counted_to : after.cores ≡ left.cores.now
   pub chunks : take (chunks_bytes c.r c.p) after.chunks ≡ left.chunks.now

@@ -17,7 +17,7 @@ pub record AreMixed (b : List ℕ) (log_n r i : ℕ) (x : List ℕ) : Type 0 whe
 
 -- the block mixes that are done, of 2 * r cores each
 abbrev pub mixes_done : Parameters → Progress → ℕ
-mixes_done c at = at.chunks * all_mixes c.log_n + at.at_once * at.mixes
+mixes_done c at = at.chunks * all_mixes c.log_n + at.interleaved * at.mixes
 
 -- the block mixes left for each chunk of the current group
 abbrev pub lacking : Parameters → Progress → ℕ
@@ -26,17 +26,17 @@ lacking c at = all_mixes c.log_n - at.mixes
 -- At most p chunks are mixed or in the current group. The group has at most four chunks, and at
 -- least one unless all are mixed; not all of its block mixes are done.
 pub record IsWithin (c : Parameters) (at : Progress) : Type 0 where
-  pub chunks : at.chunks + at.at_once ≤ c.p
-  pub few : at.at_once ≤ 4
+  pub chunks : at.chunks + at.interleaved ≤ c.p
+  pub few : at.interleaved ≤ 4
   pub mixes : at.mixes < all_mixes c.log_n
-  pub some : at.chunks < c.p → 0 < at.at_once
+  pub some : at.chunks < c.p → 0 < at.interleaved
   pub ended : at.chunks ≡ c.p → at.mixes ≡ 0
 
--- a mixer that interleaves at most `most` chunks can mix n in one group: scalar code mixes two
+-- a backend that interleaves at most `most` chunks can mix n in one group: scalar code mixes two
 -- chunks one after the other
-pub record AreMixable (most : ℕ) (in_words : Bool) (n : ℕ) : Type 0 where
+pub record AreMixable (most : ℕ) (scalar : Bool) (n : ℕ) : Type 0 where
   pub few : n ≤ most
-  pub alone : in_words ≡ true → n ≢ 2
+  pub alone : scalar ≡ true → n ≢ 2
 
 -- B before step 2
 abbrev pub first_b : List ℕ → List ℕ → Parameters → List ℕ
@@ -49,4 +49,4 @@ words_from b r i k = words_of (part (128 * r) b (i + k))
 -- these buffers hold the derivation for this password and this salt at this progress
 pub record IsUnderWay (password salt : List ℕ) (c : Parameters) (at : Progress) (chunks table scratch : List ℕ) : Type 0 where
   pub mixed : AreMixed (first_b password salt c) c.log_n c.r at.chunks chunks
-  pub next : IsMixing pivot at.at_once (words_from (first_b password salt c) c.r at.chunks) (32 * c.r) c.log_n at.mixes table scratch
+  pub next : IsMixing pivot at.interleaved (words_from (first_b password salt c) c.r at.chunks) (32 * c.r) c.log_n at.mixes table scratch

@@ -10,11 +10,11 @@ use Rattle.scrypt.specs.McfHash.{read_mcf}
 use Rattle.scrypt.specs.PhcHash.{phc_params, read_phc}
 use Rattle.scrypt.specs.Reading.{◌and_then◌, Stored, mapped}
 
--- the text is `$7` or begins with `$7$`: it is read as a `$7$` text, and any other as a PHC text
+-- the text is `$7` or begins with `$7$`: it is read as a `$7$` hash, and any other as a PHC string
 unfoldable pub is_mcf_text : List ℕ → Bool
 is_mcf_text text = slice_index text 0 == 36 && slice_index text 1 == 55 && (length text == 2 || slice_index text 2 == 36)
 
--- a text in its format: a `$7$` text, or the hash that a PHC text encodes
+-- a text in its format: a `$7$` hash, or the hash that a PHC string encodes
 pub data Formatted : Type 0 where
   McfText : List ℕ → Formatted
   PhcHash : PasswordHash → Formatted

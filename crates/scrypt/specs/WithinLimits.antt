@@ -13,7 +13,7 @@ use Rattle.scrypt.specs.declared.limits.Limits.{Limits}
 abbrev pub within : Limits → Result Stored Refusal → Result Stored Refusal
 within limits reading = reading and_then λ s.
     if are_within limits s.params
-    then (if nat_le limits.least_key_len (length s.key) then Ok s else Err (KeyTooShort (length s.key)))
+    then (if nat_le limits.min_key_len (length s.key) then Ok s else Err (KeyTooShort (length s.key)))
     else Err (TooCostly (buffers_bytes s.params.log_n s.params.r s.params.p) (work s.params.log_n s.params.r s.params.p))
 
 -- the value of an error of a call with limits

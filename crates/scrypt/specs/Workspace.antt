@@ -32,12 +32,12 @@ LeftIn IsLeft chunks table scratch = (w : Workspace) × IsLeft (workspace_of chu
 
 -- the number of n chunks with this N and r that are interleaved in a table and a scratch of `table`
 -- and `scratch` words: at most four, each with a table and a scratch
-unfoldable pub chunks_at_once : ℕ → ℕ → ℕ → ℕ → ℕ → ℕ
-chunks_at_once log_n r n table scratch = min (min (min 4 n) (table / table_words log_n r)) (scratch / scratch_words r)
+unfoldable pub interleaved_chunks : ℕ → ℕ → ℕ → ℕ → ℕ → ℕ
+interleaved_chunks log_n r n table scratch = min (min (min 4 n) (table / table_words log_n r)) (scratch / scratch_words r)
 
 -- the number of tables and scratches that a derivation with these parameters uses in these buffers
 abbrev pub tables_used : Parameters → List ℕ → List ℕ → ℕ
-tables_used c table scratch = chunks_at_once c.log_n c.r c.p (length table) (length scratch)
+tables_used c table scratch = interleaved_chunks c.log_n c.r c.p (length table) (length scratch)
 
 -- each buffer is unchanged after the part that a derivation with these parameters used
 pub record IsRestKept (c : Parameters) (before after : Workspace) : Type 0 where

@@ -1,5 +1,5 @@
 // The workspace of a derivation: the lengths of its buffers ([`BufferLens`]), the caller's buffers,
-// allocated ones ([`OwnBuffers`]), and the part of either that is used ([`InUse`]).
+// allocated ones ([`OwnBuffers`]), and the part of either that is used ([`ActiveBuffers`]).
 
 ghost use Rattle.std.specs.Prelude.{◌≡◌, ◌⊎◌, ◌↔◌, ◌+◌, ◌-◌, ◌*◌, ◌<◌, ◌≤◌, length, IfOk, IfSome, IsSome, IsTrue, None};
 ghost use Rattle.scrypt_kernel.specs.Memory.{allocated_room, buffer_room};
@@ -7,7 +7,7 @@ ghost use Rattle.scrypt.specs.Cost.{chunks_bytes, scratch_words, table_words, th
 ghost use Rattle.scrypt.specs.InBuffers.{are_enough};
 ghost use Rattle.scrypt.specs.Limits.{tables_within};
 ghost use Rattle.scrypt.specs.Mixing.{HasTables, IsAtFront, IsKept, IsReady, IsSpent, IsWidth};
-ghost use Rattle.scrypt.specs.Workspace.{IsDone, chunks_at_once, workspace_of};
+ghost use Rattle.scrypt.specs.Workspace.{IsDone, interleaved_chunks, workspace_of};
 
 use crate::{CoreCount, Params};
 use scrypt_kernel::memory::{Allocated, Buffer};
@@ -53,19 +53,19 @@ impl BufferLens {
         }
     }
 
-    /// Returns the number of tables for a derivation whose three buffers may have `most_bytes`
+    /// Returns the number of tables for a derivation whose three buffers may have `max_mem`
     /// bytes together: as many as fit, at most four and at most `p`, but one even if it does not
     /// fit. [`BufferLens::for_tables`] returns the lengths.
     #[tactic(auto, unfolding(crate::specs::Limits::tables_within))]
-    pub fn tables_within(params: &Params, most_bytes: usize) -> usize
-        ensures exact { result ≡ tables_within most_bytes params.now }
+    pub fn tables_within(params: &Params, max_mem: usize) -> usize
+        ensures exact { result ≡ tables_within max_mem params.now }
         ensures some { 0 < result }
         ensures few { result ≤ 4 }
     {
         let one = BufferLens::of(params);
         params.expose_invariant();
         let each = 4 * one.table as u128 + 4 * one.scratch as u128;
-        let room = (most_bytes as u128).saturating_sub(one.chunks as u128);
+        let room = (max_mem as u128).saturating_sub(one.chunks as u128);
         let most = u128::from(params.p().min(4));
         (room / each).min(most).max(1) as usize
     }
@@ -112,9 +112,14 @@ impl BufferLens {
 
 /// Returns how many of `count` chunks are interleaved with a table and a scratch of these lengths
 /// in words: at most four, each with its own table and scratch.
-#[tactic(auto, using(crate::proofs::CostFacts::rooms), unfolding(crate::specs::Workspace::chunks_at_once))]
-pub(crate) fn chunks_at_once(params: &Params, count: usize, table: usize, scratch: usize) -> usize
-    ensures exact { result ≡ chunks_at_once params.now.log_n params.now.r count table scratch }
+#[tactic(auto, using(crate::proofs::CostFacts::rooms), unfolding(crate::specs::Workspace::interleaved_chunks))]
+pub(crate) fn interleaved_chunks(
+    params: &Params,
+    count: usize,
+    table: usize,
+    scratch: usize,
+) -> usize
+    ensures exact { result ≡ interleaved_chunks params.now.log_n params.now.r count table scratch }
     ensures some { (0 < result) ↔ ((0 < count)
         × (table_words params.now.log_n params.now.r ≤ table) × (scratch_words params.now.r ≤ scratch)) }
     ensures memory { 0 < result → HasTables params.now.log_n 0 params.now.r result table scratch }
@@ -141,7 +146,7 @@ fn width_in(
     ensures enough { IsSome result ↔ IsTrue (are_enough (record params.now { p = count }) chunks.now table.now scratch.now) }
     ensures width { IfSome result (λ w. IsWidth params.now.log_n params.now.r count w chunks.now table.now scratch.now) }
 {
-    let width = chunks_at_once(params, count as usize, table.len(), scratch.len());
+    let width = interleaved_chunks(params, count as usize, table.len(), scratch.len());
     params.expose_invariant();
     let chunk_len = 128 * u128::from(params.r());
     if width == 0 || u128::from(count) * chunk_len > chunks.len() as u128 {
@@ -153,7 +158,7 @@ fn width_in(
 /// The memory that derivations use: all chunks, memory for the rows of `width` tables, `width`
 /// scratches, so that `width` chunks are interleaved, and the count of cores.
 #[derive(Drop)]
-pub(crate) struct InUse<'a, M> {
+pub(crate) struct ActiveBuffers<'a, M> {
     pub(crate) width: usize,
     pub(crate) chunks: &'a mut [u8],
     pub(crate) rows: &'a mut M,
@@ -161,14 +166,14 @@ pub(crate) struct InUse<'a, M> {
     pub(crate) cores: &'a mut CoreCount,
 }
 
-impl<'a, M> InUse<'a, M> {
+impl<'a, M> ActiveBuffers<'a, M> {
     pub(crate) fn new(
         width: usize,
         chunks: &'a mut [u8],
         rows: &'a mut M,
         scratch: &'a mut [u32],
         cores: &'a mut CoreCount,
-    ) -> InUse<'a, M>
+    ) -> ActiveBuffers<'a, M>
         ensures value { result ≡ record {
           width = width;
           chunks = chunks.entry;
@@ -177,7 +182,7 @@ impl<'a, M> InUse<'a, M> {
           cores = cores.entry;
         } }
     {
-        InUse {
+        ActiveBuffers {
             width,
             chunks,
             rows,
@@ -190,7 +195,7 @@ impl<'a, M> InUse<'a, M> {
 /// Calls `derive` with `output` and with the front of the caller's buffers, the part that a
 /// derivation of `count` chunks uses. Returns the result of `derive`, or `None`, and then changes
 /// nothing, exactly if a buffer is too short.
-pub(crate) fn at_front<V, T, F: FnOnce(&mut InUse<'_, Buffer<'_>>, &mut [V]) -> T>(
+pub(crate) fn with_prefix<V, T, F: FnOnce(&mut ActiveBuffers<'_, Buffer<'_>>, &mut [V]) -> T>(
     params: &Params,
     count: u32,
     chunks: &mut [u8],
@@ -227,7 +232,7 @@ pub(crate) fn at_front<V, T, F: FnOnce(&mut InUse<'_, Buffer<'_>>, &mut [V]) -> 
     let (table, _) = table.split_at_mut(lens.table);
     let (scratch, _) = scratch.split_at_mut(lens.scratch);
     let mut rows = Buffer::new(table);
-    let mut used = InUse::new(width, chunks, &mut rows, scratch, cores);
+    let mut used = ActiveBuffers::new(width, chunks, &mut rows, scratch, cores);
     Some(derive(&mut used, output))
 }
 
@@ -267,19 +272,19 @@ impl OwnBuffers {
     pub(crate) fn allocate_within(
         alloc: Global,
         params: &Params,
-        most_bytes: usize,
+        max_mem: usize,
     ) -> Result<(usize, OwnBuffers), AllocError>
         ensures chunks { IfOk result (λ got. length got.1.chunks.items ≡ chunks_bytes params.now.r params.now.p) }
         ensures memory { IfOk result (λ got. HasTables params.now.log_n 0 params.now.r got.0
             (allocated_room got.1.table) (length got.1.scratch.items)) }
-        ensures width { IfOk result (λ got. (got.0 ≡ tables_within most_bytes params.now) ⊎ (got.0 ≡ 1)) }
+        ensures width { IfOk result (λ got. (got.0 ≡ tables_within max_mem params.now) ⊎ (got.0 ≡ 1)) }
         ensures table { IfOk result (λ got. allocated_room got.1.table ≡ got.0 * table_words params.now.log_n params.now.r) }
         ensures scratch { IfOk result (λ got. length got.1.scratch.items ≡ got.0 * scratch_words params.now.r) }
-        ensures used { IfOk result (λ got. got.0 ≡ chunks_at_once params.now.log_n params.now.r params.now.p
+        ensures used { IfOk result (λ got. got.0 ≡ interleaved_chunks params.now.log_n params.now.r params.now.p
             (allocated_room got.1.table) (length got.1.scratch.items)) }
     {
         params.expose_invariant();
-        let width = BufferLens::tables_within(params, most_bytes);
+        let width = BufferLens::tables_within(params, max_mem);
         if width > 1
             && let Ok(own) = OwnBuffers::allocate(alloc, &BufferLens::for_tables(params, width))
         {

@@ -13,9 +13,9 @@ ghost use Rattle.scrypt.specs.declared.errors.DeriveError.TheVariants.{InvalidOu
 
 pub(crate) mod mixing;
 
-use crate::buffers::{InUse, OwnBuffers, at_front};
+use crate::buffers::{ActiveBuffers, OwnBuffers, with_prefix};
 use crate::derivation::mixing::mix_all;
-use crate::{CoreCount, DeriveError, InvalidOutputLen, Mixer, Params, Vectors};
+use crate::{Backend, CoreCount, DeriveError, InvalidOutputLen, Params, Simd};
 use scrypt_kernel::memory::{Allocated, Buffer, TableMemory};
 use scrypt_kernel::pbkdf2::pbkdf2_counted;
 use std::alloc::Global;
@@ -79,21 +79,21 @@ pub fn scrypt_counted(
     ensures uncounted { OnErr result (cores.new ≡ cores.old) }
 {
     // A limit of 0 bytes selects one table.
-    scrypt_in_groups::<Vectors>(alloc, password, salt, params, 0, output, cores)
+    scrypt_with_max_mem::<Simd>(alloc, password, salt, params, 0, output, cores)
 }
 
-/// Derives the key as [`scrypt_counted`] does, in buffers that may have `most_bytes` bytes
+/// Derives the key as [`scrypt_counted`] does, in buffers that may have `max_mem` bytes
 /// together: it allocates [`BufferLens::tables_within`] tables and interleaves that many chunks. If
 /// this allocation fails, it uses one table.
 ///
 /// Returns `OutOfMemory` if an allocation for one table fails.
-#[tactic(auto, using(crate::proofs::AcceptedFacts::most_output_len))]
-pub fn scrypt_in_groups<W: Mixer>(
+#[tactic(auto, using(crate::proofs::AcceptedFacts::output_len_bound))]
+pub fn scrypt_with_max_mem<W: Backend>(
     alloc: Global,
     password: &[u8],
     salt: &[u8],
     params: &Params,
-    most_bytes: usize,
+    max_mem: usize,
     output: &mut [u8],
     cores: &mut CoreCount,
 ) -> Result<(), DeriveError>
@@ -109,8 +109,8 @@ pub fn scrypt_in_groups<W: Mixer>(
     if !output_len_ok(output.len()) {
         return Err(DeriveError::InvalidOutputLen);
     }
-    let (width, mut own) = OwnBuffers::allocate_within(alloc, params, most_bytes)?;
-    let mut used = InUse::new(
+    let (width, mut own) = OwnBuffers::allocate_within(alloc, params, max_mem)?;
+    let mut used = ActiveBuffers::new(
         width,
         &mut own.chunks,
         &mut own.table,
@@ -158,7 +158,7 @@ pub fn scrypt_with_buffers(
     ensures buffers { OnErr result ((chunks.new ≡ chunks.old) × (table.new ≡ table.old) × (scratch.new ≡ scratch.old)) }
     ensures uncounted { OnErr result (cores.new ≡ cores.old) }
 {
-    let derived = scrypt_at_front::<Vectors>(
+    let derived = scrypt_in_prefix::<Simd>(
         password, salt, params, chunks, table, scratch, output, cores,
     );
     match derived {
@@ -168,14 +168,14 @@ pub fn scrypt_with_buffers(
     }
 }
 
-/// Derives the key as [`scrypt_with_buffers`] does, by the mixer `W`, in buffers of any length. It
-/// uses only the front of each buffer, with the lengths of [`BufferLens::for_tables`] for the
+/// Derives the key as [`scrypt_with_buffers`] does, by the backend `W`, in buffers of any length.
+/// It uses only the front of each buffer, with the lengths of [`BufferLens::for_tables`] for the
 /// tables that fit, at most four and at most `p`. The rest of each buffer is unchanged.
 ///
 /// Returns `InvalidOutputLen` exactly if the length of `output` is not allowed, and otherwise
 /// `OutOfMemory` exactly if a buffer is too short. On an error nothing has changed.
-#[tactic(auto, using(crate::proofs::AcceptedFacts::most_output_len))]
-pub fn scrypt_at_front<W: Mixer>(
+#[tactic(auto, using(crate::proofs::AcceptedFacts::output_len_bound))]
+pub fn scrypt_in_prefix<W: Backend>(
     password: &[u8],
     salt: &[u8],
     params: &Params,
@@ -205,7 +205,7 @@ pub fn scrypt_at_front<W: Mixer>(
         return Err(DeriveError::InvalidOutputLen);
     }
     params.expose_invariant();
-    let derived = at_front(
+    let derived = with_prefix(
         params,
         params.p(),
         chunks,
@@ -259,14 +259,14 @@ pub fn scrypt_thin(
     ensures buffers { OnErr result ((chunks.new ≡ chunks.old) × (table.new ≡ table.old) × (scratch.new ≡ scratch.old)) }
     ensures uncounted { OnErr result (cores.new ≡ cores.old) }
 {
-    scrypt_thin_by::<Vectors>(
+    scrypt_thin_with_backend::<Simd>(
         password, salt, params, s, chunks, table, scratch, output, cores,
     )
 }
 
-/// Derives the key as [`scrypt_thin`] does, by the mixer `W`.
-#[tactic(auto, using(crate::proofs::AcceptedFacts::most_output_len))]
-pub fn scrypt_thin_by<W: Mixer>(
+/// Derives the key as [`scrypt_thin`] does, by the backend `W`.
+#[tactic(auto, using(crate::proofs::AcceptedFacts::output_len_bound))]
+pub fn scrypt_thin_with_backend<W: Backend>(
     password: &[u8],
     salt: &[u8],
     params: &Params,
@@ -298,19 +298,19 @@ pub fn scrypt_thin_by<W: Mixer>(
     }
     params.expose_invariant();
     let mut rows = Buffer::new(table);
-    let mut used = InUse::new(1, chunks, &mut rows, scratch, cores);
+    let mut used = ActiveBuffers::new(1, chunks, &mut rows, scratch, cores);
     derive_in::<Buffer<'_>, W>(password, salt, params, s, &mut used, output);
     Ok(())
 }
 
 /// Steps 1 to 3, in any memory, with a table that keeps one row in `2^s`.
 #[tactic(auto, unfolding(crate::specs::Key::derived_key))]
-pub(crate) fn derive_in<M: TableMemory, W: Mixer>(
+pub(crate) fn derive_in<M: TableMemory, W: Backend>(
     password: &[u8],
     salt: &[u8],
     params: &Params,
     s: u8,
-    used: &mut InUse<'_, M>,
+    used: &mut ActiveBuffers<'_, M>,
     output: &mut [u8],
 )
     requires ready { IsReady M.room params.now.log_n s params.now.r params.now.p used.old }

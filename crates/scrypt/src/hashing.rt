@@ -9,9 +9,9 @@ ghost use Rattle.scrypt.specs.KeyOfParams.{key_by};
 ghost use Rattle.scrypt.specs.Mixing.{IsReady, IsSpent};
 ghost use Rattle.password_hash.specs.declared.error.Error.TheVariants.{OutOfMemory};
 
-use crate::buffers::{InUse, OwnBuffers};
+use crate::buffers::{ActiveBuffers, OwnBuffers};
 use crate::derivation::derive_in;
-use crate::{CoreCount, Mixer, Params};
+use crate::{Backend, CoreCount, Params};
 use password_hash::phc::Output;
 use password_hash::{Error, Result, Version};
 use scrypt_kernel::memory::{Allocated, TableMemory};
@@ -50,7 +50,7 @@ fn is_named_or_none(name: &str, alg_id: Option<&str>) -> bool
 /// this order and before the first core: the chunks, the table and the scratch.
 ///
 /// Returns `OutOfMemory` if an allocation fails.
-pub(crate) fn key_allocating<W: Mixer>(
+pub(crate) fn key_allocating<W: Backend>(
     alloc: Global,
     password: &[u8],
     salt: &[u8],
@@ -62,7 +62,7 @@ pub(crate) fn key_allocating<W: Mixer>(
     // A limit of 0 bytes selects one table.
     let (width, mut own) = OwnBuffers::allocate_within(alloc, params, 0)?;
     let mut cores = CoreCount::new();
-    let mut used = InUse::new(
+    let mut used = ActiveBuffers::new(
         width,
         &mut own.chunks,
         &mut own.table,
@@ -74,11 +74,11 @@ pub(crate) fn key_allocating<W: Mixer>(
 
 /// Derives the same key as `key_allocating`, in any memory. Afterwards the chunks and the scratch
 /// are zeros.
-pub(crate) fn stored_key<M: TableMemory, W: Mixer>(
+pub(crate) fn stored_key<M: TableMemory, W: Backend>(
     password: &[u8],
     salt: &[u8],
     params: &Params,
-    used: &mut InUse<'_, M>,
+    used: &mut ActiveBuffers<'_, M>,
 ) -> Output
     requires ready { IsReady M.room params.now.log_n 0 params.now.r params.now.p used.old }
     ensures value { result ≡ key_by params.now password.now salt.now (key_len_or_default params.now) }

@@ -14,7 +14,7 @@ ghost use Rattle.scrypt.specs.declared.limits.Limits.{Limits};
 
 use crate::verifying::verify_in_buffers;
 use crate::{
-    BufferLens, CoreCount, DeriveError, Limits, Params, StoredHash, Vectors, scrypt_at_front,
+    BufferLens, CoreCount, DeriveError, Limits, Params, Simd, StoredHash, scrypt_in_prefix,
 };
 use std::alloc::{AllocError, Global};
 
@@ -50,16 +50,16 @@ impl Buffers {
         ensures enough { IfOk result (λ own.
             SufficeFor limits.now own.chunks.items own.table.items own.scratch.items) }
     {
-        let words = limits.most_bytes / 4;
+        let words = limits.max_mem / 4;
         let lens = BufferLens {
-            chunks: limits.most_bytes.min(limits.most_work as usize),
+            chunks: limits.max_mem.min(limits.max_work as usize),
             table: words,
-            scratch: words.min((limits.most_work / 2) as usize),
+            scratch: words.min((limits.max_work / 2) as usize),
         };
         Buffers::allocate(alloc, &lens)
     }
 
-    /// Writes the scrypt key of `password` and `salt` to `output`, as [`scrypt_at_front`] does in
+    /// Writes the scrypt key of `password` and `salt` to `output`, as [`scrypt_in_prefix`] does in
     /// these buffers. Does not allocate.
     ///
     /// Returns `InvalidOutputLen` exactly if the length of `output` is not allowed, and otherwise
@@ -81,7 +81,7 @@ impl Buffers {
             × (length self.new.table.items ≡ length self.old.table.items)
             × (length self.new.scratch.items ≡ length self.old.scratch.items) }
     {
-        scrypt_at_front::<Vectors>(
+        scrypt_in_prefix::<Simd>(
             password,
             salt,
             params,
@@ -112,7 +112,7 @@ impl Buffers {
         match hash.parts() {
             Ok(parts) => {
                 parts.params.expose_invariant();
-                verify_in_buffers::<Vectors>(
+                verify_in_buffers::<Simd>(
                     password,
                     parts,
                     &mut self.chunks,

@@ -55,14 +55,14 @@ pub fn chunks_in_any_order()
         → mixed_in_order log_n r b order ≡ mixed_chunks b log_n r p }
 {}
 
-/// Parameters that are written to a PHC text are read back as the same `log_n`, `r` and `p`.
+/// Parameters that are written to a PHC string are read back as the same `log_n`, `r` and `p`.
 #[tactic(auto, using(crate::proofs::PhcReadingFacts::written_read))]
 pub fn written_parameters_are_read_back()
     ensures read { (c : Parameters) → IsTrue (are_accepted c.log_n c.r c.p) → params_of_pairs (written_pairs c) ≡ Ok (without_len c) }
 {}
 
-/// A PHC text, an MCF text, a `$7$` text and a text of crypt Base64 each have at most one reading,
-/// and each reading has at most one text.
+/// A PHC string, an MCF string, a `$7$` hash and a text of crypt Base64 each have at most one
+/// reading, and each reading has at most one text.
 pub fn texts_have_one_reading()
     ensures phc_reading { (text : List ℕ) (one other : PasswordHash) → IsHashText text one → IsHashText text other
         → one ≡ other }
@@ -78,7 +78,7 @@ pub fn texts_have_one_reading()
     ensures crypt64_text { (bytes one other : List ℕ) → Crypt64 bytes one → Crypt64 bytes other → one ≡ other }
 {}
 
-/// A `$7$` text is read as the parts that it is the text of, if these are allowed, and as no other
+/// A `$7$` hash is read as the parts that it is the text of, if these are allowed, and as no other
 /// parts: it is `$7$`, the eleven letters of accepted parameters, a salt without a `$`, a `$`, and
 /// the crypt Base64 of a key of an accepted output length.
 pub fn mcf_texts_are_read()
@@ -86,7 +86,7 @@ pub fn mcf_texts_are_read()
 {}
 
 /// A hash made from a password with accepted parameters verifies against that password. A PHC hash
-/// does so also after it has been printed and parsed. A `$7$` text consists of the letters of the
+/// does so also after it has been printed and parsed. A `$7$` hash consists of the letters of the
 /// parameters, of the salt and of the key.
 #[tactic(auto, using(crate::proofs::PhcHashFacts::made_hashes, crate::proofs::McfTextFacts::made_text, password_hash::proofs::PhcReadingFacts::one_reading))]
 pub fn made_hashes_are_accepted()
@@ -125,10 +125,10 @@ pub fn parameters_are_those_of_the_reading()
 {}
 
 /// The text of a hash made from a password with accepted parameters verifies against that password,
-/// and is not weaker than these parameters ask for. A PHC text is read as the parameters, the salt
-/// and the key that it was made of, and it is within [`Limits::for_new`](crate::Limits::for_new),
-/// if the bytes and the work of its derivation are below `2^64` each. A key has the requested
-/// length.
+/// and is not weaker than these parameters ask for. A PHC string is read as the parameters, the
+/// salt and the key that it was made of, and it is within
+/// [`Limits::for_new`](crate::Limits::for_new), if the bytes and the work of its derivation are
+/// below `2^64` each. A key has the requested length.
 #[tactic(auto, using(crate::proofs::PhcHashFacts::made_hashes, crate::proofs::StoredHashFacts::made_texts, crate::proofs::KeyFacts::lengths, crate::proofs::ReadingFacts::made_within))]
 pub fn made_texts_are_accepted()
     ensures phc { (c : Parameters) (password salt : List ℕ) (hash : PasswordHash) → IsTrue (are_accepted c.log_n c.r c.p)
@@ -137,10 +137,10 @@ pub fn made_texts_are_accepted()
     ensures phc_read { (c : Parameters) (password salt : List ℕ) (hash : PasswordHash) → IsTrue (are_accepted c.log_n c.r c.p)
         → IsTrue (is_stored_len c.output_len) → IsSalt salt → IsMadeHash c password salt hash
         → reading (hash_text hash) ≡ Ok (record { params = without_len c; salt = salt; key = key_by c password salt (key_len_or_default c) }) }
-    ensures phc_within { (usual : Limits) (c : Parameters) (password salt : List ℕ) (hash : PasswordHash) (n : ℕ)
+    ensures phc_within { (defaults : Limits) (c : Parameters) (password salt : List ℕ) (hash : PasswordHash) (n : ℕ)
         → IsTrue (are_accepted c.log_n c.r c.p) → IsTrue (is_stored_len c.output_len) → IsSalt salt → IsMadeHash c password salt hash
         → n ≤ key_len_or_default c → buffers_bytes c.log_n c.r c.p < 2 ^ 64 → work c.log_n c.r c.p < 2 ^ 64
-        → within (limits_for_new usual c n) (reading (hash_text hash)) ≡ reading (hash_text hash) }
+        → within (limits_for_new defaults c n) (reading (hash_text hash)) ≡ reading (hash_text hash) }
     ensures key_len { (c : Parameters) (password salt : List ℕ) (n : ℕ) → length (key_by c password salt n) ≡ n }
     ensures mcf { (c : Parameters) (password salt text : List ℕ) → IsMadeMcf c password salt text
         → (verdict password (reading text) ≡ Ok tt) × (weaker c (reading text) ≡ Ok false) }
@@ -167,7 +167,7 @@ pub fn verdicts_compare_keys()
         ⊎ (reading ≡ Err PasswordInvalid) }
 {}
 
-/// Reading a `$7$` text, or the parameters of a PHC hash or of a stored hash, never gives
+/// Reading a `$7$` hash, or the parameters of a PHC hash or of a stored hash, never gives
 /// `PasswordInvalid`; and no reading gives `OutOfMemory`, `TooCostly` or `KeyTooShort`, which come
 /// after reading.
 #[tactic(auto, using(crate::proofs::StoredHashFacts::errors_of_reading))]
@@ -199,7 +199,7 @@ pub fn five_letters_are_inverse()
     ensures accepted { (log_n r p : ℕ) → IsTrue (are_accepted log_n r p) → (r < 2 ^ 30) × (p < 2 ^ 30) }
 {}
 
-/// The eleven letters that encode accepted parameters in `$7$` texts are equal exactly if `log_n`,
+/// The eleven letters that encode accepted parameters in `$7$` hashes are equal exactly if `log_n`,
 /// `r` and `p` are.
 #[tactic(auto, using(crate::proofs::McfTextFacts::params_letters_once))]
 pub fn letters_of_parameters_are_injective()
@@ -231,7 +231,7 @@ pub fn work_bounds_both_counts()
     ensures bounded { (password_len salt_len log_n r p n : ℕ) → cost log_n r p + 9 * hash_cost password_len salt_len r p n
         ≤ work log_n r p + 9 * lengths_cost password_len salt_len n }
     ensures within { (limits : Limits) (c : Parameters) (password_len salt_len n : ℕ) → IsTrue (are_within limits c)
-        → cost c.log_n c.r c.p + 9 * hash_cost password_len salt_len c.r c.p n ≤ limits.most_work + 9 * lengths_cost password_len salt_len n }
+        → cost c.log_n c.r c.p + 9 * hash_cost password_len salt_len c.r c.p n ≤ limits.max_work + 9 * lengths_cost password_len salt_len n }
 {}
 
 /// The diagonal order and the standard order are inverse to each other on whole blocks, and so are
@@ -275,5 +275,5 @@ pub fn conditions_are_inequalities()
     ensures enough { (c : Parameters) (chunks table scratch : List ℕ) → IsTrue (are_enough c chunks table scratch)
         ↔ ((chunks_bytes c.r c.p ≤ length chunks) × (table_words c.log_n c.r ≤ length table) × (scratch_words c.r ≤ length scratch)) }
     ensures within { (limits : Limits) (c : Parameters) → IsTrue (are_within limits c)
-        ↔ ((buffers_bytes c.log_n c.r c.p ≤ limits.most_bytes) × (work c.log_n c.r c.p ≤ limits.most_work)) }
+        ↔ ((buffers_bytes c.log_n c.r c.p ≤ limits.max_mem) × (work c.log_n c.r c.p ≤ limits.max_work)) }
 {}

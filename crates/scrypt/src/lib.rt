@@ -17,6 +17,7 @@
 #![tactic(auto)]
 
 mod algorithm;
+mod backends;
 mod buffers;
 mod comparing;
 mod derivation;
@@ -27,7 +28,6 @@ pub mod laws;
 mod limits;
 mod logins;
 pub mod mcf;
-mod mixers;
 mod params;
 pub mod phc;
 mod rehashing;
@@ -39,16 +39,16 @@ mod verifying;
 mod wiping;
 
 pub use algorithm::Scrypt;
+pub use backends::{Backend, Scalar, Simd, SimdPairs};
 pub use buffers::BufferLens;
 pub use derivation::{
-    output_len_ok, scrypt, scrypt_at_front, scrypt_counted, scrypt_in_groups, scrypt_thin,
-    scrypt_thin_by, scrypt_with_buffers,
+    output_len_ok, scrypt, scrypt_counted, scrypt_in_prefix, scrypt_thin, scrypt_thin_with_backend,
+    scrypt_with_buffers, scrypt_with_max_mem,
 };
 pub use errors::{DeriveError, InvalidOutputLen, InvalidParams, LimitedError};
 pub use kept::Buffers;
 pub use limits::Limits;
 pub use logins::{Login, verify_logins};
-pub use mixers::{Mixer, Pairs, Vectors, Words};
 pub use params::Params;
 pub use password_hash;
 pub use password_hash::kdf;

@@ -11,36 +11,36 @@ use crate::{BufferLens, Params};
 #[derive(Clone, Copy, Debug, PartialEq, Eq)]
 pub struct Limits {
     /// The maximum size of the three buffers in bytes ([`BufferLens::bytes`]).
-    pub most_bytes: usize,
+    pub max_mem: usize,
     /// The maximum work ([`Params::work`]): the cores of a derivation, and nine for each block that
     /// SHA-256 compresses, except for the blocks of a long password, salt or key.
-    pub most_work: u64,
+    pub max_work: u64,
     /// The minimum length of the key in bytes. A key of `n` bytes accepts about one wrong password
     /// in `256^n`.
-    pub least_key_len: usize,
+    pub min_key_len: usize,
 }
 
-const _: () = prove!(Limits::USUAL.most_bytes == 269484032 && Limits::USUAL.most_work == 16781312);
+const _: () = prove!(Limits::DEFAULT.max_mem == 269484032 && Limits::DEFAULT.max_work == 16781312);
 
-const _: () = prove!(Limits::USUAL.least_key_len == 16);
+const _: () = prove!(Limits::DEFAULT.min_key_len == 16);
 
 impl Limits {
     /// A table of 256 MiB and the two smaller buffers, four times the work of the recommended
     /// parameters, and a key of 16 bytes.
-    pub const USUAL: Limits = Limits {
-        most_bytes: 257 << 20,
-        most_work: 4 * 4 * ((1 << 17) + 32) * 8,
-        least_key_len: 16,
+    pub const DEFAULT: Limits = Limits {
+        max_mem: 257 << 20,
+        max_work: 4 * 4 * ((1 << 17) + 32) * 8,
+        min_key_len: 16,
     };
 
     /// Returns the default limits, raised (for the key, lowered) to admit hashes with these
     /// parameters and keys of `key_len` bytes: the limits of a hasher that makes such hashes.
     pub fn for_new(params: &Params, key_len: usize) -> Limits
-        ensures value { result ≡ limits_for_new Limits.USUAL params.now key_len }
+        ensures value { result ≡ limits_for_new Limits.DEFAULT params.now key_len }
     {
-        let admitting = Limits::USUAL.admitting(params);
+        let admitting = Limits::DEFAULT.admitting(params);
         Limits {
-            least_key_len: admitting.least_key_len.min(key_len),
+            min_key_len: admitting.min_key_len.min(key_len),
             ..admitting
         }
     }
@@ -53,10 +53,8 @@ impl Limits {
         let bytes = BufferLens::of(params).bytes();
         let work = params.work();
         Limits {
-            most_bytes: (self.most_bytes as u128)
-                .max(bytes)
-                .min(u128::from(u64::MAX)) as usize,
-            most_work: u128::from(self.most_work)
+            max_mem: (self.max_mem as u128).max(bytes).min(u128::from(u64::MAX)) as usize,
+            max_work: u128::from(self.max_work)
                 .max(work)
                 .min(u128::from(u64::MAX)) as u64,
             ..self
@@ -68,7 +66,7 @@ impl Limits {
     pub fn allow(&self, params: &Params) -> bool
         ensures exact { result ≡ are_within self.now params.now }
     {
-        BufferLens::of(params).bytes() <= self.most_bytes as u128
-            && params.work() <= u128::from(self.most_work)
+        BufferLens::of(params).bytes() <= self.max_mem as u128
+            && params.work() <= u128::from(self.max_work)
     }
 }

@@ -11,14 +11,14 @@ ghost use Rattle.scrypt.specs.Workspace.{IsLeft, verdict_in, workspace_of};
 ghost use Rattle.scrypt_kernel.specs.Count.{AreHashed};
 ghost use Rattle.scrypt_kernel.specs.Memory.{buffer_room};
 
-use crate::buffers::{InUse, at_front};
+use crate::buffers::{ActiveBuffers, with_prefix};
 use crate::comparing::is_derived_key;
 use crate::derivation::derive_chunks;
 use crate::derivation::mixing::mix_all;
 use crate::errors::LimitedError;
 use crate::stored_parts::StoredParts;
 use crate::verifying::{verdict, verify_in_buffers};
-use crate::{BufferLens, CoreCount, Mixer, Params, StoredHash};
+use crate::{Backend, BufferLens, CoreCount, Params, StoredHash};
 use scrypt_kernel::memory::Buffer;
 
 /// A password and the stored hash that it is verified against.
@@ -122,7 +122,7 @@ impl<'p, 't> Login<'p, 't> {
     }
 
     // Verifies this password separately.
-    fn verify_alone<W: Mixer>(
+    fn verify_alone<W: Backend>(
         &self,
         chunks: &mut [u8],
         table: &mut [u32],
@@ -161,7 +161,7 @@ impl<'p, 't> Login<'p, 't> {
 /// of `chunks` and `scratch` are zeros. `cores` counts the `4 * N * r * p` cores of each hash whose
 /// keys are compared, and the blocks that SHA-256 compresses, the same number as for verifying each
 /// separately.
-pub fn verify_logins<W: Mixer>(
+pub fn verify_logins<W: Backend>(
     logins: &[Login<'_, '_>],
     verdicts: &mut [Result<(), LimitedError>],
     chunks: &mut [u8],
@@ -179,7 +179,7 @@ pub fn verify_logins<W: Mixer>(
 {
     for i in 0..logins.len() {
         let (_, rest) = logins.split_at(i);
-        if verified_at_once::<W>(rest, &mut verdicts[i..], chunks, table, scratch, cores) {
+        if verified_in_batch::<W>(rest, &mut verdicts[i..], chunks, table, scratch, cores) {
             return;
         }
         verdicts[i] = logins[i].verify_alone::<W>(chunks, table, scratch, cores);
@@ -188,7 +188,7 @@ pub fn verify_logins<W: Mixer>(
 
 // Verifies all in one batch and returns true, or returns false if a buffer is too short for that,
 // or there is no login.
-fn verified_at_once<W: Mixer>(
+fn verified_in_batch<W: Backend>(
     logins: &[Login<'_, '_>],
     verdicts: &mut [Result<(), LimitedError>],
     chunks: &mut [u8],
@@ -211,7 +211,7 @@ fn verified_at_once<W: Mixer>(
     let Some((params, count)) = shared_params(logins) else {
         return false;
     };
-    let verified = at_front(
+    let verified = with_prefix(
         &params,
         count,
         chunks,
@@ -219,7 +219,7 @@ fn verified_at_once<W: Mixer>(
         scratch,
         cores,
         verdicts,
-        |used, verdicts| verify_at_once::<W>(logins, verdicts, &params, count, used),
+        |used, verdicts| verify_in_batch::<W>(logins, verdicts, &params, count, used),
     );
     match verified {
         Some(()) => true,
@@ -256,12 +256,12 @@ fn count_of(params: &Params, logins: &[Login<'_, '_>]) -> Option<u32>
 
 // Derives all keys in one batch and compares them. Afterwards the chunks and the scratch are zeros.
 #[tactic(auto, using(crate::proofs::LoginFacts::chunks_together))]
-fn verify_at_once<W: Mixer>(
+fn verify_in_batch<W: Backend>(
     logins: &[Login<'_, '_>],
     verdicts: &mut [Result<(), LimitedError>],
     params: &Params,
     count: u32,
-    used: &mut InUse<'_, Buffer<'_>>,
+    used: &mut ActiveBuffers<'_, Buffer<'_>>,
 )
     requires len { length verdicts.old ≡ length logins.now }
     requires count { count_of params.now (attempts logins.now) ≡ Some count }

@@ -8,5 +8,5 @@ mod verifying;
 pub use hashing::{hash, hash_with_buffers};
 pub use password_hash::phc::{Ident, Output, PasswordHash, Salt};
 
-/// The name of the algorithm in a PHC text.
+/// The name of the algorithm in a PHC string.
 pub const ALG_ID: Ident = Ident::SCRYPT;

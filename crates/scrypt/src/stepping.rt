@@ -17,10 +17,10 @@ ghost use Rattle.scrypt.specs.Stepping.{lacking, mixes_done, words_from};
 ghost use Rattle.scrypt.specs.declared.stepping.FinishError.TheVariants.{InvalidOutputLen as BadLength};
 ghost use Rattle.scrypt.specs.declared.stepping.FinishError.TheVariants.{Unfinished};
 
-use crate::buffers::chunks_at_once;
+use crate::buffers::interleaved_chunks;
 use crate::derivation::mixing::group_by;
 use crate::derivation::{derive_chunks, output_len_ok};
-use crate::{CoreCount, Mixer, Params};
+use crate::{Backend, CoreCount, Params};
 use scrypt_kernel::order::diagonal::{Both, Diagonal, Scalars};
 use scrypt_kernel::pbkdf2::pbkdf2_counted;
 use scrypt_kernel::steps::{begin_chunks, end_chunks, step_chunks};
@@ -35,7 +35,7 @@ pub struct Progress {
     pub chunks: usize,
     /// The number of chunks in the current group, which are interleaved. It is 0 once all chunks
     /// are mixed.
-    pub at_once: usize,
+    pub interleaved: usize,
     /// The number of block mixes that are done for each chunk of this group.
     pub mixes: usize,
 }
@@ -61,7 +61,7 @@ pub struct Cancelled;
 /// ([`BufferLens::for_tables`](crate::BufferLens::for_tables)). The contents of the buffers before
 /// the call do not matter. From then on they are only for [`step`] and [`finish`]; to abandon the
 /// derivation, the caller only has to wipe them.
-pub fn begin<W: Mixer>(
+pub fn begin<W: Backend>(
     password: &[u8],
     salt: &[u8],
     params: &Params,
@@ -75,9 +75,9 @@ pub fn begin<W: Mixer>(
     requires scratch { scratch_words params.now.r ≤ length scratch.old }
     ensures start { (result.chunks ≡ 0) × (result.mixes ≡ 0) }
     ensures within { IsWithin params.now result }
-    ensures mixable { AreMixable W.most W.in_words result.at_once }
-    ensures table { result.at_once * table_words params.now.log_n params.now.r ≤ length table.old }
-    ensures scratch { result.at_once * scratch_words params.now.r ≤ length scratch.old }
+    ensures mixable { AreMixable W.most W.scalar result.interleaved }
+    ensures table { result.interleaved * table_words params.now.log_n params.now.r ≤ length table.old }
+    ensures scratch { result.interleaved * scratch_words params.now.r ≤ length scratch.old }
     ensures under_way { IsUnderWay password.now salt.now params.now result chunks.new table.new
         scratch.new }
     ensures counted { AreHashed (pbkdf2_cost (length password.now) (length salt.now) (chunks_bytes
@@ -93,9 +93,9 @@ pub fn begin<W: Mixer>(
 /// that are left, and counts their cores, `2 * r` each. Returns the new progress.
 ///
 /// The buffers are the buffers of [`begin`], as it or the last step left them, `at` is the progress
-/// that this call returned, and the mixer is the same. With other buffers of these lengths the call
-/// is safe too, and takes the same time.
-pub fn step<W: Mixer>(
+/// that this call returned, and the backend is the same. With other buffers of these lengths the
+/// call is safe too, and takes the same time.
+pub fn step<W: Backend>(
     params: &Params,
     at: Progress,
     count: usize,
@@ -105,20 +105,20 @@ pub fn step<W: Mixer>(
     cores: &mut CoreCount,
 ) -> Progress
     requires within { IsWithin params.now at }
-    requires mixable { AreMixable W.most W.in_words at.at_once }
+    requires mixable { AreMixable W.most W.scalar at.interleaved }
     requires chunks { length chunks.old ≡ chunks_bytes params.now.r params.now.p }
-    requires table { at.at_once * table_words params.now.log_n params.now.r ≤ length table.old }
-    requires scratch { at.at_once * scratch_words params.now.r ≤ length scratch.old }
+    requires table { at.interleaved * table_words params.now.log_n params.now.r ≤ length table.old }
+    requires scratch { at.interleaved * scratch_words params.now.r ≤ length scratch.old }
     ensures within { IsWithin params.now result }
-    ensures mixable { AreMixable W.most W.in_words result.at_once }
-    ensures table { result.at_once * table_words params.now.log_n params.now.r ≤ length table.old }
-    ensures scratch { result.at_once * scratch_words params.now.r ≤ length scratch.old }
+    ensures mixable { AreMixable W.most W.scalar result.interleaved }
+    ensures table { result.interleaved * table_words params.now.log_n params.now.r ≤ length table.old }
+    ensures scratch { result.interleaved * scratch_words params.now.r ≤ length scratch.old }
     ensures under_way { (password : List ℕ) → (salt : List ℕ)
         → IsUnderWay password salt params.now at chunks.old table.old scratch.old
         → IsUnderWay password salt params.now result chunks.new table.new scratch.new }
     ensures ended { at.chunks ≡ params.now.p → result ≡ at }
     ensures exact { mixes_done params.now result
-        ≡ mixes_done params.now at + at.at_once * min count (lacking params.now at) }
+        ≡ mixes_done params.now at + at.interleaved * min count (lacking params.now at) }
     ensures counted { AreCountedAs true ((mixes_done params.now result - mixes_done params.now at)
         * (2 * params.now.r))
         cores.old cores.new }
@@ -127,12 +127,12 @@ pub fn step<W: Mixer>(
     if at.chunks == params.p() as usize {
         return at;
     }
-    let n = at.at_once;
+    let n = at.interleaved;
     let mixes = mix_more::<W>(params, n, at.mixes, count, table, scratch, cores);
     if mixes < 2usize << params.log_n() {
         return Progress {
             chunks: at.chunks,
-            at_once: n,
+            interleaved: n,
             mixes,
         };
     }
@@ -140,25 +140,28 @@ pub fn step<W: Mixer>(
     begin_group::<W>(params, at.chunks + n, chunks, table, scratch)
 }
 
-/// Returns whether a derivation with these parameters and this mixer can have this progress, in
+/// Returns whether a derivation with these parameters and this backend can have this progress, in
 /// buffers that are long enough: at most `p` chunks are mixed or in the current group, and fewer
 /// than `2 * N` block mixes are done for the group.
-pub fn is_within<W: Mixer>(params: &Params, at: Progress) -> bool
+pub fn is_within<W: Backend>(params: &Params, at: Progress) -> bool
     ensures exact { IsTrue result ↔ (IsWithin params.now at
-        × AreMixable W.most W.in_words at.at_once) }
+        × AreMixable W.most W.scalar at.interleaved) }
 {
     params.expose_invariant();
     let count = params.p() as usize;
-    if at.chunks > count || at.at_once > count - at.chunks || at.mixes >= 2usize << params.log_n() {
+    if at.chunks > count
+        || at.interleaved > count - at.chunks
+        || at.mixes >= 2usize << params.log_n()
+    {
         return false;
     }
-    if at.at_once > W::most_at_once() || W::is_in_words() && at.at_once == 2 {
+    if at.interleaved > W::max_interleave() || W::is_scalar() && at.interleaved == 2 {
         return false;
     }
     if at.chunks == count {
         at.mixes == 0
     } else {
-        at.at_once > 0
+        at.interleaved > 0
     }
 }
 
@@ -169,7 +172,7 @@ pub fn cores_done(params: &Params, at: Progress) -> u128
 {
     params.expose_invariant();
     let mixed = (at.chunks as u128) << (params.log_n() + 1);
-    let mixes = mixed + at.at_once as u128 * at.mixes as u128;
+    let mixes = mixed + at.interleaved as u128 * at.mixes as u128;
     mixes * (2 * u128::from(params.r()))
 }
 
@@ -178,7 +181,7 @@ pub fn cores_done(params: &Params, at: Progress) -> u128
 /// Returns `Unfinished` exactly if not all chunks are mixed, and otherwise `InvalidOutputLen`
 /// exactly if the length of `output` is not allowed. On an error nothing has changed. The buffers
 /// are the caller's to wipe.
-#[tactic(auto, using(crate::proofs::AcceptedFacts::most_output_len))]
+#[tactic(auto, using(crate::proofs::AcceptedFacts::output_len_bound))]
 pub fn finish(
     password: &[u8],
     params: &Params,
@@ -215,13 +218,13 @@ pub fn finish(
     Ok(())
 }
 
-/// Derives the key as [`scrypt_with_buffers`](crate::scrypt_with_buffers) does, by the mixer `W`,
+/// Derives the key as [`scrypt_with_buffers`](crate::scrypt_with_buffers) does, by the backend `W`,
 /// in steps of `count` block mixes of each chunk of a group. After each step it calls `go_on` with
 /// the number of cores that are done, of `4 * N * r * p` in all.
 ///
 /// Returns `Cancelled` as soon as `go_on` returns `false`, and then `output` is unchanged. The
 /// caller has to wipe the buffers.
-pub fn scrypt_in_steps<W: Mixer, F: FnMut(u128) -> bool>(
+pub fn scrypt_in_steps<W: Backend, F: FnMut(u128) -> bool>(
     password: &[u8],
     salt: &[u8],
     params: &Params,
@@ -265,7 +268,7 @@ pub fn scrypt_in_steps<W: Mixer, F: FnMut(u128) -> bool>(
 
 // Does `count` more mixes of each of `n` chunks, after the first `done`, or all that are left.
 // Returns how many are done then.
-fn mix_more<W: Mixer>(
+fn mix_more<W: Backend>(
     params: &Params,
     n: usize,
     done: usize,
@@ -276,7 +279,7 @@ fn mix_more<W: Mixer>(
 ) -> usize
     requires some { 0 < n }
     requires few { n ≤ 4 }
-    requires mixable { AreMixable W.most W.in_words n }
+    requires mixable { AreMixable W.most W.scalar n }
     requires done { done ≤ all_mixes params.now.log_n }
     requires table { n * table_words params.now.log_n params.now.r ≤ length table.old }
     requires scratch { n * scratch_words params.now.r ≤ length scratch.old }
@@ -290,22 +293,22 @@ fn mix_more<W: Mixer>(
     params.expose_invariant();
     let r = params.r() as usize;
     let log_n = params.log_n();
-    // A mixer's results are constants, so that the compiler leaves out the groups that it never
+    // A backend's results are constants, so that the compiler leaves out the groups that it never
     // mixes.
     match n {
-        1 if W::is_in_words() => {
+        1 if W::is_scalar() => {
             step_chunks::<Diagonal<Scalars>>(r, table, scratch, log_n, done, count, cores)
         }
         1 => step_chunks::<Diagonal<u32x4>>(r, table, scratch, log_n, done, count, cores),
-        2 if !W::is_in_words() => {
+        2 if !W::is_scalar() => {
             step_chunks::<Diagonal<u32x8>>(r, table, scratch, log_n, done, count, cores)
         }
-        3 if W::most_at_once() > 2 => {
+        3 if W::max_interleave() > 2 => {
             step_chunks::<Diagonal<Both<u32x8, u32x4>>>(
                 r, table, scratch, log_n, done, count, cores,
             )
         }
-        4 if W::most_at_once() > 3 => {
+        4 if W::max_interleave() > 3 => {
             step_chunks::<Diagonal<Both<u32x8, u32x8>>>(
                 r, table, scratch, log_n, done, count, cores,
             )
@@ -315,7 +318,7 @@ fn mix_more<W: Mixer>(
 }
 
 // Begins the next group after the first `i` chunks, if any chunk is left.
-fn begin_group<W: Mixer>(
+fn begin_group<W: Backend>(
     params: &Params,
     i: usize,
     chunks: &[u8],
@@ -328,9 +331,9 @@ fn begin_group<W: Mixer>(
     requires scratch { scratch_words params.now.r ≤ length scratch.old }
     ensures start { (result.chunks ≡ i) × (result.mixes ≡ 0) }
     ensures within { IsWithin params.now result }
-    ensures mixable { AreMixable W.most W.in_words result.at_once }
-    ensures table { result.at_once * table_words params.now.log_n params.now.r ≤ length table.old }
-    ensures scratch { result.at_once * scratch_words params.now.r ≤ length scratch.old }
+    ensures mixable { AreMixable W.most W.scalar result.interleaved }
+    ensures table { result.interleaved * table_words params.now.log_n params.now.r ≤ length table.old }
+    ensures scratch { result.interleaved * scratch_words params.now.r ≤ length scratch.old }
     ensures under_way { (password : List ℕ) → (salt : List ℕ)
         → AreMixed (first_b password salt params.now) params.now.log_n params.now.r i chunks.now
         → IsUnderWay password salt params.now result chunks.now table.new scratch.new }
@@ -340,16 +343,16 @@ fn begin_group<W: Mixer>(
     if i == count {
         return Progress {
             chunks: i,
-            at_once: 0,
+            interleaved: 0,
             mixes: 0,
         };
     }
-    let tables = chunks_at_once(params, count, table.len(), scratch.len());
+    let tables = interleaved_chunks(params, count, table.len(), scratch.len());
     let n = group_by::<W>(tables, count - i);
     write_first_rows(params, i, n, chunks, table, scratch);
     Progress {
         chunks: i,
-        at_once: n,
+        interleaved: n,
         mixes: 0,
     }
 }

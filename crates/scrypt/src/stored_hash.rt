@@ -17,14 +17,14 @@ use crate::mcf::reading::parts_of_mcf;
 use crate::phc::reading::{parts_of_phc, read_params};
 use crate::stored_parts::StoredParts;
 use crate::verifying::{verify_allocating, verify_in_buffers};
-use crate::{BufferLens, CoreCount, Mixer, Params, Vectors};
+use crate::{Backend, BufferLens, CoreCount, Params, Simd};
 use password_hash::{Error, Result, mcf, phc};
 use std::alloc::Global;
 use std::marker::Model;
 
-/// A stored hash of either format, a PHC text or a `$7$` text, borrowed from its text.
+/// A stored hash of either format, a PHC string or a `$7$` hash, borrowed from its text.
 ///
-/// A text that is `$7` or begins with `$7$` is read as a `$7$` text, and any other as a PHC text.
+/// A text that is `$7` or begins with `$7$` is read as a `$7$` hash, and any other as a PHC string.
 #[derive(Drop)]
 pub struct StoredHash<'a> {
     text: &'a str,
@@ -45,7 +45,7 @@ impl<'a> Model for StoredHash<'a> {
 }
 
 impl<'a> StoredHash<'a> {
-    /// Reads the text of a hash. The salt of a `$7$` text may have any characters but `$`. Does not
+    /// Reads the text of a hash. The salt of a `$7$` hash may have any characters but `$`. Does not
     /// allocate.
     ///
     /// Returns `EncodingInvalid` if `text` does not have its format. Errors of the parameters, the
@@ -134,7 +134,7 @@ impl<'a> StoredHash<'a> {
     pub fn verify(&self, alloc: Global, password: &[u8]) -> Result<()>
         ensures verdict { IsVerdict password.now (reading self.now) (with_refusal result) }
     {
-        self.verify_counted::<Vectors>(alloc, password, &mut CoreCount::new())
+        self.verify_counted::<Simd>(alloc, password, &mut CoreCount::new())
     }
 
     /// Returns whether the hash accepts `password`. A hash without a salt or a key accepts no
@@ -153,12 +153,12 @@ impl<'a> StoredHash<'a> {
         }
     }
 
-    /// Verifies as [`StoredHash::verify`] does, by the mixer `W`, and counts the `4 * N * r * p`
+    /// Verifies as [`StoredHash::verify`] does, by the backend `W`, and counts the `4 * N * r * p`
     /// cores of the hash's parameters, and the blocks that SHA-256 compresses: the same number as
     /// for deriving a key of the stored key's length.
     ///
     /// Unless the keys are compared, the count is unchanged.
-    pub fn verify_counted<W: Mixer>(
+    pub fn verify_counted<W: Backend>(
         &self,
         alloc: Global,
         password: &[u8],
@@ -226,7 +226,7 @@ impl<'a> StoredHash<'a> {
     /// Returns the same errors in the same order, and `OutOfMemory` exactly if the hash can be read
     /// and a buffer is too short for it. Unless the keys are compared, the buffers and the count
     /// are unchanged.
-    pub fn verify_with_buffers<W: Mixer>(
+    pub fn verify_with_buffers<W: Backend>(
         &self,
         password: &[u8],
         chunks: &mut [u8],

@@ -10,7 +10,7 @@ use crate::Params;
 use password_hash::mcf::Field;
 use password_hash::phc;
 
-/// The salt of a hash of either format. The salt of a `$7$` text is part of the text, and is not
+/// The salt of a hash of either format. The salt of a `$7$` hash is part of the text, and is not
 /// decoded.
 #[derive(Clone, Copy)]
 pub(crate) enum Salt<'a> {
@@ -30,7 +30,7 @@ impl<'a> Salt<'a> {
     }
 }
 
-/// The key of a hash of either format. The key of a `$7$` text is a field of the text, and is not
+/// The key of a hash of either format. The key of a `$7$` hash is a field of the text, and is not
 /// decoded.
 #[derive(Clone, Copy)]
 pub(crate) enum Key<'a> {
@@ -69,7 +69,7 @@ pub(crate) struct StoredParts<'a> {
 
 impl<'a> StoredParts<'a> {
     /// Proof hint: exposes that the key is no longer than PBKDF2 can derive.
-    #[tactic(auto, using(crate::proofs::AcceptedFacts::most_output_len))]
+    #[tactic(auto, using(crate::proofs::AcceptedFacts::output_len_bound))]
     pub(crate) fn expose_key_len(&self)
         ensures { self.now.key_len ≤ max_output_len }
     {

@@ -10,12 +10,12 @@ ghost use Rattle.scrypt.specs.Reading.{IsVerdict, is_right, verify_cost, with_re
 ghost use Rattle.scrypt.specs.StoredParts.{stored};
 ghost use Rattle.scrypt.specs.Workspace.{IsLeft, hashed_in, verdict_in, workspace_of};
 
-use crate::buffers::{InUse, OwnBuffers, at_front};
+use crate::buffers::{ActiveBuffers, OwnBuffers, with_prefix};
 use crate::comparing::is_derived_key;
 use crate::derivation::derive_chunks;
 use crate::derivation::mixing::mix_all;
 use crate::stored_parts::StoredParts;
-use crate::{CoreCount, Mixer};
+use crate::{Backend, CoreCount};
 use password_hash::{Error, Result};
 use scrypt_kernel::memory::{Allocated, Buffer, TableMemory};
 use std::alloc::Global;
@@ -34,10 +34,10 @@ pub(crate) fn verdict(same: bool) -> Result<()>
 
 // Derives a key of the stored key's length, in any memory, and returns whether it is the stored
 // key. Afterwards the chunks and the scratch are zeros.
-fn is_key_of<M: TableMemory, W: Mixer>(
+fn is_key_of<M: TableMemory, W: Backend>(
     password: &[u8],
     parts: &StoredParts<'_>,
-    used: &mut InUse<'_, M>,
+    used: &mut ActiveBuffers<'_, M>,
 ) -> bool
     requires ready { IsReady M.room parts.now.params.log_n 0 parts.now.params.r parts.now.params.p used.old }
     ensures exact { result ≡ is_right password.now (stored parts.now) }
@@ -67,7 +67,7 @@ fn is_key_of<M: TableMemory, W: Mixer>(
 ///
 /// Returns `OutOfMemory` if an allocation fails, before the first core, and otherwise
 /// `PasswordInvalid` if the keys differ.
-pub(crate) fn verify_allocating<W: Mixer>(
+pub(crate) fn verify_allocating<W: Backend>(
     alloc: Global,
     password: &[u8],
     parts: &StoredParts<'_>,
@@ -82,7 +82,7 @@ pub(crate) fn verify_allocating<W: Mixer>(
 {
     // A limit of 0 bytes selects one table.
     let (width, mut own) = OwnBuffers::allocate_within(alloc, &parts.params, 0)?;
-    let mut used = InUse::new(
+    let mut used = ActiveBuffers::new(
         width,
         &mut own.chunks,
         &mut own.table,
@@ -97,7 +97,7 @@ pub(crate) fn verify_allocating<W: Mixer>(
 /// Returns `OutOfMemory`, and changes nothing, exactly if a buffer is too short for the parameters,
 /// and otherwise `PasswordInvalid` if the keys differ.
 #[tactic(auto, using(crate::proofs::ReadingFacts::not_enough))]
-pub(crate) fn verify_in_buffers<W: Mixer>(
+pub(crate) fn verify_in_buffers<W: Backend>(
     password: &[u8],
     parts: &StoredParts<'_>,
     chunks: &mut [u8],
@@ -114,7 +114,7 @@ pub(crate) fn verify_in_buffers<W: Mixer>(
 {
     let params = &parts.params;
     params.expose_invariant();
-    let same = at_front(
+    let same = with_prefix(
         params,
         params.p(),
         chunks,

@@ -9,7 +9,7 @@ pub mod Statuses
 -- the statuses of a cost within limits
 pub mod Limits
 -- the cost of a derivation
-pub mod Needs
+pub mod Cost
 -- the parameters of new hashes, and how their texts are copied to the caller
 pub mod Made
 -- several verdicts in the caller's buffers

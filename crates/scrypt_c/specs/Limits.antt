@@ -7,25 +7,25 @@ use Rattle.scrypt.specs.declared.limits.Limits.{Limits}
 
 -- these limits
 abbrev pub limits_of : ℕ → ℕ → ℕ → Limits
-limits_of most_bytes most_work least_key_len =
-    record { most_bytes = most_bytes; most_work = most_work; least_key_len = least_key_len }
+limits_of max_mem max_work min_key_len =
+    record { max_mem = max_mem; max_work = max_work; min_key_len = min_key_len }
 
 -- these parameters, without a length
 abbrev pub params_of : ℕ → ℕ → ℕ → Parameters
 params_of log_n r p = record { log_n = log_n; r = r; p = p; output_len = None }
 
 -- The size limit for the buffers of a key, in bytes: the size with all tables that fit into
--- `most_bytes`, up to `most_tables`. If a table has fewer than 2 ^ 14 words, interleaving is
+-- `max_mem`, up to `max_tables`. If a table has fewer than 2 ^ 14 words, interleaving is
 -- slower: then the limit is 0, which selects one table.
 unfoldable pub bytes_that_pay : ℕ → ℕ → Parameters → ℕ
-bytes_that_pay most_tables most_bytes c =
-    let tables = min (tables_within most_bytes c) most_tables in
+bytes_that_pay max_tables max_mem c =
+    let tables = min (tables_within max_mem c) max_tables in
     if nat_lt (table_words c.log_n c.r) (2 ^ 14) then 0
-    else min (chunks_bytes c.r c.p + 4 * (tables * table_words c.log_n c.r) + 4 * (tables * scratch_words c.r)) most_bytes
+    else min (chunks_bytes c.r c.p + 4 * (tables * table_words c.log_n c.r) + 4 * (tables * scratch_words c.r)) max_mem
 
 -- the status of a cost: 0, or that the parameters are not accepted or exceed the limits
-pub record IsNeedStatus (most_bytes most_work log_n r p : ℕ) (status : ℤ) : Type 0 where
+pub record IsNeedStatus (max_mem max_work log_n r p : ℕ) (status : ℤ) : Type 0 where
   pub params : (status ≡ pos 2) ↔ (¬ IsTrue (are_accepted log_n r p))
   pub costly : (status ≡ pos 13)
-      ↔ (IsTrue (are_accepted log_n r p) × (¬ IsTrue (are_within (limits_of most_bytes most_work 0) (params_of log_n r p))))
+      ↔ (IsTrue (are_accepted log_n r p) × (¬ IsTrue (are_within (limits_of max_mem max_work 0) (params_of log_n r p))))
   pub one : (status ≡ pos 0) ⊎ (status ≡ pos 2) ⊎ (status ≡ pos 13)

@@ -22,8 +22,8 @@ use scrypt::laws::reading_names_no_password;
 use scrypt::{CoreCount, Limits, Params, mcf, phc};
 use std::alloc::Global;
 
-/// Writes the PHC text of the hash of `password` and `salt` to the start of `text`, and its length
-/// to `text_len`. The key has `key_len` bytes.
+/// Writes the PHC string of the hash of `password` and `salt` to the start of `text`, and its
+/// length to `text_len`. The key has `key_len` bytes.
 ///
 /// Returns `OK`, or the first of these: `INVALID_PARAMS` unless `log_n`, `r` and `p` are accepted
 /// and the key has 10 to 64 bytes; `SALT_INVALID` unless the salt has 1 to 64 bytes;
@@ -63,7 +63,7 @@ pub extern "C" fn scrypt_hash_phc(
     }
 }
 
-/// Writes the `$7$` text of the hash of `password` and `salt` to the start of `text`, and its
+/// Writes the `$7$` hash of the hash of `password` and `salt` to the start of `text`, and its
 /// length to `text_len`. The key has `key_len` bytes.
 ///
 /// Returns `OK`, or the first of these: `INVALID_PARAMS` unless `log_n`, `r` and `p` are accepted
@@ -141,7 +141,7 @@ pub extern "C" fn scrypt_hash_params(
 /// Verifies the password against the text of a hash, with the parameters, the salt and the key
 /// length that the text encodes. All bytes of the two keys are compared.
 ///
-/// A text that is `$7` or begins with `$7$` is read as a `$7$` text, and any other as a PHC text.
+/// A text that is `$7` or begins with `$7$` is read as a `$7$` hash, and any other as a PHC string.
 /// Returns `OK` if the password has the same key as the hash, and otherwise `ENCODING_INVALID` if
 /// the bytes are not UTF-8, or the status of the error of `StoredHash::read` or
 /// `StoredHash::verify`.
@@ -164,29 +164,29 @@ pub extern "C" fn scrypt_verify(alloc: Global, password: &[u8], text: &[u8]) -> 
 ///
 /// Returns the errors of `scrypt_verify` for a hash that cannot be read, including `MISMATCH` if it
 /// has no salt or no key; then `TOO_COSTLY` if the buffers with one table have more than
-/// `most_bytes` bytes in total, or if the work, `4 * (2^log_n + 32) * r * p`, exceeds `most_work`;
-/// `KEY_TOO_SHORT` if the key has fewer than `least_key_len` bytes; `OUT_OF_MEMORY`; and `MISMATCH`
+/// `max_mem` bytes in total, or if the work, `4 * (2^log_n + 32) * r * p`, exceeds `max_work`;
+/// `KEY_TOO_SHORT` if the key has fewer than `min_key_len` bytes; `OUT_OF_MEMORY`; and `MISMATCH`
 /// if the keys differ.
 #[unsafe(no_mangle)]
-pub extern "C" fn scrypt_verify_within(
+pub extern "C" fn scrypt_verify_limited(
     alloc: Global,
     password: &[u8],
     text: &[u8],
-    most_bytes: usize,
-    most_work: u64,
-    least_key_len: usize,
+    max_mem: usize,
+    max_work: u64,
+    min_key_len: usize,
 ) -> i32
     ensures status { IsVerifyStatus password.now
-        (within (limits_of most_bytes most_work least_key_len) (bytes_reading text.now)) result }
+        (within (limits_of max_mem max_work min_key_len) (bytes_reading text.now)) result }
 {
     let hash = match stored_hash(text) {
         Ok(hash) => hash,
         Err(error) => return status_of(error),
     };
     let limits = Limits {
-        most_bytes,
-        most_work,
-        least_key_len,
+        max_mem,
+        max_work,
+        min_key_len,
     };
     match hash.within(&limits) {
         Ok(hash) => verify_status(hash.verify_counted::<Target>(

@@ -26,8 +26,8 @@ use crate::texts::stored_hash;
 use password_hash::Result;
 use scrypt::laws::parameters_are_those_of_the_reading;
 use scrypt::{
-    BufferLens, CoreCount, FinishError, Limits, Mixer, Params, Progress, StoredHash, begin, finish,
-    is_within, step,
+    Backend, BufferLens, CoreCount, FinishError, Limits, Params, Progress, StoredHash, begin,
+    finish, is_within, step,
 };
 
 /// Begins a key in steps. It runs no core yet: `scrypt_key_step` does, and `scrypt_key_finish`
@@ -58,9 +58,9 @@ pub extern "C" fn scrypt_key_begin(
     ensures start { result ≡ OK → (at.new.chunks ≡ 0) × (at.new.mixes ≡ 0) }
     ensures within { result ≡ OK
         → CanBe log_n r p at.new
-        × AreMixable ⟦<Target as Mixer>⟧.most ⟦<Target as Mixer>⟧.in_words at.new.at_once }
+        × AreMixable ⟦<Target as Backend>⟧.most ⟦<Target as Backend>⟧.scalar at.new.interleaved }
     ensures fits { result ≡ OK
-        → AreForSteps log_n r p at.new.at_once chunks.new table.new scratch.new }
+        → AreForSteps log_n r p at.new.interleaved chunks.new table.new scratch.new }
     ensures under_way { result ≡ OK
         → HasCome password.now salt.now log_n r p at.new chunks.new table.new scratch.new }
     ensures unchanged { result ≢ OK
@@ -84,8 +84,8 @@ pub extern "C" fn scrypt_key_begin(
 ///
 /// Returns `OK`, or the first of these, and then nothing has changed: `INVALID_PARAMS`;
 /// `BUFFER_SIZE` unless the chunks have exactly their length and the table and the scratch have
-/// capacity for `at.at_once` chunks; and `INVALID_PROGRESS` unless a key with these parameters can
-/// have this progress on this processor.
+/// capacity for `at.interleaved` chunks; and `INVALID_PROGRESS` unless a key with these parameters
+/// can have this progress on this processor.
 #[unsafe(no_mangle)]
 pub extern "C" fn scrypt_key_step(
     log_n: u8,
@@ -99,25 +99,25 @@ pub extern "C" fn scrypt_key_step(
 ) -> i32
     ensures params { (result ≡ INVALID_PARAMS) ↔ (¬ IsTrue (are_accepted log_n r p)) }
     ensures buffers { (result ≡ BUFFER_SIZE) ↔ (IsTrue (are_accepted log_n r p)
-        × ¬ AreForSteps log_n r p at.old.at_once chunks.old table.old scratch.old) }
+        × ¬ AreForSteps log_n r p at.old.interleaved chunks.old table.old scratch.old) }
     ensures status { (result ≡ OK) ⊎ (result ≡ INVALID_PARAMS) ⊎ (result ≡ BUFFER_SIZE)
         ⊎ (result ≡ INVALID_PROGRESS) }
     ensures before { result ≡ OK
         → CanBe log_n r p at.old
-        × AreMixable ⟦<Target as Mixer>⟧.most ⟦<Target as Mixer>⟧.in_words at.old.at_once }
+        × AreMixable ⟦<Target as Backend>⟧.most ⟦<Target as Backend>⟧.scalar at.old.interleaved }
     ensures within { result ≡ OK
         → CanBe log_n r p at.new
-        × AreMixable ⟦<Target as Mixer>⟧.most ⟦<Target as Mixer>⟧.in_words at.new.at_once }
+        × AreMixable ⟦<Target as Backend>⟧.most ⟦<Target as Backend>⟧.scalar at.new.interleaved }
     ensures fits { result ≡ OK
-        → AreForSteps log_n r p at.new.at_once chunks.new table.new scratch.new }
+        → AreForSteps log_n r p at.new.interleaved chunks.new table.new scratch.new }
     ensures outside { result ≡ INVALID_PROGRESS
         → ¬ (CanBe log_n r p at.old
-        × AreMixable ⟦<Target as Mixer>⟧.most ⟦<Target as Mixer>⟧.in_words at.old.at_once) }
+        × AreMixable ⟦<Target as Backend>⟧.most ⟦<Target as Backend>⟧.scalar at.old.interleaved) }
     ensures under_way { result ≡ OK → (password : List ℕ) → (salt : List ℕ)
         → HasCome password salt log_n r p at.old chunks.old table.old scratch.old
         → HasCome password salt log_n r p at.new chunks.new table.new scratch.new }
     ensures exact { result ≡ OK → done_in_all log_n r p at.new
-        ≡ done_in_all log_n r p at.old + at.old.at_once * min count (lacking_in log_n r p at.old) }
+        ≡ done_in_all log_n r p at.old + at.old.interleaved * min count (lacking_in log_n r p at.old) }
     ensures unchanged { result ≢ OK
         → (chunks.new ≡ chunks.old) × (table.new ≡ table.old) × (scratch.new ≡ scratch.old)
         × (at.new ≡ at.old) }
@@ -125,7 +125,7 @@ pub extern "C" fn scrypt_key_step(
     let Ok(params) = Params::new(log_n, r, p) else {
         return INVALID_PARAMS;
     };
-    if !are_for_steps(&params, at.at_once, chunks, table, scratch) {
+    if !are_for_steps(&params, at.interleaved, chunks, table, scratch) {
         return BUFFER_SIZE;
     }
     if !is_within::<Target>(&params, *at) {
@@ -185,14 +185,14 @@ pub extern "C" fn scrypt_key_finish(
 /// `scrypt_verify_finish` returns the verdict.
 ///
 /// Returns `OK`, or the first of these, and then nothing has changed: the error that
-/// `scrypt_hash_needs` returns; and `BUFFER_SIZE` as `scrypt_key_begin` does.
+/// `scrypt_hash_cost` returns; and `BUFFER_SIZE` as `scrypt_key_begin` does.
 #[unsafe(no_mangle)]
 pub extern "C" fn scrypt_verify_begin(
     password: &[u8],
     text: &[u8],
-    most_bytes: usize,
-    most_work: u64,
-    least_key_len: usize,
+    max_mem: usize,
+    max_work: u64,
+    min_key_len: usize,
     log_n: &mut u8,
     r: &mut u32,
     p: &mut u32,
@@ -201,13 +201,13 @@ pub extern "C" fn scrypt_verify_begin(
     scratch: &mut [u32],
     at: &mut Progress,
 ) -> i32
-    ensures refused { OnErr (within (limits_of most_bytes most_work least_key_len) (bytes_reading
+    ensures refused { OnErr (within (limits_of max_mem max_work min_key_len) (bytes_reading
         text.now))
-        (result ≡ result_status (within (limits_of most_bytes most_work least_key_len) (bytes_reading text.now))) }
-    ensures status { IfOk (within (limits_of most_bytes most_work least_key_len) (bytes_reading
+        (result ≡ result_status (within (limits_of max_mem max_work min_key_len) (bytes_reading text.now))) }
+    ensures status { IfOk (within (limits_of max_mem max_work min_key_len) (bytes_reading
         text.now))
         (λ s. (result ≡ OK) ⊎ (result ≡ BUFFER_SIZE)) }
-    ensures buffers { IfOk (within (limits_of most_bytes most_work least_key_len) (bytes_reading
+    ensures buffers { IfOk (within (limits_of max_mem max_work min_key_len) (bytes_reading
         text.now))
         (λ s. (result ≡ BUFFER_SIZE)
         ↔ ¬ AreForSteps s.params.log_n s.params.r s.params.p 1 chunks.old table.old
@@ -216,9 +216,9 @@ pub extern "C" fn scrypt_verify_begin(
         (λ s. (log_n.new ≡ s.params.log_n) × (r.new ≡ s.params.r) × (p.new ≡ s.params.p)) }
     ensures start { result ≡ OK → (at.new.chunks ≡ 0) × (at.new.mixes ≡ 0) }
     ensures within { result ≡ OK → CanBe log_n.new r.new p.new at.new
-        × AreMixable ⟦<Target as Mixer>⟧.most ⟦<Target as Mixer>⟧.in_words at.new.at_once }
+        × AreMixable ⟦<Target as Backend>⟧.most ⟦<Target as Backend>⟧.scalar at.new.interleaved }
     ensures fits { result ≡ OK
-        → AreForSteps log_n.new r.new p.new at.new.at_once chunks.new table.new scratch.new }
+        → AreForSteps log_n.new r.new p.new at.new.interleaved chunks.new table.new scratch.new }
     ensures under_way { result ≡ OK → IfOk (bytes_reading text.now)
         (λ s. HasCome password.now s.salt log_n.new r.new p.new at.new chunks.new table.new
         scratch.new) }
@@ -232,9 +232,9 @@ pub extern "C" fn scrypt_verify_begin(
         Err(error) => return status_of(error),
     };
     let limits = Limits {
-        most_bytes,
-        most_work,
-        least_key_len,
+        max_mem,
+        max_work,
+        min_key_len,
     };
     if let Err(error) = hash.within(&limits) {
         return limited_status_of(error);

@@ -16,8 +16,8 @@ use crate::statuses::{
 };
 use crate::target::Target;
 use scrypt::{
-    BufferLens, CoreCount, DeriveError, Limits, Params, output_len_ok, scrypt_at_front,
-    scrypt_in_groups, scrypt_thin_by,
+    BufferLens, CoreCount, DeriveError, Limits, Params, output_len_ok, scrypt_in_prefix,
+    scrypt_thin_with_backend, scrypt_with_max_mem,
 };
 use std::alloc::Global;
 
@@ -25,8 +25,8 @@ use std::alloc::Global;
 /// the memory for it.
 ///
 /// Takes several tables, to interleave chunks, if that is faster: up to four, and no more than
-/// `most_tables` or `p`. It takes several only if a table has at least 2^14 words, and if all
-/// buffers together do not exceed `most_bytes` bytes. If the allocation of several tables fails, it
+/// `max_tables` or `p`. It takes several only if a table has at least 2^14 words, and if all
+/// buffers together do not exceed `max_mem` bytes. If the allocation of several tables fails, it
 /// uses one.
 ///
 /// Returns `OK`, or the first of these: `INVALID_PARAMS` unless `log_n`, `r` and `p` are accepted,
@@ -40,8 +40,8 @@ pub extern "C" fn scrypt_kdf(
     log_n: u8,
     r: u32,
     p: u32,
-    most_tables: usize,
-    most_bytes: usize,
+    max_tables: usize,
+    max_mem: usize,
     output: &mut [u8],
 ) -> i32
     ensures value { result ≡ OK → output.new
@@ -56,10 +56,10 @@ pub extern "C" fn scrypt_kdf(
     let Ok(params) = Params::new(log_n, r, p) else {
         return INVALID_PARAMS;
     };
-    let most_bytes = bytes_that_pay(&params, most_tables, most_bytes);
+    let max_mem = bytes_that_pay(&params, max_tables, max_mem);
     let mut cores = CoreCount::new();
-    match scrypt_in_groups::<Target>(
-        alloc, password, salt, &params, most_bytes, output, &mut cores,
+    match scrypt_with_max_mem::<Target>(
+        alloc, password, salt, &params, max_mem, output, &mut cores,
     ) {
         Ok(()) => OK,
         Err(DeriveError::InvalidOutputLen) => INVALID_OUTPUT_LEN,
@@ -70,29 +70,29 @@ pub extern "C" fn scrypt_kdf(
 /// Does what `scrypt_kdf` does, if the parameters are within the limits.
 ///
 /// Returns `OK`, or the first of these: `INVALID_PARAMS`; `TOO_COSTLY` if the buffers with one
-/// table have more than `most_bytes` bytes in total, or if the work, `4 * (2^log_n + 32) * r * p`,
-/// exceeds `most_work`; `INVALID_OUTPUT_LEN`; and `OUT_OF_MEMORY`. On an error the output is
+/// table have more than `max_mem` bytes in total, or if the work, `4 * (2^log_n + 32) * r * p`,
+/// exceeds `max_work`; `INVALID_OUTPUT_LEN`; and `OUT_OF_MEMORY`. On an error the output is
 /// unchanged.
 #[unsafe(no_mangle)]
-pub extern "C" fn scrypt_kdf_within(
+pub extern "C" fn scrypt_kdf_limited(
     alloc: Global,
     password: &[u8],
     salt: &[u8],
     log_n: u8,
     r: u32,
     p: u32,
-    most_tables: usize,
-    most_bytes: usize,
-    most_work: u64,
+    max_tables: usize,
+    max_mem: usize,
+    max_work: u64,
     output: &mut [u8],
 ) -> i32
     ensures value { result ≡ OK → output.new
         ≡ derived_key password.now salt.now log_n r p (length output.old) }
     ensures params { (result ≡ INVALID_PARAMS) ↔ (¬ IsTrue (are_accepted log_n r p)) }
     ensures costly { (result ≡ TOO_COSTLY) ↔ (IsTrue (are_accepted log_n r p)
-        × (¬ IsTrue (are_within (limits_of most_bytes most_work 0) (params_of log_n r p)))) }
+        × (¬ IsTrue (are_within (limits_of max_mem max_work 0) (params_of log_n r p)))) }
     ensures length { (result ≡ INVALID_OUTPUT_LEN) ↔ (IsTrue (are_accepted log_n r p)
-        × IsTrue (are_within (limits_of most_bytes most_work 0) (params_of log_n r p)) × ¬ IsTrue (is_output_len (length output.old))) }
+        × IsTrue (are_within (limits_of max_mem max_work 0) (params_of log_n r p)) × ¬ IsTrue (is_output_len (length output.old))) }
     ensures status { (result ≡ OK) ⊎ (result ≡ INVALID_PARAMS) ⊎ (result ≡ TOO_COSTLY) ⊎ (result ≡ INVALID_OUTPUT_LEN)
         ⊎ (result ≡ OUT_OF_MEMORY) }
     ensures refused { result ≢ OK → output.new ≡ output.old }
@@ -101,40 +101,32 @@ pub extern "C" fn scrypt_kdf_within(
         return INVALID_PARAMS;
     };
     let limits = Limits {
-        most_bytes,
-        most_work,
-        least_key_len: 0,
+        max_mem,
+        max_work,
+        min_key_len: 0,
     };
     if !limits.allow(&params) {
         return TOO_COSTLY;
     }
     scrypt_kdf(
-        alloc,
-        password,
-        salt,
-        log_n,
-        r,
-        p,
-        most_tables,
-        most_bytes,
-        output,
+        alloc, password, salt, log_n, r, p, max_tables, max_mem, output,
     )
 }
 
 // With fewer words in a table, interleaving is slower than one chunk at a time.
-const LEAST_OF_SEVERAL: usize = 1 << 14;
+const MIN_INTERLEAVED_WORDS: usize = 1 << 14;
 
 // Returns the bytes of the buffers with all tables that are worth using, or 0 to select one table.
 #[tactic(auto, unfolding(crate::specs::Limits::bytes_that_pay))]
-fn bytes_that_pay(params: &Params, most_tables: usize, most_bytes: usize) -> usize
-    ensures exact { result ≡ bytes_that_pay most_tables most_bytes params.now }
+fn bytes_that_pay(params: &Params, max_tables: usize, max_mem: usize) -> usize
+    ensures exact { result ≡ bytes_that_pay max_tables max_mem params.now }
 {
-    if BufferLens::of(params).table < LEAST_OF_SEVERAL {
+    if BufferLens::of(params).table < MIN_INTERLEAVED_WORDS {
         return 0;
     }
-    let tables = BufferLens::tables_within(params, most_bytes).min(most_tables);
+    let tables = BufferLens::tables_within(params, max_mem).min(max_tables);
     let bytes = BufferLens::for_tables(params, tables).bytes();
-    bytes.min(most_bytes as u128) as usize
+    bytes.min(max_mem as u128) as usize
 }
 
 /// Writes the lengths of the buffers of a derivation with these parameters: for
@@ -205,7 +197,7 @@ pub extern "C" fn scrypt_kdf_with_buffers(
         return INVALID_PARAMS;
     };
     let mut cores = CoreCount::new();
-    let derived = scrypt_at_front::<Target>(
+    let derived = scrypt_in_prefix::<Target>(
         password, salt, &params, chunks, table, scratch, output, &mut cores,
     );
     match derived {
@@ -257,7 +249,7 @@ pub extern "C" fn scrypt_kdf_thin(
         return scrypt_kdf_with_buffers(password, salt, log_n, r, p, output, chunks, table, scratch);
     }
     let mut cores = CoreCount::new();
-    let derived = scrypt_thin_by::<Target>(
+    let derived = scrypt_thin_with_backend::<Target>(
         password, salt, &params, s, chunks, table, scratch, output, &mut cores,
     );
     // The length of the output was checked above.

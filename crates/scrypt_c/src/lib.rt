@@ -5,10 +5,10 @@
 //! and a length in C.
 #![tactic(auto)]
 
+pub mod cost;
 pub mod hashes;
 pub mod in_steps;
 pub mod keys;
-pub mod needs;
 pub mod statuses;
 mod target;
 mod texts;

@@ -167,23 +167,23 @@ pub extern "C" fn scrypt_verify_with_buffers(
 /// Does what `scrypt_verify_with_buffers` does if the hash is within the limits, because an
 /// untrusted hash chooses its own cost.
 ///
-/// Returns the errors of `scrypt_verify_within` before it allocates, however long the buffers are,
+/// Returns the errors of `scrypt_verify_limited` before it allocates, however long the buffers are,
 /// and then the errors of `scrypt_verify_with_buffers`. A hash that exceeds the limits leaves the
 /// buffers unchanged.
 #[unsafe(no_mangle)]
-pub extern "C" fn scrypt_verify_within_with_buffers(
+pub extern "C" fn scrypt_verify_limited_with_buffers(
     password: &[u8],
     text: &[u8],
-    most_bytes: usize,
-    most_work: u64,
-    least_key_len: usize,
+    max_mem: usize,
+    max_work: u64,
+    min_key_len: usize,
     chunks: &mut [u8],
     table: &mut [u32],
     scratch: &mut [u32],
 ) -> i32
     ensures status { result ≡ buffers_status (verdict_in (buffers chunks.old table.old scratch.old) password.now
-        (within (limits_of most_bytes most_work least_key_len) (bytes_reading text.now))) }
-    ensures left { LeftIn (IsLeft (within (limits_of most_bytes most_work least_key_len) (bytes_reading text.now))
+        (within (limits_of max_mem max_work min_key_len) (bytes_reading text.now))) }
+    ensures left { LeftIn (IsLeft (within (limits_of max_mem max_work min_key_len) (bytes_reading text.now))
         (buffers chunks.old table.old scratch.old)) chunks.new table.new scratch.new }
 {
     let hash = match stored_hash(text) {
@@ -191,9 +191,9 @@ pub extern "C" fn scrypt_verify_within_with_buffers(
         Err(error) => return short_status_of(error),
     };
     let limits = Limits {
-        most_bytes,
-        most_work,
-        least_key_len,
+        max_mem,
+        max_work,
+        min_key_len,
     };
     match hash.within(&limits) {
         Ok(hash) => verify(password, hash, chunks, table, scratch),
@@ -233,7 +233,7 @@ fn verify(
 /// Afterwards the used prefixes of the chunks and of the scratch are zeros, the used prefix of the
 /// table is unspecified, and nothing after them has changed.
 #[unsafe(no_mangle)]
-pub extern "C" fn scrypt_verify_group_with_buffers<'a>(
+pub extern "C" fn scrypt_verify_batch_with_buffers<'a>(
     password: &'a [u8],
     text: &'a [u8],
     password_2: &'a [u8],

@@ -8,7 +8,7 @@ use Rattle.scrypt.specs.WithinLimits.{limited_refusal}
 use Rattle.scrypt.specs.declared.errors.LimitedError.{LimitedError}
 use Rattle.scrypt.specs.declared.errors.LimitedError.TheVariants.{Hash}
 use Rattle.scrypt.specs.declared.limits.Limits.{Limits}
-use Rattle.scrypt.specs.declared.limits.TheConstants.Limits.{USUAL}
+use Rattle.scrypt.specs.declared.limits.TheConstants.Limits.{DEFAULT}
 use Rattle.scrypt_commands.specs.declared.error.CliError.{CliError}
 use Rattle.scrypt_commands.specs.declared.error.CliError.TheVariants.{NoHashFile, KeyMisfit, HashMisfit, VerifyMisfit, RehashMisfit}
 use Rattle.scrypt_commands.specs.declared.error.CliError.TheVariants.{Usage, SaltNotHex, InvalidParams, InvalidOutputLen, Refused}
@@ -37,9 +37,9 @@ refused_line others = []
 -- the error line of a rejected hash, with its newline: if a hash exceeds limits, it prints them
 abbrev pub limited_line : Limits → Refusal → List ℕ
 limited_line limits (refusals.TooCostly bytes work) = codes "hash refused: TooCostly, it needs " ++ decimal bytes ++ codes " bytes and work "
-    ++ decimal work ++ codes ", and --most-bytes is " ++ decimal limits.most_bytes ++ codes " and --most-work " ++ decimal limits.most_work ++ codes "\n"
+    ++ decimal work ++ codes ", and --max-mem is " ++ decimal limits.max_mem ++ codes " and --max-work " ++ decimal limits.max_work ++ codes "\n"
 limited_line limits (refusals.KeyTooShort key_len) = codes "hash refused: KeyTooShort, its key has " ++ decimal key_len
-    ++ codes " bytes, and --least-key-len is " ++ decimal limits.least_key_len ++ codes "\n"
+    ++ codes " bytes, and --min-key-len is " ++ decimal limits.min_key_len ++ codes "\n"
 limited_line limits why = refused_line why
 
 -- the error line of an error of the program itself, with its newline
@@ -48,8 +48,8 @@ fixed_line Usage =
     codes "usage: key LOG_N R P LEN SALT_HEX | hash phc|mcf LOG_N R P SALT_HEX [LEN] | verify HASH | rehash phc|mcf LOG_N R P LEN SALT_HEX HASH\n"
 fixed_line NoHashFile = codes "--hash-file wants its file after =, as in --hash-file=FILE\n"
 fixed_line KeyMisfit = codes "key takes no option except --raw and --strip-newline: see --help\n"
-fixed_line HashMisfit = codes "hash takes no option except --draw-salt, --recommended and --strip-newline: see --help\n"
-fixed_line VerifyMisfit = codes "verify does not take --draw-salt, --raw and --recommended: see --help\n"
+fixed_line HashMisfit = codes "hash takes no option except --generate-salt, --recommended and --strip-newline: see --help\n"
+fixed_line VerifyMisfit = codes "verify does not take --generate-salt, --raw and --recommended: see --help\n"
 fixed_line RehashMisfit = codes "rehash does not take --raw and --recommended: see --help\n"
 fixed_line SaltNotHex = codes "salt is not hexadecimal\n"
 fixed_line InvalidParams = codes "invalid scrypt parameters\n"
@@ -71,7 +71,7 @@ error_of limits why = Refused why limits
 
 -- the error that reports this library error, from a call without limits
 abbrev pub hash_error : Error → CliError
-hash_error why = error_of USUAL (Hash why)
+hash_error why = error_of DEFAULT (Hash why)
 
 -- an error line with status 2, instead of a value
 abbrev pub ErrorLine : Type 0

@@ -4,7 +4,7 @@ use Rattle.std.specs.Prelude.{List, [], ◌∷◌, Option, None, Some, String, l
 use Rattle.std.specs.Global.{Global}
 use Rattle.std.specs.List.{after_first, before_first, ends_with, position_or_len}
 use Rattle.std.specs.Option.{option_map_or}
-use Rattle.scrypt_commands.specs.LimitOptions.{usual, with_number}
+use Rattle.scrypt_commands.specs.LimitOptions.{defaults, with_number}
 use Rattle.scrypt_commands.specs.declared.limit_options.LimitOptions.{LimitOptions}
 
 -- the texts of words
@@ -35,7 +35,7 @@ no_options = record {
 abbrev pub with_named : Options → List ℕ → List ℕ → Option Options
 with_named o name value =
     if bytes_eq name (codes "--hash-file") then Some (record o { hash_file = Some value })
-    else option_map (λ limit_options. record o { limit_options = Some limit_options }) (with_number (unwrap_or o.limit_options usual) name value)
+    else option_map (λ limit_options. record o { limit_options = Some limit_options }) (with_number (unwrap_or o.limit_options defaults) name value)
 
 -- the same, for an option whose value follows its first `=`
 abbrev pub with_value : Options → List ℕ → Option Options
@@ -47,8 +47,8 @@ with_value o word =
 -- the options with this word's option added; a later one overrides an earlier one
 unfoldable pub with_option : Options → List ℕ → Option Options
 with_option o word =
-    if bytes_eq word (codes "--usual-limits") then Some (record o { limit_options = Some usual })
-    else if bytes_eq word (codes "--draw-salt") then Some (record o { draws_salt = true })
+    if bytes_eq word (codes "--default-limits") then Some (record o { limit_options = Some defaults })
+    else if bytes_eq word (codes "--generate-salt") then Some (record o { draws_salt = true })
     else if bytes_eq word (codes "--recommended") then Some (record o { is_recommended = true; draws_salt = true })
     else if bytes_eq word (codes "--strip-newline") then Some (record o { strips_newline = true })
     else if bytes_eq word (codes "--raw") then Some (record o { is_raw = true })

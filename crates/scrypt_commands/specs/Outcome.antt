@@ -13,7 +13,7 @@ use Rattle.scrypt.specs.McfHash.{made_hash, mcf_text}
 use Rattle.scrypt.specs.PhcParams.{written_pairs}
 use Rattle.scrypt.specs.Reading.{◌and_then◌ as ◌>>=◌, Stored, verdict, weaker}
 use Rattle.scrypt.specs.declared.limits.Limits.{Limits}
-use Rattle.scrypt.specs.declared.limits.TheConstants.Limits.{USUAL}
+use Rattle.scrypt.specs.declared.limits.TheConstants.Limits.{DEFAULT}
 use Rattle.scrypt.specs.StoredHash.{reading}
 use Rattle.scrypt.specs.WithinLimits.{within}
 use Rattle.scrypt_commands.specs.LimitOptions.{limits_of}
@@ -89,7 +89,7 @@ made_reply making password = do
 abbrev pub right_of : Option Limits → Result ⊤ Refusal → Result Bool ErrorLine
 right_of limits (Ok right) = Ok true
 right_of limits (Err PasswordInvalid) = Ok false
-right_of limits (Err why) = Err (limited_line (unwrap_or limits USUAL) why)
+right_of limits (Err why) = Err (limited_line (unwrap_or limits DEFAULT) why)
 
 -- the answer to the right password: the replacement of the hash if it is weaker than wanted, and
 -- otherwise `ok`

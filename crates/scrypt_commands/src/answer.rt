@@ -17,7 +17,7 @@ use crate::limit_options::LimitOptions;
 use password_hash::Error;
 use scrypt::laws::mcf_texts_are_read;
 use scrypt::{
-    CoreCount, LimitedError, Limits, Mixer, Params, StoredHash, mcf, phc, scrypt_in_groups,
+    Backend, CoreCount, LimitedError, Limits, Params, StoredHash, mcf, phc, scrypt_with_max_mem,
 };
 use std::alloc::Global;
 
@@ -54,7 +54,7 @@ impl<'a> Command<'a> {
     /// exceeds the limits, and `OutOfMemory` if an allocation fails. `cores` counts the cores of
     /// verifying, and the blocks that SHA-256 compresses: none if the hash cannot be read or
     /// exceeds the limits.
-    pub fn answer<M: Mixer>(
+    pub fn answer<M: Backend>(
         &self,
         alloc: Global,
         password: &[u8],
@@ -88,7 +88,7 @@ fn limits_by(options: Option<LimitOptions>, wanted: &Option<Making>) -> Option<L
 }
 
 // Makes the wanted replacement of a hash from this password, if the hash is weaker than wanted.
-fn replace<M: Mixer>(
+fn replace<M: Backend>(
     alloc: Global,
     hash: &StoredHash<'_>,
     password: &[u8],
@@ -103,7 +103,7 @@ fn replace<M: Mixer>(
 }
 
 // Returns whether the password matches the hash. A hash that exceeds the limits is an error.
-fn verify<M: Mixer>(
+fn verify<M: Backend>(
     alloc: Global,
     hash: &StoredHash<'_>,
     password: &[u8],
@@ -117,12 +117,12 @@ fn verify<M: Mixer>(
     match verify_within::<M>(alloc, hash, password, limits, cores) {
         Ok(()) => Ok(true),
         Err(LimitedError::Hash(Error::PasswordInvalid)) => Ok(false),
-        Err(why) => Err(CliError::of(why, limits.unwrap_or(Limits::USUAL))),
+        Err(why) => Err(CliError::of(why, limits.unwrap_or(Limits::DEFAULT))),
     }
 }
 
 // Verifies the password against the hash, if the hash is within the limits.
-fn verify_within<M: Mixer>(
+fn verify_within<M: Backend>(
     alloc: Global,
     hash: &StoredHash<'_>,
     password: &[u8],
@@ -153,7 +153,7 @@ fn is_weaker(hash: &StoredHash<'_>, wanted: &Params) -> bool
 }
 
 // Makes a key or a hash from the password.
-fn make<M: Mixer>(alloc: Global, password: &[u8], making: &Making) -> Result<Answer, CliError>
+fn make<M: Backend>(alloc: Global, password: &[u8], making: &Making) -> Result<Answer, CliError>
     ensures { Gives reply_view (made_reply (making_view making.now) password.now) result }
 {
     let line = line::<M>(alloc, password, making)?;
@@ -161,7 +161,7 @@ fn make<M: Mixer>(alloc: Global, password: &[u8], making: &Making) -> Result<Ans
 }
 
 // Returns the output line of a new key or hash.
-fn line<M: Mixer>(alloc: Global, password: &[u8], making: &Making) -> Result<Vec<u8>, CliError>
+fn line<M: Backend>(alloc: Global, password: &[u8], making: &Making) -> Result<Vec<u8>, CliError>
     ensures { Gives (λ line. line.items) (new_line making.now.target making.now.params password.now making.now.salt.items) result }
 {
     let Making {
@@ -181,7 +181,7 @@ fn line<M: Mixer>(alloc: Global, password: &[u8], making: &Making) -> Result<Vec
 
 // Returns the text of the hash of this format.
 #[tactic(auto, using(crate::proofs::OutcomeFacts::phc_refused))]
-fn make_hash<M: Mixer>(
+fn make_hash<M: Backend>(
     alloc: Global,
     password: &[u8],
     salt: &[u8],
@@ -204,7 +204,7 @@ fn make_hash<M: Mixer>(
 }
 
 // Returns the output line of the derived key of `len` bytes.
-fn key<M: Mixer>(
+fn key<M: Backend>(
     alloc: Global,
     password: &[u8],
     salt: &[u8],
@@ -217,7 +217,7 @@ fn key<M: Mixer>(
     let mut key = vec![in alloc; 0u8; len]?;
     // The length is allowed, so this fails only if an allocation does.
     let mut cores = CoreCount::new();
-    if scrypt_in_groups::<M>(alloc, password, salt, params, 0, &mut key, &mut cores).is_err() {
+    if scrypt_with_max_mem::<M>(alloc, password, salt, params, 0, &mut key, &mut cores).is_err() {
         return Err(CliError::OutOfMemory);
     }
     if is_raw {

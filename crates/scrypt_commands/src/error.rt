@@ -94,10 +94,10 @@ impl CliError {
                 b"key takes no option except --raw and --strip-newline: see --help\n"
             }
             CliError::HashMisfit => {
-                b"hash takes no option except --draw-salt, --recommended and --strip-newline: see --help\n"
+                b"hash takes no option except --generate-salt, --recommended and --strip-newline: see --help\n"
             }
             CliError::VerifyMisfit => {
-                b"verify does not take --draw-salt, --raw and --recommended: see --help\n"
+                b"verify does not take --generate-salt, --raw and --recommended: see --help\n"
             }
             CliError::RehashMisfit => {
                 b"rehash does not take --raw and --recommended: see --help\n"
@@ -118,19 +118,19 @@ fn write_refused<F: Write>(faults: &mut F, why: LimitedError, limits: Limits) ->
     ensures written { OnOk result (Appends (F.contents faults.old) (F.contents faults.new) (limited_line limits (limited_refusal why))) }
 {
     let Limits {
-        most_bytes,
-        most_work,
-        least_key_len,
+        max_mem,
+        max_work,
+        min_key_len,
     } = limits;
     match why {
         LimitedError::Hash(why) => faults.write_all(refused_line(why)),
         LimitedError::TooCostly { bytes, work } => write!(
             faults,
-            "hash refused: TooCostly, it needs {bytes} bytes and work {work}, and --most-bytes is {most_bytes} and --most-work {most_work}\n"
+            "hash refused: TooCostly, it needs {bytes} bytes and work {work}, and --max-mem is {max_mem} and --max-work {max_work}\n"
         ),
         LimitedError::KeyTooShort { key_len } => write!(
             faults,
-            "hash refused: KeyTooShort, its key has {key_len} bytes, and --least-key-len is {least_key_len}\n"
+            "hash refused: KeyTooShort, its key has {key_len} bytes, and --min-key-len is {min_key_len}\n"
         ),
     }
 }
@@ -166,6 +166,6 @@ impl From<Error> for CliError {
     ghost from_gives = { λ why error. error ≡ hash_error why };
 
     fn from(why: Error) -> CliError {
-        CliError::of(LimitedError::Hash(why), Limits::USUAL)
+        CliError::of(LimitedError::Hash(why), Limits::DEFAULT)
     }
 }

@@ -14,7 +14,7 @@ use crate::error::CliError;
 use crate::options::parse_options;
 use crate::run::{Ended, answered, end, run_command, write_line};
 use crate::usage::{HELP, VERSION};
-use scrypt::Mixer;
+use scrypt::Backend;
 use std::alloc::Global;
 use std::io;
 use std::io::{Read, Write};
@@ -22,7 +22,7 @@ use std::io::{Read, Write};
 /// The machine that the program runs on.
 pub trait Machine {
     /// how this machine mixes chunks
-    type Mixer: Mixer;
+    type Backend: Backend;
 
     /// the salts that it draws
     ghost draws: { Self → List ℕ → Type 0 };
@@ -124,7 +124,7 @@ impl<'a> Invocation<'a> {
                     file_text,
                     ..command_line
                 };
-                Ok(run_command::<M::Mixer, R, W, F>(alloc, command_line, reader, writer, faults))
+                Ok(run_command::<M::Backend, R, W, F>(alloc, command_line, reader, writer, faults))
             }
         }
     }

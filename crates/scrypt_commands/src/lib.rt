@@ -15,4 +15,4 @@ mod options;
 pub mod run;
 mod usage;
 
-pub use scrypt::{Mixer, Pairs, Vectors, Words};
+pub use scrypt::{Backend, Scalar, Simd, SimdPairs};

@@ -1,7 +1,7 @@
 // The limits on the cost of a stored hash, and on the length of its key.
 
 ghost use Rattle.std.specs.Prelude.{◌≡◌};
-ghost use Rattle.scrypt_commands.specs.LimitOptions.{limits_of, usual, with_number};
+ghost use Rattle.scrypt_commands.specs.LimitOptions.{limits_of, defaults, with_number};
 
 use crate::decimals::parse_len;
 use scrypt::{Limits, Params};
@@ -10,22 +10,22 @@ use scrypt::{Limits, Params};
 #[derive(Clone, Copy)]
 pub struct LimitOptions {
     /// the limit on memory in bytes
-    pub most_bytes: usize,
+    pub max_mem: usize,
     /// the limit on work, `4 * (N + 32) * R * P`
-    pub most_work: u64,
+    pub max_work: u64,
     /// the minimum length of its key in bytes, if an option sets it
-    pub least_key_len: Option<usize>,
+    pub min_key_len: Option<usize>,
 }
 
 impl LimitOptions {
     /// Returns the default limits on memory and work.
-    pub fn usual() -> LimitOptions
-        ensures value { result ≡ usual }
+    pub fn defaults() -> LimitOptions
+        ensures value { result ≡ defaults }
     {
         LimitOptions {
-            most_bytes: Limits::USUAL.most_bytes,
-            most_work: Limits::USUAL.most_work,
-            least_key_len: None,
+            max_mem: Limits::DEFAULT.max_mem,
+            max_work: Limits::DEFAULT.max_work,
+            min_key_len: None,
         }
     }
 
@@ -36,23 +36,23 @@ impl LimitOptions {
         ensures value { result ≡ with_number self name.now value.now }
     {
         match name {
-            "--most-bytes" => Some(LimitOptions {
-                most_bytes: parse_len(value)?,
+            "--max-mem" => Some(LimitOptions {
+                max_mem: parse_len(value)?,
                 ..self
             }),
-            "--most-work" => Some(LimitOptions {
-                most_work: parse_len(value)? as u64,
+            "--max-work" => Some(LimitOptions {
+                max_work: parse_len(value)? as u64,
                 ..self
             }),
-            "--least-key-len" => Some(LimitOptions {
-                least_key_len: Some(parse_len(value)?),
+            "--min-key-len" => Some(LimitOptions {
+                min_key_len: Some(parse_len(value)?),
                 ..self
             }),
             _ => None,
         }
     }
 
-    /// Returns the limits on a hash. The minimum key length is the default of `USUAL` unless an
+    /// Returns the limits on a hash. The minimum key length is the default of `DEFAULT` unless an
     /// option sets it. If a new hash is wanted in place of the old one, the limits are raised where
     /// necessary to admit the new one, and a short key, which is weaker than wanted, is allowed
     /// unless an option sets a minimum.
@@ -60,17 +60,17 @@ impl LimitOptions {
         ensures value { result ≡ limits_of self wanted }
     {
         let named = Limits {
-            most_bytes: self.most_bytes,
-            most_work: self.most_work,
-            least_key_len: 0,
+            max_mem: self.max_mem,
+            max_work: self.max_work,
+            min_key_len: 0,
         };
         match wanted {
             Some(params) => Limits {
-                least_key_len: self.least_key_len.unwrap_or(0),
+                min_key_len: self.min_key_len.unwrap_or(0),
                 ..named.admitting(&params)
             },
             None => Limits {
-                least_key_len: self.least_key_len.unwrap_or(Limits::USUAL.least_key_len),
+                min_key_len: self.min_key_len.unwrap_or(Limits::DEFAULT.min_key_len),
                 ..named
             },
         }

@@ -62,8 +62,8 @@ impl<'a> Options<'a> {
     {
         let mut options = self;
         match word {
-            "--usual-limits" => options.limit_options = Some(LimitOptions::usual()),
-            "--draw-salt" => options.draws_salt = true,
+            "--default-limits" => options.limit_options = Some(LimitOptions::defaults()),
+            "--generate-salt" => options.draws_salt = true,
             "--recommended" => {
                 options.is_recommended = true;
                 options.draws_salt = true;
@@ -92,7 +92,7 @@ impl<'a> Options<'a> {
         }
         let limit_options = self
             .limit_options
-            .unwrap_or(LimitOptions::usual())
+            .unwrap_or(LimitOptions::defaults())
             .with_number(name, value)?;
         Some(Options {
             limit_options: Some(limit_options),

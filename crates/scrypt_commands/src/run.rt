@@ -15,7 +15,7 @@ use crate::command::Command;
 use crate::command_line::CommandLine;
 use crate::error::CliError;
 use crate::options::NONE;
-use scrypt::{CoreCount, Mixer, Vectors};
+use scrypt::{Backend, CoreCount, Simd};
 use std::alloc::Global;
 use std::io::{ErrorKind, Read, Write};
 
@@ -52,7 +52,7 @@ pub fn run<R: Read, W: Write, F: Write>(
     ensures refused { (plan_of_words (texts_of words.now)).is_unread ≡ true → (result.status ≡ 2) ⊎ (result.status ≡ 3) }
 {
     match CommandLine::new(NONE, words) {
-        Ok(command_line) => run_command::<Vectors, R, W, F>(
+        Ok(command_line) => run_command::<Simd, R, W, F>(
             alloc,
             command_line,
             reader,
@@ -65,7 +65,7 @@ pub fn run<R: Read, W: Write, F: Write>(
 
 /// Does the same for a command with options.
 #[tactic(auto, using(crate::proofs::OutcomeFacts::ends))]
-pub(crate) fn run_command<M: Mixer, R: Read, W: Write, F: Write>(
+pub(crate) fn run_command<M: Backend, R: Read, W: Write, F: Write>(
     alloc: Global,
     command_line: CommandLine<'_>,
     reader: &mut R,
@@ -85,7 +85,7 @@ pub(crate) fn run_command<M: Mixer, R: Read, W: Write, F: Write>(
 
 // Carries out the command in order, up to writing the output line, and returns the status.
 #[tactic(auto, using(crate::proofs::OutcomeFacts::endings))]
-fn execute<M: Mixer, R: Read, W: Write>(
+fn execute<M: Backend, R: Read, W: Write>(
     alloc: Global,
     command_line: CommandLine<'_>,
     reader: &mut R,

@@ -26,14 +26,14 @@ its end, LF or CR LF, is cut off.\n\
 options for key:\n\
 \x20 --raw              print the bytes of the key and no newline, not to a terminal\n\
 options for hash and rehash:\n\
-\x20 --draw-salt        draw a salt of 16 bytes: then leave SALT_HEX out\n\
+\x20 --generate-salt    draw a salt of 16 bytes: then leave SALT_HEX out\n\
 \x20 --recommended      LOG_N R P are 17 8 1 and a salt is drawn: hash phc|mcf\n\
 options for verify and rehash, as an untrusted HASH chooses its own cost:\n\
-\x20 --usual-limits     all three limits below; without an option there are none\n\
-\x20 --most-bytes=N     the most memory (269484032 bytes), and\n\
-\x20 --most-work=N      the most work, 4 * (2^LOG_N + 32) * R * P (16781312),\n\
+\x20 --default-limits   all three limits below; without an option there are none\n\
+\x20 --max-mem=N        the maximum memory (269484032 bytes), and\n\
+\x20 --max-work=N       the maximum work, 4 * (2^LOG_N + 32) * R * P (16781312),\n\
 \x20                    or for rehash what the new hash needs if that is more\n\
-\x20 --least-key-len=N  the shortest key in bytes (16 for verify, 0 for rehash)\n\
+\x20 --min-key-len=N    the minimum length of the key in bytes (16 for verify, 0 for rehash)\n\
 and as others can see a HASH that is an argument:\n\
 \x20 --hash-file=FILE   read it from FILE: then leave HASH out\n\
 and alone:\n\

@@ -10,7 +10,7 @@ ghost use Rattle.scrypt_examples.specs.Login.{CostsAtMost};
 
 use password_hash::Error;
 use scrypt::laws::work_bounds_both_counts;
-use scrypt::{Buffers, CoreCount, LimitedError, Limits, StoredHash, Vectors};
+use scrypt::{Buffers, CoreCount, LimitedError, Limits, Simd, StoredHash};
 use std::alloc::{AllocError, Global};
 use std::marker::Model;
 
@@ -88,9 +88,9 @@ pub fn log_in(
         password.now (within limits.now (reading stored.now))) }
     ensures left { IsLeft (within limits.now (reading stored.now))
         (workspace_of chunks.old table.old scratch.old cores.old) (workspace_of chunks.new table.new scratch.new cores.new) }
-    ensures bounded { cores.new.all ≤ cores.old.all + limits.now.most_work }
+    ensures bounded { cores.new.all ≤ cores.old.all + limits.now.max_work }
     ensures both_bounded { IfOk (reading stored.now) (λ s. CostsAtMost
-        (limits.now.most_work + 9 * lengths_cost (length password.now) (length s.salt) (length s.key)) cores.old cores.new) }
+        (limits.now.max_work + 9 * lengths_cost (length password.now) (length s.salt) (length s.key)) cores.old cores.new) }
 {
     // The limit on work bounds both counts.
     work_bounds_both_counts();
@@ -103,7 +103,7 @@ pub fn log_in(
         Err(LimitedError::Hash(Error::PasswordInvalid)) => return Ok(false),
         Err(error) => return Err(error),
     };
-    match hash.verify_with_buffers::<Vectors>(password, chunks, table, scratch, cores) {
+    match hash.verify_with_buffers::<Simd>(password, chunks, table, scratch, cores) {
         Ok(()) => Ok(true),
         Err(Error::PasswordInvalid) => Ok(false),
         Err(error) => Err(LimitedError::Hash(error)),

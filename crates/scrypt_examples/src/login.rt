@@ -56,7 +56,7 @@ impl LoginPolicy {
         hash_text(alloc, password, salt, &self.wanted)
     }
 
-    /// The `$7$` text to store for a new user of a system that reads crypt(3) texts. The salt is
+    /// The `$7$` hash to store for a new user of a system that reads crypt(3) texts. The salt is
     /// drawn at random.
     ///
     /// Returns `OutOfMemory` if an allocation fails.

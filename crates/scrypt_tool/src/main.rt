@@ -19,8 +19,8 @@ use std::process::ExitCode;
 use std::random::RandomSource;
 use std::{env, io};
 
-// Every hash is shorter, except a `$7$` text with a salt so long that no program makes it.
-const MOST_BYTES: usize = 4096;
+// Every hash is shorter, except a `$7$` hash with a salt so long that no program makes it.
+const MAX_BYTES: usize = 4096;
 
 fn main(rt: HostRuntime) -> ExitCode {
     let (mut output, mut errors) = (rt.stdout(), rt.stderr());
@@ -57,7 +57,7 @@ fn main(rt: HostRuntime) -> ExitCode {
 struct System<'a>(&'a HostRuntime);
 
 impl Machine for System<'_> {
-    type Mixer = Target;
+    type Backend = Target;
 
     ghost draws = { λ _ _. ⊤ };
 
@@ -96,8 +96,8 @@ fn read_hash(rt: &HostRuntime, name: &str) -> io::Result<String> {
     let mut text = String::new(rt.alloc());
     // `fs::open` would add every function of the file system to the trusted computing base.
     let file = rt.open_file(OpenOptions::new().read(true), name)?;
-    let mut file = file.take(MOST_BYTES as u64 + 1);
-    if file.read_to_string(&mut text)? > MOST_BYTES {
+    let mut file = file.take(MAX_BYTES as u64 + 1);
+    if file.read_to_string(&mut text)? > MAX_BYTES {
         return Err(io::Error::new(ErrorKind::FileTooLarge, "more than 4096 bytes"));
     }
     if text.ends_with('\n') {

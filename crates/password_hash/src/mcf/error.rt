@@ -1,11 +1,11 @@
-//! The errors of MCF texts and of their Base64.
+//! The errors of MCF strings and of their Base64.
 
 use std::alloc::AllocError;
 
 /// The result type of this module.
 pub type Result<T> = std::result::Result<T, Error>;
 
-/// An error from making, parsing, extending or decoding an MCF text.
+/// An error from making, parsing, extending or decoding an MCF string.
 #[derive(Clone, Copy, Debug, PartialEq, Eq, thiserror::Error)]
 pub enum Error {
     /// The text is not in the expected format.

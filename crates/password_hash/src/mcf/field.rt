@@ -1,4 +1,4 @@
-//! One field of an MCF text.
+//! One field of an MCF string.
 ghost use Rattle.std.specs.Prelude.{◌≡◌, ◌↔◌, ◌+◌, ◌*◌, ◌/◌, ◌≤◌, ℕ, List, length, take, drop, IsTrue, IfOk, IfErr, IsErrOf, MatchOption};
 ghost use Rattle.password_hash.specs.Crypt64.{Crypt64, IsCrypt64, IsPiece, encoded_len};
 
@@ -6,7 +6,7 @@ use super::crypt64::{Base64, decoded_len, is_encoding};
 use super::{Error, Result};
 use std::alloc::Global;
 
-/// A field of an MCF text: any text without `$`, possibly empty.
+/// A field of an MCF string: any text without `$`, possibly empty.
 #[derive(Clone, Copy, Debug)]
 pub struct Field<'a> {
     pub(super) text: &'a str,

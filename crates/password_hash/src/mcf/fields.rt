@@ -1,11 +1,11 @@
-//! The fields of an MCF text.
+//! The fields of an MCF string.
 ghost use Rattle.std.specs.Prelude.{◌↔◌, IsTrue};
 ghost use Rattle.password_hash.specs.Mcf.{IsField};
 
 use super::field::Field;
 use crate::parts::{contains, first_piece};
 
-/// An iterator over the fields of an MCF text, in order.
+/// An iterator over the fields of an MCF string, in order.
 #[derive(Debug, Drop)]
 pub struct Fields<'a> {
     /// The text after the next `$`, or `None` after the last field.

@@ -1,4 +1,4 @@
-//! An owned MCF text.
+//! An owned MCF string.
 ghost use Rattle.std.specs.Prelude.{◌≡◌, ◌↔◌, ◌∷◌, ◌++◌, nat_eq, IsOk, IfOk, OnOk, IfErr, OnErr, IsErrOf, MatchResult, string_bytes};
 ghost use Rattle.std.specs.Cmp.{partial_equiv_from_equiv};
 ghost use Rattle.std.specs.Cmp.Lexicographic.{pointwise, nat_list_eq_equiv};
@@ -13,7 +13,7 @@ use super::{Error, Result};
 use std::alloc::Global;
 use std::marker::Model;
 
-/// An MCF text: `$`, an id, and any number of fields, each after a `$`.
+/// An MCF string: `$`, an id, and any number of fields, each after a `$`.
 #[derive(Debug, Drop)]
 pub struct PasswordHash {
     text: String,
@@ -33,7 +33,8 @@ impl Model for PasswordHash {
 impl PasswordHash {
     ghost use Rattle.password_hash.specs.McfViews.{borrowed_text, fields_left};
 
-    /// Takes `text` as an MCF text, or returns it as the error if it is not one. Does not allocate.
+    /// Takes `text` as an MCF string, or returns it as the error if it is not one. Does not
+    /// allocate.
     pub fn from_string(text: String) -> std::result::Result<PasswordHash, String>
         ensures exact { IsOk result ↔ IsMcf (string_bytes text) }
         ensures value { MatchResult result (λ hash. hash ≡ string_bytes text) (λ back. back ≡ text) }
@@ -44,9 +45,9 @@ impl PasswordHash {
         Ok(PasswordHash { text })
     }
 
-    /// Copies an MCF text.
+    /// Copies an MCF string.
     ///
-    /// Returns `EncodingInvalid`, without allocating, if `text` is not an MCF text, and
+    /// Returns `EncodingInvalid`, without allocating, if `text` is not an MCF string, and
     /// `OutOfMemory` if the allocation fails.
     pub fn new(alloc: Global, text: &str) -> Result<PasswordHash>
         ensures ok { IfOk result (λ hash. hash ≡ text.now) }

@@ -1,4 +1,4 @@
-//! A borrowed MCF text.
+//! A borrowed MCF string.
 ghost use Rattle.std.specs.Prelude.{◌≡◌, ◌≢◌, ◌↔◌, ℕ, List, [], ◌∷◌, IsTrue, IsOk, IfOk, IfErr, MatchOption};
 ghost use Rattle.password_hash.specs.Mcf.{IsId, IsMcfText, IsMcf, id_of, fields_of};
 ghost use Rattle.password_hash.specs.Parts.{dollar, parts_of, parts_left};
@@ -8,7 +8,7 @@ use super::{Error, Result};
 use crate::letters::are_identifier_letters;
 use crate::parts::split_first;
 
-/// A borrowed MCF text: `$`, an id, and any number of fields, each after a `$`.
+/// A borrowed MCF string: `$`, an id, and any number of fields, each after a `$`.
 #[derive(Clone, Copy, Debug)]
 pub struct PasswordHashRef<'a> {
     pub(super) text: &'a str,
@@ -18,9 +18,9 @@ pub struct PasswordHashRef<'a> {
 impl<'a> PasswordHashRef<'a> {
     ghost use Rattle.password_hash.specs.McfViews.{borrowed_text, fields_left};
 
-    /// Borrows an MCF text. Does not allocate.
+    /// Borrows an MCF string. Does not allocate.
     ///
-    /// Returns `EncodingInvalid` if `text` is not an MCF text.
+    /// Returns `EncodingInvalid` if `text` is not an MCF string.
     pub fn new(text: &'a str) -> Result<PasswordHashRef<'a>>
         ensures exact { IsOk result ↔ IsMcf text.now }
         ensures ok { IfOk result (λ hash. borrowed_text hash ≡ text.now) }
@@ -60,7 +60,7 @@ impl<'a> PasswordHashRef<'a> {
     }
 }
 
-/// Returns whether `text` is an MCF text.
+/// Returns whether `text` is an MCF string.
 pub(super) fn is_mcf(text: &str) -> bool
     ensures { IsTrue result ↔ IsMcf text.now }
 {

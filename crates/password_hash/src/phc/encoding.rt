@@ -5,10 +5,10 @@ ghost use Rattle.password_hash.specs.PhcReading.{decoded_bytes};
 use crate::phc::short_bytes::ShortBytes;
 use base64::engine::general_purpose::STANDARD_NO_PAD;
 
-/// Decodes `letters` to `LEAST` to 64 bytes. Returns `None` if they are not an encoding, or encode
+/// Decodes `letters` to `MIN` to 64 bytes. Returns `None` if they are not an encoding, or encode
 /// fewer or more bytes.
-pub(super) fn decode<const LEAST: usize>(letters: &str) -> Option<ShortBytes<LEAST, 64>>
-    ensures value { result ≡ decoded_bytes LEAST letters.now }
+pub(super) fn decode<const MIN: usize>(letters: &str) -> Option<ShortBytes<MIN, 64>>
+    ensures value { result ≡ decoded_bytes MIN letters.now }
 {
     // The encoding of 64 bytes has 86 letters, which are decoded in a buffer of 66 bytes.
     if letters.len() > 86 {

@@ -1,4 +1,4 @@
-//! The parts of a PHC text, read one after another.
+//! The parts of a PHC string, read one after another.
 //!
 //! Each function takes the rest of the text: everything after the `$` that follows the parts
 //! already read, or `None` after the last part. A result of `None` means that the text is not a PHC

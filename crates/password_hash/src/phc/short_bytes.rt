@@ -6,14 +6,14 @@ ghost use Rattle.password_hash.specs.ShortBytes.{AreBytesFromTo};
 
 use std::marker::Model;
 
-/// `LEAST` to `MOST` bytes in a fixed array, with zeros after them.
+/// `MIN` to `MAX` bytes in a fixed array, with zeros after them.
 #[derive(Clone, Copy, Debug)]
-pub struct ShortBytes<const LEAST: usize, const MOST: usize> {
-    pub(super) places: [u8; MOST],
+pub struct ShortBytes<const MIN: usize, const MAX: usize> {
+    pub(super) places: [u8; MAX],
     pub(super) len: usize,
 }
 
-impl<const LEAST: usize, const MOST: usize> Model for ShortBytes<LEAST, MOST> {
+impl<const MIN: usize, const MAX: usize> Model for ShortBytes<MIN, MAX> {
     ghost use Rattle.std.specs.Prelude.{ℕ, List, take, length};
     ghost use Rattle.password_hash.specs.ShortBytes.{AreStored, padded};
     ghost use Rattle.std.proofs.Common.{length-take-le};
@@ -22,9 +22,9 @@ impl<const LEAST: usize, const MOST: usize> Model for ShortBytes<LEAST, MOST> {
 
     ghost view = { λ a. take a.len a.places };
 
-    ghost invariant = { λ a. AreStored LEAST MOST a.places a.len };
+    ghost invariant = { λ a. AreStored MIN MAX a.places a.len };
 
-    ghost inverse = { λ xs. record { places = padded MOST xs; len = length xs } };
+    ghost inverse = { λ xs. record { places = padded MAX xs; len = length xs } };
 
     ghost inverse_ok = { λ a h i. record {
       places = h.zeros i;
@@ -32,18 +32,18 @@ impl<const LEAST: usize, const MOST: usize> Model for ShortBytes<LEAST, MOST> {
     } };
 }
 
-impl<const LEAST: usize, const MOST: usize> ShortBytes<LEAST, MOST> {
+impl<const MIN: usize, const MAX: usize> ShortBytes<MIN, MAX> {
     /// Copies `bytes`. Returns `None` if their length is out of bounds.
-    pub(super) fn copied(bytes: &[u8]) -> Option<ShortBytes<LEAST, MOST>>
-        ensures exact { IsSome result ↔ ((LEAST ≤ length bytes.now) × (length bytes.now ≤ MOST)) }
+    pub(super) fn copied(bytes: &[u8]) -> Option<ShortBytes<MIN, MAX>>
+        ensures exact { IsSome result ↔ ((MIN ≤ length bytes.now) × (length bytes.now ≤ MAX)) }
         ensures value { IfSome result (λ made. made ≡ bytes.now) }
-        ensures bytes { IfSome result (AreBytesFromTo LEAST MOST) }
+        ensures bytes { IfSome result (AreBytesFromTo MIN MAX) }
     {
         let len = bytes.len();
-        if len < LEAST || len > MOST {
+        if len < MIN || len > MAX {
             return None;
         }
-        let mut places = [0; MOST];
+        let mut places = [0; MAX];
         places[..len].copy_from_slice(bytes);
         Some(ShortBytes { places, len })
     }
@@ -51,8 +51,8 @@ impl<const LEAST: usize, const MOST: usize> ShortBytes<LEAST, MOST> {
     /// Returns the number of bytes.
     pub fn len(&self) -> usize
         ensures value { result ≡ length self.now }
-        ensures least { LEAST ≤ result }
-        ensures greatest { result ≤ MOST }
+        ensures least { MIN ≤ result }
+        ensures greatest { result ≤ MAX }
     {
         self.len
     }
@@ -60,24 +60,24 @@ impl<const LEAST: usize, const MOST: usize> ShortBytes<LEAST, MOST> {
     /// Returns the bytes.
     pub fn as_bytes(&self) -> &[u8]
         ensures value { result.now ≡ self.now }
-        ensures least { LEAST ≤ length result.now }
-        ensures greatest { length result.now ≤ MOST }
+        ensures least { MIN ≤ length result.now }
+        ensures greatest { length result.now ≤ MAX }
     {
         &self.places[..self.len]
     }
 }
 
-impl<const LEAST: usize, const MOST: usize> PartialEq for ShortBytes<LEAST, MOST> {
+impl<const MIN: usize, const MAX: usize> PartialEq for ShortBytes<MIN, MAX> {
     ghost eq = { λ s t. pointwise nat_eq s t };
 
     ghost laws = { partial_equiv_from_equiv nat_list_eq_equiv };
 
-    fn eq(&self, other: &ShortBytes<LEAST, MOST>) -> bool {
+    fn eq(&self, other: &ShortBytes<MIN, MAX>) -> bool {
         are_same(self.as_bytes(), other.as_bytes())
     }
 }
 
-impl<const LEAST: usize, const MOST: usize> Eq for ShortBytes<LEAST, MOST> {
+impl<const MIN: usize, const MAX: usize> Eq for ShortBytes<MIN, MAX> {
     ghost laws = { nat_list_eq_equiv };
 }
 

@@ -9,8 +9,8 @@ ghost use Rattle.scrypt.specs.Key.{mixed_chunks};
 ghost use Rattle.scrypt.specs.Stepping.{AreMixed};
 ghost use Rattle.scrypt.specs.Mixing.{HasTables, IsKept, IsReady, group_by, next_group};
 
-use crate::buffers::InUse;
-use crate::{Mixer, Params};
+use crate::buffers::ActiveBuffers;
+use crate::{Backend, Params};
 use scrypt_kernel::memory::TableMemory;
 use scrypt_kernel::order::OrderedBlocks;
 use scrypt_kernel::order::diagonal::{Both, Diagonal, Scalars};
@@ -18,14 +18,14 @@ use scrypt_kernel::romix;
 use std::simd::{u32x4, u32x8};
 
 /// Replaces each of `count` chunks by its scryptROMix, interleaving at most `used.width` of them,
-/// by the mixer `W`. The chunks belong to one derivation or to several, all with the `N` and the
+/// by the backend `W`. The chunks belong to one derivation or to several, all with the `N` and the
 /// `r` of `params`. The table keeps one row in `2^s`.
 #[tactic(auto, unfolding(crate::specs::Cost::extra_rows_of_chunks))]
-pub(crate) fn mix_all<M: TableMemory, W: Mixer>(
+pub(crate) fn mix_all<M: TableMemory, W: Backend>(
     params: &Params,
     s: u8,
     count: usize,
-    used: &mut InUse<'_, M>,
+    used: &mut ActiveBuffers<'_, M>,
 )
     requires ready { IsReady M.room params.now.log_n s params.now.r count used.old }
     ensures kept { IsKept M.room used.old used.new }
@@ -36,7 +36,7 @@ pub(crate) fn mix_all<M: TableMemory, W: Mixer>(
     let mut i = 0;
     'groups: while i < count {
         let n = group_by::<W>(used.width, count - i);
-        mix_at_once::<M, W>(params, s, n, i, used);
+        mix_interleaved::<M, W>(params, s, n, i, used);
         i += n;
     }
 }
@@ -44,18 +44,18 @@ pub(crate) fn mix_all<M: TableMemory, W: Mixer>(
 /// Returns the number of chunks in the next group of `W`, given the number of tables and of chunks
 /// left.
 #[tactic(auto, unfolding(crate::specs::Mixing::group_by))]
-pub(crate) fn group_by<W: Mixer>(tables: usize, left: usize) -> usize
+pub(crate) fn group_by<W: Backend>(tables: usize, left: usize) -> usize
     requires some { 0 < tables }
     requires left { 0 < left }
     ensures some { 0 < result }
     ensures within { result ≤ tables }
     ensures left { result ≤ left }
     ensures few { result ≤ W.most }
-    ensures alone { W.in_words ≡ true → result ≢ 2 }
-    ensures exact { result ≡ group_by W.most W.in_words tables left }
+    ensures alone { W.scalar ≡ true → result ≢ 2 }
+    ensures exact { result ≡ group_by W.most W.scalar tables left }
 {
-    let n = next_group(tables.min(W::most_at_once()), left);
-    if n == 2 && W::is_in_words() { 1 } else { n }
+    let n = next_group(tables.min(W::max_interleave()), left);
+    if n == 2 && W::is_scalar() { 1 } else { n }
 }
 
 // Returns the number of chunks in the next group. If three or more can be interleaved, no group of
@@ -80,15 +80,15 @@ fn next_group(width: usize, left: usize) -> usize
 }
 
 // Mixes the `n` chunks from `i` on, interleaved.
-fn mix_at_once<M: TableMemory, W: Mixer>(
+fn mix_interleaved<M: TableMemory, W: Backend>(
     params: &Params,
     s: u8,
     n: usize,
     i: usize,
-    used: &mut InUse<'_, M>,
+    used: &mut ActiveBuffers<'_, M>,
 )
     requires few { n ≤ W.most }
-    requires alone { W.in_words ≡ true → n ≢ 2 }
+    requires alone { W.scalar ≡ true → n ≢ 2 }
     requires inside { i * (128 * params.now.r) + n * (128 * params.now.r) ≤ length used.old.chunks.now }
     requires memory { HasTables params.now.log_n s params.now.r n (M.room used.old.rows.now) (length used.old.scratch.now) }
     ensures mixed { (b : List ℕ) → AreMixed b params.now.log_n params.now.r i used.old.chunks.now
@@ -97,16 +97,16 @@ fn mix_at_once<M: TableMemory, W: Mixer>(
     ensures counted { AreCountedAs true (n
         * thin_ro_mix_cost (words_of (part (128 * params.now.r) used.old.chunks.now i)) params.now.log_n s params.now.r) used.old.cores.now used.new.cores.now }
 {
-    // A mixer's results are constants, so that the compiler leaves out the groups that it never
+    // A backend's results are constants, so that the compiler leaves out the groups that it never
     // mixes.
     match n {
-        1 if W::is_in_words() => mix_group::<Diagonal<Scalars>, M>(params, s, n, i, used),
+        1 if W::is_scalar() => mix_group::<Diagonal<Scalars>, M>(params, s, n, i, used),
         1 => mix_group::<Diagonal<u32x4>, M>(params, s, n, i, used),
-        2 if !W::is_in_words() => mix_group::<Diagonal<u32x8>, M>(params, s, n, i, used),
-        3 if W::most_at_once() > 2 => {
+        2 if !W::is_scalar() => mix_group::<Diagonal<u32x8>, M>(params, s, n, i, used),
+        3 if W::max_interleave() > 2 => {
             mix_group::<Diagonal<Both<u32x8, u32x4>>, M>(params, s, n, i, used);
         }
-        4 if W::most_at_once() > 3 => {
+        4 if W::max_interleave() > 3 => {
             mix_group::<Diagonal<Both<u32x8, u32x8>>, M>(params, s, n, i, used);
         }
         _ => unreachable!(),
@@ -120,7 +120,7 @@ fn mix_group<O: OrderedBlocks, M: TableMemory>(
     s: u8,
     n: usize,
     i: usize,
-    used: &mut InUse<'_, M>,
+    used: &mut ActiveBuffers<'_, M>,
 )
     requires group { n ≡ O.count }
     requires inside { i * (128 * params.now.r) + n * (128 * params.now.r) ≤ length used.old.chunks.now }

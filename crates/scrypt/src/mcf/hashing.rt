@@ -15,11 +15,11 @@ ghost use Rattle.scrypt.specs.Mixing.{IsReady, IsSpent};
 ghost use Rattle.scrypt.specs.Workspace.{IsDone, workspace_of};
 ghost use Rattle.scrypt_kernel.specs.Memory.{buffer_room};
 
-use crate::buffers::{InUse, at_front};
+use crate::buffers::{ActiveBuffers, with_prefix};
 use crate::hashing::{check_call, key_allocating, stored_key};
 use crate::mcf::five_letters::five_letters;
 use crate::mcf::reading::is_mcf;
-use crate::{CoreCount, Mixer, Params, Scrypt, Vectors};
+use crate::{Backend, CoreCount, Params, Scrypt, Simd};
 use password_hash::mcf::alphabet::letter;
 use password_hash::mcf::{Base64, PasswordHash};
 use password_hash::phc::Output;
@@ -74,15 +74,15 @@ impl CustomizedPasswordHasher<PasswordHash> for Scrypt {
         params: Params,
     ) -> Result<PasswordHash> {
         check_call("7", alg_id, version)?;
-        hash::<Vectors>(alloc, password, salt, &params)
+        hash::<Simd>(alloc, password, salt, &params)
     }
 }
 
-/// Hashes `password` as [`Scrypt`] does with these parameters, by the mixer `W`.
+/// Hashes `password` as [`Scrypt`] does with these parameters, by the backend `W`.
 ///
 /// Returns `OutOfMemory` if an allocation fails.
 #[tactic(auto, using(crate::proofs::McfTextFacts::key_fills))]
-pub fn hash<W: Mixer>(
+pub fn hash<W: Backend>(
     alloc: Global,
     password: &[u8],
     salt: &[u8],
@@ -104,7 +104,7 @@ pub fn hash<W: Mixer>(
 // Derives the key of a hash. The letters of the salt are the salt of the derivation: they are in
 // `text` until it is written.
 #[tactic(auto, using(crate::proofs::McfTextFacts::key_fills))]
-fn key_by_letters<W: Mixer>(
+fn key_by_letters<W: Backend>(
     alloc: Global,
     password: &[u8],
     salt: &[u8],
@@ -203,7 +203,7 @@ fn hash_of_text(text: Vec<u8>) -> PasswordHash
 /// Returns `OutOfMemory` exactly if `text` or another buffer is too short, and then changes
 /// nothing.
 #[tactic(auto, using(crate::proofs::HashingFacts::errors))]
-pub fn hash_with_buffers<W: Mixer>(
+pub fn hash_with_buffers<W: Backend>(
     password: &[u8],
     salt: &[u8],
     params: &Params,
@@ -233,7 +233,7 @@ pub fn hash_with_buffers<W: Mixer>(
         return Err(Error::OutOfMemory);
     }
     params.expose_invariant();
-    let made = at_front(
+    let made = with_prefix(
         params,
         params.p(),
         chunks,
@@ -249,12 +249,12 @@ pub fn hash_with_buffers<W: Mixer>(
 
 // Hashes a password. The text fills `text`.
 #[tactic(auto, using(crate::proofs::McfTextFacts::key_fills))]
-fn fill_with_hash<W: Mixer>(
+fn fill_with_hash<W: Backend>(
     password: &[u8],
     salt: &[u8],
     params: &Params,
     text: &mut [u8],
-    used: &mut InUse<'_, Buffer<'_>>,
+    used: &mut ActiveBuffers<'_, Buffer<'_>>,
 )
     requires len { length text.old ≡ made_text_len params.now (length salt.now) }
     requires ready { IsReady buffer_room params.now.log_n 0 params.now.r params.now.p used.old }

@@ -1,4 +1,4 @@
-// Reading the parameters and the salt of a `$7$` text.
+// Reading the parameters and the salt of a `$7$` hash.
 
 ghost use Rattle.std.specs.Prelude.{◌≡◌, ◌≤◌, drop, length, Ok, Err, IfOk, IfErr};
 ghost use Rattle.password_hash.specs.Refusal.{refusal};
@@ -10,7 +10,7 @@ use crate::mcf::five_letters::decode64_uint32;
 use password_hash::mcf::alphabet::value;
 use password_hash::{Error, Result};
 
-/// Reads the parameters and the salt from the first field of a `$7$` text: one letter of `log_n`,
+/// Reads the parameters and the salt from the first field of a `$7$` hash: one letter of `log_n`,
 /// five letters of `r`, five letters of `p`, and then the salt, which is the rest of `text`, not
 /// decoded. The parameters have no length of a stored key.
 ///

@@ -61,7 +61,7 @@ fn parts_of_fields<'a>(mut fields: Fields<'a>) -> Result<StoredParts<'a>>
     })
 }
 
-/// Returns whether `id` is the id of `$7$` texts.
+/// Returns whether `id` is the id of `$7$` hashes.
 pub(super) fn is_mcf(id: &str) -> bool
     ensures { IsTrue result ↔ (id.now ≡ mcf_id) }
 {

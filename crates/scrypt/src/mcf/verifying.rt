@@ -7,7 +7,7 @@ ghost use Rattle.scrypt.specs.Reading.{verdict as verdict_of};
 
 use crate::mcf::reading::parts_of_mcf;
 use crate::verifying::verify_allocating;
-use crate::{CoreCount, Scrypt, Vectors};
+use crate::{CoreCount, Scrypt, Simd};
 use password_hash::mcf::{PasswordHash, PasswordHashRef};
 use password_hash::{PasswordVerifier, Result};
 use std::alloc::Global;
@@ -33,12 +33,7 @@ impl<'a> PasswordVerifier<PasswordHashRef<'a>> for Scrypt {
         hash: &PasswordHashRef<'a>,
     ) -> Result<()> {
         match parts_of_mcf(hash) {
-            Ok(parts) => verify_allocating::<Vectors>(
-                alloc,
-                password,
-                &parts,
-                &mut CoreCount::new(),
-            ),
+            Ok(parts) => verify_allocating::<Simd>(alloc, password, &parts, &mut CoreCount::new()),
             Err(error) => Err(error),
         }
     }

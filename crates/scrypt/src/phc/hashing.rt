@@ -10,11 +10,11 @@ ghost use Rattle.password_hash.specs.declared.error.Error.TheVariants.{OutOfMemo
 ghost use Rattle.scrypt.specs.InBuffers.{are_enough};
 ghost use Rattle.scrypt.specs.Workspace.{IsDone, workspace_of};
 
-use crate::buffers::at_front;
+use crate::buffers::with_prefix;
 use crate::hashing::{check_call, key_allocating, stored_key};
 use crate::phc::ALG_ID;
 use crate::phc::params::written;
-use crate::{CoreCount, Mixer, Params, Scrypt, Vectors};
+use crate::{Backend, CoreCount, Params, Scrypt, Simd};
 use password_hash::phc::{Output, PasswordHash, Salt};
 use password_hash::{CustomizedPasswordHasher, Error, PasswordHasher, Result, Version};
 use scrypt_kernel::memory::Buffer;
@@ -61,16 +61,16 @@ impl CustomizedPasswordHasher<PasswordHash> for Scrypt {
         params: Params,
     ) -> Result<PasswordHash> {
         check_call(ALG_ID.as_str(), alg_id, version)?;
-        hash::<Vectors>(alloc, password, salt, &params)
+        hash::<Simd>(alloc, password, salt, &params)
     }
 }
 
-/// Hashes `password` as [`Scrypt`] does with these parameters, by the mixer `W`.
+/// Hashes `password` as [`Scrypt`] does with these parameters, by the backend `W`.
 ///
 /// Returns `SaltInvalid` if `salt` does not have 1 to 64 bytes, and otherwise `OutOfMemory` if an
 /// allocation fails.
 #[tactic(auto, using(crate::proofs::HashingFacts::errors))]
-pub fn hash<W: Mixer>(
+pub fn hash<W: Backend>(
     alloc: Global,
     password: &[u8],
     salt: &[u8],
@@ -113,7 +113,7 @@ fn hash_of(params: &Params, salt: Salt, key: Output) -> PasswordHash
 /// Returns `SaltInvalid` if `salt` does not have 1 to 64 bytes, and otherwise `OutOfMemory` exactly
 /// if a buffer is too short. On an error the buffers and the count are unchanged.
 #[tactic(auto, using(crate::proofs::HashingFacts::errors))]
-pub fn hash_with_buffers<W: Mixer>(
+pub fn hash_with_buffers<W: Backend>(
     password: &[u8],
     salt: &[u8],
     params: &Params,
@@ -141,7 +141,7 @@ pub fn hash_with_buffers<W: Mixer>(
     };
     params.expose_invariant();
     let letters = salt.as_bytes();
-    let key = at_front(
+    let key = with_prefix(
         params,
         params.p(),
         chunks,

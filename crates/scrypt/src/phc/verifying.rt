@@ -6,7 +6,7 @@ ghost use Rattle.scrypt.specs.Reading.{verdict as verdict_of};
 
 use crate::phc::reading::{parts_of_phc, read_params};
 use crate::verifying::verify_allocating;
-use crate::{CoreCount, Scrypt, Vectors};
+use crate::{CoreCount, Scrypt, Simd};
 use password_hash::phc::PasswordHash;
 use password_hash::{PasswordVerifier, Result};
 use std::alloc::Global;
@@ -26,12 +26,7 @@ impl PasswordVerifier<PasswordHash> for Scrypt {
     /// keys differ.
     fn verify_password(&self, alloc: Global, password: &[u8], hash: &PasswordHash) -> Result<()> {
         match parts_of_phc(hash, &read_params(hash)) {
-            Ok(parts) => verify_allocating::<Vectors>(
-                alloc,
-                password,
-                &parts,
-                &mut CoreCount::new(),
-            ),
+            Ok(parts) => verify_allocating::<Simd>(alloc, password, &parts, &mut CoreCount::new()),
             Err(error) => Err(error),
         }
     }

@@ -14,7 +14,7 @@ use crate::{CoreCount, Progress};
 use password_hash::Result;
 
 impl<'a> StoredHash<'a> {
-    /// Returns the salt of the hash, for [`begin`](crate::begin). The salt of a `$7$` text is its
+    /// Returns the salt of the hash, for [`begin`](crate::begin). The salt of a `$7$` hash is its
     /// letters.
     ///
     /// Returns the errors of [`StoredHash::verify`] before it allocates.

@@ -33,7 +33,7 @@ impl<'a> StoredHash<'a> {
             return Err(too_costly(&parts.params));
         }
         let key_len = parts.key_len;
-        if key_len < limits.least_key_len {
+        if key_len < limits.min_key_len {
             return Err(LimitedError::KeyTooShort { key_len });
         }
         Ok(self)

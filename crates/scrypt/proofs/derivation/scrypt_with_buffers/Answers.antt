@@ -8,5 +8,5 @@ pub unreachable-requires : goal.unreachable-requires
 unreachable-requires c =
     let params = c.args.params.now in
     let chunks : chunks_bytes params.r params.p ≤ length c.args.chunks.now = omega (arith, c.requires.chunks) in
-    let short = c.scrypt_at_front-derived.ensures.short.0 (search rules) in
+    let short = c.scrypt_in_prefix-derived.ensures.short.0 (search rules) in
     absurd (short.1 ((enough_decided params c.args.chunks.now c.args.table.now c.args.scratch.now).1 (chunks, (c.requires.table, c.requires.scratch))))

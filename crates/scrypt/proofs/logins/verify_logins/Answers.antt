@@ -11,28 +11,28 @@ use Rattle.scrypt.proofs.LoginFacts.{all_put, from, left_alone, one_more, same_c
 use Rattle.scrypt.proofs.ReadingFacts.{same_hashed, same_verdict}
 use Rattle.scrypt.proofs.logins.verify_logins.Goals as goal
 
-pub returns-then-verified_at_once-clause-verdicts : goal.returns-then-verified_at_once-clause-verdicts
-returns-then-verified_at_once-clause-verdicts g c =
+pub returns-then-verified_in_batch-clause-verdicts : goal.returns-then-verified_in_batch-clause-verdicts
+returns-then-verified_in_batch-clause-verdicts g c =
     let logins = c.args.logins.now in
     let before = workspace_of c.args.chunks.now c.args.table.now c.args.scratch.now c.args.cores.now in
     let now = workspace_of c.loop-i.chunks c.loop-i.table c.loop-i.scratch c.loop-i.cores in
     let known = c.loop-i.invariant in
     let i = c.loop-i.i in
     let others = ap attempts c.split_at.ensures.back ∙ sym (drop-map attempt_of i logins) in
-    ap (map with_limited_refusal) (all_put c.loop-i.verdicts c.verified_at_once.new.verdicts i _
+    ap (map with_limited_refusal) (all_put c.loop-i.verdicts c.verified_in_batch.new.verdicts i _
     (omega (arith, known.long, c.loop-i-test.true)) (search rules) (search rules))
-    ∙ map-append with_limited_refusal (take i c.loop-i.verdicts) c.verified_at_once.new.verdicts
-    ∙ ap₂ (λ x y. x ++ y) known.verified (c.if-verified_at_once.ensures.verdicts (search rules)
+    ∙ map-append with_limited_refusal (take i c.loop-i.verdicts) c.verified_in_batch.new.verdicts
+    ∙ ap₂ (λ x y. x ++ y) known.verified (c.if-verified_in_batch.ensures.verdicts (search rules)
     ∙ same_verdicts now before known.chunks known.table known.scratch (attempts c.split_at.result.1.now) ∙ ap (map (verdict_on before)) others)
     ∙ sym (map-append (verdict_on before) (take i (attempts logins)) (drop i (attempts logins)))
     ∙ ap (map (verdict_on before)) (take-append-drop i (attempts logins))
 
-pub returns-then-verified_at_once-clause-left : goal.returns-then-verified_at_once-clause-left
-returns-then-verified_at_once-clause-left g c =
-    c.loop-i.invariant.left _ (rw (drop-map attempt_of c.loop-i.i c.args.logins.now, ← c.split_at.ensures.back) (c.if-verified_at_once.ensures.left (search rules)))
+pub returns-then-verified_in_batch-clause-left : goal.returns-then-verified_in_batch-clause-left
+returns-then-verified_in_batch-clause-left g c =
+    c.loop-i.invariant.left _ (rw (drop-map attempt_of c.loop-i.i c.args.logins.now, ← c.split_at.ensures.back) (c.if-verified_in_batch.ensures.left (search rules)))
 
-pub returns-then-verified_at_once-clause-hashed : goal.returns-then-verified_at_once-clause-hashed
-returns-then-verified_at_once-clause-hashed g c =
+pub returns-then-verified_in_batch-clause-hashed : goal.returns-then-verified_in_batch-clause-hashed
+returns-then-verified_in_batch-clause-hashed g c =
     let logins = c.args.logins.now in
     let before = workspace_of c.args.chunks.now c.args.table.now c.args.scratch.now c.args.cores.now in
     let now = workspace_of c.loop-i.chunks c.loop-i.table c.loop-i.scratch c.loop-i.cores in
@@ -43,7 +43,7 @@ returns-then-verified_at_once-clause-hashed g c =
     ∙ ap (sum_by (hashed_on before)) others in
     let all = ap (sum_by (hashed_on before)) (sym (take-append-drop i (attempts logins)))
     ∙ sum_by-append (hashed_on before) (take i (attempts logins)) (drop i (attempts logins)) in
-    omega (arith, known.hashed, c.if-verified_at_once.ensures.hashed (search rules), rest, all)
+    omega (arith, known.hashed, c.if-verified_in_batch.ensures.hashed (search rules), rest, all)
 
 pub loop-i-preserved : goal.loop-i-preserved
 loop-i-preserved g c =
@@ -53,7 +53,7 @@ loop-i-preserved g c =
     let before = workspace_of c.args.chunks.now c.args.table.now c.args.scratch.now c.args.cores.now in
     let now = workspace_of c.loop-i.chunks c.loop-i.table c.loop-i.scratch c.loop-i.cores in
     let known = c.loop-i.invariant in
-    let kept = c.if-verified_at_once.ensures.unchanged (search rules) in
+    let kept = c.if-verified_in_batch.ensures.unchanged (search rules) in
     let here = from logins i login c.loop-i-test.true c.index-logins-i.is in
     let verdict = rw (kept.0, kept.1, kept.2) at c.verify_alone.ensures.verdict in
     let left = rw (kept.0, kept.1, kept.2, kept.3) at c.verify_alone.ensures.left in
@@ -67,7 +67,7 @@ loop-i-preserved g c =
           (search rules) (omega (arith, length-map logins attempt_of, c.loop-i-test.true))
           (get_or-map attempt_of logins i login ∙ ap attempt_of (sym c.index-logins-i.is))
           (verdict ∙ same_verdict now before known.chunks known.table known.scratch (attempt_of login).0 (attempt_of login).1)
-          (ap (map with_limited_refusal) (take-put_mid_below i _ c.loop-i.verdicts c.verified_at_once.new.verdicts i (omega arith)
+          (ap (map with_limited_refusal) (take-put_mid_below i _ c.loop-i.verdicts c.verified_in_batch.new.verdicts i (omega arith)
           (omega (arith, known.long, c.loop-i-test.true))) ∙ known.verified);
       hashed = omega (
         arith,
@@ -77,6 +77,6 @@ loop-i-preserved g c =
         sum_more (hashed_on before) logins i login c.loop-i-test.true c.index-logins-i.is,
       );
       left = λ after others.
-          let alone = rw (c.split_at.ensures.back, ← drop-map attempt_of i logins, here) at (c.if-verified_at_once.ensures.alone (search rules)) in
+          let alone = rw (c.split_at.ensures.back, ← drop-map attempt_of i logins, here) at (c.if-verified_in_batch.ensures.alone (search rules)) in
           known.left after (rw here (left_alone (attempt_of login) (drop (i + 1) (attempts logins)) now _ after alone left others));
     }

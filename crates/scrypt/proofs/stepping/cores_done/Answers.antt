@@ -8,7 +8,7 @@ overflow_mul-result-2 c =
     let within = c.requires.within in
     omega (
       arith,
-      cores_fit c.args.at.chunks c.args.at.at_once c.log_n.result c.args.at.mixes params.r params.p c.from.result within.chunks within.few
+      cores_fit c.args.at.chunks c.args.at.interleaved c.log_n.result c.args.at.mixes params.r params.p c.from.result within.chunks within.few
           c.expose_invariant.ensures.some.0 c.expose_invariant.ensures.product c.log_n.ensures.small
           (rw c.log_n.ensures.value within.mixes) (rw c.from.ensures c.r.type_inv),
     )
@@ -18,6 +18,6 @@ returns c = record {
   exact =
       let params = c.args.params.now in
       rw (c.from.ensures, c.r.ensures.value, c.log_n.ensures.value)
-      (cores_are c.args.at.chunks c.args.at.at_once params.log_n c.args.at.mixes params.r params.p c.requires.within.chunks
+      (cores_are c.args.at.chunks c.args.at.interleaved params.log_n c.args.at.mixes params.r params.p c.requires.within.chunks
       c.expose_invariant.ensures.some.0 c.expose_invariant.ensures.product (rw c.log_n.ensures.value at c.log_n.ensures.small));
 }

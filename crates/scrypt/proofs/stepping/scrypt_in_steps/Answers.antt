@@ -12,8 +12,8 @@ steps-smaller g c =
     let at = c.steps.at in
     let within = c.steps.invariant.within in
     let more : at.chunks < params.p = omega (arith, c.steps-test.true, c.p.ensures.value) in
-    let left = mixes_left at.chunks at.at_once at.mixes (all_mixes params.log_n) params.p within.chunks (within.some more) within.mixes in
-    let onward = mixes_more at.at_once (min c.args.count (lacking params at)) (within.some more) (omega (arith, c.requires.some, within.mixes)) in
+    let left = mixes_left at.chunks at.interleaved at.mixes (all_mixes params.log_n) params.p within.chunks (within.some more) within.mixes in
+    let onward = mixes_more at.interleaved (min c.args.count (lacking params at)) (within.some more) (omega (arith, c.requires.some, within.mixes)) in
     omega (arith, left, onward, c.step-at.ensures.exact)
 
 pub steps-preserved : goal.steps-preserved
@@ -38,5 +38,5 @@ pub returns-clause-counted : goal.returns-clause-counted
 returns-clause-counted g c =
     let params = c.args.params.now in
     let all : c.steps.at.chunks ≡ params.p = omega (arith, c.steps-test.false, c.p.ensures.value, c.steps.invariant.within.chunks) in
-    rw (all_mixes_cost params.log_n params.r params.p c.steps.at.chunks c.steps.at.at_once c.steps.at.mixes all (c.steps.invariant.within.ended all))
+    rw (all_mixes_cost params.log_n params.r params.p c.steps.at.chunks c.steps.at.interleaved c.steps.at.mixes all (c.steps.invariant.within.ended all))
     at (counted_between c.begin-at.ensures.counted c.steps.invariant.counted c.in-Ok.ensures.counted)

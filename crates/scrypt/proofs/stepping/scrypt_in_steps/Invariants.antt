@@ -9,9 +9,9 @@ abbrev pub invariant-steps : goal.invariant-steps
 invariant-steps g l = record {
   callable : goal.F-IsAlwaysCallable g l.go_on;
   within : IsWithin l.params l.at;
-  mixable : AreMixable g.W.Mixer.most g.W.Mixer.in_words l.at.at_once;
-  table : l.at.at_once * table_words l.params.log_n l.params.r ≤ length l.table;
-  scratch : l.at.at_once * scratch_words l.params.r ≤ length l.scratch;
+  mixable : AreMixable g.W.Backend.most g.W.Backend.scalar l.at.interleaved;
+  table : l.at.interleaved * table_words l.params.log_n l.params.r ≤ length l.table;
+  scratch : l.at.interleaved * scratch_words l.params.r ≤ length l.scratch;
   under_way : IsUnderWay l.password l.salt l.params l.at l.chunks l.table l.scratch;
   counted : AreCountedAs true (mixes_done l.params l.at * (2 * l.params.r)) l.initial.cores l.cores;
 }

@@ -7,7 +7,7 @@ use Rattle.scrypt.proofs.stepping.step.Goals as goal
 pub end_group-requires-clause-inside : goal.end_group-requires-clause-inside
 end_group-requires-clause-inside g c =
     let params = c.args.params.now in
-    chunks_inside c.args.at.chunks c.args.at.at_once params.p (128 * params.r) _ c.requires.within.chunks c.requires.chunks
+    chunks_inside c.args.at.chunks c.args.at.interleaved params.p (128 * params.r) _ c.requires.within.chunks c.requires.chunks
 
 pub returns-clause-under_way : goal.returns-clause-under_way
 returns-clause-under_way g c password salt at =
@@ -24,7 +24,7 @@ returns-then-mixes-log_n-clause-exact g c =
     let params = c.args.params.now in
     omega (
       arith,
-      more_mixes c.args.at.at_once c.args.at.mixes c.args.count (all_mixes params.log_n) c.mix_more-mixes.result
+      more_mixes c.args.at.interleaved c.args.at.mixes c.args.count (all_mixes params.log_n) c.mix_more-mixes.result
           c.requires.within.mixes c.mix_more-mixes.ensures.done,
     )
 
@@ -32,7 +32,7 @@ pub returns-then-mixes-log_n-clause-counted : goal.returns-then-mixes-log_n-clau
 returns-then-mixes-log_n-clause-counted g c =
     let params = c.args.params.now in
     let some : c.mix_more-mixes.result - c.args.at.mixes ≡ min c.args.count (lacking params c.args.at) = omega (arith, c.mix_more-mixes.ensures.done, c.requires.within.mixes) in
-    rw (cores_of_step (mixes_done params c.args.at) (mixes_done params (record c.args.at { mixes = c.mix_more-mixes.result })) c.args.at.at_once _ _ (2 * params.r)
+    rw (cores_of_step (mixes_done params c.args.at) (mixes_done params (record c.args.at { mixes = c.mix_more-mixes.result })) c.args.at.interleaved _ _ (2 * params.r)
     (returns-then-mixes-log_n-clause-exact g c) some) at c.mix_more-mixes.ensures.counted
 
 pub returns-clause-exact : goal.returns-clause-exact
@@ -43,7 +43,7 @@ returns-clause-exact g c =
     rw (c.begin_group.ensures.start.0, c.begin_group.ensures.start.1)
     (omega (
       arith,
-      rw all at (more_mixes c.args.at.at_once c.args.at.mixes c.args.count (all_mixes params.log_n) c.mix_more-mixes.result
+      rw all at (more_mixes c.args.at.interleaved c.args.at.mixes c.args.count (all_mixes params.log_n) c.mix_more-mixes.result
           c.requires.within.mixes c.mix_more-mixes.ensures.done),
     ))
 
@@ -51,5 +51,5 @@ pub returns-clause-counted : goal.returns-clause-counted
 returns-clause-counted g c =
     let params = c.args.params.now in
     let some : c.mix_more-mixes.result - c.args.at.mixes ≡ min c.args.count (lacking params c.args.at) = omega (arith, c.mix_more-mixes.ensures.done, c.requires.within.mixes) in
-    rw (cores_of_step (mixes_done params c.args.at) (mixes_done params c.begin_group.result) c.args.at.at_once _ _ (2 * params.r)
+    rw (cores_of_step (mixes_done params c.args.at) (mixes_done params c.begin_group.result) c.args.at.interleaved _ _ (2 * params.r)
     (returns-clause-exact g c) some) at c.mix_more-mixes.ensures.counted

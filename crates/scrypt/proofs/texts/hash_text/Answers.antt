@@ -18,7 +18,7 @@ returns c =
       read = rw printed read;
       accepts = rw printed law.0;
       strong = rw printed law.1;
-      within = λ usual n short bytes little. rw printed (c.made_texts_are_accepted.ensures.phc_within usual params c.args.password.now
+      within = λ defaults n short bytes little. rw printed (c.made_texts_are_accepted.ensures.phc_within defaults params c.args.password.now
           c.args.salt hash n accepted stored salt made short bytes little);
       err = tt;
     }

@@ -5,7 +5,7 @@ use Rattle.scrypt.proofs.verifying.verify_in_buffers.Goals as goal
 
 pub returns-in-Some-clause-left : goal.returns-in-Some-clause-left
 returns-in-Some-clause-left g c =
-    let done = c.at_front-same.ensures.done (λ used shown made after left ready ran. search rules) (search rules) in
+    let done = c.with_prefix-same.ensures.done (λ used shown made after left ready ran. search rules) (search rules) in
     let enough : IsTrue (are_enough c.args.parts.now.params c.args.chunks.now c.args.table.now c.args.scratch.now) =
-    rw c.p.ensures.value at (c.at_front-same.ensures.exact.0 (search rules)) in
+    rw c.p.ensures.value at (c.with_prefix-same.ensures.exact.0 (search rules)) in
     rw enough (search (rules, done))

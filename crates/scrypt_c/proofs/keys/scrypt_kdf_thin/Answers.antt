@@ -11,8 +11,8 @@ returns-then-chunks-lens-clause-status c = record {
   one = search rules;
 }
 
-pub scrypt_thin_by-derived-requires-clause-scratch : goal.scrypt_thin_by-derived-requires-clause-scratch
-scrypt_thin_by-derived-requires-clause-scratch c = search rules
+pub scrypt_thin_with_backend-derived-requires-clause-scratch : goal.scrypt_thin_with_backend-derived-requires-clause-scratch
+scrypt_thin_with_backend-derived-requires-clause-scratch c = search rules
 
 -- the buffers of a whole table are long enough for the call with buffers
 pub returns-then-s-eq0-clause-status : goal.returns-then-s-eq0-clause-status

@@ -30,7 +30,7 @@ made least letters read (Some bytes) are decoded exact value bounds =
 
 pub returns-then-letters-gt86 : goal.returns-then-letters-gt86
 returns-then-letters-gt86 g c = record {
-  value = none g.row.LEAST c.args.letters.now (λ bytes are same. omega (arith, ap length same, length-base64 bytes, are.fits));
+  value = none g.row.MIN c.args.letters.now (λ bytes are same. omega (arith, ap length same, length-base64 bytes, are.fits));
 }
 
 pub returns-in_default : goal.returns-in_default
@@ -39,6 +39,6 @@ returns-in_default g c = record { value = rw (rw c.as_bytes.ensures.value at c.i
 
 pub returns : goal.returns
 returns g c = record {
-  value = made g.row.LEAST c.args.letters.now _ c.copied.result (λ i. omega (arith, c.type_inv.letters i))
+  value = made g.row.MIN c.args.letters.now _ c.copied.result (λ i. omega (arith, c.type_inv.letters i))
       (rw c.as_bytes.ensures.value at c.in-Ok.ensures.ok.0) c.copied.ensures.exact c.copied.ensures.value c.copied.ensures.bytes;
 }

@@ -6,13 +6,13 @@ use Rattle.scrypt.specs.Cost.{scratch_words, table_words}
 use Rattle.scrypt.proofs.CostFacts.{more_chunks, whole_table_cost}
 use Rattle.scrypt.proofs.derivation.mixing.mix_all.Goals as goal
 
-pub mix_at_once-requires-clause-inside : goal.mix_at_once-requires-clause-inside
-mix_at_once-requires-clause-inside g c =
+pub mix_interleaved-requires-clause-inside : goal.mix_interleaved-requires-clause-inside
+mix_interleaved-requires-clause-inside g c =
     let below : c.groups.i + c.group_by-n.result ≤ c.args.count = omega arith in
     omega (arith, c.requires.ready.chunks_len, mul-le-mul_right (128 * c.args.params.now.r) below)
 
-pub mix_at_once-requires-clause-memory : goal.mix_at_once-requires-clause-memory
-mix_at_once-requires-clause-memory g c =
+pub mix_interleaved-requires-clause-memory : goal.mix_interleaved-requires-clause-memory
+mix_interleaved-requires-clause-memory g c =
     let has = c.requires.ready.memory in
     let r = c.args.params.now.r in
     let table = table_words (c.args.params.now.log_n - c.args.s) r in
@@ -32,13 +32,14 @@ groups-preserved g c =
     let before = c.groups.invariant in
     let alone : 0 < c.args.s → c.group_by-n.result ≡ 1 = λ above. omega (arith, c.requires.ready.memory.alone above) in
     record {
-      mixed = c.mix_at_once.ensures.mixed c.args.used.now.chunks.now before.mixed;
+      mixed = c.mix_interleaved.ensures.mixed c.args.used.now.chunks.now before.mixed;
       some = omega arith;
       kept = search rules;
-      counted = counted_both _ before.counted (rw before.mixed.rest at c.mix_at_once.ensures.counted) (more_chunks _ _ _ _ _ _ alone);
+      counted = counted_both _ before.counted (rw before.mixed.rest at c.mix_interleaved.ensures.counted) (more_chunks _ _ _ _ _ _ alone);
     }
 
--- the search finds this and the next too: they are here so that a body that leaves a chunk out is refused by them
+-- the search finds this and the next too: they are here so that a body that leaves a chunk out is
+-- refused by them
 pub returns-clause-value : goal.returns-clause-value
 returns-clause-value g c =
     let all : c.groups.i ≡ c.args.count = omega arith in

@@ -3,5 +3,5 @@ use Rattle.scrypt.proofs.mcf.hashing.hash_with_buffers.Goals as goal
 
 pub returns-clause-done : goal.returns-clause-done
 returns-clause-done g c =
-    let done = c.at_front-made.ensures.done (λ used shown made after left ready ran. search rules) (search rules) in
+    let done = c.with_prefix-made.ensures.done (λ used shown made after left ready ran. search rules) (search rules) in
     search (rules, done)

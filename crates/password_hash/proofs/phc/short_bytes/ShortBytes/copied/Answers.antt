@@ -18,4 +18,4 @@ stored least most new xs e some fits =
 
 pub invariant_of-result : goal.invariant_of-result
 invariant_of-result g c =
-    stored g.row.LEAST g.row.MOST c.copy_from_slice.new.self c.args.bytes.now c.copy_from_slice.ensures.after (omega arith) (omega arith)
+    stored g.row.MIN g.row.MAX c.copy_from_slice.new.self c.args.bytes.now c.copy_from_slice.ensures.after (omega arith) (omega arith)

@@ -1,5 +1,5 @@
 use Rattle.std.proofs.Common.{rules, sym}
-use Rattle.scrypt_c.proofs.needs.scrypt_params_need.Goals as goal
+use Rattle.scrypt_c.proofs.cost.scrypt_params_cost.Goals as goal
 
 pub returns-clause-status : goal.returns-clause-status
 returns-clause-status c = record {

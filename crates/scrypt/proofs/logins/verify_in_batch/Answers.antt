@@ -2,7 +2,7 @@ use Rattle.std.proofs.Common.{◌∙◌, ◌+◌, ap}
 use Rattle.scrypt_kernel.proofs.CountFacts.{hashed_around}
 use Rattle.scrypt.specs.Logins.{attempts}
 use Rattle.scrypt.proofs.LoginFacts.{both_costs}
-use Rattle.scrypt.proofs.logins.verify_at_once.Goals as goal
+use Rattle.scrypt.proofs.logins.verify_in_batch.Goals as goal
 
 pub returns-clause-hashed : goal.returns-clause-hashed
 returns-clause-hashed g c =

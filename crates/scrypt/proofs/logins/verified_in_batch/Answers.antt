@@ -5,23 +5,23 @@ use Rattle.scrypt.specs.Reading.{verdict, verify_cost}
 use Rattle.scrypt.specs.WithinLimits.{with_limited_refusal}
 use Rattle.scrypt.specs.Workspace.{workspace_of}
 use Rattle.scrypt.proofs.LoginFacts.{alone, alone_costs}
-use Rattle.scrypt.proofs.logins.verified_at_once.Goals as goal
+use Rattle.scrypt.proofs.logins.verified_in_batch.Goals as goal
 
 pub returns-in-Some-verified-clause-verdicts : goal.returns-in-Some-verified-clause-verdicts
 returns-in-Some-verified-clause-verdicts g c = λ _.
     let before = workspace_of c.args.chunks.now c.args.table.now c.args.scratch.now c.args.cores.now in
-    let at_once : map with_limited_refusal c.at_front-verified.new.output ≡ map (λ (a : Attempt). verdict a.0 a.1) (attempts c.args.logins.now) = search rules in
-    at_once ∙ alone c.in-Some.params (attempts c.args.logins.now) c.in-Some.count before c.in-Some.ensures'.count (search rules)
+    let batch : map with_limited_refusal c.with_prefix-verified.new.output ≡ map (λ (a : Attempt). verdict a.0 a.1) (attempts c.args.logins.now) = search rules in
+    batch ∙ alone c.in-Some.params (attempts c.args.logins.now) c.in-Some.count before c.in-Some.ensures'.count (search rules)
 
 pub returns-in-Some-verified-clause-hashed : goal.returns-in-Some-verified-clause-hashed
 returns-in-Some-verified-clause-hashed g c = λ _.
     let before = workspace_of c.args.chunks.now c.args.table.now c.args.scratch.now c.args.cores.now in
-    let at_once : c.at_front-verified.new.cores.compressions
+    let batch : c.with_prefix-verified.new.cores.compressions
     ≡ c.args.cores.now.compressions + all_cost verify_cost (attempts c.args.logins.now) = search rules in
-    at_once ∙ ap (λ n. c.args.cores.now.compressions + n)
+    batch ∙ ap (λ n. c.args.cores.now.compressions + n)
     (alone_costs c.in-Some.params (attempts c.args.logins.now) c.in-Some.count before c.in-Some.ensures'.count (search rules))
 
 pub returns-in-Some-verified-clause-left : goal.returns-in-Some-verified-clause-left
 returns-in-Some-verified-clause-left g c = λ _.
-    let done = c.at_front-verified.ensures.done (λ used shown made after left ready ran. search rules) (search rules) in
+    let done = c.with_prefix-verified.ensures.done (λ used shown made after left ready ran. search rules) (search rules) in
     search (rules, done)

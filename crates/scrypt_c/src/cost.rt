@@ -5,7 +5,7 @@ ghost use Rattle.scrypt.specs.Accepted.{are_accepted};
 ghost use Rattle.scrypt.specs.Limits.{limits_for_new};
 ghost use Rattle.scrypt.specs.WithinLimits.{within};
 ghost use Rattle.scrypt_c.specs.Limits.{IsNeedStatus, limits_of, params_of};
-ghost use Rattle.scrypt_c.specs.Needs.{needs_of};
+ghost use Rattle.scrypt_c.specs.Cost.{cost_of};
 ghost use Rattle.scrypt_c.specs.Statuses.{result_status};
 ghost use Rattle.scrypt_c.specs.Texts.{bytes_reading};
 
@@ -20,7 +20,7 @@ use scrypt::{BufferLens, LimitedError, Limits, Params};
 /// with one table; and its work. Size and work are capped at `2^64 - 1`.
 #[repr(C)]
 #[derive(Clone, Copy)]
-pub struct Needs {
+pub struct Cost {
     pub log_n: u32,
     pub r: u32,
     pub p: u32,
@@ -33,26 +33,26 @@ pub struct Needs {
     pub work: u64,
 }
 
-/// Writes to `needs` what verifying with the text of a hash needs, if the buffers may have
-/// `most_bytes` bytes in total. Does not allocate.
+/// Writes to `cost` what verifying with the text of a hash needs, if the buffers may have
+/// `max_mem` bytes in total. Does not allocate.
 ///
 /// Returns `OK`, or the first of these: the errors of `scrypt_verify` for a hash that cannot be
 /// read, including `MISMATCH` if it has no salt or no key, and then nothing is written;
-/// `TOO_COSTLY` if the buffers with one table have more than `most_bytes` bytes in total, or if the
-/// work, `4 * (2^log_n + 32) * r * p`, exceeds `most_work`; and `KEY_TOO_SHORT` if the key has
-/// fewer than `least_key_len` bytes. These two write the same as `OK`; `tables` is 1 if even one
+/// `TOO_COSTLY` if the buffers with one table have more than `max_mem` bytes in total, or if the
+/// work, `4 * (2^log_n + 32) * r * p`, exceeds `max_work`; and `KEY_TOO_SHORT` if the key has
+/// fewer than `min_key_len` bytes. These two write the same as `OK`; `tables` is 1 if even one
 /// table does not fit.
 #[unsafe(no_mangle)]
-pub extern "C" fn scrypt_hash_needs(
+pub extern "C" fn scrypt_hash_cost(
     text: &[u8],
-    most_bytes: usize,
-    most_work: u64,
-    least_key_len: usize,
-    needs: &mut Needs,
+    max_mem: usize,
+    max_work: u64,
+    min_key_len: usize,
+    cost: &mut Cost,
 ) -> i32
-    ensures status { result ≡ result_status (within (limits_of most_bytes most_work least_key_len) (bytes_reading text.now)) }
-    ensures read { IfOk (bytes_reading text.now) (λ s. needs.new ≡ needs_of most_bytes s.params (length s.key)) }
-    ensures unread { OnErr (bytes_reading text.now) (needs.new ≡ needs.old) }
+    ensures status { result ≡ result_status (within (limits_of max_mem max_work min_key_len) (bytes_reading text.now)) }
+    ensures read { IfOk (bytes_reading text.now) (λ s. cost.new ≡ cost_of max_mem s.params (length s.key)) }
+    ensures unread { OnErr (bytes_reading text.now) (cost.new ≡ cost.old) }
 {
     parameters_are_those_of_the_reading();
     reading_names_no_password();
@@ -61,9 +61,9 @@ pub extern "C" fn scrypt_hash_needs(
         Err(error) => return status_of(error),
     };
     let limits = Limits {
-        most_bytes,
-        most_work,
-        least_key_len,
+        max_mem,
+        max_work,
+        min_key_len,
     };
     let status = match hash.within(&limits) {
         Ok(_) => OK,
@@ -73,37 +73,37 @@ pub extern "C" fn scrypt_hash_needs(
     let Ok((params, len)) = hash.params_and_key_len() else {
         unreachable!();
     };
-    *needs = needs_of(&params, len, most_bytes);
+    *cost = cost_of(&params, len, max_mem);
     status
 }
 
-/// Writes to `needs` what a derivation with these parameters needs, if the buffers may have
-/// `most_bytes` bytes in total. Does not allocate.
+/// Writes to `cost` what a derivation with these parameters needs, if the buffers may have
+/// `max_mem` bytes in total. Does not allocate.
 ///
 /// Returns `OK`, or the first of these: `INVALID_PARAMS` if the parameters are not accepted, and
-/// then nothing is written; and `TOO_COSTLY` as `scrypt_hash_needs` does, which writes the same as
+/// then nothing is written; and `TOO_COSTLY` as `scrypt_hash_cost` does, which writes the same as
 /// `OK`.
 #[unsafe(no_mangle)]
-pub extern "C" fn scrypt_params_need(
+pub extern "C" fn scrypt_params_cost(
     log_n: u8,
     r: u32,
     p: u32,
-    most_bytes: usize,
-    most_work: u64,
-    needs: &mut Needs,
+    max_mem: usize,
+    max_work: u64,
+    cost: &mut Cost,
 ) -> i32
-    ensures status { IsNeedStatus most_bytes most_work log_n r p result }
-    ensures needs { result ≢ INVALID_PARAMS → needs.new ≡ needs_of most_bytes (params_of log_n r p) 0 }
-    ensures refused { result ≡ INVALID_PARAMS → needs.new ≡ needs.old }
+    ensures status { IsNeedStatus max_mem max_work log_n r p result }
+    ensures cost { result ≢ INVALID_PARAMS → cost.new ≡ cost_of max_mem (params_of log_n r p) 0 }
+    ensures refused { result ≡ INVALID_PARAMS → cost.new ≡ cost.old }
 {
     let Ok(params) = Params::new(log_n, r, p) else {
         return INVALID_PARAMS;
     };
-    *needs = needs_of(&params, 0, most_bytes);
+    *cost = cost_of(&params, 0, max_mem);
     let limits = Limits {
-        most_bytes,
-        most_work,
-        least_key_len: 0,
+        max_mem,
+        max_work,
+        min_key_len: 0,
     };
     if !limits.allow(&params) {
         return TOO_COSTLY;
@@ -112,16 +112,16 @@ pub extern "C" fn scrypt_params_need(
 }
 
 // Returns what a derivation with these parameters needs.
-fn needs_of(params: &Params, key_len: usize, most_bytes: usize) -> Needs
-    ensures { result ≡ needs_of most_bytes params.now key_len }
+fn cost_of(params: &Params, key_len: usize, max_mem: usize) -> Cost
+    ensures { result ≡ cost_of max_mem params.now key_len }
 {
     let lens = BufferLens::of(params);
-    Needs {
+    Cost {
         log_n: u32::from(params.log_n()),
         r: params.r(),
         p: params.p(),
         key_len,
-        tables: BufferLens::tables_within(params, most_bytes),
+        tables: BufferLens::tables_within(params, max_mem),
         chunks_len: lens.chunks,
         table_len: lens.table,
         scratch_len: lens.scratch,
@@ -131,34 +131,34 @@ fn needs_of(params: &Params, key_len: usize, most_bytes: usize) -> Needs
 }
 
 /// Returns the default limits of a hasher that makes hashes with these parameters and keys of
-/// `key_len` bytes: `Limits::USUAL`, raised where necessary to admit such hashes. Does not
+/// `key_len` bytes: `Limits::DEFAULT`, raised where necessary to admit such hashes. Does not
 /// allocate.
 ///
 /// Returns `OK`, or `INVALID_PARAMS` if the parameters are not accepted, and then no limit is
 /// written.
 #[unsafe(no_mangle)]
-pub extern "C" fn scrypt_limits_for_new(
+pub extern "C" fn scrypt_default_limits(
     log_n: u8,
     r: u32,
     p: u32,
     key_len: usize,
-    most_bytes: &mut usize,
-    most_work: &mut u64,
-    least_key_len: &mut usize,
+    max_mem: &mut usize,
+    max_work: &mut u64,
+    min_key_len: &mut usize,
 ) -> i32
     ensures status { (result ≡ INVALID_PARAMS) ↔ (¬ IsTrue (are_accepted log_n r p)) }
     ensures one { (result ≡ OK) ⊎ (result ≡ INVALID_PARAMS) }
-    ensures limits { result ≡ OK → limits_of most_bytes.new most_work.new least_key_len.new
-        ≡ limits_for_new Limits.USUAL (params_of log_n r p) key_len }
-    ensures refused { result ≢ OK → (most_bytes.new ≡ most_bytes.old) × (most_work.new ≡ most_work.old)
-        × (least_key_len.new ≡ least_key_len.old) }
+    ensures limits { result ≡ OK → limits_of max_mem.new max_work.new min_key_len.new
+        ≡ limits_for_new Limits.DEFAULT (params_of log_n r p) key_len }
+    ensures refused { result ≢ OK → (max_mem.new ≡ max_mem.old) × (max_work.new ≡ max_work.old)
+        × (min_key_len.new ≡ min_key_len.old) }
 {
     match Params::new(log_n, r, p) {
         Ok(params) => {
             let limits = Limits::for_new(&params, key_len);
-            *most_bytes = limits.most_bytes;
-            *most_work = limits.most_work;
-            *least_key_len = limits.least_key_len;
+            *max_mem = limits.max_mem;
+            *max_work = limits.max_work;
+            *min_key_len = limits.min_key_len;
             OK
         }
         Err(_) => INVALID_PARAMS,

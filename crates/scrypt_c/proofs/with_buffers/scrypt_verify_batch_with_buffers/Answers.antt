@@ -3,7 +3,7 @@ use Rattle.std.proofs.Math.ListN.{get_or-map}
 use Rattle.scrypt.specs.WithinLimits.{with_limited_refusal}
 use Rattle.scrypt.specs.Workspace.{workspace_of}
 use Rattle.scrypt_c.proofs.InBuffersFacts.{from_zero, kept_status}
-use Rattle.scrypt_c.proofs.with_buffers.scrypt_verify_group_with_buffers.Goals as goal
+use Rattle.scrypt_c.proofs.with_buffers.scrypt_verify_batch_with_buffers.Goals as goal
 
 pub returns-clause-statuses : goal.returns-clause-statuses
 returns-clause-statuses c =

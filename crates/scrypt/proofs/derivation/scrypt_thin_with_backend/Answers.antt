@@ -1,6 +1,6 @@
 use Rattle.std.proofs.Common.{◌-◌, arith, rules}
 use Rattle.scrypt.proofs.CostFacts.{one_table}
-use Rattle.scrypt.proofs.derivation.scrypt_thin_by.Goals as goal
+use Rattle.scrypt.proofs.derivation.scrypt_thin_with_backend.Goals as goal
 
 pub returns-clause-value : goal.returns-clause-value
 returns-clause-value g c = c.derive_in.ensures.value

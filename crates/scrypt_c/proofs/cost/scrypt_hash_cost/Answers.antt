@@ -4,7 +4,7 @@ use Rattle.password_hash.specs.Refusal.{Refusal}
 use Rattle.scrypt.specs.Accepted.{Parameters}
 use Rattle.scrypt.specs.Reading.{Stored}
 use Rattle.scrypt.specs.StoredHash.{reading}
-use Rattle.scrypt_c.proofs.needs.scrypt_hash_needs.Goals as goal
+use Rattle.scrypt_c.proofs.cost.scrypt_hash_cost.Goals as goal
 
 -- what is known of the parameters and the length that were returned holds of those that were read
 of_read : (read : Result Stored Refusal) (params : Result (Parameters × ℕ) Refusal) (out : Parameters × ℕ) (P : Stored → Type 0)

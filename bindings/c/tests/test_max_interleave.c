@@ -16,7 +16,7 @@ static const struct {
 #define PARAMS 13, 8, 6 /* chunks, each in a table of 8 MiB: four and two, or three and three */
 enum { TABLE_KIB = 8192, KEY_LEN = 32 };
 
-enum memory { NOW, MOST };
+enum memory { NOW, MAX };
 
 #ifdef _WIN32
 
@@ -54,6 +54,6 @@ int main(void) {
     if (strcmp(ROWS[i].processor, PROCESSOR) == 0) wanted = ROWS[i].tables;
   check(wanted > 0, "nobody measured how many pay on this processor");
   check(scrypt_key("pw", 2, "salt", 4, PARAMS, key, KEY_LEN) == SCRYPT_OK, "a key");
-  check((kib(MOST) - before + TABLE_KIB / 2) / TABLE_KIB == wanted, "as many tables as pay"); /* the system counts roughly */
+  check((kib(MAX) - before + TABLE_KIB / 2) / TABLE_KIB == wanted, "as many tables as pay"); /* the system counts roughly */
   return failed;
 }

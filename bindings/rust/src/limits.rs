@@ -1,35 +1,35 @@
 //! Limits on the cost of a hash.
 
-use crate::calls::{self, scrypt_params_need, RawNeeds, OK};
+use crate::calls::{self, scrypt_params_cost, RawCost, OK};
 use crate::Params;
 use std::fmt;
 
 /// The limits above which a derivation is rejected. Without limits an untrusted hash, which chooses
 /// its own cost, can demand days of work.
 #[derive(Clone, Copy, Debug, PartialEq, Eq)]
-pub struct Bounds {
+pub struct Limits {
     /// The maximum size of its buffers in bytes, as [`Params::memory`] counts them.
-    pub most_bytes: usize,
+    pub max_mem: usize,
     /// The maximum work, as [`Params::work`] counts it.
-    pub most_work: u64,
+    pub max_work: u64,
 }
 
-impl Bounds {
+impl Limits {
     /// The default limits of the library, which allow four times the work of the recommended
     /// parameters.
-    pub const USUAL: Bounds =
-        Bounds { most_bytes: calls::MOST_BYTES as usize, most_work: calls::MOST_WORK };
+    pub const DEFAULT: Limits =
+        Limits { max_mem: calls::DEFAULT_MAX_MEM as usize, max_work: calls::DEFAULT_MAX_WORK };
 
     /// The minimum key length in a hash that a [`Hasher`](crate::Hasher) verifies, in bytes, unless
     /// new keys are shorter.
-    pub const LEAST_KEY_LEN: usize = calls::LEAST_KEY_LEN as usize;
+    pub const DEFAULT_MIN_KEY_LEN: usize = calls::DEFAULT_MIN_KEY_LEN as usize;
 
     /// Returns whether a derivation with these parameters is within the limits.
     pub fn allow(&self, params: &Params) -> bool {
         let (log_n, r, p) = (params.log_n(), params.r(), params.p());
-        let (bytes, work, mut needs) = (self.most_bytes, self.most_work, RawNeeds::default());
-        // SAFETY: `needs` is a local variable.
-        unsafe { scrypt_params_need(log_n.into(), r, p, bytes, work, &mut needs) == OK }
+        let (bytes, work, mut cost) = (self.max_mem, self.max_work, RawCost::default());
+        // SAFETY: `cost` is a local variable.
+        unsafe { scrypt_params_cost(log_n.into(), r, p, bytes, work, &mut cost) == OK }
     }
 }
 
@@ -43,27 +43,27 @@ pub struct Cost {
     /// Its work, as [`Params::work`] counts it.
     pub work: u64,
     /// The limits.
-    pub bounds: Bounds,
+    pub limits: Limits,
 }
 
 impl Cost {
-    pub(crate) fn of(params: Params, bounds: Bounds) -> Cost {
-        Cost { params, memory: params.memory(), work: params.work(), bounds }
+    pub(crate) fn of(params: Params, limits: Limits) -> Cost {
+        Cost { params, memory: params.memory(), work: params.work(), limits }
     }
 }
 
 impl fmt::Display for Cost {
     fn fmt(&self, f: &mut fmt::Formatter<'_>) -> fmt::Result {
-        let Cost { params, memory, work, bounds } = self;
+        let Cost { params, memory, work, limits } = self;
         let (log_n, r, p) = (params.log_n(), params.r(), params.p());
         write!(f, "log_n={log_n}, r={r}, p={p} need {memory} bytes and a work of {work}, with ")?;
-        write!(f, "most_bytes={} and most_work={}", bounds.most_bytes, bounds.most_work)
+        write!(f, "max_mem={} and max_work={}", limits.max_mem, limits.max_work)
     }
 }
 
-impl Default for Bounds {
-    fn default() -> Bounds {
-        Bounds::USUAL
+impl Default for Limits {
+    fn default() -> Limits {
+        Limits::DEFAULT
     }
 }
 
@@ -71,12 +71,12 @@ impl Default for Bounds {
 /// that its options stay valid.
 #[cfg(test)]
 #[test]
-fn usual_bounds_of_the_library() {
+fn default_limits_of_the_library() {
     use crate::calls::*;
     // SAFETY: the status is a local variable, and NULL means the default options.
     let of = unsafe { &*scrypt_hasher_options(scrypt_hasher_new(std::ptr::null(), &mut -1)) };
-    let bounds = Bounds { most_bytes: of.most_bytes, most_work: of.most_work };
-    assert_eq!((bounds, of.least_key_len), (Bounds::USUAL, Bounds::LEAST_KEY_LEN));
+    let limits = Limits { max_mem: of.max_mem, max_work: of.max_work };
+    assert_eq!((limits, of.min_key_len), (Limits::DEFAULT, Limits::DEFAULT_MIN_KEY_LEN));
     let usual = Params::RECOMMENDED;
     assert_eq!((of.log_n, of.r, of.p), (usual.log_n().into(), usual.r(), usual.p()));
     assert_eq!((of.key_len, of.salt_len), (usual.key_len(), 16));
