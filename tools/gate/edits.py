@@ -1,6 +1,6 @@
 """Copies of the repository, and mutants (edits) that are applied to a copy and reverted.
 
-A crate's mutants are in its file `wrong-bodies.txt`, in the parts that `PARTS` names, each under a
+A crate's mutants are in its file `mutants.txt`, in the parts that `PARTS` names, each under a
 heading in brackets. A paragraph is about one file: a line `file: PATH`, relative to the crate's
 folder, and then edits. An edit is a line with its name, which says what is wrong, and pairs of
 lines `old: TEXT` and `new: TEXT`. A line `file: PATH` within an edit holds for the rest of that
@@ -21,7 +21,7 @@ from dataclasses import dataclass
 from pathlib import Path
 
 GATE, MORE, BY_TESTS, NOT_COMPILED = PARTS = ["the gate", "more", "refused by tests", "must not compile"]
-FILE = "wrong-bodies.txt"
+FILE = "mutants.txt"
 WORDS = {"file", "after", "old", "new", "answer", "unfolding", "use", "test"}
 
 

@@ -25,12 +25,12 @@ endif
 
 # The longest tasks, and tasks that others wait for, are first.
 BUILDS = library module program $(CROSS:%=program-%) $(MACHINES:%=library-%)
-WRONG_BODIES = $(patsubst %,wrong-bodies-%,scrypt scrypt_kernel scrypt_commands password_hash scrypt_c scrypt_examples)
+CRATE_MUTANTS = $(patsubst %,mutants-%,scrypt scrypt_kernel scrypt_commands password_hash scrypt_c scrypt_examples)
 DOCUMENTS = pages lint links version fit promises formats cores
 EXAMPLES = $(patsubst examples/%/test.sh,example-%,$(wildcard examples/*/test.sh))
 LANGUAGES = python go rust javascript drop-in $(EXAMPLES) examples-of-pages
 SUITES = native asan tsan $(LANGUAGES) answers hashes migration oracle allocations hostile completions
-TASKS = proofs $(BUILDS) $(WRONG_BODIES) must-not-compile new-user $(DOCUMENTS) $(SUITES) by-rattle mutants $(MACHINES)
+TASKS = proofs $(BUILDS) $(CRATE_MUTANTS) must-not-compile new-user $(DOCUMENTS) $(SUITES) by-rattle mutants-hasher $(MACHINES)
 .PHONY: gate tasks documents suites examples $(TASKS)
 gate: $(TASKS)
 documents: $(DOCUMENTS)
@@ -53,10 +53,10 @@ $(PROVED)/scrypt_commands: $(PROVED)/scrypt
 $(PROVED)/scrypt_tool: $(PROVED)/scrypt_commands
 
 # ---- Mutants that the prover or the compiler has to reject ----
-$(WRONG_BODIES): wrong-bodies-%:
-	$(TASK) $(PY) tools.gate.wrong_bodies $*
-wrong-bodies-scrypt: $(PROVED)/scrypt_kernel
-wrong-bodies-scrypt_commands wrong-bodies-scrypt_examples wrong-bodies-scrypt_c must-not-compile: $(PROVED)/scrypt
+$(CRATE_MUTANTS): mutants-%:
+	$(TASK) $(PY) tools.gate.mutants $*
+mutants-scrypt: $(PROVED)/scrypt_kernel
+mutants-scrypt_commands mutants-scrypt_examples mutants-scrypt_c must-not-compile: $(PROVED)/scrypt
 must-not-compile:
 	$(TASK) $(PY) tools.gate.must_not_compile edits
 new-user: $(PROVED)/scrypt
@@ -74,7 +74,7 @@ links:
 version:
 	$(TASK) $(PY) tools.release.version
 fit:
-	$(TASK) $(PY) tools.gate.wrong_bodies fit
+	$(TASK) $(PY) tools.gate.mutants fit
 promises:
 	$(TASK) $(PY) tools.generate.promises check
 pages:
@@ -88,7 +88,7 @@ native: $(call proved,library)
 asan tsan: native
 	$(TASK) tools/gate/c_tests.sh $@
 # Mutants of the hasher by rules: another twelfth of them with each commit.
-mutants: native
+mutants-hasher: native
 	$(TASK) $(PY) bindings.c.tests.mutants $$(($$(git rev-list --count HEAD) % 12 + 1)) 12
 by-rattle: library native
 	$(TASK) tools/gate/c_tests.sh by-rattle

@@ -1,6 +1,6 @@
 """Checks for errors that no clause can exclude, and that the compiler rejects certain mutants.
 
-The compiler has to reject each mutant in the part for it of crates/NAME/wrong-bodies.txt before any
+The compiler has to reject each mutant in the part for it of crates/NAME/mutants.txt before any
 proof, because the mutant uses something private or makes the `prove!` of a constant false: clauses
 name constants, so they hold for any value.
 

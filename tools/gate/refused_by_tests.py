@@ -2,7 +2,7 @@
 
 No clause can state that an allocation succeeds, or how much a call allocates: a body that allocates
 once more, or that always returns `OutOfMemory`, is proved. Such mutants are in the part for tests
-of crates/NAME/wrong-bodies.txt. Each is applied to a copy of the repository, where everything still
+of crates/NAME/mutants.txt. Each is applied to a copy of the repository, where everything still
 has to be proved, and a test of the crate NAME has to fail. If every clause is exact, a mutant can
 weaken one together with its body. The tests of the program are the cases of tools/tests/program.py,
 and the loops that tools/bench/registers.py requires.

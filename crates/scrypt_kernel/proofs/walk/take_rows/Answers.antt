@@ -54,7 +54,7 @@ chunks-preserved g c =
       ];
     }
 
--- redundant, so that a wrong body is refused here at once
+-- redundant, so that a mutant is refused here at once
 pub returns : goal.returns
 returns g c = record {
   numbers = λ k h. c.chunks.invariant.numbers k (omega (arith, h));

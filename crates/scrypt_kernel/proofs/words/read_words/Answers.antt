@@ -4,7 +4,7 @@ use Rattle.std.proofs.lemmas.List.FromFn.{fill_by_all}
 use Rattle.scrypt_kernel.specs.Words.{le_number, part}
 use Rattle.scrypt_kernel.proofs.words.read_words.Goals as goal
 
--- redundant, so that a wrong body is refused here at once
+-- redundant, so that a mutant is refused here at once
 pub loop-i-preserved : goal.loop-i-preserved
 loop-i-preserved c = grind (arith, common_steps)
 

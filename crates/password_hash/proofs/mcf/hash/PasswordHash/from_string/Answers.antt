@@ -6,7 +6,7 @@ pub invariant_of-result : goal.invariant_of-result
 invariant_of-result c =
     rw (← c.as_str.ensures.value) (IsMcfText-read _ (c.is_mcf.ensures.0 c.if-not-is_mcf.false))
 
--- redundant, so that a wrong body is refused here at once
+-- redundant, so that a mutant is refused here at once
 pub returns-then-not-is_mcf-clause-exact : goal.returns-then-not-is_mcf-clause-exact
 returns-then-not-is_mcf-clause-exact c = search rules
 

@@ -11,7 +11,7 @@ invariant_of-self-2 c =
     let written : string_bytes c.push_str.new.self ≡ before ++ dollar ∷ c.args.field.now = grind (arith, common_steps) in
     IsMcfText-pushed before _ c.args.field.now written c.self.invariant (c.is_field.ensures.0 c.if-not-is_field.false)
 
--- redundant, so that a wrong body is refused here at once
+-- redundant, so that a mutant is refused here at once
 pub unwrap-requires : goal.unwrap-requires
 unwrap-requires c = search rules
 

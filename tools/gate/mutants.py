@@ -1,5 +1,4 @@
-"""Mutation test of the contracts: tries mutants (wrong bodies), many in one check, which the prover
-has to kill.
+"""Mutation test of the contracts: tries mutants, many in one check, which the prover has to kill.
 
 A function is proved from its own body and the contracts of its callees, so a mutant does not affect
 the proofs of other functions. The mutants of a crate are tried in rounds: a round is one check of a
@@ -13,10 +12,10 @@ The prover takes long to fail to prove a false goal, and searches again at the e
 come with the original proof of that goal, which the checker rejects immediately. With `all`, the
 original bodies are proved by all these answers.
 
-usage: python3 -m tools.gate.wrong_bodies [NAME..]         the gate's mutants of crates/NAME/wrong-bodies.txt, one round per crate
-       python3 -m tools.gate.wrong_bodies all [NAME..]     also the others that the prover has to kill, in several rounds
-       python3 -m tools.gate.wrong_bodies fit              tries nothing: prints the mutants that can't be applied, and the
-                                                           gate's mutants that need more than one round
+usage: python3 -m tools.gate.mutants [NAME..]      the gate's mutants of crates/NAME/mutants.txt, one round per crate
+       python3 -m tools.gate.mutants all [NAME..]  also the others that the prover has to kill, in several rounds
+       python3 -m tools.gate.mutants fit           tries nothing: prints the mutants that can't be applied, and the
+                                                   gate's mutants that need more than one round
 The libraries below a crate have to be built.
 """
 
@@ -165,7 +164,7 @@ def try_all(names, parts):
         false = [edit for done in right for edit in done.result()]
     for edit in false:
         print(f"{edit}: ITS ANSWERS REFUSE THE RIGHT BODY TOO")
-    print(f"wrong bodies: {tried - wrong} of {tried} refused, each with an unproved goal of its own")
+    print(f"mutants: {tried - wrong} of {tried} killed, each by an unproved goal of its own")
     return wrong + len(false)
 
 
@@ -191,7 +190,7 @@ def main():
     names = sys.argv[1:]
     if names == ["fit"]:
         wrong = list(unfit())
-        print("\n".join([*wrong, f"wrong bodies: {len(wrong)} can't be tried"]))
+        print("\n".join([*wrong, f"mutants: {len(wrong)} can't be tried"]))
         sys.exit(1 if wrong else 0)
     if names[:1] != ["all"]:
         sys.exit(1 if try_all(names or edits.crates_with(FIRST), [FIRST]) else 0)
