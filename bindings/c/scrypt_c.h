@@ -545,7 +545,7 @@ int scrypt_hasher_needs_rehash(const scrypt_hasher *hasher, const char *text, si
 typedef struct scrypt_stats {
   size_t waiting;   /* calls in the wait queue */
   size_t deriving;  /* calls that derive, including each call of a batch */
-  uint64_t refused; /* calls that have returned SCRYPT_OUT_OF_MEMORY or SCRYPT_TIMEOUT */
+  uint64_t failed;  /* calls that have returned SCRYPT_OUT_OF_MEMORY or SCRYPT_TIMEOUT */
 } scrypt_stats;
 
 /* Writes the statistics. SCRYPT_NULL_POINTER. */
