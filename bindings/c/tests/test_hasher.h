@@ -101,7 +101,7 @@ static void test_wait(condition *it, mutex *with, int64_t deadline_ns) {
 enum { MAX_BATCHES = 64 };
 static struct { char calls[8]; int tables; } batches[MAX_BATCHES];
 static size_t interleave = 4; /* max_interleave */
-static int is_stopped, passed, begun, ended, inside, tables_inside, max_inside, max_tables;
+static int is_stopped, passed, begun, ended, inside, tables_inside, max_inside, max_tables_inside;
 
 static int begin_watched(const scrypt_login *logins, size_t count, size_t table_len, uint32_t log_n,
                          uint32_t r) {
@@ -113,7 +113,7 @@ static int begin_watched(const scrypt_login *logins, size_t count, size_t table_
   had_window = 0;
   if (place < MAX_BATCHES) strcpy(batches[place].calls, calls), batches[place].tables = tables;
   expect(ADD(inside, 1) <= READ(max_inside), "too many derive at a time");
-  expect(ADD(tables_inside, tables) <= READ(max_tables), "too many tables at a time");
+  expect(ADD(tables_inside, tables) <= READ(max_tables_inside), "too many tables at a time");
   while (READ(is_stopped) && READ(passed) <= place) usleep(100);
   return tables;
 }
@@ -191,7 +191,7 @@ static scrypt_hasher *new_hasher(size_t processors, size_t max_tables, uint32_t 
   expect(hasher != NULL && status == SCRYPT_OK, "new: %d", status);
   begun = ended = inside = tables_inside = passed = is_stopped = 0;
   max_inside = (int)hasher->slots;
-  max_tables = (int)max_tables;
+  max_tables_inside = (int)max_tables;
   return hasher;
 }
 

@@ -166,7 +166,7 @@ static void decoy(void) {
     scrypt_hasher *hasher = scrypt_hasher_new(&PARAMS[i], NULL);
     const char *text = hasher->decoy;
     scrypt_cost cost = {0}, *new = &hasher->cost;
-    max_inside = max_tables = 4;
+    max_inside = max_tables_inside = 4;
     IS(scrypt_hasher_verify(hasher, "right", 5, NULL, 0, -1), SCRYPT_MISMATCH);
     IS(scrypt_hasher_verify(hasher, NULL, 0, NULL, 0, -1), SCRYPT_MISMATCH);
     IS(scrypt_hasher_verify(hasher, NULL, 1, NULL, 0, -1), SCRYPT_NULL_POINTER);
