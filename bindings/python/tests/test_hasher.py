@@ -60,8 +60,8 @@ REFUSED = [
     (TypeError, "a password is a str or bytes-like, not", hashed, [{"password": None}]),
     (TypeError, "a salt is bytes-like, not str", hashed, [{"password": "pw", "salt": "saltsalt"}]),
     (TypeError, "a hash is a str or bytes, not", verify, [{"text": 5}, {"text": bytearray(b"$")}]),
-    (TypeError, "a hash is a str or bytes, not", scrypt_c.params_of, [{"text": None}]),
-    (TypeError, "a hash is a str or bytes, not", SMALL.check_needs_rehash, [{"text": None}]),
+    (TypeError, "a hash is a str or bytes, not", scrypt_c.params_of, [{"hash": None}]),
+    (TypeError, "a hash is a str or bytes, not", SMALL.check_needs_rehash, [{"hash": None}]),
     (scrypt_c.InvalidHashError, "ln, r or p", verify, [{"text": f"$scrypt$ln=260,r=8,p=1{KEY}"}]),
     (scrypt_c.InvalidHashError, "not a PHC or $7$ hash", verify, [{"text": "$scrypt$ln=\ud800"}]),
     (TooCostlyError, "log_n=1, r=1, p=2000000 need 256000512 bytes and a work of 272000000, with "
