@@ -85,10 +85,10 @@ def check_costs(
     check(status, f"{cost}{bounds if status == TOO_COSTLY else ''}")
 
 
-def params_of(text: Union[str, bytes]) -> Params:
+def params_of(hash: Union[str, bytes]) -> Params:
     """Returns the parameters of a hash; `key_len` is 0 if it has no key. Raises InvalidHashError if
-    the text is not a scrypt hash."""
-    raw = raw_text(text)
+    it is not a scrypt hash."""
+    raw = raw_text(hash)
     found = ctypes.c_uint32(), ctypes.c_uint32(), ctypes.c_uint32(), ctypes.c_size_t()
     check(library.hash_params(raw, len(raw), *found))
     return Params(*(it.value for it in found))
