@@ -23,8 +23,8 @@ def made(**named):
     return PasswordHasher(**{"log_n": 4, **named})
 
 
-def verify(text, password="", **named):
-    return made(**named).verify(text, password)
+def verify(hash, password="", **named):
+    return made(**named).verify(hash, password)
 
 
 def hashed(password, **named):
@@ -56,25 +56,25 @@ REFUSED = [
     (TypeError, "timeout is a number of seconds, not str", made, [{"timeout": "1"}]),
     (TypeError, "is an int, not", made, [{"log_n": "17"}, {"p": 1.0}, {"max_mem": "256"}]),
     (TypeError, "a password is a str or bytes-like, not", verify, [
-        {"text": KEY, "password": it} for it in (5, None, ["pw"])]),
+        {"hash": KEY, "password": it} for it in (5, None, ["pw"])]),
     (TypeError, "a password is a str or bytes-like, not", hashed, [{"password": None}]),
     (TypeError, "a salt is bytes-like, not str", hashed, [{"password": "pw", "salt": "saltsalt"}]),
-    (TypeError, "a hash is a str or bytes, not", verify, [{"text": 5}, {"text": bytearray(b"$")}]),
+    (TypeError, "a hash is a str or bytes, not", verify, [{"hash": 5}, {"hash": bytearray(b"$")}]),
     (TypeError, "a hash is a str or bytes, not", scrypt_c.params_of, [{"hash": None}]),
     (TypeError, "a hash is a str or bytes, not", SMALL.check_needs_rehash, [{"hash": None}]),
-    (scrypt_c.InvalidHashError, "ln, r or p", verify, [{"text": f"$scrypt$ln=260,r=8,p=1{KEY}"}]),
-    (scrypt_c.InvalidHashError, "not a PHC or $7$ hash", verify, [{"text": "$scrypt$ln=\ud800"}]),
+    (scrypt_c.InvalidHashError, "ln, r or p", verify, [{"hash": f"$scrypt$ln=260,r=8,p=1{KEY}"}]),
+    (scrypt_c.InvalidHashError, "not a PHC or $7$ hash", verify, [{"hash": "$scrypt$ln=\ud800"}]),
     (TooCostlyError, "log_n=1, r=1, p=2000000 need 256000512 bytes and a work of 272000000, with "
      f"max_mem={scrypt_c.DEFAULT_MAX_MEM} and max_work={scrypt_c.DEFAULT_MAX_WORK}", verify,
-     [{"text": f"$scrypt$ln=1,r=1,p=2000000{KEY}"}]),
+     [{"hash": f"$scrypt$ln=1,r=1,p=2000000{KEY}"}]),
     (KeyTooShortError, "its length is 15, and at least 16 is required", verify, [
-        {"text": f"$scrypt$ln=4,r=8,p=1{KEY}"}]),
+        {"hash": f"$scrypt$ln=4,r=8,p=1{KEY}"}]),
     (KeyTooShortError, "at least 14", verify, [
-        {"text": f"$7$46..../....saltsalt${16 * '.'}", "log_n": 6, "key_len": 14}]),
+        {"hash": f"$7$46..../....saltsalt${16 * '.'}", "log_n": 6, "key_len": 14}]),
     (MemoryError, "need 9223372036854776192 bytes", PasswordHasher(56, 1).hash, [
         {"password": "pw"}]),
     (MemoryError, "need 9223372036854776192 bytes", PasswordHasher(56, 1).verify, [
-        {"text": f"$scrypt$ln=56,r=1,p=1{KEY}AA", "password": "pw"}]),
+        {"hash": f"$scrypt$ln=56,r=1,p=1{KEY}AA", "password": "pw"}]),
 ]
 
 
@@ -129,7 +129,7 @@ class Hashes(unittest.TestCase):
         ]:
             within = {"max_mem": bytes_, "max_work": work}
             for call, named in [
-                (verify, {"text": text, "password": "pw", "r": 1}),
+                (verify, {"hash": text, "password": "pw", "r": 1}),
                 (made, {"log_n": 6, "r": 3, "p": 5}),
             ]:
                 if is_allowed:
