@@ -450,9 +450,9 @@ int scrypt_default_limits(uint32_t log_n, uint32_t r, uint32_t p, size_t key_len
  *
  * Threads: a hasher is thread-safe, except that scrypt_hasher_free must come after all other calls
  *   have returned.
- * Signals: not async-signal-safe. A signal handler must not leave a call by longjmp, and a child
- *   that it forks must not return to one. A signal that is handled in a thread that waits or
- *   derives ends neither.
+ * Signals: not async-signal-safe: a call in a signal handler can deadlock with the one that it
+ *   interrupts. A signal handler must not leave a call by longjmp, and a child that it forks must
+ *   not return to one. A signal that is handled in a thread that waits or derives ends neither.
  * Cancellation of threads: no call that waits or derives is a cancellation point.
  * fork: a hasher is fork-safe: it works in the child too, whatever other threads were doing with
  *   it. In the child no call waits or derives, and the hasher has no memory of its parent. On the
