@@ -11,7 +11,7 @@ REFUSED = re.compile(r"not proved(?:;|$)|no proof: expected answers")
 # A reason that is not about the body: a search that gave up, and names that no longer exist.
 WEAK = re.compile(
     r"gave up at one of its limits|can be named (?:from )?here|has no field|has no `|is not in scope"
-    r"|was not admitted|depend[s]? on `|declarations? that depend"
+    r"|was not admitted|depend[s]? on `|declarations? that depend|perhaps it is not proved"
 )
 
 # A reason that names an unproved goal.
