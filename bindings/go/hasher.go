@@ -241,8 +241,8 @@ func (h *Hasher) refusal(text []byte) error {
 	status := C.scrypt_hash_cost(chars(text), size(text), with.max_mem, with.max_work,
 		with.min_key_len, &cost)
 	if status == C.SCRYPT_TOO_COSTLY || status == C.SCRYPT_KEY_TOO_SHORT {
-		const bounds = "MaxMem is %d, MaxWork is %d, and the least key has %d bytes"
-		return fmt.Errorf("%w: %v, and a key of %d bytes; "+bounds, Error(status), inWords(cost),
+		const limits = "MaxMem is %d, MaxWork is %d, and the minimum key length is %d"
+		return fmt.Errorf("%w: %v, and a key of %d bytes; "+limits, Error(status), inWords(cost),
 			cost.key_len, with.max_mem, with.max_work, with.min_key_len)
 	}
 	return failed(status)

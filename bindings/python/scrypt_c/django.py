@@ -90,8 +90,8 @@ class ScryptPasswordHasher(BasePasswordHasher):
         r = self.block_size if r is None else r
         p = self.parallelism if p is None else p
         params = Params(log_of(n), r, p)
-        bounds = self.max_mem, self.max_work
-        key = derive_within(raw_password(password), salt.encode(), params, *bounds, 64)
+        limits = self.max_mem, self.max_work
+        key = derive_within(raw_password(password), salt.encode(), params, *limits, 64)
         return f"{self.algorithm}${n}${salt}${r}${p}${base64.b64encode(key).decode()}"
 
     def decode(self, encoded: str) -> dict[str, Any]:

@@ -200,10 +200,10 @@ class PasswordHasher:
             check(status, f"timeout={self._timeout}" if status == TIMEOUT else "")
             return
         most = self.options
-        bounds = most.max_mem, most.max_work, most.min_key_len
+        limits = most.max_mem, most.max_work, most.min_key_len
         cost = cost_of(self._params)[1]
         if text is not None:  # the text is a valid hash, so this writes its cost
-            library.hash_cost(text, len(text), *bounds, cost)
+            library.hash_cost(text, len(text), *limits, cost)
         if status == KEY_TOO_SHORT:
             least = f"at least {most.min_key_len} is required"
             check(status, f"its length is {cost.key_len}, and {least}")

@@ -73,9 +73,9 @@ def derive_within(
 ) -> bytes:
     """Derives a key if the limits allow a derivation with these parameters. Raises TooCostlyError
     and InvalidParamsError."""
-    bounds = in_64_bits(max_mem, "max_mem"), in_64_bits(max_work, "max_work")
-    check_costs(*cost_of(params, *bounds), max_mem, max_work)
-    return _made(password, salt, params, bounds[0], dklen)
+    limits = in_64_bits(max_mem, "max_mem"), in_64_bits(max_work, "max_work")
+    check_costs(*cost_of(params, *limits), max_mem, max_work)
+    return _made(password, salt, params, limits[0], dklen)
 
 
 def _made(

@@ -65,9 +65,9 @@ def cost_of(
 
 
 def _default_limits() -> tuple[int, int, int]:
-    bounds = ctypes.c_size_t(), ctypes.c_uint64(), ctypes.c_size_t()
-    check(library.default_limits(*RECOMMENDED, *bounds))
-    return bounds[0].value, bounds[1].value, bounds[2].value
+    limits = ctypes.c_size_t(), ctypes.c_uint64(), ctypes.c_size_t()
+    check(library.default_limits(*RECOMMENDED, *limits))
+    return limits[0].value, limits[1].value, limits[2].value
 
 
 RECOMMENDED = Params()
@@ -81,8 +81,8 @@ def check_costs(
 ) -> None:
     """Raises the exception of a status, for a derivation with this cost. A limit that is None means
     the default."""
-    bounds = f", with max_mem={max_mem} and max_work={max_work}"
-    check(status, f"{cost}{bounds if status == TOO_COSTLY else ''}")
+    limits = f", with max_mem={max_mem} and max_work={max_work}"
+    check(status, f"{cost}{limits if status == TOO_COSTLY else ''}")
 
 
 def params_of(hash: Union[str, bytes]) -> Params:

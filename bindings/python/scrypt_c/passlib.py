@@ -28,8 +28,8 @@ class scrypt(passlib.hash.scrypt):  # passlib names handlers as their scheme
 
     def _calc_checksum(self, secret: str | bytes) -> bytes:
         params = Params(self.rounds, self.block_size, self.parallelism)
-        bounds = self.max_mem, self.max_work
-        return derive_within(raw_password(secret), self.salt, params, *bounds, self.checksum_size)
+        limits = self.max_mem, self.max_work
+        return derive_within(raw_password(secret), self.salt, params, *limits, self.checksum_size)
 
     def _calc_needs_update(self, **kwds: object) -> bool:
         # With vary_rounds new hashes may have fewer than default_rounds too.
