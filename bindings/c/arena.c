@@ -26,7 +26,7 @@ size_t arena_reserve(struct arena *arena, const scrypt_cost *one, size_t max) {
     arena->room = max * one->bytes;
     drop_on_fork(arena->mapping, arena->room + HUGE_PAGE);
     /* Leaves out the part of the last huge page, which would otherwise take a whole one. */
-    ask_for_huge_pages(front_of(arena), arena->room / HUGE_PAGE * HUGE_PAGE);
+    advise_huge_pages(front_of(arena), arena->room / HUGE_PAGE * HUGE_PAGE);
     return max;
   }
   return 0;

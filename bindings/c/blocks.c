@@ -64,7 +64,7 @@ void clearing_free(void *block) {
 static uint8_t *with_head(uint8_t *block, uint8_t *start, size_t len) {
   head_of(block)->start = start;
   head_of(block)->len = len;
-  if (len >= 2 * HUGE_PAGE) ask_for_huge_pages(block, len / HUGE_PAGE * HUGE_PAGE);
+  if (len >= 2 * HUGE_PAGE) advise_huge_pages(block, len / HUGE_PAGE * HUGE_PAGE);
   return block;
 }
 

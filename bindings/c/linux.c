@@ -65,7 +65,7 @@ void drop_on_fork(void *at, size_t size) {
   if (madvise(at, size, MADV_WIPEONFORK) == 0) (void)madvise(at, size, MADV_DONTFORK);
 }
 
-void ask_for_huge_pages(void *at, size_t size) {
+void advise_huge_pages(void *at, size_t size) {
 #ifdef MADV_HUGEPAGE
   (void)madvise(at, size, MADV_HUGEPAGE);
 #else

@@ -66,7 +66,7 @@ void wipe_on_fork(void *at, size_t size);
 void drop_on_fork(void *at, size_t size);
 
 /* A hint, which may have no effect. */
-void ask_for_huge_pages(void *at, size_t size);
+void advise_huge_pages(void *at, size_t size);
 
 /* Whether a page is in memory, as far as the system knows. */
 int is_resident(void *page);

@@ -49,7 +49,7 @@ void wipe_on_fork(void *at, size_t size) { (void)at, (void)size; }
 void drop_on_fork(void *at, size_t size) { (void)at, (void)size; }
 
 /* Large pages need the privilege to lock memory, and are locked. */
-void ask_for_huge_pages(void *at, size_t size) { (void)at, (void)size; }
+void advise_huge_pages(void *at, size_t size) { (void)at, (void)size; }
 
 int is_resident(void *page) { return (void)page, 0; }
 

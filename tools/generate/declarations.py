@@ -49,7 +49,7 @@ def in_python(declared):
 
 
 def python():
-    yield from (f'"""{NOTE}bindings/c/scrypt_c.h: its numbers, statuses, structures and calls."""', "", "from __future__ import annotations")
+    yield from (f'"""{NOTE}bindings/c/scrypt_c.h: its numbers, statuses, structures and calls. DO NOT EDIT."""', "", "from __future__ import annotations")
     yield from ("", "import ctypes", "from ctypes import POINTER", "from typing import Any", "", "BYTES = ctypes.c_char_p")
     yield from (f"{short} = ctypes.c_{word if short == 'SIZE' else word.removesuffix('_t')}" for word, short in PYTHON.items())
     yield "ON_PROGRESS = ctypes.CFUNCTYPE(INT, ctypes.c_void_p, U64, U64)"
@@ -77,7 +77,7 @@ def in_rust(declared):
 
 
 def rust():
-    yield from (f"//! {NOTE}bindings/c/scrypt_c.h: its numbers, statuses, structures and calls.", "#![allow(dead_code)]", "")
+    yield from (f"//! {NOTE}bindings/c/scrypt_c.h: its numbers, statuses, structures and calls. DO NOT EDIT.", "#![allow(dead_code)]", "")
     yield from ("use std::os::raw::{c_char, c_int, c_void};", "")
     yield from (f"/// `{FUNCTION}`.", 'pub type OnProgress = unsafe extern "C" fn(*mut c_void, u64, u64) -> c_int;', "")
     yield from (f"pub const {name}: u64 = {number};" for name, number in NUMBERS.items())
@@ -104,7 +104,7 @@ def javascript():
     for name, number in proved.items():
         if number != str(STATUSES.get(name)):
             sys.exit(f"crates/scrypt_c/src/statuses.rt: {name} is {number}, and {STATUSES.get(name)} in the header")
-    yield f"// {NOTE}bindings/c: the recommended parameters, the statuses and their words."
+    yield f"// {NOTE}bindings/c: the recommended parameters, the statuses and their words. DO NOT EDIT."
     yield from (f"export const {name} = {NUMBERS[name]};" for name in
                 ("RECOMMENDED_LOG_N", "RECOMMENDED_R", "RECOMMENDED_P", "SALT_LEN", "KEY_LEN"))
     yield from ("", *(f"export const {name} = {number};" for name, number in proved.items()))

@@ -114,7 +114,7 @@ static void memory(void) {
   for (i = 0; i < 4; i++) {
     check(mapped[i] != NULL && are_all(mapped[i], LEN, 0), "zeros are mapped");
     if (mapped[i] == NULL) return;
-    ask_for_huge_pages(mapped[i], LEN);
+    advise_huge_pages(mapped[i], LEN);
     prefault(mapped[i], LEN);
     memset(mapped[i], 7, LEN);
   }
