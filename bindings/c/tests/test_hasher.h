@@ -11,7 +11,9 @@
 
 #include <signal.h>
 #include <sys/wait.h>
+#ifndef HAS_FORKS
 #define HAS_FORKS 1
+#endif
 #endif
 
 #include "groups.h"
