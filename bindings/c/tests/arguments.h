@@ -1,4 +1,5 @@
-/* Variables for each_call.h, named as the arguments in the header: the inputs and the outputs. */
+/* Variables for each_call.h, named as the arguments in the header: the inputs and the outputs, which
+ * each thread has. */
 #ifndef ARGUMENTS_H
 #define ARGUMENTS_H
 
@@ -7,7 +8,7 @@
 #include <stdlib.h>
 #include <string.h>
 
-static struct {
+static __thread struct {
   const void *password, *salt;
   const char *text;
   const scrypt_login *logins;
@@ -24,20 +25,22 @@ static struct {
   void *context;
 } given;
 
-static struct {
-  uint8_t *chunks, output[64], key[64], salt[16];
+static __thread struct {
+  uint8_t *chunks;
+  uint32_t *table, *scratch;
+  scrypt_steps steps[1];
+  uint8_t output[64], key[64], salt[16];
   char text[SCRYPT_PHC_CAPACITY + SCRYPT_MCF_CAPACITY(64)];
-  uint32_t *table, *scratch, log_n[1], r[1], p[1];
+  uint32_t log_n[1], r[1], p[1];
   size_t chunks_len[1], table_len[1], scratch_len[1], key_len[1], max_mem[1], min_key_len[1];
   uint64_t max_work[1];
   int statuses[SCRYPT_MAX_LOGINS];
   scrypt_cost cost[1];
   scrypt_stats stats[1];
-  scrypt_steps steps[1];
 } made;
 
 /* A derivation in steps whose chunks are all mixed, in its own buffer. */
-static scrypt_steps ended;
+static __thread scrypt_steps ended;
 
 /* A pointer that may not be NULL. */
 #define P(pointer) pointer

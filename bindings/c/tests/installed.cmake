@@ -1,5 +1,5 @@
-# Installs what is built, moves it, and builds test_calls.c with it by CMake and by pkg-config. Not in the repository, in which the kit
-# refuses links.
+# Installs what is built, moves it, and builds test_calls.c with it by CMake and by pkg-config. Not in
+# the repository, in which the kit refuses links.
 function(run)
   execute_process(COMMAND ${ARGV} COMMAND_ERROR_IS_FATAL ANY OUTPUT_QUIET)
 endfunction()
@@ -8,10 +8,10 @@ run(${CMAKE_COMMAND} --install ${FROM} --prefix "${room}/at first/usr")
 file(RENAME "${room}/at first" "${room}/mo&ved")
 run(${CMAKE_COMMAND} -S ${CLIENT}/cmake_client -B ${room}/client "-DCMAKE_PREFIX_PATH=${room}/mo&ved/usr")
 run(${CMAKE_COMMAND} --build ${room}/client)
-run(${room}/client/shared small)
-run(${room}/client/static small)
+run(${room}/client/shared)
+run(${room}/client/static)
 set(ENV{PKG_CONFIG_PATH} "${room}/mo&ved/usr/lib/pkgconfig")
 run(sh -c "eval cc ${CLIENT}/test_calls.c $(pkg-config --cflags --libs scrypt_c) -o ${room}/by_pkg_config")
 set(ENV{LD_LIBRARY_PATH} "${room}/mo&ved/usr/lib")
-run(${room}/by_pkg_config small)
+run(${room}/by_pkg_config)
 file(REMOVE_RECURSE ${room})

@@ -7,15 +7,15 @@
 #include <errno.h>
 #include <string.h>
 #include <sys/mman.h>
+#include <sys/resource.h>
 #include <sys/syscall.h>
 #include <unistd.h>
 
 enum { R = 8, BESIDE = 3 << 20 }; /* maximum overhead of a mapping */
 
-static size_t min_refused = SIZE_MAX, max_asked, min_counted = SIZE_MAX, asked;
+static size_t min_refused = SIZE_MAX, max_asked;
 static int is_granted(size_t len) {
   if (len > max_asked) max_asked = len;
-  if (len >= min_counted) asked++;
   return len < min_refused;
 }
 
@@ -36,27 +36,27 @@ int munmap(void *at, size_t len) {
 }
 
 #define SECRETS "password", 8, "saltsalt", 8
+#define NO_LIMITS SIZE_MAX, UINT64_MAX
 static uint8_t key[32];
 static char text[SCRYPT_PHC_CAPACITY];
 
 /* Of one table; or more than there is, of one that no system has. */
 static size_t table_bytes(uint32_t log_n) { return log_n < 50 ? (size_t)128 * R << log_n : SIZE_MAX; }
 
-/* The number of tables that a call asks for. It gets none, so nothing is derived. */
-#define tables_of(log_n, call) (min_refused = table_bytes(log_n), max_asked = 0, status = (call), min_refused = SIZE_MAX, \
-                                max_asked / table_bytes(log_n))
-
-/* The number of times that a call asks for a table or more: once for each derivation. */
-#define derivations_of(log_n, call) (min_counted = table_bytes(log_n), asked = 0, status = (call), min_counted = SIZE_MAX, asked)
+/* A call whose tables are refused returns this status after it has asked for so many, and leaves
+ * its outputs. */
+#define REFUSES(why, log_n, tables, wanted, call)                                          \
+  do {                                                                                     \
+    memset(key, 7, sizeof key), text[0] = '!';                                             \
+    min_refused = table_bytes(log_n), max_asked = 0;                                       \
+    check((call) == (wanted) && max_asked / table_bytes(log_n) == (tables), why);          \
+    min_refused = SIZE_MAX;                                                                \
+    check(key[0] == 7 && text[0] == '!', why);                                             \
+  } while (0)
 
 static size_t fewer(size_t one, size_t other) { return one < other ? one : other; }
 
-static scrypt_cost cost_of(uint32_t log_n, uint32_t p) {
-  scrypt_cost cost;
-  memset(&cost, 0, sizeof cost);
-  check(scrypt_params_cost(log_n, R, p, SIZE_MAX, UINT64_MAX, &cost) == SCRYPT_OK, "what is needed");
-  return cost;
-}
+static int go_on(void *context, uint64_t done, uint64_t all) { return context != NULL || done > all; }
 
 static void tables_of_keys(size_t that_pay) {
   static const struct {
@@ -74,75 +74,78 @@ static void tables_of_keys(size_t that_pay) {
               {"two of 64 MiB", 16, 4, 2},
               {"one of 128 MiB", 17, 4, 1},
               {"one above 129 MiB", 18, 1, 1},
-              {"the same with p of 4", 20, 4, 1},
               {"no key with log_n of 60", 60, 4, 0}};
   size_t i;
-  int status;
   for (i = 0; i < sizeof KEYS / sizeof KEYS[0]; i++) {
-    size_t tables = tables_of(KEYS[i].log_n, scrypt_key(SECRETS, KEYS[i].log_n, R, KEYS[i].p, key, sizeof key));
-    check(tables == fewer(KEYS[i].tables, that_pay), KEYS[i].why);
-    check(status == (KEYS[i].tables > 0 ? SCRYPT_OUT_OF_MEMORY : SCRYPT_INVALID_PARAMS), KEYS[i].why);
+    const uint32_t log_n = KEYS[i].log_n, p = KEYS[i].p;
+    const int wanted = KEYS[i].tables > 0 ? SCRYPT_OUT_OF_MEMORY : SCRYPT_INVALID_PARAMS;
+    const size_t tables = fewer(KEYS[i].tables, that_pay);
+    REFUSES(KEYS[i].why, log_n, tables, wanted, scrypt_key(SECRETS, log_n, R, p, key, sizeof key));
+    REFUSES(KEYS[i].why, log_n, tables, wanted,
+            scrypt_key_with_progress(SECRETS, log_n, R, p, go_on, NULL, key, sizeof key));
   }
 }
 
 /* All buffers together are within the limit. */
 static void tables_of_keys_within(size_t that_pay) {
-  const scrypt_cost cost = cost_of(14, 4);
-  const size_t each = 4 * (cost.table_len + cost.scratch_len), chunks = cost.chunks_len;
+  static const size_t EACH = 4 * (32 * R << 14) + 4 * 64 * R, CHUNKS = 4 * 128 * R;
   const struct {
     const char *why;
     size_t max_mem, tables;
-  } BOUNDS[] = {{"one less than one table needs", chunks + each - 1, 0}, {"one table", chunks + each, 1},
-                {"one less than two need", chunks + 2 * each - 1, 1},    {"two tables", chunks + 2 * each, 2},
-                {"three tables", chunks + 4 * each - 1, 3},              {"no bound", SIZE_MAX, 4}};
+  } BOUNDS[] = {{"one less than one table needs", CHUNKS + EACH - 1, 0}, {"one table", CHUNKS + EACH, 1},
+                {"one less than two need", CHUNKS + 2 * EACH - 1, 1},    {"two tables", CHUNKS + 2 * EACH, 2},
+                {"three tables", CHUNKS + 4 * EACH - 1, 3},              {"no bound", SIZE_MAX, 4}};
   size_t i;
-  int status;
-  for (i = 0; i < sizeof BOUNDS / sizeof BOUNDS[0]; i++) {
-    size_t most = BOUNDS[i].max_mem;
-    size_t tables = tables_of(14, scrypt_key_limited(SECRETS, 14, R, 4, most, UINT64_MAX, key, sizeof key));
-    check(tables == fewer(BOUNDS[i].tables, that_pay), BOUNDS[i].why);
-    check(status == (BOUNDS[i].tables > 0 ? SCRYPT_OUT_OF_MEMORY : SCRYPT_TOO_COSTLY), BOUNDS[i].why);
-  }
+  for (i = 0; i < sizeof BOUNDS / sizeof BOUNDS[0]; i++)
+    REFUSES(BOUNDS[i].why, 14, fewer(BOUNDS[i].tables, that_pay),
+            BOUNDS[i].tables > 0 ? SCRYPT_OUT_OF_MEMORY : SCRYPT_TOO_COSTLY,
+            scrypt_key_limited(SECRETS, 14, R, 4, BOUNDS[i].max_mem, UINT64_MAX, key, sizeof key));
 }
 
 static const char PHC[] = "$scrypt$ln=14,r=8,p=4$c2FsdHNhbHQ$AAAAAAAAAAAAAAAAAAAAAA";
 #define OF_PHC "password", 8, PHC, sizeof PHC - 1
 
 static void one_table_of_hashes(void) {
-  int status;
-  check(tables_of(14, scrypt_hash_phc(SECRETS, 14, R, 4, 32, text, sizeof text)) == 1, "scrypt_hash_phc");
-  check(tables_of(14, scrypt_hash_mcf(SECRETS, 14, R, 4, 32, text, sizeof text)) == 1, "scrypt_hash_mcf");
-  check(tables_of(14, scrypt_verify(OF_PHC)) == 1, "scrypt_verify");
-  check(tables_of(14, scrypt_verify_limited(OF_PHC, SIZE_MAX, UINT64_MAX, 0)) == 1, "scrypt_verify_limited");
-  check(status == SCRYPT_OUT_OF_MEMORY && text[0] == '\0', "a refusal");
+  REFUSES("phc", 14, 1, SCRYPT_OUT_OF_MEMORY, scrypt_hash_phc(SECRETS, 14, R, 4, 32, text, sizeof text));
+  REFUSES("mcf", 14, 1, SCRYPT_OUT_OF_MEMORY, scrypt_hash_mcf(SECRETS, 14, R, 4, 32, text, sizeof text));
+  REFUSES("verify", 14, 1, SCRYPT_OUT_OF_MEMORY, scrypt_verify(OF_PHC));
+  REFUSES("verify_limited", 14, 1, SCRYPT_OUT_OF_MEMORY, scrypt_verify_limited(OF_PHC, NO_LIMITS, 0));
+  REFUSES("hash_password", 17, 1, SCRYPT_OUT_OF_MEMORY, scrypt_hash_password("password", 8, text, sizeof text));
 }
 
-static void one_derivation(void) {
-  int status;
-  check(derivations_of(14, scrypt_key(SECRETS, 14, R, 1, key, sizeof key)) == 1, "scrypt_key, p of 1");
-  check(derivations_of(14, scrypt_key(SECRETS, 14, R, 3, key, sizeof key)) == 1, "scrypt_key, p of 3");
-  check(derivations_of(14, scrypt_key_limited(SECRETS, 14, R, 3, SIZE_MAX, UINT64_MAX, key, sizeof key)) == 1, "scrypt_key_limited");
-  check(derivations_of(14, scrypt_hash_phc(SECRETS, 14, R, 3, 32, text, sizeof text)) == 1, "scrypt_hash_phc");
-  check(derivations_of(14, scrypt_hash_mcf(SECRETS, 14, R, 3, 32, text, sizeof text)) == 1, "scrypt_hash_mcf");
-  check(status == SCRYPT_OK, "a hash");
-  check(derivations_of(14, scrypt_verify(OF_PHC)) == 1, "scrypt_verify");
-  check(derivations_of(14, scrypt_verify_limited(OF_PHC, SIZE_MAX, UINT64_MAX, 0)) == 1, "scrypt_verify_limited");
-  check(status == SCRYPT_MISMATCH, "a verdict");
+/* What is rejected asks for no table. */
+static void no_table(void) {
+  REFUSES("a key of no bytes", 14, 0, SCRYPT_INVALID_OUTPUT_LEN, scrypt_key(SECRETS, 14, R, 4, key, 0));
+  REFUSES("too much work for a key", 14, 0, SCRYPT_TOO_COSTLY,
+          scrypt_key_limited(SECRETS, 14, R, 4, SIZE_MAX, 1, key, sizeof key));
+  REFUSES("too many bytes", 14, 0, SCRYPT_TOO_COSTLY, scrypt_verify_limited(OF_PHC, 1, UINT64_MAX, 0));
+  REFUSES("too much work", 14, 0, SCRYPT_TOO_COSTLY, scrypt_verify_limited(OF_PHC, SIZE_MAX, 1, 0));
+  REFUSES("a key of 16 bytes", 14, 0, SCRYPT_KEY_TOO_SHORT, scrypt_verify_limited(OF_PHC, NO_LIMITS, 17));
 }
 
-/* A hash that exceeds a limit is rejected before any derivation. */
-static void no_table_of_what_is_refused(void) {
-  int status;
-  check(tables_of(14, scrypt_key(SECRETS, 14, R, 4, key, 0)) == 0, "a key of no bytes");
-  check(status == SCRYPT_INVALID_OUTPUT_LEN, "a length is named");
-  check(tables_of(14, scrypt_key_limited(SECRETS, 14, R, 4, SIZE_MAX, 1, key, sizeof key)) == 0, "too much work for a key");
-  check(status == SCRYPT_TOO_COSTLY, "too much work for a key is named");
-  check(tables_of(14, scrypt_verify_limited(OF_PHC, 1, UINT64_MAX, 0)) == 0, "too many bytes");
-  check(status == SCRYPT_TOO_COSTLY, "too many bytes are named");
-  check(tables_of(14, scrypt_verify_limited(OF_PHC, SIZE_MAX, 1, 0)) == 0, "too much work");
-  check(status == SCRYPT_TOO_COSTLY, "too much work is named");
-  check(tables_of(14, scrypt_verify_limited(OF_PHC, SIZE_MAX, UINT64_MAX, 17)) == 0, "a key of 16 bytes");
-  check(status == SCRYPT_KEY_TOO_SHORT, "a short key is named");
+/* If there is memory for one table and not for several, one is used. */
+static void one_of_several(void) {
+  uint8_t same[32];
+  check(scrypt_key(SECRETS, 14, R, 4, same, sizeof same) == SCRYPT_OK, "a key");
+  min_refused = 2 * table_bytes(14);
+  check(scrypt_key(SECRETS, 14, R, 4, key, sizeof key) == SCRYPT_OK && memcmp(key, same, 32) == 0, "in one table");
+  check(scrypt_key_with_progress(SECRETS, 14, R, 4, go_on, NULL, key, sizeof key) == SCRYPT_OK &&
+            memcmp(key, same, 32) == 0, "in one table, with progress");
+  min_refused = SIZE_MAX;
+}
+
+static long touched_kib(void) {
+  struct rusage usage;
+  return getrusage(RUSAGE_SELF, &usage) == 0 ? usage.ru_maxrss : 0;
+}
+
+/* Chunks of 2 GiB, which are granted, are not touched before the table, which is refused. */
+static void little_is_touched(void) {
+  const long before = touched_kib();
+  min_refused = table_bytes(25);
+  check(scrypt_key(SECRETS, 25, R, 1 << 21, key, sizeof key) == SCRYPT_OUT_OF_MEMORY, "a table of 32 GiB");
+  min_refused = SIZE_MAX;
+  check(touched_kib() - before < 4096, "memory is touched before all is allocated");
 }
 
 /* A table that the system fails to unmap is overwritten: only its start, its length and a mark are
@@ -159,12 +162,14 @@ static void not_unmapped(void) {
 }
 
 int main(void) {
+  /* The number of tables that is fastest, by the measurements in docs/DECISIONS.md. */
   const size_t that_pay = strstr(scrypt_version(), "x86-64-v2") != NULL ? 3 : 4;
+  little_is_touched();
   tables_of_keys(that_pay);
   tables_of_keys_within(that_pay);
   one_table_of_hashes();
-  one_derivation();
-  no_table_of_what_is_refused();
+  no_table();
+  one_of_several();
   not_unmapped();
   return failed;
 }

@@ -1,5 +1,5 @@
-/* scrypt_generate_salt: fills exactly the given bytes, with different ones each time. It reports a
- * failing system call, and so does scrypt_hash_password. */
+/* scrypt_generate_salt fills exactly the given bytes, with different ones each time, and
+ * scrypt_hash_password takes such a salt. Both report a failing system call. */
 #define _DEFAULT_SOURCE
 #include "check.h"
 #include "scrypt_c.h"
@@ -22,6 +22,20 @@ static void many(void) {
   check(scrypt_generate_salt(large, sizeof large) == SCRYPT_OK, "many bytes");
   for (i = 0; i < sizeof large; i++) zeros += large[i] == 0;
   check(zeros > 200 && zeros < 600, "one byte in 256 is zero");
+}
+
+/* Hashes with a drawn salt and the recommended parameters. */
+static void new_hashes(void) {
+  char text[SCRYPT_HASH_CAPACITY + 1], other[SCRYPT_HASH_CAPACITY];
+  memset(text, '!', sizeof text);
+  check(scrypt_hash_password("pw", 2, text, SCRYPT_HASH_CAPACITY - 1) == SCRYPT_BUFFER_SIZE, "a byte too few");
+  check(scrypt_hash_password("pw", 2, NULL, 0) == SCRYPT_BUFFER_SIZE && text[0] == '!', "no text, and no capacity");
+  check(scrypt_hash_password(NULL, 0, text, SCRYPT_HASH_CAPACITY) == SCRYPT_OK, "the empty password");
+  check(strlen(text) == SCRYPT_HASH_CAPACITY - 1 && text[SCRYPT_HASH_CAPACITY] == '!', "the length of its text");
+  check(scrypt_needs_rehash(text, strlen(text), SCRYPT_RECOMMENDED_LOG_N, SCRYPT_RECOMMENDED_R, SCRYPT_RECOMMENDED_P,
+                            SCRYPT_KEY_LEN) == SCRYPT_OK, "the recommended parameters");
+  check(scrypt_hash_password("", 0, other, sizeof other) == SCRYPT_OK && strcmp(text, other) != 0, "another salt");
+  check(scrypt_verify("", 0, other, strlen(other)) == SCRYPT_OK, "its password");
 }
 
 #ifdef _WIN32
@@ -62,6 +76,7 @@ static void refused_by_the_system(void) { in_a_child(refused, "a system without 
 int main(void) {
   drawn();
   many();
+  new_hashes();
   refused_by_the_system();
   return failed;
 }
