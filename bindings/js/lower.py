@@ -61,6 +61,11 @@ def number(value):
     return bytes([*out, value])
 
 
+def sized(data):
+    """Bytes after their number."""
+    return number(len(data)) + data
+
+
 class Reader:
     def __init__(self, data):
         self.data, self.at = data, 0
@@ -159,8 +164,7 @@ def lowered(body, params):
         made.add(it)
     own += [(1, kind) for _, kind in made.spare]
     head = b"".join(number(count) + bytes([kind]) for count, kind in own)
-    out = number(len(own)) + head + made.out
-    return number(len(out)) + out
+    return sized(number(len(own)) + head + made.out)
 
 
 def segment(it):
@@ -170,7 +174,7 @@ def segment(it):
     it.skip(1)
     it.wanted(b"\x0b", "data that is not at a constant place")
     at, data = it.data[start : it.at], it.take(it.number())
-    return b"\x00\x41" + at + number(len(data)) + data
+    return b"\x00\x41" + at + sized(data)
 
 
 def vector(it, entry):
@@ -213,7 +217,7 @@ def module(data):
         kind = it.byte()
         content = section(kind, Reader(it.take(it.number())), types, params)
         if content is not None:
-            out += bytes([kind]) + number(len(content)) + content
+            out += bytes([kind]) + sized(content)
     return bytes(out)
 
 
