@@ -16,11 +16,8 @@ import sys
 from pathlib import Path
 
 from bindings.js.test import in_browser
-from tools import browser
 
 TOP = Path(__file__).resolve().parents[2]
-
-in_browser.SECONDS = 900
 
 # Prints the measurements of javascript.js as JSON.
 NODE = """
@@ -38,34 +35,24 @@ def in_node():
     return json.loads(ran.stdout)
 
 
-def of_page(said):
-    """The rows that a page sends; empty if it sends an error."""
-    rows = json.loads(said or "null")
+def rows_of_page(command=()):
+    """The rows that the page posts; empty if it posts an error."""
+    rows = json.loads(in_browser.posted("tools/bench/javascript.html", command, 900) or "null")
     if not isinstance(rows, list):
         print(f"a page failed: {rows}\n")
         return []
     return rows
 
 
-def in_chromium(page):
-    chromium = browser.Browser()
-    try:
-        chromium.open(page)
-        return of_page(in_browser.answer())
-    finally:
-        chromium.close()
-
-
 def measured(others):
     """The rows of each engine, by its name."""
-    page = f"{in_browser.serve()}/tools/bench/javascript.html"
     if shutil.which("node"):
         yield "Node", in_node()
-    if browser.found():
-        yield "Chromium", in_chromium(page)
+    if shutil.which("chromium"):
+        yield "Chromium", rows_of_page()
     for other in others:
         name, _, command = other.partition("=")
-        yield name, of_page(in_browser.in_another(command.split(), page))
+        yield name, rows_of_page(command.split())
 
 
 def main(*others):

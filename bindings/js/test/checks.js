@@ -1,133 +1,235 @@
-// The checks for each engine, on a module: the package's, and the module with a 64-bit memory that
-// it is made from. Each check is a name and a function, which throws on failure.
+// The checks for each engine. Each is a name and a function, which throws on failure.
+import * as workers from '../index.js';
 import { compile } from '../load.js';
-import { endingChecks } from './endings.js';
-import {
-  bytes as bytesOf, equal, hex, inRandomSteps, opened, refused, verifies, works,
-} from './support.js';
-import { REFUSED, workerChecks } from './worker_checks.js';
+import { OF, bytes, equal, hex, instead, opened, refused, utf8, wiping } from './support.js';
+import { workerChecks } from './worker_checks.js';
 
-const KEY = 'A'.repeat(43);
+const { RefusedHashError } = workers;
 
-function ownChecks(open, { keys, hashes }, lines) {
-  const list = {};
-  list[`${keys.length} keys of node:crypto`] = async () => {
-    const { own, isWiped } = await open();
-    for (const { password, salt, of, key } of keys) {
-      const given = [bytesOf(password), bytesOf(salt), of];
-      equal(hex(own.scrypt(...given)), key, JSON.stringify(given));
-      isWiped();
-      const found = await inRandomSteps(() => own.scryptAsync(...given));
-      equal(hex(found), key, `in steps: ${JSON.stringify(given)}`);
-      isWiped();
-    }
-  };
-  list[`${hashes.length} hashes of node:crypto`] = async () => {
-    const { own, isWiped } = await open();
-    for (const { password, salt, of, format, text } of hashes) {
-      equal(own.hash(password, { ...of, salt: bytesOf(salt), format }), text);
-      const limit = { minKeyLength: 10 };
-      equal(own.verify(password, text, limit), true, text);
-      equal(own.verify(`${password}x`, text, limit), false, text);
-      for (const it of [password, `${password}x`]) {
-        const found = await inRandomSteps(() => own.verifyAsync(it, text, limit));
-        equal(found, it === password, `in steps: ${text}`);
-        isWiped();
-      }
-      equal(JSON.stringify(own.params(text)), JSON.stringify(of));
-      equal(own.needsRehash(text, of), false, text);
-      equal(own.needsRehash(text, { ...of, N: 2 * of.N }), true, text);
-      isWiped();
-    }
-  };
-  list['the verifications of bindings/cases.tsv'] = async () => {
-    const { own, isWiped } = await open();
-    await verifies(own, lines, isWiped);
-    await verifies({ verify: (...given) => own.verifyAsync(...given) }, lines, isWiped);
-    await refused('ENCODING_INVALID', () => own.verify('', Uint8Array.of(0xff, 0xfe)));
-  };
-  list.limits = async () => {
-    const { own } = await open();
-    const costly = `$scrypt$ln=4,r=8,p=11000$AAAAAAAA$${KEY}`;
-    equal(own.verify('', costly, { N: 16, p: 11000, dkLen: 32 }), false, 'as for new hashes');
-    const limits = { maxmem: 2 ** 24, maxwork: 4 * (16 + 32) * 8 * 11000 - 1 };
-    const reason = ': 11282432 bytes (maxmem is 16777216), '
-      + 'a work of 16896000 (maxwork is 16895999), a key of 32 bytes (minKeyLength is 16)';
-    await refused('TOO_COSTLY', () => own.verify('', costly, limits), 'the work', reason);
-    await refused('TOO_COSTLY', () => own.verifyAsync('', costly, limits), 'in steps', reason);
-    const { memory } = own;
-    const long = { N: 2 ** 17, r: 8, p: 1, maxmem: 2 ** 20, dkLen: 2 ** 31 };
-    const bytes = ': 134220800 bytes (maxmem is 1048576)';
-    await refused('TOO_COSTLY', () => own.scrypt('', '', long), 'a long key', bytes);
-    equal(own.memory, memory, 'memory, of which a long key takes none before');
-    const little = own.hash('', { N: 16 });
-    equal(own.verify('', little, { maxwork: 4 * (16 + 32) * 8 }), true, 'as much work');
-    await refused('TOO_COSTLY', () => own.verify('', little, { maxwork: 4 * (16 + 32) * 8 - 1 }));
-    equal(own.verify('', little, { maxwork: Infinity, maxmem: Infinity }), true, 'no limit');
-    const short = own.hash('', { N: 2, dkLen: 10 });
-    const least = 'a key of 10 bytes (minKeyLength is 16)';
-    await refused('KEY_TOO_SHORT', () => own.verify('', short), 'a short key', least);
-    equal(own.verify('', short, { dkLen: 10 }), true, 'a short key');
-    // 128 * r * p bytes of chunks, 128 * r * N of a table, and 256 * r of scratch.
-    const small = own.hash('', { N: 16, r: 1 });
-    equal(own.verify('', small, { maxmem: 128 + 2048 + 256 }), true, 'as much memory');
-    await refused('TOO_COSTLY', () => own.verify('', small, { maxmem: 128 + 2048 + 255 }));
-  };
-  list[`${REFUSED.length} refused calls`] = async () => {
-    const { own, isWiped } = await open();
-    for (const [code, call, what] of REFUSED) {
-      await refused(code, () => call(own), `${call} ${what}`);
-      isWiped();
-      await works(own);
-    }
-  };
-  list['memory that cannot grow'] = async () => {
-    const it = await open();
-    const of = { N: 1024, r: 8, p: 2 };
-    const key = hex(it.own.scrypt('password', 'salt', of));
-    const two = it.own.memory;
-    const other = await open();
-    other.most = two - 2 ** 20 + 65536; // for one table and not for two
-    equal(hex(other.own.scrypt('password', 'salt', of)), key, 'one chunk at a time');
-    other.isWiped();
-    const none = await open();
-    none.most = 0;
-    for (const name of ['scrypt', 'scryptAsync']) {
-      await refused('OUT_OF_MEMORY', () => none.own[name]('password', 'salt', of));
-    }
-    none.isWiped();
-    none.most = Infinity;
-    equal(hex(none.own.scrypt('password', 'salt', of)), key, 'memory again');
-  };
-  list['a call that the engine ends drops its instance'] = async () => {
-    const { own, end } = await open();
-    await refused('OUT_OF_MEMORY', () => end(() => own.params('$7$')));
-    equal(own.memory, 0, 'memory');
-    await works(own);
-  };
-  list['a key that is left is wiped'] = async () => {
-    const { own, isWiped } = await open();
-    const leave = () => { throw new TypeError('enough'); };
-    const options = { N: 2 ** 14, r: 1, p: 1, onProgress: leave };
-    await refused('TypeError', () => own.scryptAsync('password', 'salt', options));
-    isWiped();
-    equal(own.memory > 2 ** 20, true, 'the same memory');
-  };
-  return list;
+// A view of a buffer that has shrunk or, like all in old engines, was detached: its password would
+// be empty.
+function gone(isShrunk) {
+  const buffer = new ArrayBuffer(8, { maxByteLength: 8 });
+  const it = new Uint8Array(buffer, 0, 8);
+  if (isShrunk && buffer.resizable) buffer.resize(4);
+  else structuredClone(buffer, { transfer: [buffer] });
+  return it;
 }
 
-/**
- * The checks, with cases of keys.js, the lines of bindings/cases.tsv, and the module with a 64-bit
- * memory.
- */
-export function checks(cases, lines, wide) {
-  const named = (of, list) =>
-    Object.fromEntries(Object.entries(list).map(([name, check]) => [`${of}: ${name}`, check]));
-  const ofWide = ownChecks(() => WebAssembly.compile(wide).then(opened), cases, lines);
-  return {
-    ...named('in workers', workerChecks(lines)),
-    ...named('endings', endingChecks()),
-    ...named('32-bit memory', ownChecks(async () => opened(await compile()), cases, lines)),
-    ...(WebAssembly.validate(wide) ? named('64-bit memory', ofWide) : {}),
+// Wrong values of an option; of a password, a salt or a text; and of all options.
+const VALUES = [
+  ['INVALID_PARAMS', 'N', 3, 0, -2, 1.5, NaN, Infinity, 2 ** 64],
+  ['INVALID_PARAMS', 'r', 0, 2 ** 32 + 8, 2 ** 30], ['INVALID_PARAMS', 'p', 0, 2 ** 32 + 1, 2 ** 30],
+  ['INVALID_PARAMS', 'dkLen', 2 ** 32, -1, 0.5], ['INVALID_LIMIT', 'maxmem', -1, 0.5, NaN, 2 ** 60],
+  ['INVALID_TYPE', 'N', '16384', 16384n, null], ['INVALID_TYPE', 'r', '8', true],
+  ['INVALID_TYPE', 'dkLen', '32'], ['INVALID_TYPE', 'maxmem', '1'],
+];
+const BYTES = [
+  ['INVALID_TYPE', 1], ['INVALID_TYPE', {}], ['INVALID_TYPE', [1]], ['INVALID_TYPE', Symbol('x')],
+  ['LONE_SURROGATE', 'secret\ud800'], ['LONE_SURROGATE', '\udc00secret'],
+  ['TypeError', gone(false)], ['TypeError', gone(false).buffer], ['TypeError', gone(true)],
+];
+const NO_OPTIONS = [
+  5, 'maxmem', true, [], new Uint8Array(16), new Map([['maxmem', 1]]),
+  { maxMem: 1 }, { n: 16 }, { cost: 16 }, // misspelt, and a name of node:crypto
+];
+
+// The error, the call and its arguments.
+const REFUSED = [
+  ...VALUES.flatMap(([code, name, ...values]) => values.flatMap((it) => [
+    [code, 'scrypt', '', '', { ...OF, [name]: it }], [code, 'hash', '', { ...OF, [name]: it }],
+  ])),
+  ...BYTES.flatMap(([code, it]) => [
+    [code, 'scrypt', it, '', OF], [code, 'scrypt', 'secret', it, OF], [code, 'hash', it, OF],
+    [code, 'verify', it, '$7$'], [code, 'verify', 'secret', it], [code, 'params', it],
+  ]),
+  ...NO_OPTIONS.flatMap((it) => [
+    ['INVALID_TYPE', 'scrypt', '', '', it], ['INVALID_TYPE', 'verify', '', '$7$', it],
+  ]),
+  ['INVALID_TYPE', 'scrypt', 'secret', ''], ['INVALID_TYPE', 'scrypt', undefined, '', OF],
+  ['INVALID_TYPE', 'hash', null], ['INVALID_TYPE', 'hash', 'secret', { format: 'bcrypt' }],
+  ['INVALID_TYPE', 'hash', 'secret', { ...OF, salt: 5 }],
+  ['INVALID_PARAMS', 'verify', '', '$7$', { N: 3 }], ['INVALID_PARAMS', 'needsRehash', '$7$', { N: 3 }],
+  ['INVALID_PARAMS', 'hash', 'secret', { ...OF, dkLen: 9 }],
+  ['INVALID_OUTPUT_LEN', 'scrypt', 'secret', '', { ...OF, dkLen: 0 }],
+  ['SALT_INVALID', 'hash', 'secret', { ...OF, salt: new Uint8Array(65) }],
+  ['SALT_INVALID', 'hash', 'secret', { ...OF, salt: '' }],
+  ['ENCODING_INVALID', 'verify', 'secret', Uint8Array.of(0xff, 0xfe)],
+  ['TOO_COSTLY', 'scrypt', 'secret', '', { N: 2 ** 21, r: 8, p: 1 }],
+  ['TOO_COSTLY', 'scrypt', 'secret', '', { ...OF, maxwork: 1 }],
+  ['OUT_OF_MEMORY', 'scrypt', 'secret', '', { N: 2 ** 30, r: 8, p: 1, maxmem: 2 ** 45 }],
+];
+
+// Of `pässword` and a salt of `saltsalt`, by node:crypto.
+const HASHES = {
+  phc: '$scrypt$ln=5,r=3,p=5$c2FsdHNhbHQ$8K5X034OoVRtpY/RqyQEOcDGVeo',
+  mcf: '$7$31....3....n34PoBLMgF5$QnpiCV/N/YkuXdK2DpZJBKMqgxB',
+};
+// Above the default limits, but fast.
+const COSTLY = `$scrypt$ln=4,r=8,p=11000$AAAAAAAA$${'A'.repeat(43)}`;
+
+// The code of a refused hash, or the answer.
+const outcome = (call) => call.catch((error) => error instanceof RefusedHashError && error.code);
+
+/** The checks of each kind of calls: in workers, on a module, and in steps. */
+const OF_EACH = {
+  'keys of node:crypto': async (api, { keys }) => {
+    for (const { password, salt, of, key } of keys) {
+      const found = await api.scrypt(bytes(password), bytes(salt), of);
+      equal(hex(found), key, JSON.stringify({ password, salt, of }));
+    }
+  },
+  hashes: async (api) => {
+    const of = { N: 32, r: 3, p: 5, dkLen: 20 };
+    for (const [format, text] of Object.entries(HASHES)) {
+      equal(await api.hash('pässword', { ...of, salt: 'saltsalt', format }), text);
+      equal(await api.verify('pässword', text), true, text);
+      equal(await api.verify('password', text), false, text);
+      equal(JSON.stringify(await api.params(text)), JSON.stringify(of));
+      equal(await api.needsRehash(text, of), false, text);
+      for (const it of [{ N: 64 }, { r: 4 }, { p: 6 }, { dkLen: 21 }]) {
+        equal(await api.needsRehash(text, { ...of, ...it }), true, `${text} of ${Object.keys(it)}`);
+      }
+    }
+    const long = await api.hash('', { ...of, salt: new Uint8Array(1000), format: 'mcf' });
+    equal(await api.verify('', long), true, 'a long salt');
+  },
+  'the verifications of bindings/cases.tsv': async (api, { lines }) => {
+    for (const line of lines.trimEnd().split('\n').slice(1)) {
+      const [status, password, it] = line.split('\t');
+      const text = it.replace('\\0', '\0');
+      const wanted = { OK: true, MISMATCH: false }[status] ?? status;
+      equal(await outcome(api.verify(password, text)), wanted, text.slice(0, 60));
+      if (wanted !== status || ['TOO_COSTLY', 'KEY_TOO_SHORT'].includes(status)) continue;
+      equal(await outcome(api.params(text)), status, text.slice(0, 60));
+      equal(await outcome(api.needsRehash(text)), status, text.slice(0, 60));
+    }
+  },
+  'a new hash, and none': async (api) => {
+    const text = await api.hash('pässword 🔑');
+    equal(/^\$scrypt\$ln=17,r=8,p=1\$[A-Za-z0-9+/]{22}\$[A-Za-z0-9+/]{43}$/.test(text), true, text);
+    equal(await api.verify(utf8('pässword 🔑'), utf8(text)), true);
+    equal(await api.needsRehash(text), false);
+    const composed = await api.hash('\u00e9', OF);
+    equal(await api.verify('e\u0301', composed), false, 'a string is not normalized');
+    equal(await api.hash('\u00e9', OF) === composed, false, 'two salts');
+    for (const none of [null, undefined]) equal(await api.verify('', none, OF), false, `${none}`);
+    await refused('TOO_COSTLY', () => api.verify('', null, { maxmem: 1 }));
+  },
+  limits: async (api) => {
+    await refused('TOO_COSTLY', () => api.verify('', COSTLY), ': 11282432 bytes (maxmem is '
+      + '269484032), a work of 16896000 (maxwork is 16781312), a key of 32 bytes (minKeyLength is 16)');
+    equal(await api.verify('', COSTLY, { N: 16, p: 11000, dkLen: 32 }), false, 'as for new hashes');
+    // 128 * r * p bytes of chunks, 128 * r * N of a table, and 256 * r of scratch.
+    const [maxmem, maxwork] = [128 + 2048 + 256, 4 * (16 + 32)];
+    const text = await api.hash('', { N: 16, r: 1 });
+    for (const it of [{ maxmem, maxwork }, { maxmem: Infinity, maxwork: Infinity }]) {
+      equal(await api.verify('', text, it), true, 'as much as it needs');
+    }
+    const getter = new (class { get maxmem() { return 1; } })();
+    const [less, inherited] = [{ maxmem: maxmem - 1 }, Object.create({ maxmem: 1 })];
+    for (const it of [less, { maxwork: maxwork - 1 }, inherited, getter]) {
+      await refused('TOO_COSTLY', () => api.verify('', text, it));
+    }
+    const short = await api.hash('', { N: 2, dkLen: 10 });
+    const least = 'a key of 10 bytes (minKeyLength is 16)';
+    await refused('KEY_TOO_SHORT', () => api.verify('', short), least);
+    for (const it of [{ dkLen: 10 }, { minKeyLength: 10 }]) {
+      equal(await api.verify('', short, it), true, 'a short key');
+    }
+  },
+  // A stranger can put a property there, which must not lift a limit.
+  'properties of Object.prototype': async (api) => {
+    const [text, short] = [await api.hash('', OF), await api.hash('', { ...OF, dkLen: 10 })];
+    const lifted = { maxmem: Infinity, maxwork: Infinity, minKeyLength: 0, format: 'mcf', N: 4, p: 11000 };
+    for (const [name, value] of [['maxwork', 0], ...Object.entries(lifted)]) {
+      await instead(Object.prototype, name, value, async () => {
+        equal(await api.verify('', text), true, `verify with ${name}`);
+        equal((await api.hash('', { N: 2 })).slice(0, 21), '$scrypt$ln=1,r=8,p=1$', name);
+        await refused('KEY_TOO_SHORT', () => api.verify('', short, {}));
+        await refused('TOO_COSTLY', () => api.verify('', COSTLY));
+      });
+    }
+  },
+  'refused calls': async (api) => {
+    for (const [code, name, ...given] of REFUSED) {
+      const words = given.map((it) => String(Object(it) === it ? Object.entries(it) : it));
+      await refused(code, () => api[name](...given), '', `${name}(${words.join('; ')})`);
+    }
+    const reason = 'verify takes the password first';
+    await refused('ENCODING_INVALID', () => api.verify('$7$', 'secret'), reason);
+    equal(hex(await api.scrypt('', '', { N: 16, r: 1, p: 1, dkLen: 4 })), '77d65762', 'the next');
+  },
+};
+
+/** The checks of calls that have steps. */
+const OF_STEPS = {
+  'progress, and leaving': async (api) => {
+    const text = `$scrypt$ln=15,r=8,p=1$AAAAAAAA$${'A'.repeat(43)}`;
+    const costs = { N: 2 ** 15, r: 8, p: 1 };
+    for (const call of [
+      (it) => api.scrypt('', '', { ...costs, ...it }), (it) => api.verify('', text, it),
+      (it) => api.verify('', null, { ...costs, ...it }),
+    ]) {
+      const [controller, seen] = [new AbortController(), []];
+      const { signal } = controller;
+      await call({ signal, onProgress: (fraction) => seen.push(fraction) });
+      equal(seen.at(-1), 1, 'progress');
+      equal(seen.every((it, i) => it > (seen[i - 1] ?? 0)), true, 'progress grows');
+      const onProgress = (fraction) => fraction > 0.1 && controller.abort();
+      await refused('AbortError', () => call({ signal, onProgress }));
+      await refused('AbortError', () => call({ signal }));
+      const fails = () => { throw new TypeError('its own'); };
+      await refused('TypeError', () => call({ onProgress: fails }));
+      await refused('INVALID_TYPE', () => call({ onProgress: 5 }));
+    }
+  },
+};
+
+/** The checks of a module's memory. */
+const OF_MODULE = {
+  'memory that cannot grow': async (module) => {
+    const given = ['password', 'salt', { N: 1024, r: 8, p: 2 }];
+    const [{ own }, it] = [await opened(module), await opened(module)];
+    const key = hex(own.scrypt(...given));
+    it.most = 0;
+    for (const name of ['scrypt', 'scryptAsync']) {
+      await refused('OUT_OF_MEMORY', () => it.own[name](...given));
+    }
+    // No hash takes a table, as a wrong password does.
+    for (const name of ['verify', 'verifyAsync']) {
+      await refused('OUT_OF_MEMORY', () => it.own[name]('', null));
+    }
+    // The limits are checked before a key takes memory.
+    const long = { N: 2 ** 17, r: 8, p: 1, maxmem: 2 ** 20, dkLen: 2 ** 31 };
+    const reason = ': 134220800 bytes (maxmem is 1048576)';
+    await refused('TOO_COSTLY', () => it.own.scrypt('', '', long), reason);
+    for (const most of [own.memory - 2 ** 20 + 65536, Infinity]) { // one chunk at a time, and two
+      it.most = most;
+      equal(hex(it.own.scrypt(...given)), key, `${most}`);
+      it.isWiped();
+    }
+  },
+  'a call that the engine ends drops its instance': async (module) => {
+    const ends = () => { throw new RangeError('the end of the stack'); };
+    const { own } = await opened(module, { scrypt_hash_params: ends });
+    await refused('OUT_OF_MEMORY', () => own.params('$7$'));
+    equal(own.memory, 0, 'memory');
+    await refused('ENCODING_INVALID', () => own.params('$7$'));
+  },
+};
+
+/** The checks, with the cases of node.test.js. */
+export function checks(given) {
+  const list = { ...workerChecks };
+  const add = (kind, named, open) => {
+    for (const [name, check] of Object.entries(named)) {
+      list[`${kind}: ${name}`] = async () => check(await open(), given);
+    }
   };
+  add('in workers', { ...OF_EACH, ...OF_STEPS }, () => workers);
+  add('in this thread', OF_EACH, async () => wiping(await compile(), false));
+  add('in steps', { ...OF_EACH, ...OF_STEPS }, async () => wiping(await compile(), true));
+  add('in this thread', OF_MODULE, compile);
+  return list;
 }

@@ -1,29 +1,53 @@
-// usage: node --test node.test.js    over build/wasm/scrypt64.wasm, the module with a 64-bit memory
-import { deepStrictEqual } from 'node:assert';
+// Runs the checks with random keys of node:crypto, which is OpenSSL's, and writes these for
+// in_browser.py.
+// usage: [KEYS=10000] node --test node.test.js    with this many keys
+import { deepStrictEqual, throws } from 'node:assert';
 import { spawnSync } from 'node:child_process';
-import { readFileSync } from 'node:fs';
+import { randomBytes, randomInt, scryptSync } from 'node:crypto';
+import { mkdirSync, readFileSync, writeFileSync } from 'node:fs';
 import { test } from 'node:test';
+import { ScryptError, storedText } from '../index.js';
 import { checks } from './checks.js';
-import { cases } from './keys.js';
+import { hex } from './support.js';
 
-const TOP = new URL('../../../', import.meta.url);
-const PACKAGE = new URL('../index.js', import.meta.url);
-const read = (path) => readFileSync(new URL(path, TOP));
+const at = (path) => new URL(`../../../${path}`, import.meta.url);
+const read = (path) => readFileSync(at(path), 'utf8');
+const randomOf = (list) => list[randomInt(list.length)];
 
-const list = checks(cases(200), `${read('bindings/cases.tsv')}`, read('build/wasm/scrypt64.wasm'));
-for (const [name, check] of Object.entries(list)) test(name, check);
+function randomKey() {
+  const some = () => randomBytes(randomOf([0, 1, 7, 8, 16, 63, 64, 65, 200]));
+  const [password, salt, dkLen] = [some(), some(), randomOf([1, 16, 31, 32, 33, 64, 100])];
+  const of = { N: 2 ** randomInt(1, 11), r: randomInt(1, 13), p: randomInt(1, 7), dkLen };
+  const key = scryptSync(password, salt, dkLen, { ...of, maxmem: 2 ** 30 });
+  return { password: hex(password), salt: hex(salt), of, key: hex(key) };
+}
+
+const keys = Array.from({ length: process.env.KEYS ?? 100 }, randomKey);
+const cases = { keys, lines: read('bindings/cases.tsv') };
+mkdirSync(at('build/wasm'), { recursive: true });
+writeFileSync(at('build/wasm/cases.json'), JSON.stringify(cases));
+for (const [name, check] of Object.entries(checks(cases))) test(name, check);
+
+test('the texts of bindings/stored.tsv', () => {
+  for (const line of read('bindings/stored.tsv').trimEnd().split('\n').slice(1)) {
+    const [salt, key, N, r, p, wanted] = line.split('\t');
+    const bytes = [salt, key].map((it) => Buffer.from(it, 'hex'));
+    const stored = () => storedText(...bytes, { N: Number(N), r: Number(r), p: Number(p) });
+    if (!wanted) throws(stored, ScryptError, line);
+    else deepStrictEqual(stored(), wanted);
+  }
+});
 
 // Programs of the command line, with a flag that no file may have; they end by themselves.
 function prints(program) {
-  const text = program.replaceAll("'scrypt-proved'", `'${PACKAGE}'`);
+  const text = program.replaceAll("'scrypt-proved'", `'${at('bindings/js/index.js')}'`);
   const words = ['--input-type=module', '-e', text];
   const { stdout, status } = spawnSync(process.execPath, words, { encoding: 'utf8' });
   return `${stdout}${status || ''}`;
 }
 
 test('the examples of README print what they say', () => {
-  const page = `${read('bindings/js/README.md')}`;
-  for (const [, program] of page.matchAll(/^```js$(.*?)^```$/gms)) {
+  for (const [, program] of read('bindings/js/README.md').matchAll(/^```js$(.*?)^```$/gms)) {
     const said = [...program.matchAll(/^console\.log\(.*\); \/\/ (\w+)/gm)];
     deepStrictEqual(prints(program), said.map(([, it]) => `${it}\n`).join(''));
   }
@@ -35,14 +59,4 @@ test('the default limits are within the memory of a container', () => {
     const [own, text] = [await load(), '$scrypt$ln=18,r=8,p=1$AAAAAAAA$' + 'A'.repeat(43)];
     try { own.verify('', text); } catch ({ code }) { console.log(code); }
     console.log(own.verify('', text.replace('18', '17')));`), 'TOO_COSTLY\nfalse\n');
-});
-
-test('a worker that ends by itself', () => {
-  deepStrictEqual(prints(`import { hash } from 'scrypt-proved';
-    const { EventEmitter } = process.getBuiltinModule('node:events');
-    process.getBuiltinModule('node:worker_threads').Worker = class extends EventEmitter {
-      constructor() { super(); setTimeout(() => this.emit('exit', 3)); }
-      terminate() {}
-    };
-    console.log(await hash('', { N: 2 }).catch(({ code }) => code));`), 'WORKER_FAILED\n');
 });

@@ -3,54 +3,30 @@
 # README. Prints the packages that are not installed.
 set -eu
 unset CDPATH
-cd "$(dirname "$0")"
+cd "$(dirname "$0")/../../.."
 room=$(mktemp -d)
+app=$room/app package=$room/app/node_modules/scrypt-proved here=bindings/js/test
 trap 'rm -rf "$room"' EXIT
 
 # Whether this succeeds, or else which package brings it, and what was left out.
 has() {
-  package=$1
-  shift
-  "$@" > /dev/null 2>&1 && return
-  echo "package $package is not installed, or is too old: not run"
+  ("$2" "$3" "${4:-}") > /dev/null 2>&1 && return
+  echo "package $1 is not installed, or is too old: not run"
   return 1
 }
 
-# Runs a script from the top, as the modules that it shares with others need it.
-module() { (cd ../../.. && timeout 300 python3 -B -m "$@"); }
-
-in_node() {
-  # Newer versions have a 64-bit memory without the flag, and may not know it any more.
-  MEMORY64=--experimental-wasm-memory64
-  node $MEMORY64 -e '' 2> /dev/null || MEMORY64=
-  export MEMORY64
-  module bindings.js.test.test_lower
-  # shellcheck disable=SC2086 # one word or none
-  node $MEMORY64 --test node.test.js > "$room/log" || { cat "$room/log"; exit 1; }
-  grep -E '^# (pass|fail) ' "$room/log"
-  node keys.js 300 steps
-}
-
 # The lines of README, in a folder that has what is packed, and what they make without that.
-# in_browser.py opens the page with all in one script.
 by_esbuild() {
-  app=$room/app
-  mkdir -p "$app/node_modules/scrypt-proved"
-  files=$(node -p 'JSON.parse(fs.readFileSync("../package.json")).files.join(" ")')
-  for file in package.json $files; do
-    case $file in
-    NOTICES | PROVED.txt) ;;
-    *) cp "../$file" "$app/node_modules/scrypt-proved" ;;
-    esac
-  done
-  sed -n '/^```sh$/,/^```$/{/^```/d; p}' ../README.md > "$app/lines"
-  sed -n '/^```javascript$/,/^```$/{/^```/d; p}' ../README.md > "$app/page.js"
+  mkdir -p "$package"
+  # A release adds the files whose names are in capitals.
+  files=$(node -p 'require("./bindings/js/package.json").files.join(" ")' | sed 's/ [A-Z].*//')
+  (cd bindings/js && cp package.json $files "$package")
+  sed -n '/^```sh$/,/^```$/{/^```/d; p}' bindings/js/README.md > "$app/lines"
+  sed -n '/^```javascript$/,/^```$/{/^```/d; p}' bindings/js/README.md > "$app/page.js"
   echo '<!doctype html><script src="dist/page.js"></script>' > "$app/page.html"
   echo '{ "type": "module" }' > "$app/package.json"
-  cat > "$app/login.js" << 'EOF'
-import { hash, verify } from 'scrypt-proved';
-console.log(await verify('a', await hash('a', { N: 2 })));
-EOF
+  echo "import { hash, verify } from 'scrypt-proved';
+    console.log(await verify('a', await hash('a', { N: 2 })));" > "$app/login.js"
   (cd "$app" && sh -eu lines 2> log) || { cat "$app/log"; exit 1; }
   [ "$(node "$app/login.js")" = true ]
   rm -r "$app/node_modules"
@@ -59,8 +35,16 @@ EOF
 }
 
 has "nodejs, from 20.16 on" node -e 'process.getBuiltinModule("node:fs")' || exit 0
-in_node
+python3 -B -m bindings.js.test.test_lower
+node --test $here/node.test.js > "$room/log" || { cat "$room/log"; exit 1; }
+grep -E '^# (pass|fail) ' "$room/log"
 if has esbuild esbuild --version; then by_esbuild; fi
-if has node-typescript tsc --version; then tsc --project tsconfig.json; fi
-if has "chromium-driver or python3-selenium" module bindings.js.test.in_browser --installed
-then ONE_SCRIPT=$room/app/page.html module bindings.js.test.in_browser; fi
+if has node-typescript tsc --version; then
+  tsc --strict --exactOptionalPropertyTypes --noEmit --target es2022 --module node16 $here/types.ts
+fi
+has chromium chromium --version || exit 0
+python3 -B $here/in_browser.py
+if [ -e "$app" ]; then # a page that is opened from the disk makes a hash its title
+  chromium --headless=new --no-sandbox --user-data-dir="$room/profile" --virtual-time-budget=20000 \
+    --dump-dom "file://$app/page.html" 2> /dev/null | grep -o '<title>$scrypt$ln=17,r=8,p=1'
+fi
