@@ -23,10 +23,12 @@ import subprocess
 import sys
 import tempfile
 
-from tools.tests import crypt64, oracle
-from tools.tests.oracle import Missing, some_bytes
-from tools.tests.runs import unlimited
+from tools import debian
+from tools.tests import crypt64, known, oracle, reference
+from tools.tests.oracle import some_bytes, some_params
+from tools.tests.runs import run
 
+debian.add_packages()
 os.environ.setdefault("SCRYPT_C_LIBRARY", "build/lib")
 sys.path.insert(0, "bindings/python")
 from scrypt_c import migration  # noqa: E402
@@ -105,6 +107,10 @@ func main() {
 """
 
 
+class Missing(Exception):
+    """A program or library that a part needs is not installed."""
+
+
 class Trial:
     """The program, and the number of agreements for one tool."""
 
@@ -122,7 +128,7 @@ class Trial:
         self.check(got == wanted, about, got)
 
     def refuses(self, text, error):
-        got = unlimited(self.program, ["verify", text], b"password")
+        got = run([self.program, "verify", text], b"password")
         self.check(got == (2, "", f"hash refused: {error}\n"), text, got)
 
     def converted(self, convert, text, password):
@@ -131,7 +137,7 @@ class Trial:
         self.verifies(convert(text), password)
 
     def answer(self, words, password):
-        return unlimited(self.program, [str(it) for it in words], password)[1].strip()
+        return run([self.program, *(str(it) for it in words)], password)[1].strip()
 
     def key(self, password, salt, log_n, r, p, length):
         return bytes.fromhex(self.answer(["key", log_n, r, p, length, salt.hex()], password))
@@ -171,7 +177,15 @@ def answers(words, cases, **env):
 
 
 def passlib(trial):
-    scrypt = oracle.passlib()
+    """passlib's hashes are verified, and it finds the same ones weaker, and makes the same new ones.
+
+    The two agree on log_n, and on keys of 32 bytes, the only length in passlib. passlib rehashes if r or p differs from
+    the wanted value, this library only if it is below.
+    """
+    try:
+        from passlib.hash import scrypt
+    except ImportError:
+        raise Missing("passlib is not installed (package python3-passlib)") from None
 
     def made(password, salt, n, r, p, **more):
         costs = {"rounds": n.bit_length() - 1, "block_size": r, "parallelism": p}
@@ -188,6 +202,15 @@ def passlib(trial):
         trial.check(other != text and scrypt.verify("password", other), "passlib", other)
         trial.refuses(other, error)
         trial.verifies(migration.from_passlib(other), "password")
+    for _ in range(2 * CASES):
+        (log_n, r, p, _), (*wanted, _) = some_params(trial.rng), some_params(trial.rng)
+        text, salt = made("password", "stored", 1 << log_n, r, p), some_bytes(trial.rng, 20) + b"!"
+        weaker = reference.is_weaker((log_n, r, p), wanted)
+        handler = scrypt.using(salt=salt, min_rounds=wanted[0], default_rounds=wanted[0], block_size=wanted[1],
+                               parallelism=wanted[2])
+        trial.check(handler.needs_update(text) == (weaker or [r, p] != wanted[1:]), text, wanted)
+        new = trial.answer(["rehash", "phc", *wanted, 32, salt.hex(), text], b"password")
+        trial.check(new == (handler.hash("password") if weaker else "ok"), text, wanted, new)
 
 
 def django(trial):
@@ -204,26 +227,26 @@ def django(trial):
         trial.converted(migration.from_django, ScryptPasswordHasher().encode(*case), case[0])
 
 
-def werkzeug(trial):
+def crypt(password, setting):
+    """The hash that crypt(3) makes."""
     try:
-        from werkzeug.security import generate_password_hash
-        generate_password_hash("", "scrypt:128:1:1")
-    except (ImportError, TypeError, ValueError):
-        raise Missing("Werkzeug 2.3 is not installed (PyPI: werkzeug)") from None
-    for password, _, n, r, p in trial.cases():
-        # Its limit of 132 * n * r * p bytes is too small below n = 96.
-        method, length = f"scrypt:{max(n, 128)}:{r}:{p}", trial.rng.choice((1, 16, 64, 65, 200))
-        text = generate_password_hash(password, method, length)
-        trial.converted(migration.from_werkzeug, text, password)
-    trial.converted(migration.from_werkzeug, generate_password_hash("password"), "password")
+        library = ctypes.CDLL("libcrypt.so.1")
+    except OSError:
+        raise Missing("crypt(3) is not installed (package libcrypt1)") from None
+    library.crypt.restype = ctypes.c_char_p
+    return library.crypt(password, setting.encode()).decode()
 
 
 def libxcrypt(trial):
+    for password, text in (b"pleaseletmein", known.CRYPT), (b"pleaseletmein", known.PLAIN), (b"", known.EMPTY):
+        trial.check(crypt(password, text) == text, "a hash of the tests", text)
     for password, salt, n, r, p in trial.cases():
+        ours = trial.hash_mcf(n.bit_length() - 1, r, p, 32, some_bytes(trial.rng, 20), password.encode())
+        trial.check(crypt(password.encode(), ours) == ours, "crypt(3) refuses", ours)
         params = crypt64.params(n.bit_length() - 1, r, p)
-        trial.verifies(oracle.crypt(password.encode(), f"{params}{salt}$"), password)
+        trial.verifies(crypt(password.encode(), f"{params}{salt}$"), password)
         setting = f"{params}{salt[:20]}$a${salt}$"  # it takes a salt with a $
-        text = oracle.crypt(password.encode(), setting)
+        text = crypt(password.encode(), setting)
         trial.check(text.startswith(setting), "crypt(3) refuses the salt", text)
         trial.converted(migration.from_crypt, text, password)
     key = hashlib.scrypt(b"password", salt=b"a+b", n=16, r=1, p=1, dklen=32)
@@ -231,16 +254,7 @@ def libxcrypt(trial):
     texts += [(trial.hash_mcf(*params, password=it), it) for params, it in CRYPT_REFUSES]
     for text, password in texts:
         trial.verifies(text, password)
-        trial.check(oracle.crypt(password, text) != text, "crypt(3) verifies", text)
-
-
-def mkpasswd(trial):
-    installed("mkpasswd", "whois")
-    for password in (trial.word(), trial.word()):
-        words = ["mkpasswd", "--method=scrypt", "--stdin"]
-        text = subprocess.run(words, input=password, capture_output=True, text=True).stdout.strip()
-        trial.verifies(text, password)
-        trial.check(text.startswith(crypt64.params(14, 32, 1)), "other parameters", text)
+        trial.check(crypt(password, text) != text, "crypt(3) verifies", text)
 
 
 def libsodium(trial):
@@ -286,9 +300,12 @@ def of_hashlib(trial):
         key = hashlib.scrypt(password, salt=salt, n=n, r=r, p=p, dklen=length)
         trial.check(trial.key(password, salt, n.bit_length() - 1, r, p, length) == key, salt)
         trial.verifies(migration.stored_text(salt, key, n, r, p), password)
+    for password, salt, n, r, p in trial.cases():  # as Werkzeug 2.3 writes them
+        key = hashlib.scrypt(password.encode(), salt=salt.encode(), n=n, r=r, p=p, dklen=64).hex()
+        trial.converted(migration.from_werkzeug, f"scrypt:{n}:{r}:{p}${salt}${key}", password)
     for salt in (b"\xff" * 65, b"$" * 65):  # neither format has these
         try:
-            trial.check(False, migration.stored_text(salt, key, n, r, p))
+            trial.check(False, migration.stored_text(salt, bytes(32), 64, 8, 1))
         except ValueError:
             trial.check(True)
     for log_n, r, p in ((0, 8, 1), (16, 1, 1), (17, 8, 1)):
@@ -327,28 +344,7 @@ def go(trial):
     trial.check(last == "scrypt: N must be > 1 and a power of 2", last)
 
 
-def openssl_key(password, salt, n, r, p, length):
-    """The status of `openssl kdf`, and the key."""
-    options = {"hexpass": password.encode().hex(), "hexsalt": salt, "n": n, "r": r, "p": p}
-    words = [word for name, it in options.items() for word in ("-kdfopt", f"{name}:{it}")]
-    words = ["openssl", "kdf", "-keylen", str(length), *words, "SCRYPT"]
-    ran = subprocess.run(words, capture_output=True, text=True)
-    return ran.returncode, bytes.fromhex(ran.stdout.strip().replace(":", ""))
-
-
-def openssl(trial):
-    installed("openssl", "openssl")
-    for case in trial.key_cases():
-        password, salt, *params, _ = case
-        text = migration.stored_text(bytes.fromhex(salt), openssl_key(*case)[1], *params)
-        trial.verifies(text, password)
-    for log_n, r, refused in ((0, 8, 1), (16, 1, 1), (21, 8, 1), (17, 8, 0), (20, 8, 0)):
-        status, _ = openssl_key("password", "00", 1 << log_n, r, 1, 32)
-        trial.check(bool(status) == bool(refused), log_n, r, status)
-
-
-PARTS = [passlib, django, werkzeug, libxcrypt, mkpasswd, libsodium, libscrypt, of_hashlib, node, go,
-         openssl]
+PARTS = [passlib, django, libxcrypt, libsodium, libscrypt, of_hashlib, node, go]
 
 
 def main():

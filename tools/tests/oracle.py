@@ -1,50 +1,24 @@
-"""Differential test of the program against independent implementations, on random input.
+"""Differential test of the program against hashlib, and plain Python where OpenSSL rejects the
+parameters, on random input. tools/tests/migration.py compares it with other programs.
 
 usage: python3 -m tools.tests.oracle PROGRAM [--seed N] [--worker PATH]
 
-Each part prints the number of cases that agree. Parts whose library isn't installed, also where
-Debian puts it, are skipped and named. WORKER speaks the protocol that tools/bench/bench.py
-describes: with it, only 10,000 keys are compared, some with parameters and lengths that both have
-to reject.
+Each part prints the number of cases that agree. WORKER speaks the protocol that
+tools/bench/bench.py describes: with it, only 10,000 keys are compared, some with parameters and
+lengths that both have to reject.
 """
 
 import argparse
-import ctypes
 import functools
 import random
 import sys
 
-from tools import debian
-from tools.tests import crypt64, known, reference
+from tools.tests import reference
 from tools.tests.reference import hash_of
-from tools.tests.runs import NO, OK, report, unlimited
+from tools.tests.runs import NO, OK, report, run
 from tools.tests.worker import Refused, Worker
 
-debian.add_packages()
-
 CASES, WORKER_CASES = 200, 10_000
-
-
-class Missing(Exception):
-    """A library that a part needs is not installed."""
-
-
-def passlib():
-    try:
-        from passlib.hash import scrypt
-    except ImportError:
-        raise Missing("passlib") from None
-    return scrypt
-
-
-def crypt(password, setting):
-    """The hash that crypt(3) makes."""
-    try:
-        library = ctypes.CDLL("libcrypt.so.1")
-    except OSError:
-        raise Missing("crypt(3)") from None
-    library.crypt.restype = ctypes.c_char_p
-    return library.crypt(password, setting.encode()).decode()
 
 
 def by_python(password, salt, params, length):
@@ -68,14 +42,9 @@ def words_of(*words):
     return [it.hex() if isinstance(it, bytes) else str(it) for it in words]
 
 
-def made(program, words, password, wanted):
-    """The case of a command that writes a line."""
-    return f"{words} on {password.hex()}", unlimited(program, words, password), (0, f"{wanted}\n", "")
-
-
 def verified(program, text, password):
     """The case of a hash that is verified with its password and with a wrong one."""
-    got = [unlimited(program, ["verify", text], it) for it in (password, password + b"x")]
+    got = [run([program, "verify", text], it) for it in (password, password + b"x")]
     return f"verify {text!r} on {password.hex()}", got, [OK, NO]
 
 
@@ -99,7 +68,7 @@ def keys(program, rng, derive=by_python, count=CASES):
             wanted = 2, ""
         else:
             wanted = 0, f"{key.hex()}\n"
-        yield case, unlimited(program, words_of("key", *params, length, salt), password)[:2], wanted
+        yield case, run([program, *words_of("key", *params, length, salt)], password)[:2], wanted
 
 
 def hashes(program, rng):
@@ -109,21 +78,9 @@ def hashes(program, rng):
         params = rng.randrange(9), rng.choice((1, 2, 3, 8)), rng.randrange(1, 4)
         for form in ("phc", "mcf"):
             text = hash_of(form, password, salt, *params, length)
-            yield made(program, words_of("hash", form, *params, salt, length), password, text)
+            words = words_of("hash", form, *params, salt, length)
+            yield f"{words} on {password.hex()}", run([program, *words], password), (0, f"{text}\n", "")
             yield verified(program, text, password)
-
-
-def hashes_of_crypt(program, rng):
-    """crypt(3) makes the hashes of the tests and ours."""
-    for password, text in ("pleaseletmein", known.CRYPT), ("pleaseletmein", known.PLAIN), ("", known.EMPTY):
-        yield "a hash of the tests", crypt(password.encode(), text), text
-    for _ in range(20):
-        password = bytes(rng.randrange(1, 256) for _ in range(rng.randrange(40)))
-        log_n, r, p = rng.randrange(2, 11), rng.choice((1, 2, 8)), rng.randrange(1, 4)
-        salt = some_bytes(rng, 20)
-        ours = unlimited(program, words_of("hash", "mcf", log_n, r, p, salt), password)[1].strip()
-        yield ours, ours.rpartition("$")[0], crypt64.params(log_n, r, p) + crypt64.letters(salt)
-        yield ours, crypt(password, ours), ours
 
 
 def some_params(rng):
@@ -148,38 +105,13 @@ def rehashes(program, rng):
         else:
             answer = 0, hash_of(form, password, salt, *wanted) + "\n", ""
         words = words_of("rehash", form, *wanted, salt, text)
-        yield f"{words} on {password.hex()}", unlimited(program, words, password if right else password + b"x"), answer
-
-
-def rehashes_of_passlib(program, rng):
-    """passlib finds the same hashes weaker, and makes the same new ones; the hash in the tests is passlib's.
-
-    The two agree on log_n, and on keys of 32 bytes, the only length in passlib. passlib rehashes if r or p differs from
-    the wanted value, this library only if it is below. So if no parameter is below, and r or p is above, passlib rehashes
-    a hash that is kept here.
-    """
-    scrypt = passlib()
-    yield "the hash of the tests", scrypt.verify("password", known.PASSLIB), True
-    for _ in range(100):
-        (*stored, _), (*wanted, _) = some_params(rng), some_params(rng)
-        password, salt = some_bytes(rng, 40), some_bytes(rng, 20) + b"!"
-        params = dict(rounds=stored[0], block_size=stored[1], parallelism=stored[2])
-        text = scrypt.using(salt=b"stored", **params).hash(password)
-        wants = dict(block_size=wanted[1], parallelism=wanted[2])
-        handler = scrypt.using(salt=salt, min_rounds=wanted[0], default_rounds=wanted[0], **wants)
-        weaker = reference.is_weaker(stored, wanted)
-        yield f"{wanted} of {text}", handler.needs_update(text), weaker or stored[1:] != wanted[1:]
-        answer = handler.hash(password) if weaker else "ok"
-        yield made(program, words_of("rehash", "phc", *wanted, 32, salt, text), password, answer)
-        yield f"{wanted} of {answer}", weaker and handler.needs_update(answer), False
+        yield f"{words} on {password.hex()}", run([program, *words], password if right else password + b"x"), answer
 
 
 PARTS = {
     "keys of hashlib, or of plain Python if it refuses": keys,
     "hashes with keys of 10 to 64 bytes": hashes,
-    "hashes of crypt(3)": hashes_of_crypt,
     "rehashes by the definition in plain Python": rehashes,
-    "hashes and rehashes of passlib": rehashes_of_passlib,
 }
 
 
@@ -189,18 +121,11 @@ def main():
     parser.add_argument("--seed", type=int, default=7914)
     parser.add_argument("--worker")
     args = parser.parse_args()
-    rng, passed, failed, missing = random.Random(args.seed), 0, 0, []
-    parts = PARTS
+    rng, parts = random.Random(args.seed), PARTS
     if args.worker:
         parts = {"keys of the worker": functools.partial(keys, derive=by_worker(args.worker), count=WORKER_CASES)}
-    for title, part in parts.items():
-        try:
-            right, wrong = report(title, part(args.program, rng))
-            passed, failed = passed + right, failed + wrong
-        except Missing as what:
-            missing.append(f"skipped: {title}, since {what} isn't installed")
-    print(f"{passed} passed, {failed} failed", *missing, sep="\n")
-    sys.exit(1 if failed else 0)
+    wrong = [report(title, part(args.program, rng))[1] for title, part in parts.items()]
+    sys.exit(1 if any(wrong) else 0)
 
 
 if __name__ == "__main__":

@@ -16,11 +16,6 @@ def run(words, password=b"", **options):
     return ran.returncode, ran.stdout.decode(), ran.stderr.decode()
 
 
-def unlimited(program, words, password):
-    """How a run of scrypt_tool ends, with hashes of any cost."""
-    return run([program, *words], password)
-
-
 def redirected(shell, words):
     """How a run ends whose streams the shell opens, in a line that has `"$@"` for the arguments."""
     return run(["sh", "-c", shell, "sh", *words])
