@@ -112,7 +112,7 @@ $(EXAMPLES): example-%: $(call proved,module) native
 examples-of-pages: native
 	$(TASK) python3 -B bindings/readme_examples.py
 hostile: native
-	$(TASK) $(PY) tools.tests.hostile $(LIBRARY) 100000
+	$(TASK) $(PY) tools.tests.hostile $(LIBRARY) 30000
 
 # ---- The program ----
 program: $(call proved,$(PROVED)/scrypt_tool native)

@@ -3,7 +3,7 @@
 usage: python3 -m tools.tests.hostile LIBRARY [TEXTS [SEED]]
 
 LIBRARY is libscrypt_c.so. First come two long texts, all texts that are one character away from a
-text of each format, and all `$7$` hashes with a key of up to three letters. Then come random texts
+text of each format, and the `$7$` hashes with a key of up to three letters. Then come random texts
 of both formats (by default a million): valid ones, and valid ones that are mutated, spliced,
 truncated, doubled, or random, from a seed that is printed. Their log_n is 0 to 4, or so large that
 the allocation of the table fails. Then the same texts, and texts with random parameters, are
@@ -220,10 +220,11 @@ def neighbours(text):
 
 
 def short_keys():
-    """`$7$` hashes with every key of up to three letters."""
-    for count in range(4):
-        for letters in itertools.product(crypt64.ALPHABET, repeat=count):
-            yield "$7$2/..../....$" + "".join(letters)
+    """`$7$` hashes with every key of up to two letters, and of three: the first has at most one bit."""
+    each = crypt64.ALPHABET
+    of_three = itertools.product([each[bit] for bit in (0, 1, 2, 4, 8, 16, 32)], each, each)
+    keys = [*(itertools.product(each, repeat=count) for count in range(3)), of_three]
+    return ("$7$2/..../....$" + "".join(letters) for letters in itertools.chain(*keys))
 
 
 def judged(texts, by=compared):
