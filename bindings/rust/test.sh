@@ -6,24 +6,18 @@ unset CDPATH
 cd "$(dirname "$0")/../.."
 . bindings/preset.sh
 begin_test
-has cargo cargo || exit 0
 registry=/usr/share/cargo/registry
-if ! ls -d $registry/password-hash-0.4* > /dev/null 2>&1; then
-  echo "Debian's password-hash is not installed (package librust-password-hash-dev): not run"
-  exit
-fi
-export CARGO_TARGET_DIR="$room/target" CARGO_HOME="$room/cargo" RUSTDOCFLAGS="-D warnings"
+has cargo cargo && has $registry/password-hash-0.4* librust-password-hash-dev || exit 0
+export CARGO_TARGET_DIR="$room/target" CARGO_HOME="$room/cargo" CARGO_NET_OFFLINE=true RUSTDOCFLAGS="-D warnings"
 unset SCRYPT_C_LIBRARY
 cp "$lib/libscrypt_c.a" "bindings/rust/$bundled"
-cp "$lib/scrypt_c.h" bindings/rust/
 mkdir "$CARGO_HOME"
 cat > "$CARGO_HOME/config.toml" << CONFIG
-net.offline = true
 source.crates-io.replace-with = "debian"
 source.debian.directory = "$registry"
 CONFIG
-crate() { (cd "$crate" && "$@" > "$room/log" 2>&1) || { cat "$room/log"; exit 1; }; }
 crate=bindings/rust
+crate() { (cd "$crate" && "$@" > "$room/log" 2>&1) || { cat "$room/log"; exit 1; }; }
 if [ "$system" = windows ]; then
   has /usr/lib/rustlib/x86_64-pc-windows-gnu libstd-rust-dev-windows || exit 0
   # A backtrace crashes Wine, where tests panic on purpose.

@@ -1,7 +1,8 @@
 //! The memory of hashers, in a separate process, because threads of other tests map tables too.
 #![cfg(target_os = "linux")]
 
-use scrypt_c::{Hasher, Options, Params};
+use scrypt_c::{scrypt_in_steps, Hasher, Options, Params};
+use std::ops::ControlFlow;
 
 /// The resident memory of this process in KiB.
 fn resident() -> usize {
@@ -11,7 +12,7 @@ fn resident() -> usize {
 }
 
 /// A hasher has `max_tables` tables, whatever p and the processors are, and frees them when its
-/// last clone is dropped.
+/// last clone is dropped. A derivation in steps frees its tables too.
 #[test]
 fn memory() {
     let params = Params::new(16, 8, 4).unwrap();
@@ -23,6 +24,7 @@ fn memory() {
     }
     let held = resident().saturating_sub(before);
     drop(hashers);
+    scrypt_in_steps(b"", b"", &params, &mut [0], |_| ControlFlow::Continue(())).unwrap();
     let left = resident().saturating_sub(before);
     let (most, few) = (260 << 10, 4 << 10);
     assert!(held < most && held > most - 2 * few && left < few, "{held} KiB, then {left}");

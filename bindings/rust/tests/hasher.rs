@@ -1,0 +1,149 @@
+//! A hasher makes and verifies hashes, within limits and for several threads.
+
+use scrypt_c::*;
+use std::panic::{RefUnwindSafe, UnwindSafe};
+use std::thread;
+use std::time::{Duration, Instant};
+
+fn small() -> Options {
+    Options { params: Params::new(4, 8, 1).unwrap(), ..Options::default() }
+}
+
+// The keys are from Python's hashlib.
+const PHC: &str = "$scrypt$ln=4,r=8,p=1$c2FsdHNhbHQ$yOVfN10vCbapyacuiMl8thX8XXJctr2I/8vR9ni8ehI";
+const MCF: &str = "$7$26..../....$fQQtT8CamUzif3mWSfaXAN/SUnYR6iHSdkE.XUbEX/7";
+
+#[test]
+fn hashes() {
+    for (format, salt, wanted, len) in
+        [(Format::Phc, &b"saltsalt"[..], PHC, 151), (Format::Mcf, b"", MCF, 144)]
+    {
+        let hasher = Hasher::new(Options { format, salt_len: 64, ..small() }).unwrap();
+        assert_eq!(hasher.hash_with_salt(b"pass\0word", salt).as_deref(), Ok(wanted));
+        assert_eq!(hasher.verify(wanted, "pass\0word"), Ok(()));
+        assert_eq!(hasher.verify(wanted, b"pass"), Err(Error::PasswordInvalid));
+        assert_eq!(hasher.needs_rehash(wanted), Ok(false));
+        let [drawn, other] = [hasher.hash("pw").unwrap(), hasher.hash("pw").unwrap()];
+        assert!(drawn != other && drawn.len() == len, "{drawn} {other}");
+        assert_eq!(hasher.verify_optional(Some(&drawn), "pw"), Ok(()));
+        let long = hasher.hash_with_salt("", &[1; 1000]);
+        assert_eq!(long.and_then(|it| hasher.verify(&it, "")).is_ok(), format == Format::Mcf);
+    }
+    let params = Params::new_with_output_len(4, 8, 1, 33).unwrap();
+    let longer = Hasher::new(Options { params, ..small() }).unwrap();
+    assert_eq!(longer.hash_with_salt("", b""), Err(Error::SaltInvalid), "not a random one");
+    assert_eq!(longer.needs_rehash(PHC), Ok(true));
+    let (mut key, mut wanted) = ([0; 100], [0; 100]);
+    scrypt(b"pw", b"salt", &params, &mut wanted).unwrap();
+    assert_eq!((longer.key("pw", b"salt", &mut key), key), (Ok(()), wanted));
+    assert_eq!(longer.key("pw", b"", &mut []), Err(Error::InvalidOutputLen));
+    // A name that doesn't exist has the error of a wrong password, after a derivation.
+    let (hasher, begun) = (Hasher::default(), Instant::now());
+    assert_eq!(hasher.verify_optional(None, "pw"), Err(Error::PasswordInvalid));
+    assert!(begun.elapsed() > Duration::from_millis(50));
+}
+
+/// Each default is replaced by its value.
+#[test]
+fn options() {
+    let usual = Hasher::default().options();
+    let Options { max_tables, processors, .. } = usual;
+    assert!((1..=2 * processors).contains(&max_tables), "{usual:?}");
+    let limits = Some(Limits::DEFAULT);
+    assert_eq!(usual, Options { max_tables, processors, limits, ..Options::default() });
+    let limits = Some(Limits { max_mem: 1 << 20, max_work: 1 << 16 });
+    let given = Options { max_tables: 3, processors: 2, limits, ..small() };
+    assert_eq!(Hasher::new(given).unwrap().options(), given);
+    for salt_len in [0, 16 + (1 << 32)] {
+        assert_eq!(Hasher::new(Options { salt_len, ..small() }).err(), Some(Error::SaltInvalid));
+    }
+    let large = Options { params: Params::new(56, 1, 1).unwrap(), ..small() };
+    assert_eq!(Hasher::new(large).unwrap().hash("").err(), Some(Error::OutOfMemory));
+}
+
+/// Each limit is passed on unchanged, and 0 does not mean the default. The error has the numbers.
+#[test]
+fn limits() {
+    let params = Params::new_with_output_len(6, 3, 5, 15).unwrap();
+    let (max_mem, max_work) = (128 * 3 * (64 + 5 + 2), 4 * (64 + 32) * 3 * 5);
+    let (memory, work) = (max_mem as u64, max_work);
+    assert_eq!((params.memory(), params.work(), params.cores()), (memory, work, 4 * 64 * 3 * 5));
+    let hasher = |params, limits| Hasher::new(Options { params, limits, ..small() });
+    let text = hasher(params, None).unwrap().hash("pw").unwrap();
+    let (plain, exact) = (Params::new(6, 3, 5).unwrap(), Limits { max_mem, max_work });
+    assert_eq!(params_of(&text), Ok((plain, 15)));
+    let less = Params::new_with_output_len(4, 1, 1, 15).unwrap();
+    for limits in [
+        exact,
+        Limits { max_mem: max_mem - 1, ..exact },
+        Limits { max_work: max_work - 1, ..exact },
+        Limits { max_mem: 0, ..exact },
+    ] {
+        let costly = |params| Err(Error::TooCostly(Cost { params, memory, work, limits }));
+        let wanted = |params| if limits == exact { Ok(()) } else { costly(params) };
+        assert_eq!(limits.allow(&params), limits == exact, "{limits:?}");
+        assert_eq!(hasher(params, Some(limits)).map(drop), wanted(params), "{limits:?}");
+        if limits.max_mem > 0 {
+            let hasher = hasher(less, Some(limits)).unwrap();
+            assert_eq!(hasher.verify(&text, "pw"), wanted(plain), "{limits:?}");
+        }
+    }
+    let params = Params::new(19, 8, 1).unwrap();
+    assert!(hasher(params, None).is_ok(), "above the default, and asked for");
+    let words = |text: &str| Hasher::default().verify(text, "").unwrap_err().to_string();
+    let wanted = "log_n=19, r=8, p=1 need 536873984 bytes and a work of 16778240, \
+        with max_mem=269484032 and max_work=16781312";
+    let costly = words(&PHC.replace("ln=4", "ln=19"));
+    assert!(costly.ends_with(wanted), "{costly}");
+    assert!(words(&text).ends_with(": its length is 15, and at least 16 is required"));
+}
+
+#[test]
+fn types() {
+    fn anywhere<T: Send + Sync + UnwindSafe + RefUnwindSafe + Unpin + 'static>() {}
+    anywhere::<(Hasher, Options, Params, Error, DeriveError, InvalidParams)>();
+}
+
+/// Dropping a hasher does not affect its clones, also in other threads; closing one closes all.
+#[test]
+fn clones() {
+    let [hasher, other] = [(); 2].map(|()| Hasher::new(small()).unwrap());
+    let clone = hasher.clone();
+    let text = thread::spawn(move || hasher.hash("pw")).join().unwrap().unwrap();
+    assert_eq!(clone.verify(&text, "pw"), Ok(()));
+    clone.clone().close();
+    assert_eq!(clone.verify(&text, "pw"), Err(Error::Closed));
+    assert_eq!(clone.key("pw", b"", &mut [0]), Err(Error::Closed));
+    assert_eq!(clone.verify("", "pw"), Err(Error::EncodingInvalid), "by its text alone");
+    assert_eq!((clone.needs_rehash(&text), other.verify(&text, "pw")), (Ok(false), Ok(())));
+}
+
+/// While another call derives, a call waits until the timeout of its options.
+#[test]
+fn timeouts() {
+    let costly = format!("$scrypt$ln=17,r=8,p=4$c2FsdHNhbHQ${}", "A".repeat(43));
+    for (timeout, min_ms) in [
+        (Duration::ZERO, 0),
+        (Duration::from_nanos(1), 1),
+        (Duration::from_millis(50), 50),
+        (Duration::MAX, u128::MAX),
+    ] {
+        let options = Options { max_tables: 1, timeout: Some(timeout), ..small() };
+        let hasher = Hasher::new(options).unwrap();
+        thread::scope(|scope| {
+            let deriving = scope.spawn(|| hasher.verify(&costly, "pw"));
+            thread::sleep(Duration::from_millis(100));
+            let begun = Instant::now();
+            let status = hasher.key("pw", b"", &mut [0]);
+            if min_ms == u128::MAX {
+                assert_eq!(status, Ok(()), "its turn came");
+            } else {
+                assert_eq!(status, Err(Error::Timeout));
+                assert!(begun.elapsed().as_millis() >= min_ms && !deriving.is_finished());
+                let now = hasher.stats();
+                assert_eq!((now.waiting, now.deriving, now.failed), (0, 1, 1));
+            }
+            assert_eq!(deriving.join().unwrap(), Err(Error::PasswordInvalid));
+        });
+    }
+}

@@ -1,0 +1,70 @@
+//! The verifications of bindings/cases.tsv, and hashes of other programs: those of
+//! bindings/stored.tsv and of simple-scrypt. A release's crate does not have the tables.
+
+use scrypt_c::migration::{from_simple_scrypt, stored_text};
+use scrypt_c::{params_of, Error, Hasher, Params};
+
+fn rows(path: &str) -> Vec<Vec<String>> {
+    let table = std::fs::read_to_string(path).unwrap_or_default();
+    table.lines().skip(1).map(|line| line.split('\t').map(String::from).collect()).collect()
+}
+
+#[test]
+fn cases() {
+    let hasher = Hasher::default();
+    for row in rows("../cases.tsv") {
+        let text = row[2].replace("\\0", "\0");
+        let found = hasher.verify(&text, &row[1]);
+        let camel = |word: &str| word[..1].to_string() + &word[1..].to_lowercase();
+        let name: String = row[0].trim_start_matches("HASH_").split('_').map(camel).collect();
+        let (wanted, is_refused) = match row[0].as_str() {
+            "OK" => ("Ok(())".to_string(), false),
+            "MISMATCH" => ("Err(PasswordInvalid)".to_string(), false),
+            _ => (format!("Err({name}"), true),
+        };
+        assert!(format!("{found:?}").starts_with(&wanted), "{text}: {found:?}, not {wanted}");
+        let error = found.err();
+        assert_eq!(error.map_or(false, |it| it.is_refused()), is_refused, "{text}");
+        let unread = error.filter(Error::is_invalid_hash);
+        assert_eq!(params_of(&text).err(), unread, "{text}");
+        assert_eq!(hasher.needs_rehash(&text).err(), unread, "{text}");
+    }
+}
+
+#[test]
+fn stored() {
+    let hex = |text: &str| -> Vec<u8> {
+        let byte = |at| u8::from_str_radix(&text[at..at + 2], 16).unwrap();
+        (0..text.len()).step_by(2).map(byte).collect()
+    };
+    // The other values of N are for functions that take N.
+    for row in rows("../stored.tsv").iter().filter(|row| row[2] == "64") {
+        let made = Params::new(6, row[3].parse().unwrap(), row[4].parse().unwrap())
+            .map_err(Error::from)
+            .and_then(|params| stored_text(&hex(&row[0]), &hex(&row[1]), &params));
+        assert_eq!(made.unwrap_or_default(), row[5], "{row:?}");
+    }
+}
+
+// Of `pw`, by (10, 8, 1).
+const KEY: &str = "a654820bed363305ebd71eadddfd68bfae03c33f55772d985b059be2cfb2a7b7";
+
+#[test]
+fn simple_scrypt() {
+    let simple = format!("1024$8$1$73656173616c74${KEY}");
+    let text = from_simple_scrypt(&simple);
+    assert_eq!(text.and_then(|text| Hasher::default().verify(&text, "pw")), Ok(()));
+    for (part, other, wanted) in [
+        ("1024", "1000", Error::InvalidParams),
+        ("$8$", "$0$", Error::InvalidParams),
+        ("1024", "+1024", Error::EncodingInvalid),
+        ("$8$", "$4294967304$", Error::EncodingInvalid),
+        ("b7", "g7", Error::EncodingInvalid),
+        ("b7", "b", Error::EncodingInvalid),
+        ("b7", "b7$", Error::EncodingInvalid),
+        (KEY, "", Error::InvalidOutputLen),
+    ] {
+        let changed = simple.replace(part, other);
+        assert_eq!(from_simple_scrypt(&changed), Err(wanted), "{changed}");
+    }
+}
