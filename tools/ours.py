@@ -8,7 +8,7 @@ import time
 from tools.generate.header import loaded, structure
 
 NO_LIMIT = (1 << 64) - 1
-Options, Cost, Login = (structure(f"scrypt_{it}") for it in ("options", "needs", "login"))
+Options, Cost, Login = (structure(f"scrypt_{it}") for it in ("options", "cost", "login"))
 __all__ = ["Login", "Cost", "Options", "NO_LIMIT", "buffers", "loaded", "seconds", "verifying"]
 
 
