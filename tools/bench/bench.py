@@ -28,7 +28,7 @@ import random
 import statistics
 
 from tools.bench import tables
-from tools.tests.libraries import OPENSSL, libraries, of_this_repository
+from tools.bench.libraries import OPENSSL, libraries, of_this_repository
 from tools.tests.worker import Refused, Worker
 
 PARAMS = "10,8,16:13,8,10:14,8,1:14,8,5:15,8,3:16,8,4:17,8,1:20,8,1:14,32,1"

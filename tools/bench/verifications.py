@@ -31,7 +31,7 @@ import time
 
 from tools.bench import picture, tables
 from tools import ours
-from tools.tests.libraries import crypt64, libraries
+from tools.bench.libraries import crypt64, libraries
 from tools.tests.worker import Worker
 
 IN_MEMORY, ALLOCATING, TWO, FOUR = "`scrypt_hasher_verify`", "`scrypt_verify`", "each of a batch of two", "each of a batch of four"

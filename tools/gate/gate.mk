@@ -29,7 +29,7 @@ CRATE_MUTANTS = $(patsubst %,mutants-%,scrypt scrypt_kernel scrypt_commands pass
 DOCUMENTS = pages lint links version fit promises formats cores
 EXAMPLES = $(patsubst examples/%/test.sh,example-%,$(wildcard examples/*/test.sh))
 LANGUAGES = python go rust javascript drop-in $(EXAMPLES) examples-of-pages
-SUITES = native asan tsan $(LANGUAGES) answers hashes migration oracle allocations hostile completions
+SUITES = native asan tsan $(LANGUAGES) answers hashes migration oracle hostile completions
 TASKS = proofs $(BUILDS) $(CRATE_MUTANTS) must-not-compile new-user $(DOCUMENTS) $(SUITES) by-rattle mutants-hasher $(MACHINES)
 .PHONY: gate tasks documents suites examples $(TASKS)
 gate: $(TASKS)
@@ -121,7 +121,7 @@ $(CROSS:%=program-%): program-%: $(PROVED)/scrypt_commands
 	$(TASK) $(call FOR,$*) $(PY) bindings.cross $* scrypt_tool
 answers: program
 	$(TASK) $(PY) tools.tests.program $(PROGRAM)
-hashes oracle allocations: program
+hashes oracle: program
 	$(TASK) $(PY) tools.tests.$@ $(PROGRAM)
 migration: program native
 	$(TASK) $(PY) tools.tests.migration $(PROGRAM)

@@ -1,16 +1,13 @@
 """Makes each allocation of a run of the program fail in turn, and compares the number of
-allocations and the sizes for a derivation.
+allocations and the sizes for a derivation: a part of tools/tests/program.py.
 
 The program runs with failing_calls.c preloaded, which makes the n-th allocation fail, for each n.
 Each failure has to end with status 3, empty output and the fault line. The number of allocations is
 compared, so that a hidden allocation is seen, and so is the order of the chunks, the table and the
 scratch.
-
-usage: python3 -m tools.tests.allocations PROGRAM        needs a C compiler
 """
 
 import functools
-import sys
 
 from tools.tests import crypt64, phc, runs
 from tools.tests.known import HASHLIB as PHC
@@ -27,16 +24,13 @@ RUNS = [
     ("key 4 1 1 4000 4e61436c", b"password", 0, 8),
     ("hash phc 4 1 1 4e61436c", b"password", 0, 7),
     ("hash mcf 4 1 1 4e61436c", b"password", 0, 7),
-    ("hash mcf 4 1 1 4e61436c 64", b"password", 0, 7),
     (f"verify {PHC}", b"password", 0, 4),
     (f"verify {MCF}", b"password", 0, 4),
-    (f"verify {PHC}", b"another", 1, 4),
     (f"verify {MCF}", b"another", 1, 4),
     # the input grows by doubling, from the first 1,024 bytes on
     (f"verify {PHC}", b"a" * 5000, 1, 7),
     # the verdict, and then a new hash if there is one
     (f"rehash phc 5 1 1 32 4e61436c {MCF}", b"password", 0, 10),
-    (f"rehash mcf 5 1 1 32 4e61436c {PHC}", b"password", 0, 10),
     (f"rehash mcf 4 1 1 32 4e61436c {PHC}", b"password", 0, 5),
     (f"rehash mcf 5 1 1 32 4e61436c {MCF}", b"another", 1, 5),
     # large chunks take no more allocations
@@ -46,29 +40,18 @@ RUNS = [
     (f"verify {phc.text(b'NaCl', bytes(32), 0, 2048, 1)}", b"password", 1, 4),
     (f"verify {crypt64.text('NaCl', bytes(32), 0, 2048, 1)}", b"password", 1, 4),
     # rejected before the input, some with the salt in memory
-    ("key 4 1 1", b"password", 2, 0),
     ("key 4 1 1 32 4", b"password", 2, 0),
     ("key 4 1 1 0 4e", b"password", 2, 1),
-    ("key 4 0 1 32 4e", b"password", 2, 1),
-    ("verify x", b"password", 2, 0),
     # rejected after it
     ("verify $scrypt$v=1$ln=4,r=1,p=1$TmFDbA$rsa3SD7SbgiAK0H0AyCGoOiGvnrEj8/ZL/DO+BCXUvQ", b"password", 2, 1),
-    ("hash phc 4 1 1 " + "4e" * 65, b"password", 2, 2),
     ("verify $argon2id$ln=4$aA", b"password", 2, 1),
-    ("verify $scrypt$ln=256$aA", b"password", 2, 1),
     ("verify $scrypt$ln=4$aA", b"password", 1, 1),
-    ("verify $7$", b"password", 2, 1),
-    ("verify $7$2/..../....", b"password", 2, 1),
-    ("verify $7$2/..../....$z", b"password", 2, 1),
     ("verify $7$2/..../....$", b"password", 2, 1),
-    ("verify $7$zzzzzzzzzzz$r/", b"password", 2, 1),
     ("--default-limits verify $7$s/..../....$" + "z" * 40, b"password", 2, 1),
-    ("--default-limits verify $7$2/..../....$r/", b"password", 2, 1),
-    (f"--max-work=1 verify {PHC}", b"password", 2, 1),
 ]
 
-# the arguments of runs that derive a key with four chunks, and the sizes of the chunks, the table and the scratch, or of these
-# after the text of a `$7$` hash
+# the arguments of runs that derive a key with four chunks, and the sizes of the chunks, the table and
+# the scratch, or of these after the text of a `$7$` hash
 BUFFERS = [
     ("key 4 1 4 32 4e61436c", [512, 2048, 256]),
     ("hash phc 5 1 4 4e61436c", [512, 4096, 256]),
@@ -110,12 +93,3 @@ def cases(program):
             made = sizes(functools.partial(run_with, library, [program, *words.split(" ")], b"password"))
             found = [it for it in (made[at : at + len(wanted)] for at in range(len(made))) if it == wanted]
             yield f"{words}, of which these are the sizes", found or made, [wanted]
-
-
-def main():
-    _, wrong = runs.report("allocations", cases(sys.argv[1]))
-    sys.exit(1 if wrong else 0)
-
-
-if __name__ == "__main__":
-    main()

@@ -5,8 +5,8 @@ verifies them by the program.
 usage: python3 -m tools.tests.migration PROGRAM [--seed N]
 
 Each part draws passwords, lets another program hash them, converts the hashes with Python's
-scrypt_c.migration (Go and Node with their packages), and lets PROGRAM verify each with the right
-and a wrong password. Hashes that only one of the two rejects are tried too. The library is in
+scrypt_c.migration (Go with its package), and lets PROGRAM verify each with the right and a wrong
+password. Hashes that only one of the two rejects are tried too. The library is in
 build/lib. Missing programs are named; the status is 1 if something differs.
 """
 
@@ -59,19 +59,6 @@ CRYPT_REFUSES = [
     ((4, 8, 1, 33), b"password"),
     ((4, 8, 1, 32), b"p" * 512),
 ]
-
-NODE = """
-import { scryptSync } from "node:crypto";
-import { readFileSync } from "node:fs";
-import { storedText } from "./bindings/js/stored.js";
-for (const line of readFileSync(0, "utf8").trim().split("\\n")) {
-  const [password, hex, N, r, p, length] = JSON.parse(line), salt = Buffer.from(hex, "hex");
-  try {
-    const key = scryptSync(password, salt, length, { N, r, p });
-    console.log(storedText(salt, key, { N, r, p }));
-  } catch (error) { console.log(error.code); }
-}
-"""
 
 GO = """package main
 
@@ -316,17 +303,6 @@ def of_hashlib(trial):
             trial.check(len(trial.key(b"", b"", log_n, r, p, 10)) == 10, log_n, r, p)
 
 
-def node(trial):
-    installed("node", "nodejs")
-    refused = [("pass", "00", n, r, 1, 32) for n, r in ((1, 8), (1 << 16, 1), (1 << 17, 8))]
-    cases = trial.key_cases()
-    made = answers(["node", "--input-type=module", "-e", NODE], cases + refused)
-    for case, text in zip(cases, made):
-        trial.verifies(text, case[0])
-    for case, error in zip(refused, made[CASES:]):
-        trial.check(error == "ERR_CRYPTO_INVALID_SCRYPT_PARAMS", case, error)
-
-
 def go(trial):
     installed("go", "golang-go")
     if not os.path.isdir(f"{GO_SOURCES}/src/golang.org/x/crypto/scrypt"):
@@ -344,7 +320,7 @@ def go(trial):
     trial.check(last == "scrypt: N must be > 1 and a power of 2", last)
 
 
-PARTS = [passlib, django, libxcrypt, libsodium, libscrypt, of_hashlib, node, go]
+PARTS = [passlib, django, libxcrypt, libsodium, libscrypt, of_hashlib, go]
 
 
 def main():

@@ -18,7 +18,7 @@ import sys
 from tools.tests import prompt
 from tools.tests.hash_files import hash_files
 from tools.tests.lines import MISFIT, NO_FILE, USAGE
-from tools.tests.streams import cuts, faults, memory, streams
+from tools.tests.streams import cuts, memory, streams
 from tools.tests import allocations
 from tools.generate import header
 from tools.tests import crypt64, reference, runs
@@ -53,19 +53,14 @@ def key_too_short(key_len, least):
 
 PASSLIB_SALT_AND_KEY = PASSLIB[PASSLIB.index("$aM") :]
 
-# Bytes in hexadecimal, and their letters in crypt Base64.
-SALT_LETTERS = [("ff", "z1"), ("ffff", "zzD"), ("ffffff", "zzzz"), ("01", "/."), ("000000", "...."), ("010203", "/6k.")]
-
 
 def key_of(password, salt, length):
     """hashlib's key by (4, 1, 1)."""
     return hashlib.scrypt(password, salt=salt, n=16, r=1, p=1, dklen=length)
 
 
-# A format, a long salt, and the hash of the empty password. The salt of a PHC hash has up to 64
-# bytes.
-LONG_SALTS = [(form, salt, reference.hash_of(form, b"", salt, 4, 1, 1, 32))
-              for form, salt in (("phc", b"s" * 64), ("mcf", b"s" * 64), ("mcf", b"s" * 65), ("mcf", b"s" * 5000))]
+# A format, its longest salt or a long one, and the hash of the empty password.
+LONG_SALTS = [(form, salt, reference.hash_of(form, b"", salt, 4, 1, 1, 32)) for form, salt in (("phc", b"s" * 64), ("mcf", b"s" * 5000))]
 
 # Each row has the arguments between single blanks, the input, the status, the line, and the reason
 # for the row.
@@ -90,20 +85,14 @@ ANSWERS = [
     ("hash mcf 14 32 1 986d90d343e07e4f7e00864f03040bf3", "pleaseletmein", 0, CRYPT, "libxcrypt's hash"),
     ("hash mcf 14 32 1 986d90d343e07e4f7e00864f03040bf3 10", "pleaseletmein", 0,
      "$7$CU..../....Mq4YHD2syxYT.MsH1Ek0n1$JyHIxez0DOwm01", "with the shortest key"),
-    (f"verify {CRYPT}", "pleaseletmein", 0, "ok", "its password"),
-    (f"verify {CRYPT}", "bogus", 1, "no", "another password"),
     (f"verify {PASSLIB}", "password", 0, "ok", "the password of a PHC hash"),
     (f"verify {PASSLIB}", "invalid", 1, "no", "another password"),
     (f"verify {SHORT}", "pleaseletmein\n", 1, "no", "the password and a newline"),
-    ("verify $scrypt$ln=4$aA", "password", 1, "no", "without a key no password is right"),
     (f"verify {EMPTY}", "", 0, "ok", "the password of a `$7$` hash"),
     ("verify $7$86..../....sålt-ключ-塩$JBBPPL5zOCwvCfq6A/PJLkQvgCyERPLs/BfvPFtvhT4", "pässword", 0, "ok",
      "a salt that is not ASCII, by Python's hashlib"),
-    (f"verify {EMPTY}", "\n", 1, "no", "another password"),
     ("verify $7$2/..../....$r/", "", 0, "ok", "a shorter key is the beginning of a longer one"),
     (f"verify {PLAIN}", "pleaseletmein", 0, "ok", "a salt may be a plain text"),
-    *((f"hash mcf 4 1 1 {salt}", "", 0, crypt64.text(letters, key_of(b"", letters.encode(), 32), 4, 1, 1),
-       f"the salt {salt} has the letters {letters}") for salt, letters in SALT_LETTERS),
     *((f"hash {form} 4 1 1 {salt.hex()}", "", 0, text, f"a salt of {len(salt)} bytes") for form, salt, text in LONG_SALTS),
     *((f"verify {text}", "", 0, "ok", f"the same, verified, in {len(text)} bytes") for _, _, text in LONG_SALTS),
     *((f"rehash {form} 4 1 1 32 {salt.hex()} $7$2/..../....$r/", "", 0, text, "and in place of a weaker hash")
@@ -112,20 +101,14 @@ ANSWERS = [
 
 # Lines that are not commands, by error.
 NO_COMMANDS = {
-    "no command": ["", "help", "Key 4 1 1 64 ", "--default-limits", "--generate-salt", "--recommended", "--strip-newline", "--max-work=1"],
-    "no command after an option": ["--default-limits help"],
-    "nothing comes after what asks for a text about the program":
-        [f"{asked} {more}" for asked in ("-h", "--help", "--version") for more in ("", "x", "--raw", "--help", "key 4 1 1 64 ", "verify $7$")],
-    "nor before it": [f"{option} {asked}" for option in ("--raw", "--default-limits", "--max-work=1", "--hash-file=x", "key")
-                      for asked in ("-h", "--help", "--version")],
-    "one minus begins no option": ["-", "-help", "-H", "-hkey", "-key 4 1 1 64 ", f"-verify {EMPTY}"],
-    "too few arguments": ["key", "key 4 1 1 16", "hash", "hash phc", "hash phc 4 1 1", "--generate-salt hash phc 4 1", "verify",
-                          "rehash phc 4 1 1 32 00", f"rehash phc 4 1 1 00 {EMPTY}"],
+    "no command": ["", "help", "Key 4 1 1 64 ", "--default-limits", "--max-work=1 help"],
+    "a text about the program is asked for alone": [f"{asked} {it}" for asked in ("-h", "--help", "--version") for it in ("", "x", "key 4 1 1 64 ")],
+    "nor after something": [f"{it} {asked}" for it in ("--raw", "--hash-file=x", "key") for asked in ("-h", "--help", "--version")],
+    "one minus begins no option": ["-", "-help", "-key 4 1 1 64 "],
+    "too few arguments": ["key 4 1 1 16", "hash phc 4 1 1", "--generate-salt hash phc 4 1", "verify", "rehash phc 4 1 1 32 00"],
     "too many": ["key 4 1 1 16 00 x", "hash phc 4 1 1 00 32 x", f"verify {EMPTY} x", f"rehash phc 4 1 1 32 00 {EMPTY} x"],
-    "no format": ["hash md5 4 1 1 00", "hash 4 1 1 00", f"rehash 4 1 1 32 00 {EMPTY}", "hash PHC 4 1 1 00", "hash  4 1 1 00"],
-    "a hash is of the format that it begins as": [f"verify phc {EMPTY_PHC}"],
-    "an option after the command": [f"verify --default-limits {EMPTY}", "key --help", "hash phc 4 1 1 00 --help",
-                                    "hash --generate-salt phc 4 1 1", f"rehash phc 4 1 1 --generate-salt 32 {EMPTY}"],
+    "no format": ["hash md5 4 1 1 00", "hash PHC 4 1 1 00", f"rehash 4 1 1 32 00 {EMPTY}", f"verify phc {EMPTY_PHC}"],
+    "an option after the command": [f"verify --default-limits {EMPTY}", "key --help", f"rehash phc 4 1 1 --generate-salt 32 {EMPTY}"],
 }
 
 # Texts that are not numbers, and each argument that is a number.
@@ -160,32 +143,23 @@ FAULTS = [
     (f"--max-mem=18446744073709551616 verify {EMPTY}", "", 2, USAGE, "a number of 2^64"),
     (f"--max-work 192 verify {EMPTY}", "", 2, USAGE, "a number in an argument of its own"),
     ("--hash-file hash verify", "", 2, NO_FILE, "a file in an argument of its own"),
-    ("--default-limits --hash-file", "", 2, NO_FILE, "no file at all"),
     ("--hash-file --help", "", 2, NO_FILE, "what comes after it is not looked at"),
-    (f"--hash-files verify {EMPTY}", "", 2, USAGE, "another option"),
-    (f"--no-limits verify {EMPTY}", "", 2, USAGE, "an unknown option"),
-    ("--", "", 2, USAGE, "the same"),
-    (f"--default-limits --most verify {EMPTY}", "", 2, USAGE, "the same after another one"),
+    (f"--default-limits --hash-files verify {EMPTY}", "", 2, USAGE, "an unknown option"),
     (f"-- verify {EMPTY}", "", 2, USAGE, "options have no end of their own"),
     ("key 4 1 1 64 0", "", 2, "salt is not hexadecimal", "half a byte of salt"),
     ("key 4 1 1 64 0g", "", 2, "salt is not hexadecimal", "no digit"),
-    ("key 04 1 1 64 0", "", 2, USAGE, "numbers come before the salt"),
     ("key 4 0 1 64 0", "", 2, "salt is not hexadecimal", "the salt before the parameters"),
     ("key 4 0 1 0 ", "", 2, "invalid scrypt parameters", "the parameters before the length of a key"),
     ("hash phc 04 1 1 0", "", 2, USAGE, "numbers before the salt of a hash"),
     ("hash phc 57 1 1 0", "", 2, "salt is not hexadecimal", "this salt before the parameters"),
-    ("hash mcf 4 1 1 0 9", "", 2, "salt is not hexadecimal", "and before the length of the key"),
     ("hash phc 4 1 1 --generate-salt", "", 2, "salt is not hexadecimal", "a salt like an option is a salt"),
-    (f"rehash phc 4 1 1 32 --generate-salt {EMPTY}", "", 2, "salt is not hexadecimal", "the same for a new hash"),
     ("rehash phc 57 1 1 32 0 $", "", 2, "salt is not hexadecimal", "the salt before the wanted parameters"),
     ("rehash phc 57 1 1 32 00 $", "", 2, "invalid scrypt parameters", "these before the text of the hash"),
     ("rehash phc 4 1 1 32 00 $", "", 2, "hash refused: EncodingInvalid", "the text of the hash"),
     ("verify --version", "", 2, "hash refused: EncodingInvalid", "a text like an option is a text"),
     ("hash phc 4 1 1 ", "password", 2, "hash refused: SaltInvalid", "a PHC hash has a salt"),
-    ("hash phc 4 1 1 " + "00" * 65, "", 2, "hash refused: SaltInvalid", "a salt of 65 bytes"),
-    ("hash phc 56 1 1 ", "", 2, "hash refused: SaltInvalid", "the salt of a PHC hash comes before memory"),
+    ("hash phc 56 1 1 " + "00" * 65, "", 2, "hash refused: SaltInvalid", "one of 65 bytes, before memory"),
     ("key 56 1 1 32 ", "", 3, "out of memory", "a table of 2^63 bytes"),
-    ("key 27 1073741823 1 32 ", "", 3, "out of memory", "a table of almost 2^64 bytes"),
     ("hash phc 56 1 1 00", "", 3, "out of memory", "the same for a hash"),
     ("verify $7$s/..../....$r/", "", 3, "out of memory", "the same for a verdict"),
     (f"rehash mcf 56 1 1 32  {EMPTY}", "", 3, "out of memory", "the same for a new hash"),
@@ -200,19 +174,10 @@ REHASHES = [
     (f"rehash mcf 56 1 1 32  {EMPTY}", "x", 1, "no", "and before memory that the new hash needs"),
     (f"rehash phc 14 8 1 32 536f6469756d43686c6f72696465 {SHORT}", "pleaseletmein", 0, RFC,
      "a key of 10 bytes is replaced by one of 32"),
-    (f"rehash phc 3 2 1 32 abcd {HASHLIB}", "password", 0,
-     "$scrypt$ln=3,r=2,p=1$q80$p+HxlvAJkTD3C4MVLAhHBeRvyj8fJfBm3wYHLwoMxJk", "r is below, with an equal product"),
-    (f"rehash phc 4 1 2 32 abcd {HASHLIB}", "password", 0,
-     "$scrypt$ln=4,r=1,p=2$q80$h5scLnLkf2S1Dp0Wr6ShFBEViLUMJ+OjcRD8DwMZvwQ", "p is below"),
-    (f"rehash phc 3 1 1 10 abcd {HASHLIB}", "password", 0, "ok", "log_n and the length of the key are above"),
-    (f"rehash phc 14 8 1 32 00 {CRYPT}", "pleaseletmein", 0, "ok", "r is above"),
     (f"rehash mcf 5 1 1 32 abcd {HASHLIB}", "password", 0,
      "$7$3/..../....fqA$GSoayDUS/tZpwSg3qA/sOnwx1jjdhVpHN49dfPH6c09", "the new hash has the format that is named"),
     ("rehash phc 4 1 1 32 00 $argon2id$ln=4$aA", "password", 2, "hash refused: Algorithm", "verifying refuses"),
-    ("rehash mcf 4 1 1 32 00 $7$2/..../....$", "", 2, "hash refused: OutputSize", "the key is empty"),
-    ("rehash phc 4 1 1 32 00 $scrypt$ln=4$aA", "", 1, "no", "without a key no password is right"),
     (f"rehash phc 17 8 1 32 00 {PASSLIB}", "invalid", 1, "no", "a wrong password of a weaker hash"),
-    (f"rehash phc 15 8 1 10 00 {PASSLIB}", "password", 0, "ok", "nothing is below"),
 ]
 
 # The arguments, the input, the status, the line, and the reason for the row. EMPTY needs 128 + 2048
@@ -225,22 +190,17 @@ LIMITS = [
     (f"--min-key-len=32 verify {EMPTY}", "", 0, "ok", "as short a key as is allowed"),
     (f"--min-key-len=33 verify {EMPTY}", "", 2, key_too_short(32, 33), "a shorter key"),
     (f"--max-mem=2432 --max-work=191 verify {EMPTY}", "", 2, too_costly(2432, 192, 2432, 191), "two options"),
-    (f"--max-work=191 --max-work=192 verify {EMPTY}", "", 0, "ok", "a later option overrides an earlier one"),
-    (f"--max-work=191 --default-limits verify {EMPTY}", "", 0, "ok", "so does one for all of them"),
+    (f"--max-work=191 --default-limits verify {EMPTY}", "", 0, "ok", "a later option overrides an earlier one"),
     ("--max-work=192 verify $7$2/..../....$r/", "", 2, key_too_short(1, DEFAULT_MIN_KEY_LEN), "the others are the defaults"),
     (f"--default-limits verify $scrypt$ln=17,r=8,p=5{PASSLIB_SALT_AND_KEY}", "", 2, too_costly(134224896, 20976640),
      "five times the recommended work"),
     (f"--default-limits verify $scrypt$ln={ABOVE},r=8,p=1{PASSLIB_SALT_AND_KEY}", "", 2,
      too_costly((1 << 10 + ABOVE) + 3072, 32 * ((1 << ABOVE) + 32)), "more memory than is allowed"),
-    ("--default-limits verify $7$s/..../....$r/", "", 2, too_costly(9223372036854776192, 288230376151711872),
-     "a table of 2^63 bytes"),
     (f"--default-limits verify {SHORT}", "", 2, key_too_short(10, DEFAULT_MIN_KEY_LEN), "a key of 10 bytes"),
-    ("--max-work=1 verify $scrypt$ln=4$aA", "", 1, "no", "a hash without a key is not verified"),
     ("--max-work=1 verify $argon2id$ln=4$aA", "", 2, "hash refused: Algorithm", "one that cannot be read comes first"),
     (f"--max-work=191 rehash phc 4 1 1 32 00 {EMPTY}", "", 0, "ok", "rehash may do the work of a new hash"),
     (f"--max-mem=2431 rehash phc 4 1 1 32 00 {EMPTY}", "", 0, "ok", "and take its memory"),
     (f"--max-work=191 rehash phc 3 1 1 32 00 {EMPTY}", "", 2, too_costly(2432, 192, max_work=191), "which here is less"),
-    (f"--max-mem=2431 rehash phc 3 1 1 32 00 {EMPTY}", "", 2, too_costly(2432, 192, max_mem=2431), "here too"),
     (f"--min-key-len=33 rehash phc 4 1 1 32 00 {EMPTY}", "", 2, key_too_short(32, 33), "a shorter key, if a length is named"),
 ]
 
@@ -253,16 +213,12 @@ OPTIONS = [
     ("--generate-salt key 4 1 1 16", "", 2, MISFIT["key"], "the salt of a key is named"),
     (f"--generate-salt verify {EMPTY}", "", 2, MISFIT["verify"], "a verdict has no salt"),
     ("--recommended key 16", "", 2, MISFIT["key"], "the recommended parameters are those of a hash"),
-    (f"--recommended verify {EMPTY}", "", 2, MISFIT["verify"], "the same"),
     (f"--recommended rehash phc 32 {EMPTY}", "", 2, MISFIT["rehash"], "the same"),
     ("--recommended hash phc 17 8 1", "", 2, USAGE, "they are not named"),
     *((f"--raw {command}", "", 2, MISFIT[command.split()[0]], "only a key is written raw")
       for command in ("hash phc 4 1 1 00", f"verify {EMPTY}", f"rehash phc 4 1 1 32 00 {EMPTY}")),
     ("--raw key 4 1 1 0 ", "", 2, "invalid output buffer length", "a raw key that is refused"),
-    ("--raw --generate-salt key 4 1 1 16", "", 2, MISFIT["key"], "the salt of a raw key is named too"),
-    (f"--generate-salt rehash phc 4 1 1 32 {EMPTY}", "", 0, "ok", "a salt that is not needed"),
     (f"--default-limits --generate-salt --strip-newline rehash phc 4 1 1 32 {EMPTY}", "\n", 0, "ok", "three options"),
-    (f"--default-limits verify {EMPTY}", "", 0, "ok", "a hash within the default limits"),
     (f"--default-limits rehash phc 14 8 1 32 536f6469756d43686c6f72696465 {SHORT}", "pleaseletmein", 0, RFC,
      "rehash refuses no short key"),
     (f"--default-limits rehash phc 4 1 1 32 00 $scrypt$ln=17,r=8,p=5{PASSLIB_SALT_AND_KEY}", "", 2,
@@ -270,20 +226,17 @@ OPTIONS = [
     *((f"--strip-newline verify {EMPTY}", text, status, line, "one newline is cut off")
       for text, status, line in (("", 0, "ok"), ("\n", 0, "ok"), ("\r\n", 0, "ok"), ("\n\n", 1, "no"), ("\r", 1, "no"))),
     ("--strip-newline key 4 1 1 64 ", "\n", 0, FIRST_KEY, "the same for a key"),
-    ("--strip-newline hash mcf 4 1 1 ", "\n", 0, EMPTY, "and for a hash"),
     (f"--strip-newline rehash mcf 4 1 1 64  {EMPTY}", "\n", 0, LONG, "and for a new hash"),
 ]
 
 # Passwords of some bytes, whose keys are compared with hashlib's: the input is read whole, however
 # long it is.
-LONG_PASSWORDS = [(1_000_001, "more than a million bytes"), (100_000_001, "more than a hundred million")]
-LONG_PASSWORDS += [(102_400_001, "more than 100,000 reads of 1,024 bytes"), ((1 << 28) + 1, "more than 256 MiB")]
+LONG_PASSWORDS = [(1_000_001, "more than a million bytes"), ((1 << 28) + 1, "more than 256 MiB")]
 
 # Options that take the recommended parameters, a format, and how its hash begins.
 LOG_N, R, P = (header.NUMBERS[f"RECOMMENDED_{name}"] for name in ("LOG_N", "R", "P"))
 RECOMMENDED = [("--recommended", "phc", f"$scrypt$ln={LOG_N},r={R},p={P}$")]
 RECOMMENDED += [("--recommended --generate-salt", "mcf", crypt64.text("", b"", LOG_N, R, P).rstrip("$"))]
-
 
 # Lines, and whether each draws a salt.
 DRAWN = [(line, True) for line in ("--generate-salt hash phc 4 1 1", f"--generate-salt rehash phc 5 1 1 32 {EMPTY}")]
@@ -324,15 +277,13 @@ def salts(program):
         status, line, _ = run([program, *options.split(), "hash", form], b"password")
         verified = run([program, "verify", line.strip()], b"password")
         yield f"{options} for {form}", (status, line.startswith(start), verified), (0, True, runs.OK)
-    if runs.COMPILER:
-        with runs.failing_calls() as library:
-            hashed = run([program, "--generate-salt", "hash", "phc", "4", "1", "1"], env={"LD_PRELOAD": library})
-            verified = run([program, "verify", EMPTY], env={"LD_PRELOAD": library})
-            for line, drawn in DRAWN:
-                printed = run([program, *line.split(" ")], env={"LD_PRELOAD": library, "SIZES": "1"})[2]
-                yield f"whether {line!r} draws a salt", "drawn\n" in printed, drawn
+    with runs.failing_calls() as library:
+        hashed = run([program, "--generate-salt", "hash", "phc", "4", "1", "1"], env={"LD_PRELOAD": library})
         yield "no salt can be drawn", hashed, (3, "", "no salt can be drawn\n")
-        yield "none is needed", verified, runs.OK
+        yield "none is needed", run([program, "verify", EMPTY], env={"LD_PRELOAD": library}), runs.OK
+        for line, drawn in DRAWN:
+            printed = run([program, *line.split(" ")], env={"LD_PRELOAD": library, "SIZES": "1"})[2]
+            yield f"whether {line!r} draws a salt", "drawn\n" in printed, drawn
 
 
 with open(f"{prompt.TOP}/tools/tests/help.txt", encoding="ascii") as file:
@@ -355,27 +306,17 @@ def raw_keys(program):
         yield f"a raw key of {length} bytes", (ran.returncode, ran.stdout, ran.stderr), wanted
 
 
-def refused_memory(program):
-    """Each allocation fails in turn, if failing_calls.c can be built here."""
-    if runs.COMPILER:
-        yield from allocations.cases(program)
-    else:
-        print("a C compiler is not installed (package gcc): not run: allocations that fail")
-
-
 def terminal(program):
     """Runs on a terminal, if the installed program can be linked here."""
-    if not runs.COMPILER:
-        print("a C compiler is not installed (package gcc): not run: the program on a terminal")
-    elif not os.path.exists(f"{program}.o"):
-        print("the object of the program is not beside it, so that it is tried without a terminal")
-    else:
+    if os.path.exists(f"{program}.o"):
         yield from prompt.cases(program)
+    else:
+        print("the object of the program is not beside it, so that it is tried without a terminal")
 
 
 def main():
     # The memory that a program touches includes this script's at its start, so this test is first.
-    parts = [memory, rows, long_passwords, streams, cuts, faults, refused_memory, salts, hash_files, information, raw_keys, terminal]
+    parts = [memory, rows, long_passwords, streams, cuts, allocations.cases, salts, hash_files, information, raw_keys, terminal]
     shown = {"shown": sys.maxsize} if sys.argv[2:] == ["all"] else {}
     _, wrong = runs.report("program", itertools.chain(*(part(sys.argv[1]) for part in parts)), **shown)
     sys.exit(1 if wrong else 0)

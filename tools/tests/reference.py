@@ -97,30 +97,3 @@ def accepted(log_n, r, p):
 def is_weaker(stored, wanted):
     """Whether log_n, r, p or the length of the key is below the wanted value; one of the four is enough."""
     return any(has < wants for has, wants in zip(stored, wanted))
-
-
-def thin_ro_mix(words, n, s):
-    """scryptROMix by a table of the rows whose numbers are multiples of 2^s, and its cores.
-
-    A missing row is recomputed from the nearest row below it in the table. Each block mix adds its
-    cores to the count.
-    """
-    cores = 0
-
-    def mix(row):
-        nonlocal cores
-        cores += len(row) // 16
-        return block_mix(row)
-
-    table = []
-    for i in range(n):
-        if i % (1 << s) == 0:
-            table.append(words)
-        words = mix(words)
-    for _ in range(n):
-        j = (words[-16] | words[-15] << 32) % n
-        row = table[j >> s]
-        for _ in range(j % (1 << s)):
-            row = mix(row)
-        words = mix(xor(words, row))
-    return words, cores

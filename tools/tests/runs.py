@@ -2,12 +2,11 @@
 
 import contextlib
 import os
-import shutil
 import subprocess
 import tempfile
 
 OK, NO = (0, "ok\n", ""), (1, "no\n", "")
-COMPILER = shutil.which(os.environ.get("CC", "cc"))
+COMPILER = os.environ.get("CC", "cc")
 
 
 def run(words, password=b"", **options):

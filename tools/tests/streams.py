@@ -1,10 +1,8 @@
 """Runs the program with streams that fail, and with failing allocations."""
 
 import os
-import pty
 import subprocess
 import tempfile
-import tty
 
 from tools.tests import runs
 from tools.tests.known import EMPTY, EMPTY_PHC
@@ -17,25 +15,14 @@ STREAM_COMMANDS += [f"rehash phc 5 1 1 32 00 {EMPTY}"]
 # after it.
 ORDERS = [
     ("key 4 1 1 0 ", 2, "invalid output buffer length", "the words come before the input"),
-    ("verify $scrypt$", 2, "hash refused: EncodingInvalid", "a PHC string is read before it"),
-    ("rehash phc 4 1 1 32  $", 2, "hash refused: EncodingInvalid", "so is that of an old hash"),
-    ("verify $7$", 4, "input failed", "the fields of an MCF string are read after it"),
-    ("verify $7$2/..../....$", 4, "input failed", "so is its key"),
-    ("verify $argon2id", 4, "input failed", "the algorithm is looked at after it"),
-    ("rehash phc 4 1 1 32  $argon2id", 4, "input failed", "that of an old hash too"),
-    ("rehash mcf 4 1 1 32  $7$", 4, "input failed", "and its fields"),
+    ("rehash phc 4 1 1 32  $", 2, "hash refused: EncodingInvalid", "so does a PHC string"),
+    ("verify $7$2/..../....$", 4, "input failed", "the fields and the key of a $7$ hash are read after it"),
+    ("rehash phc 4 1 1 32  $argon2id", 4, "input failed", "so is the algorithm"),
     ("verify $scrypt", 4, "input failed", "a missing salt is a verdict"),
     ("hash phc 4 1 1 ", 4, "input failed", "the length of a salt is looked at after it"),
-    (f"rehash phc 5 1 1 32  {EMPTY}", 4, "input failed", "so is that of a new hash"),
     ("key 56 1 1 32 ", 4, "input failed", "and memory is asked for after it"),
     ("--default-limits verify $7$s/..../....$r/", 4, "input failed", "and the limits"),
 ]
-
-# A line for each fault without numbers that the arguments can cause. It is written by one write.
-FAULTS = ["help", "--hash-file verify", "--raw hash phc 4 1 1 00", "--recommended key 16", "--generate-salt verify x", "--raw rehash x"]
-FAULTS += ["key 4 1 1 16 0", "key 4 0 1 16 ", "key 4 1 1 0 ", "hash phc 4 1 1 ", "key 56 1 1 32 ", "\udcff"]
-FAULTS += ["verify $", "verify $argon2id", "verify $7$2/..../....$", "verify $scrypt$v=1"]
-FAULTS += [f"verify $scrypt${it}" for it in ("ln=256", "r=00", "p=-1", "x=1")]
 
 # How the shell opens a stream, in a line that has `"$@"` for the command, the fault line, and the
 # reason for the row.
@@ -45,9 +32,6 @@ STREAMS = [
     ('"$@" < /', "input failed\n", "a directory opens, but cannot be read"),
     ('"$@" <&-', "input failed\n", "the standard input is closed"),
 ]
-
-# The number of bytes of the input before it fails, and the reason for the row.
-ENDS = [(1, "after a first piece"), (3000, "after several reads, the last a short one")]
 
 # Parameters whose chunks take 2 GiB, and whose table cannot be allocated: log_n is 56, r is 1 and p
 # is 2^24. Nothing is written before everything is allocated, so that the run touches little memory.
@@ -64,17 +48,6 @@ def without_reader(words):
     ran = subprocess.run(words, stdin=subprocess.DEVNULL, stdout=write, stderr=subprocess.PIPE)
     os.close(write)
     return ran.returncode, ran.stderr.decode()
-
-
-def failing_after(length, words):
-    """How a run ends whose input fails after `length` bytes: one side of a terminal whose other side wrote them and closed."""
-    input, terminal = pty.openpty()
-    tty.setraw(terminal)
-    os.write(terminal, b"x" * length)
-    os.close(terminal)
-    ran = subprocess.run(words, stdin=input, capture_output=True)
-    os.close(input)
-    return ran.returncode, ran.stdout.decode(), ran.stderr.decode()
 
 
 def writes_of(stream, words):
@@ -102,34 +75,17 @@ def cut_at(length, stream, words):
 
 
 def cuts(program):
-    """Outputs that take only the start of a line, which is written by one write: a result fails, and a fault keeps its status."""
-    for line in STREAM_COMMANDS:
+    """Each line is written by one write. An output that takes only its start fails, and a fault keeps its status.
+    crates/caller_tests/src/streams.rt has inputs and outputs that fail at each byte."""
+    lines = [(it, "stdout", 0) for it in STREAM_COMMANDS]
+    lines += [("verify $7$", "stderr", 2), ("key 56 1 1 32 ", "stderr", 3), ("\udcff", "stderr", 3)]
+    for line, stream, status in lines:
         words = [program, *line.split(" ")]
-        answer = runs.run(words)[1]
-        yield f"the writes of {line!r}", writes_of("stdout", words), [answer]
-        for length in range(len(answer)):
-            wanted = 4, answer[:length], "output failed\n"
-            yield f"{line!r}, of whose answer {length} bytes are taken", cut_at(length, "stdout", words), wanted
-    for line, status in (("verify $7$", 2), ("key 56 1 1 32 ", 3)):
-        words = [program, *line.split(" ")]
-        fault = runs.run(words)[2]
-        yield f"the writes of the fault of {line!r}", writes_of("stderr", words), [fault]
-        for length in range(len(fault)):
-            yield f"{line!r}, of whose fault {length} bytes are taken", cut_at(length, "stderr", words), (status, fault[:length], "")
-
-
-def faults(program):
-    """Each fault without numbers is written by one write."""
-    texts = set()
-    for line in FAULTS:
-        words = [program, *line.split(" ")]
-        fault = runs.run(words)[2]
-        texts.add(fault)
-        yield f"the writes of the fault of {line!r}", writes_of("stderr", words), [fault]
-    yield "the faults of these lines differ", len(texts), len(FAULTS)
-    for shell, fault, reason in STREAMS:
-        words = ["sh", "-c", shell, "sh", program, *STREAM_COMMANDS[0].split(" ")]
-        yield f"the writes of a fault ({reason})", writes_of("stderr", words), [fault]
+        text = "".join(runs.run(words)[1:])
+        yield f"the writes of the {'fault' if status else 'answer'} of {line!r}", writes_of(stream, words), [text]
+        for length in (0, 1, len(text) - 1):
+            wanted = (status or 4, text[:length], "" if status else "output failed\n")
+            yield f"{line!r}, of whose line {length} bytes are taken", cut_at(length, stream, words), wanted
 
 
 def streams(program):
@@ -140,8 +96,6 @@ def streams(program):
         for shell, fault, reason in STREAMS:
             yield f"{line!r} ({reason})", runs.redirected(shell, words), (4, "", fault)
         yield f"{line!r} (nobody reads the pipe)", without_reader(words), (4, "output failed\n")
-        for length, reason in ENDS:
-            yield f"{line!r} (an input that fails {reason})", failing_after(length, words), (4, "", "input failed\n")
     for line, status, fault, reason in ORDERS:
         ended = runs.redirected('"$@" < /', [program, *line.split(" ")])
         yield f"{line!r} over an input that fails ({reason})", ended, (status, "", f"{fault}\n")
