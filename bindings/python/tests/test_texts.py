@@ -1,0 +1,91 @@
+"""The tables of bindings/, and hashes of other programs: each is converted to a hash that its
+password matches, or rejected."""
+
+import base64
+import hashlib
+import pathlib
+import pickle
+import unittest
+
+import scrypt_c
+from scrypt_c import PasswordHasher, params_of
+from scrypt_c.migration import from_crypt, from_django, from_libscrypt
+from scrypt_c.migration import from_passlib, from_werkzeug, stored_text
+
+SALT, KEY = b"seasalt", hashlib.scrypt(b"pw", salt=b"seasalt", n=1024, r=8, p=1, dklen=64)
+B64, PASSLIB = base64.b64encode(KEY).decode(), base64.b64encode(KEY[:32]).decode().rstrip("=")
+# A function, a password, and its hash by the program: the parameters with the salt, and the key.
+HASHES = [
+    (from_django, "pw", "scrypt$1024$seasalt$8$1$", B64),
+    (from_werkzeug, "pw", "scrypt:1024:8:1$seasalt$", KEY.hex()),
+    (from_passlib, "pw", "$scrypt$ln=10,r=8,p=1$c2Vhc2FsdA$", PASSLIB),
+    (from_passlib, "pw", "$scrypt$ln=010,r=8,p=1$c2Vhc2FsdA==$", PASSLIB),
+    (from_libscrypt, "pw", "$s1$0a0801$c2Vhc2FsdA==$", B64),
+    (from_crypt, "password", "$7$66..../....a$b$", "CGyY/8u9Q9D5eanoScbBcdq6lOSvHl8LkXgfxQONWH/"),
+]
+# What is replaced, and by what, so that the hash is rejected.
+DAMAGES = [
+    ("1024", "1000"), ("1024", "1_024"), ("1024", "+1024"), ("scrypt", "bcrypt"), ("$8$", "$0$"),
+    ("ln=10", "ln=64"), ("ln=10", f"ln={4000 * '9'}"), ("ln=10,r=8", "r=8,ln=10"), ("$7$", "$6$"),
+    ("0a0801", "0a081"), ("c2Vhc2FsdA==", "c2V!c2FsdA=="), ("$7$6", "$7$z"),
+]
+
+
+def rows(table):
+    text = (pathlib.Path(__file__).parents[2] / table).read_text("utf-8")
+    return [line.split("\t") for line in text.splitlines()[1:]]
+
+
+def outcome(call, *arguments):
+    """Returns the name of the status, and the error."""
+    try:
+        call(*arguments)
+    except scrypt_c.ScryptError as error:
+        return error.name.removeprefix("SCRYPT_"), error
+    return "OK", None
+
+
+class Texts(unittest.TestCase):
+    def test_verifications(self):
+        hasher = PasswordHasher()
+        for status, password, text in rows("cases.tsv"):
+            text = text.replace("\\0", "\0")
+            found, error = outcome(hasher.verify, text, password)
+            self.assertEqual(found, status, text)
+            refused = status not in ("OK", "MISMATCH")
+            self.assertEqual(isinstance(error, scrypt_c.RefusedHashError), refused, text)
+            if error:
+                copy = pickle.loads(pickle.dumps(error))
+                self.assertEqual(*((type(it), it.name, str(it)) for it in (copy, error)))
+            unread = isinstance(error, scrypt_c.InvalidHashError)
+            for reads in (hasher.check_needs_rehash, params_of):
+                self.assertEqual(outcome(reads, text)[0], status if unread else "OK", text)
+
+    def test_converted(self):
+        for convert, password, costs, key in HASHES:
+            self.assertTrue(PasswordHasher(log_n=4).verify(convert(costs + key), password), costs)
+
+    def test_refused(self):
+        """A key that is cut, that has a letter outside its alphabet or too many, or a number."""
+        for convert, _, costs, key in HASHES:
+            wrong = [key + it for it in ("$", "AA", "..")] + [key[:-1] + "z"] * (costs[1] == "7")
+            for at in range(len(key)):
+                wrong += [key[:at], *(key[:at] + it + key[at + 1 :] for it in "! \n")]
+            changed = [costs.replace(*it) + key for it in DAMAGES if it[0] in costs]
+            for stored in [costs + it for it in wrong] + changed:
+                with self.assertRaises(ValueError, msg=stored):
+                    print(convert(stored))
+
+    def test_stored(self):
+        """A log_n in place of N is rejected, with a hint. A hash may have a small N."""
+        for salt, key, *numbers, wanted in rows("stored.tsv"):
+            try:
+                text = stored_text(bytes.fromhex(salt), bytes.fromhex(key), *map(int, numbers))
+            except ValueError:
+                text = ""
+            self.assertEqual(text, wanted, (salt, key, numbers))
+        for costs in [(-1024, 8, 1), (1 << 64, 8, 1), (64, 8 + (1 << 32), 1), (64, 1 << 30, 1)]:
+            self.assertRaises(ValueError, stored_text, b"", KEY, *costs)
+        words = "^n is N, at least 64, and 14 may be its logarithm, log_n: n=16384 is"
+        self.assertRaisesRegex(ValueError, words, stored_text, SALT, KEY, 14, 8, 1)
+        self.assertEqual(params_of(from_werkzeug(f"scrypt:16:8:1$seasalt${KEY.hex()}"))[:3], (4, 8, 1))
