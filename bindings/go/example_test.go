@@ -27,23 +27,6 @@ func ExampleHasher() {
 	// true
 }
 
-func ExampleHasher_NeedsRehash() {
-	weak, err := scrypt.NewHasher(scrypt.Options{Params: scrypt.Params{LogN: 14, R: 8, P: 1, KeyLen: 32}})
-	if err != nil {
-		log.Fatal(err)
-	}
-	stored, err := weak.Hash(context.Background(), []byte("hunter42"))
-	if err != nil {
-		log.Fatal(err)
-	}
-	wanted, err := scrypt.NewHasher(scrypt.Options{})
-	if err != nil {
-		log.Fatal(err)
-	}
-	fmt.Println(wanted.NeedsRehash(stored))
-	// Output: true <nil>
-}
-
 func ExampleKey() {
 	salt := make([]byte, 16)
 	if _, err := rand.Read(salt); err != nil {

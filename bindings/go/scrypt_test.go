@@ -1,0 +1,350 @@
+package scrypt
+
+import (
+	"context"
+	"encoding/hex"
+	"errors"
+	"fmt"
+	"math"
+	"math/rand"
+	"os"
+	"reflect"
+	"runtime"
+	"strconv"
+	"strings"
+	"testing"
+	"time"
+)
+
+const (
+	shortKey = "$c2FsdHNhbHQ$AAAAAAAAAAAAAAAAAAAA" // a salt, and a key of 15 bytes
+	noHash   = "$scrypt$ln=4,r=8,p=1" + shortKey + "AA"
+	costly   = "$scrypt$ln=17,r=8,p=4" + shortKey + "AA" // takes some hundred milliseconds
+	huge     = "$scrypt$ln=56,r=1,p=1" + shortKey + "AA"
+)
+
+var (
+	ctx      = context.Background()
+	small    = Options{Params: Params{LogN: 4}, MaxTables: 1}
+	statuses = map[string]error{
+		"OK": nil, "MISMATCH": ErrMismatch, "TOO_COSTLY": ErrTooCostly, "KEY_TOO_SHORT": ErrKeyTooShort,
+		"ALGORITHM": ErrAlgorithm, "VERSION": ErrVersion, "ENCODING_INVALID": ErrEncodingInvalid, "OUTPUT_SIZE": ErrOutputSize,
+		"HASH_PARAM_INVALID": ErrHashParamInvalid, "HASH_PARAMS_INVALID": ErrHashParamsInvalid,
+	}
+)
+
+// check fails a test, and prints the values, if something is not right.
+func check(t *testing.T, isRight bool, values ...any) {
+	t.Helper()
+	if !isRight {
+		t.Errorf("%+v", values)
+	}
+}
+
+// wait returns when something is right; the limit on all tests ends it otherwise.
+func wait(isRight func() bool) {
+	for !isRight() {
+		time.Sleep(time.Millisecond)
+	}
+}
+
+// fault returns the error of a call, which returns no other value then.
+func fault(value any, err error) error {
+	if err != nil && !reflect.ValueOf(value).IsZero() {
+		return fmt.Errorf("%v beside %v", value, err)
+	}
+	return err
+}
+
+func newHasher(t *testing.T, options Options) *Hasher {
+	hasher, err := NewHasher(options)
+	check(t, err == nil, options, err)
+	return hasher
+}
+
+// rows returns the lines of a table, without the header, each split into words.
+func rows(t *testing.T, path string) (found [][]string) {
+	file, err := os.ReadFile(path)
+	if err != nil {
+		t.Skip(err) // a release's module does not have it
+	}
+	for _, line := range strings.Split(strings.TrimSuffix(string(file), "\n"), "\n")[1:] {
+		found = append(found, strings.Split(line, "\t"))
+	}
+	return found
+}
+
+// TestCases makes the verifications of bindings/cases.tsv.
+func TestCases(t *testing.T) {
+	hasher := newHasher(t, Options{})
+	for _, words := range rows(t, "../cases.tsv") {
+		text, want := strings.ReplaceAll(words[2], "\\0", "\x00"), statuses[words[0]]
+		if text == "" {
+			want = ErrMismatch // as for a name that doesn't exist
+		}
+		err, isRefused := hasher.Verify(ctx, text, []byte(words[1])), want != nil && want != ErrMismatch
+		check(t, errors.Is(err, want) && errors.Is(err, ErrRefused) == isRefused, text, err, words[0])
+		_, unread := ParamsOf(text)
+		_, unreadToo := hasher.NeedsRehash(text)
+		check(t, !errors.Is(err, ErrInvalidHash) || unread == want && unreadToo == want, unread, unreadToo)
+	}
+}
+
+// TestStored makes the hashes of bindings/stored.tsv, also from those of simple-scrypt.
+func TestStored(t *testing.T) {
+	for _, words := range rows(t, "../stored.tsv") {
+		salt, _ := hex.DecodeString(words[0])
+		key, _ := hex.DecodeString(words[1])
+		var n, r, p int
+		_, _ = fmt.Sscan(strings.Join(words[2:5], " "), &n, &r, &p)
+		text, err := StoredText(salt, key, n, r, p)
+		check(t, text == words[5] && (err == nil) == (text != ""), words, text, err)
+		text, err = FromSimpleScrypt(strings.Join(append(words[2:5:5], words[:2]...), "$"))
+		check(t, n == 16 || text == words[5] && (err == nil) == (text != ""), words, text, err)
+	}
+}
+
+func TestHashes(t *testing.T) {
+	password, salt, usual := []byte("pass\x00word"), []byte("saltsalt"), newHasher(t, Options{})
+	for _, it := range []struct {
+		options Options
+		salt    []byte
+		want    string // the text, whose key is hashlib's
+	}{
+		{Options{Params: Params{5, 3, 2, 20}}, salt, "$scrypt$ln=5,r=3,p=2$c2FsdHNhbHQ$JKedy3/pPEaQ9TR4ftXUBiuxkK8"},
+		{Options{Params: Params{LogN: 4}, MCF: true}, nil, "$7$26..../....$fQQtT8CamUzif3mWSfaXAN/SUnYR6iHSdkE.XUbEX/7"},
+	} {
+		hasher := newHasher(t, it.options)
+		text, err := hasher.HashWithSalt(ctx, password, it.salt)
+		check(t, text == it.want && err == nil, text, err)
+		right, wrong := hasher.Verify(ctx, text, password), hasher.Verify(ctx, text, password[:4])
+		check(t, right == nil && wrong == ErrMismatch, right, wrong)
+		isWeak, err := hasher.NeedsRehash(text)
+		isWeaker, _ := usual.NeedsRehash(text)
+		check(t, !isWeak && isWeaker && err == nil, text, isWeak, isWeaker, err)
+		one, _ := hasher.Hash(ctx, nil)
+		other, err := hasher.Hash(ctx, nil)
+		check(t, one != other && err == nil && hasher.Verify(ctx, one, nil) == nil, one, other, err)
+		key, err := hasher.Key(ctx, password, salt, 1000)
+		params := hasher.Options().Params
+		want, _ := Key(password, salt, 1<<params.LogN, params.R, params.P, 1000)
+		check(t, string(key) == string(want), key, err)
+	}
+}
+
+// Each default is replaced by its value; new hashes may exceed the default limits. As many
+// goroutines can wait in C as form two batches for each processor, but not too many of them.
+func TestOptions(t *testing.T) {
+	usual, large := newHasher(t, Options{}).Options(), newHasher(t, Options{Params: Params{LogN: 19, P: 2}}).Options()
+	tables, processors := usual.MaxTables, usual.Processors
+	check(t, usual == Options{Recommended(), false, 16, tables, processors, DefaultMaxMem, DefaultMaxWork}, usual)
+	check(t, tables >= 1 && tables <= 2*processors && processors <= runtime.NumCPU(), usual)
+	check(t, large.MaxMem == 536875008 && large.MaxWork == 33556480, large)
+	for given, inside := range map[Options]int{
+		{Params{5, 3, 2, 20}, true, 1, 2, 3, 1 << 20, 1 << 16}:                                         16,
+		{Params{5, 3, 2, 20}, true, 64, 3, 2, 1 << 20, 1 << 16}:                                        16,
+		{Params{4, 8, 1, 32}, false, 16, math.MaxInt64, math.MaxInt64, math.MaxUint64, math.MaxUint64}: 4096,
+	} {
+		hasher := newHasher(t, given)
+		check(t, hasher.Options() == given && cap(hasher.of.inside) == inside, given, cap(hasher.of.inside))
+	}
+	memory, err := Params{27, 1<<30 - 1, 1, 32}.Memory()
+	check(t, memory == math.MaxUint64 && err == nil && Params{56, 1, 1 << 29, 32}.Work() == math.MaxUint64, memory, err)
+}
+
+// Arguments that are rejected, and words of the errors. C's types would truncate some of these
+// numbers to accepted ones.
+func TestRefused(t *testing.T) {
+	const stored, most = "1024$8$1$73656173616c74$703969a2643cb636f2e6", uint64(math.MaxUint64)
+	hasher, closed, zero, secret := newHasher(t, small), newHasher(t, small), new(Hasher), make([]byte, 65)
+	check(t, closed.Close() == nil && closed.Close() == nil && zero.Close() == nil && zero.Options() == Options{} && zero.Stats() == Stats{})
+	made := func(options Options) error { return fault(NewHasher(options)) }
+	with := func(logN, r, p, keyLen int) error { return made(Options{Params: Params{logN, r, p, keyLen}}) }
+	key := func(n, r, p, keyLen int) error { return fault(Key(nil, nil, n, r, p, keyLen)) }
+	verify := func(text string, options Options) error { return newHasher(t, options).Verify(ctx, text, nil) }
+	simple := func(old, new string) error { return fault(FromSimpleScrypt(strings.Replace(stored, old, new, 1))) }
+	for i, it := range []struct {
+		err, want error
+		words     string
+	}{
+		{zero.Verify(ctx, noHash, nil), ErrClosed, ""},
+		{closed.Verify(ctx, noHash, nil), ErrClosed, ""},
+		{fault(zero.NeedsRehash(noHash)), ErrClosed, ""},
+		{fault(closed.NeedsRehash(noHash)), nil, ""},
+		{made(Options{MaxTables: -1}), ErrInvalidOption, "MaxTables:-1"},
+		{made(Options{Processors: -1}), ErrInvalidOption, "Processors:-1"},
+		{made(Options{SaltLen: -1}), ErrSaltInvalid, "SaltLen:-1"},
+		{made(Options{MaxMem: 134220799}), ErrTooCostly, "need 134220800 bytes"},
+		{made(Options{MaxWork: 4195327}), ErrTooCostly, "a work of 4195328"},
+		{with(0, 0, 0, -1), ErrInvalidParams, "KeyLen:-1"},
+		{with(17+1<<32, 0, 0, 0), ErrInvalidParams, "LogN:4294967313"},
+		{with(0, 8+1<<32, 0, 0), ErrInvalidParams, "R:4294967304"},
+		{with(0, 0, 1-1<<32, 0), ErrInvalidParams, "P:-4294967295"},
+		{with(64, 0, 0, 0), ErrInvalidParams, "LogN 64, R 8 and P 1 are not accepted: LogN is the logarithm of N"},
+		{with(57, 0, 0, 0), ErrInvalidParams, "LogN 57, R 8 and P 1 are not accepted: {"},
+		{verify(costly, Options{MaxWork: 16781311}), ErrTooCostly,
+			"need 134223872 bytes and a work of 16781312, and a key of 16 bytes; MaxMem is 269484032, MaxWork is 16781311"},
+		{verify(costly, Options{MaxMem: 134223871}), ErrTooCostly, "MaxMem is 134223871"},
+		{verify(noHash[:len(noHash)-2], Options{}), ErrKeyTooShort, "a key of 15 bytes"},
+		{verify(noHash[:len(noHash)-2], Options{Params: Params{KeyLen: 15}}), ErrMismatch, ""},
+		{verify(huge, Options{MaxMem: most, MaxWork: most}), ErrOutOfMemory, ""},
+		{fault(hasher.HashWithSalt(ctx, nil, nil)), ErrSaltInvalid, ""},
+		{fault(hasher.Key(ctx, nil, nil, 0)), ErrInvalidOutputLen, ""},
+		{key(15, 8, 1, 32), ErrInvalidParams, "N is 15, and has to be a power of two"},
+		{key(-16, 8, 1, 32), ErrInvalidParams, "N is -16"},
+		{key(16, 0, 1, 1<<36), ErrInvalidParams, "r and p at least 1"}, // before the key takes memory
+		{key(16, 1, 1+1<<32, 32), ErrInvalidParams, "p is 4294967297"},
+		{key(16, 8, 1, 137438953441), ErrInvalidOutputLen, "1 to 137438953440 bytes"},
+		{key(1<<56, 1, 1, 32), ErrOutOfMemory, "need 9223372036854776192 bytes"},
+		{fault(KeyContext(ctx, nil, nil, 1<<56, 1, 1, 32, nil)), ErrOutOfMemory, "need 9223372036854776192 bytes"},
+		{fault(Calibrate(time.Microsecond, 32<<20)), ErrTooCostly, ""},
+		{fault(Calibrate(time.Second, 1000)), ErrTooCostly, ""},
+		{fault(StoredText(nil, secret, 14, 8, 1)), ErrInvalidParams, "N is at least 64, and 14 may be its logarithm"},
+		{simple("1024", "16"), nil, ""},
+		{simple("1024", "+1024"), ErrEncodingInvalid, ""},
+		{simple("1024", "1024"+strings.Repeat("0", 30)), ErrEncodingInvalid, ""},
+		{simple("7365", "7!65"), ErrEncodingInvalid, ""},
+		{simple("f2e6", "f2e"), ErrEncodingInvalid, ""},
+		{simple("8$1", "8"), ErrEncodingInvalid, ""},
+	} {
+		check(t, errors.Is(it.err, it.want) && strings.Contains(fmt.Sprint(it.err), it.words), i, it)
+	}
+}
+
+// Keys in steps of random lengths, 100 or as many as STEPS says, for ../compare_keys.py.
+func TestKeysInSteps(t *testing.T) {
+	count, _ := strconv.Atoi(os.Getenv("STEPS"))
+	rand.Seed(time.Now().UnixNano())
+	for i := 0; i < 100 || i < count; i++ {
+		password, salt := make([]byte, rand.Intn(80)), make([]byte, rand.Intn(40))
+		rand.Read(password)
+		rand.Read(salt)
+		n, r, p, keyLen := 2<<rand.Intn(8), 1+rand.Intn(9), 1+rand.Intn(4), 1+rand.Intn(99)
+		last := 0.0
+		progress := func(done float64) {
+			check(t, done > last && done <= 1, done, last)
+			last = done
+		}
+		next := func(mixes, time.Duration) mixes { return mixes(1 + rand.Intn(99)) }
+		key, err := keyInSteps(ctx, password, salt, n, r, p, keyLen, progress, next)
+		want, _ := Key(password, salt, n, r, p, keyLen)
+		check(t, err == nil && string(key) == string(want) && last == 1, password, salt, n, r, p, key, err)
+		fmt.Printf("KEY .%x .%x .%x %d %d %d\n", password, salt, key, n, r, p)
+	}
+}
+
+// A derivation that takes seconds ends with its context; a measurement keeps its target.
+func TestTimes(t *testing.T) {
+	ctx, cancel := context.WithTimeout(ctx, 100*time.Millisecond)
+	defer cancel()
+	begun := time.Now()
+	key, err := KeyContext(ctx, nil, nil, 1<<20, 8, 1, 32, nil)
+	took := time.Since(begun) // 150 ms on an idle machine
+	check(t, err == context.DeadlineExceeded && key == nil && took < 600*time.Millisecond, err, took)
+	found, err := Calibrate(50*time.Millisecond, 32<<20)
+	check(t, err == nil && found.LogN >= 10 && found.LogN <= 15 && found.P >= 1 && found.KeyLen == 32, found, err)
+}
+
+// busy makes the hasher derive on its only processor.
+func busy(t *testing.T, hasher *Hasher) {
+	go func() { _ = hasher.Verify(ctx, costly, nil) }()
+	wait(func() bool { return hasher.Stats().Deriving > 0 })
+}
+
+// A call returns when its context is done: outside of C, waiting in C, and deriving. Then it keeps
+// its Hasher alive until its derivation ends.
+func TestEndsOfContexts(t *testing.T) {
+	const soon, late = 10 * time.Millisecond, time.Hour
+	goroutines := runtime.NumGoroutine()
+	for why, it := range map[string]struct {
+		isFull, isBusy     bool // no goroutine may be in C; another call derives
+		text               string
+		deadline, canceled time.Duration
+		want               error
+	}{
+		"not at all":                    {false, false, noHash, late, late, ErrMismatch},
+		"before the call":               {false, false, costly, -1, late, context.DeadlineExceeded},
+		"of a hash that is refused":     {true, false, strings.Replace(costly, "17", "30", 1), late, late, ErrTooCostly},
+		"outside of C":                  {true, false, noHash, late, soon, context.Canceled},
+		"waiting in C":                  {false, true, noHash, late, soon, context.Canceled},
+		"waiting in C until a deadline": {false, true, noHash, soon, late, context.DeadlineExceeded},
+		"deriving":                      {false, false, costly, late, soon, context.Canceled},
+		"deriving at a deadline":        {false, false, costly, soon, late, context.DeadlineExceeded},
+	} {
+		hasher := newHasher(t, small)
+		inside := hasher.of.inside
+		if it.isBusy {
+			busy(t, hasher)
+		} else if it.isFull {
+			hasher.of.inside = nil
+		}
+		ctx, cancel := context.WithTimeout(ctx, it.deadline)
+		time.AfterFunc(it.canceled, cancel)
+		begun := time.Now()
+		err := hasher.Verify(ctx, it.text, nil)
+		check(t, errors.Is(err, it.want) && time.Since(begun) < 500*time.Millisecond, why, err, time.Since(begun))
+		cancel()
+		wait(func() bool { runtime.GC(); return len(inside) == 0 && runtime.NumGoroutine() <= goroutines })
+	}
+}
+
+// A call has its own copy of the password, which is wiped. In C it waits until its deadline.
+func TestRun(t *testing.T) {
+	hasher, password, own := newHasher(t, small), []byte("pw"), []byte{}
+	bounded, cancel := context.WithTimeout(ctx, time.Hour)
+	defer cancel()
+	for ctx, least := range map[context.Context]milliseconds{ctx: -1, bounded: 3590000} {
+		err := hasher.run(ctx, password, func(secret []byte, ms milliseconds) status {
+			own = secret
+			check(t, ms >= least && ms <= least+10001 && (ms < 0) == (least < 0), ms, least)
+			return 0
+		})
+		wait(func() bool { return hasher.of.calls.Load() == 0 })
+		check(t, err == nil && string(password) == "pw" && string(own) == "\x00\x00", err, password, own)
+	}
+}
+
+// Stats counts calls that wait, derive and fail. Close ends the calls that wait.
+func TestStats(t *testing.T) {
+	hasher := newHasher(t, Options{Params{LogN: 4}, false, 0, 1, 0, math.MaxUint64, math.MaxUint64})
+	check(t, hasher.Verify(ctx, huge, nil) == ErrOutOfMemory)
+	busy(t, hasher)
+	canceled, cancel := context.WithCancel(ctx)
+	ended := make(chan error)
+	for i := 0; i < 20; i++ {
+		go func(ctx context.Context) { ended <- hasher.Verify(ctx, noHash, nil) }([]context.Context{ctx, canceled}[i%2])
+	}
+	wait(func() bool { return hasher.Stats() == Stats{20, 1, 1} })
+	cancel()
+	for i := 0; i < 20; i++ {
+		if i == 10 {
+			_ = hasher.Close()
+		}
+		err := <-ended
+		check(t, i < 10 && err == context.Canceled || i >= 10 && err == ErrClosed, i, err)
+	}
+	wait(func() bool { return hasher.Stats() == Stats{Failed: 11} })
+}
+
+// A Hasher has at most MaxTables tables, and frees them at Close, or when nothing refers to it.
+func TestMemory(t *testing.T) {
+	resident := func() (pages int) {
+		data, err := os.ReadFile("/proc/self/statm")
+		if err != nil {
+			t.Skip(err) // Windows does not have it
+		}
+		_, _ = fmt.Sscan(string(data), new(int), &pages)
+		return pages * os.Getpagesize() >> 20
+	}
+	before, hashers := resident(), [2]*Hasher{}
+	for i := range hashers {
+		hashers[i] = newHasher(t, Options{Params: Params{LogN: 16, P: 4}, MaxTables: 1, Processors: 4})
+		_, _ = hashers[i].Hash(ctx, nil)
+	}
+	held := resident()
+	_ = hashers[0].Close()
+	closed := resident()
+	check(t, held < before+160 && closed < held-48, "2 tables of 64 MiB, and one", held-before, closed-before)
+	runtime.KeepAlive(hashers)
+	wait(func() bool { runtime.GC(); return resident() < closed-48 })
+}
