@@ -9,7 +9,7 @@ begin_test
 ours=$lib/libscrypt_drop_in.so
 python=/usr/bin/python3 # which has Debian's packages
 nm -D --defined-only "$ours" | awk '{ print $3 }' | sort | diff bindings/drop_in/symbols -
-$python -B bindings/drop_in/test_drop_in.py "$ours"
+$python -B -m bindings.drop_in.test_drop_in "$ours"
 
 # Fails unless the command calls this symbol in the drop-in library.
 binds() {

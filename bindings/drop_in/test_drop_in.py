@@ -1,5 +1,7 @@
 """Compares the symbols of the drop-in library with hashlib, and with the original libraries if they
 are installed. The results in the tables are from the original libraries.
+
+usage: python3 -m bindings.drop_in.test_drop_in LIBRARY
 """
 
 import ctypes
@@ -11,9 +13,10 @@ import random
 import resource
 import sys
 
+from tools.tests import crypt64
+
 P, Z, U64, U32 = ctypes.c_char_p, ctypes.c_size_t, ctypes.c_uint64, ctypes.c_uint32
 PWHASH = "crypto_pwhash_scryptsalsa208sha256"
-LETTERS = "./0123456789ABCDEFGHIJKLMNOPQRSTUVWXYZabcdefghijklmnopqrstuvwxyz"
 MANY = 1 << 32
 
 
@@ -97,21 +100,9 @@ def chosen(work, memory):
     return log_n, 1 if few else min(work // 4 >> log_n, 0x3FFFFFFF) // 8
 
 
-def five(number):
-    return "".join(LETTERS[number >> 6 * it & 63] for it in range(5))
-
-
-def letters(data):
-    text = ""
-    for at in range(0, len(data), 3):
-        group = int.from_bytes(data[at : at + 3], "little")
-        text += "".join(LETTERS[group >> 6 * it & 63] for it in range(len(data[at : at + 3]) + 1))
-    return text
-
-
-def text_of(log_n, r, p, salt=b"s" * 43, key_len=32, password=b"pw"):
-    key = hashlib.scrypt(password, salt=salt, n=1 << log_n, r=r, p=p, dklen=key_len) if log_n < 16 else b"k" * key_len
-    return f"$7${LETTERS[log_n]}{five(r)}{five(p)}".encode() + salt + b"$" + letters(key).encode()
+def text_of(log_n, r, p, salt="s" * 43, key_len=32):
+    key = hashlib.scrypt(b"pw", salt=salt.encode(), n=1 << log_n, r=r, p=p, dklen=key_len)
+    return crypt64.text(salt, key, log_n, r, p).encode()
 
 
 def verified(library, text, password):
@@ -129,10 +120,9 @@ def choices():
         work, memory = drawn.getrandbits(drawn.randint(0, 64)), drawn.getrandbits(drawn.randint(0, 64))
         log_n, p = chosen(work, memory)
         for library in both(sodium):
-            front = f"$7${LETTERS[log_n]}{five(8)}{five(p)}"
-            assert rehashed(library, front.ljust(101, "s").encode(), work, memory) == 0, (work, memory)
-            for other in (f"$7${LETTERS[log_n - 1]}{five(8)}{five(p)}", f"$7${LETTERS[log_n]}{five(8)}{five(p + 1)}"):
-                assert rehashed(library, other.ljust(101, "s").encode(), work, memory) == 1, (work, memory)
+            for params, wanted in ((log_n, 8, p), 0), ((log_n - 1, 8, p), 1), ((log_n, 8, p + 1), 1):
+                text = crypt64.params(*params).ljust(101, "s").encode()
+                assert rehashed(library, text, work, memory) == wanted, (work, memory)
 
 
 def by_limits(library, work, memory, length=40):
@@ -149,7 +139,7 @@ def limits():
             assert by_limits(library, work, memory) == (0, key), (work, memory)
             text = ctypes.create_string_buffer(b"\7" * 102, 102)
             assert call(library, PWHASH + "_str", [P, P, U64, U64, Z], text, b"pw", 2, work, memory) == 0
-            assert len(text.value) == 101 and text.value[:14] == text_of(log_n, 8, p)[:14], (work, memory)
+            assert len(text.value) == 101 and text.value[:14] == crypt64.params(log_n, 8, p).encode(), (work, memory)
             for other in both(sodium):
                 assert verified(other, text.value, b"pw") and not verified(other, text.value, b"PW")
     for library in both(sodium):
@@ -178,8 +168,8 @@ TEXTS = [
     ("another key", GOOD[:-2] + (b"//" if GOOD[-2:] == b".." else b".."), False, 0),
     ("N of 1", b"$7$." + GOOD[4:], False, 1),
     ("N of 2^32", b"$7$U" + GOOD[4:], False, 1),
-    ("r of 0", GOOD[:4] + five(0).encode() + GOOD[9:], False, 1),
-    ("a longer key and a shorter salt", text_of(10, 8, 1, b"s" * 42, 33), False, 0),
+    ("r of 0", GOOD[:4] + b"....." + GOOD[9:], False, 1),
+    ("a longer key and a shorter salt", text_of(10, 8, 1, "s" * 42, 33), False, 0),
     ("no dollar", GOOD.replace(b"s$", b"ss"), False, 0),
 ]
 
@@ -192,19 +182,14 @@ def texts():
 
 
 def one_table():
-    """As in the original libraries, each call has one table, whatever p is."""
-    text = text_of(14, 8, 4)
-    for name, derive in (
-        ("crypto_scrypt", lambda: by_costs(ours, "crypto_scrypt", b"pw", b"salt", 1 << 14, 8, 4, 64)[0] == 0),
-        ("to verify", lambda: verified(ours, text, b"pw")),
-    ):
-        child = os.fork()
-        if child == 0:
-            before = resource.getrusage(resource.RUSAGE_SELF).ru_maxrss
-            is_right = derive()
-            os._exit(min(255, (resource.getrusage(resource.RUSAGE_SELF).ru_maxrss - before) >> 10) if is_right else 255)
-        mib = os.waitstatus_to_exitcode(os.waitpid(child, 0)[1])
-        assert mib < 24, f"{name}: {mib} MiB for a table of 16"
+    """As in the original libraries, a key has one table, whatever p is."""
+    child = os.fork()
+    if child == 0:
+        before = resource.getrusage(resource.RUSAGE_SELF).ru_maxrss
+        is_right = by_costs(ours, "crypto_scrypt", b"pw", b"salt", 1 << 14, 8, 4, 64)[0] == 0
+        os._exit(min(255, (resource.getrusage(resource.RUSAGE_SELF).ru_maxrss - before) >> 10) if is_right else 255)
+    mib = os.waitstatus_to_exitcode(os.waitpid(child, 0)[1])
+    assert mib < 24, f"{mib} MiB for a table of 16"
 
 
 for test in (keys, overlapping, choices, limits, texts, one_table):
