@@ -1,6 +1,5 @@
 -- The alphabet's table: each letter has its value, and no other byte has one.
-use Rattle.std.proofs.Common.{◌≡◌, ◌≢◌, ◌∙◌, sym, map, ap, refl, arith, ℕ, ◌+◌, ◌-◌, ◌<◌, true, cond, ◌&&◌, not, nat_le, nat_lt}
-use Rattle.std.proofs.Common.{eqb, Option, Some, None, get_or}
+use Rattle.std.proofs.Common.{◌≡◌, ◌≢◌, ◌∙◌, sym, map, ap, refl, arith, ℕ, ◌+◌, ◌-◌, ◌<◌, true, cond, ◌&&◌, not, nat_le, nat_lt, eqb, Option, Some, None, get_or}
 use Rattle.std.specs.List.{range_with_len}
 use Rattle.std.proofs.lemmas.Bool.{agree_below_at, eqb-true, ltb-true, eqb-false, not-true, and_parts}
 use Rattle.std.proofs.lemmas.Bool.Decides.{nat_tests}

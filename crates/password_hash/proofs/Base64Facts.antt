@@ -12,7 +12,7 @@ use Rattle.base64.proofs.EngineFacts.{decode_of-encode_of}
 use Rattle.base64.proofs.RoundTrip.{length-encode_symbols}
 use Rattle.password_hash.specs.Letters.{is_base64_letter, is_value_letter}
 use Rattle.password_hash.specs.Phc.{base64}
-use Rattle.password_hash.proofs.PairsFacts.{Lacks, letters_lack}
+use Rattle.password_hash.proofs.ParamsFacts.{Lacks, letters_lack}
 
 pub length-base64 : (bytes : List ℕ) → length (base64 bytes) ≡ (4 * length bytes + 2) / 3
 length-base64 bytes = rw append-nil (length-encode_symbols standard_no_pad.encode_table bytes)

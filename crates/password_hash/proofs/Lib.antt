@@ -1,6 +1,4 @@
--- Pairs and their text.
-pub mod PairsFacts
--- One more pair at the end, and the pairs of a text in turn.
+-- Pairs and their text, one more pair at the end, and the pairs of a text in turn.
 pub mod ParamsFacts
 -- Base64 of bytes, and the bytes that letters decode to.
 pub mod Base64Facts
@@ -8,9 +6,7 @@ pub mod Base64Facts
 pub mod DecimalFacts
 -- Texts of parts, each after a `$`.
 pub mod PartsFacts
--- A hash and the parts of its text.
-pub mod HashFacts
--- PHC strings are read as the hashes that they are printed of.
+-- A hash and the parts of its text: PHC strings are read as the hashes that they are printed of.
 pub mod PhcReadingFacts
 -- The alphabet's table: each letter has its value, and no other byte has one.
 pub mod AlphabetFacts

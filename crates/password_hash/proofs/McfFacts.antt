@@ -1,7 +1,6 @@
 -- What follows from the definition of MCF strings: each has one id and one list of fields, and
 -- texts put together by parts are MCF strings.
-use Rattle.std.proofs.Common.{◌≡◌, ◌≢◌, inl, inr, ◌∙◌, sym, ap, subst, refl, ℕ, false}
-use Rattle.std.proofs.Common.{Result, Ok, Err, IsErrOf, IfErr, ◌==◌, List, [], ◌∷◌, ◌++◌}
+use Rattle.std.proofs.Common.{◌≡◌, ◌≢◌, inl, inr, ◌∙◌, sym, ap, subst, refl, ℕ, false, Result, Ok, Err, IsErrOf, IfErr, ◌==◌, List, [], ◌∷◌, ◌++◌}
 use Rattle.std.specs.List.{All, AllByRecursion as ByRecursion, onto_first}
 use Rattle.std.proofs.lemmas.Bool.{ne_eqb, eqb-false, cases_Bool}
 use Rattle.std.proofs.lemmas.List.{append-nil}
@@ -13,7 +12,7 @@ use Rattle.password_hash.specs.Letters.{is_identifier_letter}
 use Rattle.password_hash.specs.Mcf.{IsId, IsField, IsMcfText, IsMcf, id_of, fields_of}
 use Rattle.password_hash.specs.Parts.{dollar, parts_of}
 use Rattle.password_hash.proofs.Crypt64Facts.{IsPlain, crypt64_of-plain}
-use Rattle.password_hash.proofs.PairsFacts.{Lacks, letters_lack}
+use Rattle.password_hash.proofs.ParamsFacts.{Lacks, letters_lack}
 use Rattle.password_hash.proofs.PartsFacts.{parts_of-parts_text, parts_text-push, text_of_parts}
 
 -- a field has no byte that is a dollar

@@ -1,6 +1,5 @@
 -- Texts of parts, each after a `$`.
-use Rattle.std.proofs.Common.{◌≡◌, ◌≢◌, ℕ, ◌==◌, false, true, List, [], ◌∷◌, ◌++◌, refl, sym, ap, ◌∙◌}
-use Rattle.std.proofs.Common.{◌&&◌, ◌||◌, ◌↔◌, Bool, IsTrue, not}
+use Rattle.std.proofs.Common.{◌≡◌, ◌≢◌, ℕ, ◌==◌, false, true, List, [], ◌∷◌, ◌++◌, refl, sym, ap, ◌∙◌, ◌&&◌, ◌||◌, ◌↔◌, Bool, IsTrue, not}
 use Rattle.std.specs.Prelude.{All}
 use Rattle.std.specs.List.{join_with_byte, list_any}
 use Rattle.std.proofs.lemmas.Bool.Decides.{Decides-by_and, Decides-eqb, Decides-not}
@@ -8,7 +7,7 @@ use Rattle.std.proofs.lemmas.Grind.{flat_map-append}
 use Rattle.std.proofs.lemmas.List.{append-nil}
 use Rattle.std.proofs.lemmas.List.Splits.{join_with_byte-slice_split}
 use Rattle.password_hash.specs.Parts.{dollar, parts_text, parts_of}
-use Rattle.password_hash.proofs.PairsFacts.{Lacks, slice_split-join}
+use Rattle.password_hash.proofs.ParamsFacts.{Lacks, slice_split-join}
 
 -- the text of parts is a `$` and the parts, joined by `$`
 parts_text-join : (part : List ℕ) (parts : List (List ℕ)) → parts_text (part ∷ parts) ≡ dollar ∷ join_with_byte dollar (part ∷ parts)

@@ -1,6 +1,5 @@
 -- Numbers in decimal digits, as in the PHC string format.
-use Rattle.std.specs.Prelude.{◌≡◌, ℕ, ◌||◌, ◌&&◌, ◌==◌, not, nat_lt, Bool, if◌then◌else◌, List, length}
-use Rattle.std.specs.Prelude.{slice_index, Option, Some, None, Result, MatchBool}
+use Rattle.std.specs.Prelude.{◌≡◌, ℕ, ◌||◌, ◌&&◌, ◌==◌, not, nat_lt, Bool, if◌then◌else◌, List, length, slice_index, Option, Some, None, Result, MatchBool}
 use Rattle.std.specs.Result.{result_ok}
 use Rattle.std.specs.Str.{all_ascii_digits}
 use Rattle.std.specs.Str.Parse.{ExplainsUnsignedError, HasUnsignedDigitsIfOk, ParsesUnsigned, digits_value}

@@ -1,6 +1,6 @@
 -- Borrowed MCF strings, as contracts see them.
 use Rattle.std.specs.Prelude.{ℕ, List}
-use Rattle.password_hash.specs.declared.mcf.field.Field.{Field}
+use Rattle.password_hash.specs.declared.mcf.fields.Field.{Field}
 use Rattle.password_hash.specs.declared.mcf.fields.Fields.{Fields}
 use Rattle.password_hash.specs.declared.mcf.hash_ref.PasswordHashRef.{PasswordHashRef}
 use Rattle.password_hash.specs.Parts.{parts_left}

@@ -4,7 +4,6 @@
 pub mod alphabet;
 mod crypt64;
 mod error;
-mod field;
 mod fields;
 mod group;
 mod hash;
@@ -13,7 +12,6 @@ mod letters;
 
 pub use crypt64::Base64;
 pub use error::{Error, Result};
-pub use field::Field;
-pub use fields::Fields;
+pub use fields::{Field, Fields};
 pub use hash::PasswordHash;
 pub use hash_ref::PasswordHashRef;

@@ -62,7 +62,8 @@ impl<'a> PasswordHashRef<'a> {
 
 /// Returns whether `text` is an MCF string.
 pub(super) fn is_mcf(text: &str) -> bool
-    ensures { IsTrue result ↔ IsMcf text.now }
+    ensures exact { IsTrue result ↔ IsMcf text.now }
+    ensures reading { IsTrue result → IsMcfText text.now (id_of text.now) (fields_of text.now) }
 {
     match split_first(text) {
         Some((id, _)) => is_id(id),

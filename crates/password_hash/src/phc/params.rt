@@ -135,6 +135,7 @@ impl PartialEq for ParamsString {
         (on_equiv (λ (pair : List ℕ × List ℕ). pair.0) nat_list_eq_equiv)
         (on_equiv (λ (pair : List ℕ × List ℕ). pair.1) nat_list_eq_equiv))) };
 
+    #[tactic(auto, using(crate::proofs::ParamsFacts::tested))]
     fn eq(&self, other: &ParamsString) -> bool {
         self.as_str() == other.as_str()
     }

@@ -5,14 +5,14 @@
 //! text.
 ghost use Rattle.std.specs.Prelude.{◌≡◌, option_map};
 ghost use Rattle.password_hash.specs.Parts.{before_parts, parts_left};
-ghost use Rattle.password_hash.specs.PhcReading.{params_and_rest, salt_and_key, version_and_rest};
+ghost use Rattle.password_hash.specs.PhcReading.{decoded_bytes, params_and_rest, salt_and_key, version_and_rest};
 
 use crate::Version;
 use crate::decimal::read_u32;
 use crate::parts::{contains, first_piece};
-use crate::phc::encoding::decode;
 use crate::phc::pairs::cut;
-use crate::phc::{Output, ParamsString, Salt};
+use crate::phc::{Output, ParamsString, Salt, ShortBytes};
+use base64::engine::general_purpose::STANDARD_NO_PAD;
 
 /// Returns the version, if the next part begins with `v=`, and the rest of the text after it.
 pub(super) fn take_version(left: Option<&str>) -> Option<(Option<Version>, Option<&str>)>
@@ -62,4 +62,20 @@ pub(super) fn take_salt_and_key(left: Option<&str>) -> Option<(Option<Salt>, Opt
         return None;
     }
     Some((Some(salt), Some(key)))
+}
+
+/// Decodes letters of Base64 (RFC 4648, section 4) without padding to `MIN` to 64 bytes. Returns
+/// `None` if they are not an encoding, or encode fewer or more bytes.
+fn decode<const MIN: usize>(letters: &str) -> Option<ShortBytes<MIN, 64>>
+    ensures value { result ≡ decoded_bytes MIN letters.now }
+{
+    // The encoding of 64 bytes has 86 letters, which are decoded in a buffer of 66 bytes.
+    if letters.len() > 86 {
+        return None;
+    }
+    let mut places = [0; 66];
+    let Ok(len) = STANDARD_NO_PAD.decode_slice_unchecked(letters.as_bytes(), &mut places) else {
+        return None;
+    };
+    ShortBytes::copied(&places[..len])
 }

@@ -1,9 +1,11 @@
-//! A short list of bytes that is kept without allocating.
-ghost use Rattle.std.specs.Prelude.{◌≡◌, ◌↔◌, ◌≤◌, true, length, nat_eq, IsSome, IfSome};
+//! A short list of bytes that is kept without allocating: the salt or the key of a hash.
+ghost use Rattle.std.specs.Prelude.{◌≡◌, ◌↔◌, ◌+◌, ◌≤◌, true, length, take, drop, nat_eq, IsOk, IsSome, IsTrue, IfErr, IfOk, IfSome};
 ghost use Rattle.std.specs.Cmp.{partial_equiv_from_equiv};
 ghost use Rattle.std.specs.Cmp.Lexicographic.{pointwise, nat_list_eq_equiv};
 ghost use Rattle.password_hash.specs.ShortBytes.{AreBytesFromTo};
+ghost use Rattle.password_hash.specs.declared.error.Error.TheVariants.{OutputSize, SaltInvalid};
 
+use crate::{Error, Result};
 use std::marker::Model;
 
 /// `MIN` to `MAX` bytes in a fixed array, with zeros after them.
@@ -81,9 +83,60 @@ impl<const MIN: usize, const MAX: usize> Eq for ShortBytes<MIN, MAX> {
     ghost laws = { nat_list_eq_equiv };
 }
 
+/// A salt of 1 to 64 bytes.
+pub type Salt = ShortBytes<1, 64>;
+
+impl Salt {
+    /// Copies a salt of 1 to 64 bytes.
+    ///
+    /// Returns `SaltInvalid` if `salt` has any other length.
+    pub fn new(salt: &[u8]) -> Result<Salt>
+        ensures exact { IsOk result ↔ ((1 ≤ length salt.now) × (length salt.now ≤ 64)) }
+        ensures value { IfOk result (λ made. made ≡ salt.now) }
+        ensures err { IfErr result (λ e. e ≡ SaltInvalid) }
+    {
+        Salt::copied(salt).ok_or(Error::SaltInvalid)
+    }
+}
+
+/// A key of 10 to 64 bytes. Equality compares every byte, also after a difference.
+pub type Output = ShortBytes<10, 64>;
+
+const _: () = prove!(Output::MIN_LENGTH == 10 && Output::MAX_LENGTH == 64);
+
+impl Output {
+    /// The minimum length of a key in bytes.
+    pub const MIN_LENGTH: usize = 10;
+
+    /// The maximum length of a key in bytes.
+    pub const MAX_LENGTH: usize = 64;
+
+    /// Copies a key of 10 to 64 bytes.
+    ///
+    /// Returns `OutputSize` if `key` has any other length.
+    pub fn new(key: &[u8]) -> Result<Output>
+        ensures exact { IsOk result ↔ ((10 ≤ length key.now) × (length key.now ≤ 64)) }
+        ensures value { IfOk result (λ output. output ≡ key.now) }
+        ensures err { IfErr result (λ e. e ≡ OutputSize) }
+    {
+        Output::copied(key).ok_or(Error::OutputSize)
+    }
+
+    /// Returns whether the key has `bytes` at byte `at`. Every byte is compared, also after a
+    /// difference.
+    ///
+    /// The key has at least `at + bytes.len()` bytes.
+    pub fn matches_at(&self, at: usize, bytes: &[u8]) -> bool
+        requires inside { at + length bytes.now ≤ length self.now }
+        ensures exact { IsTrue result ↔ (bytes.now ≡ take (length bytes.now) (drop at self.now)) }
+    {
+        are_same(bytes, &self.as_bytes()[at..at + bytes.len()])
+    }
+}
+
 /// Returns whether these are the same bytes. Every byte is compared, also after a difference.
 #[tactic(auto, using(std::proofs::lemmas::Grind::same_number_lists))]
-pub(super) fn are_same(a: &[u8], b: &[u8]) -> bool
+fn are_same(a: &[u8], b: &[u8]) -> bool
     ensures { (result ≡ true) ↔ (a.now ≡ b.now) }
 {
     let mut same = a.len() == b.len();

@@ -6,12 +6,6 @@ use Rattle.password_hash.proofs.GroupFacts.{length-crypt64_of}
 use Rattle.password_hash.proofs.mcf.crypt64.Base64.encode_slice.Goals as goal
 use Rattle.password_hash.proofs.mcf.crypt64.Base64.encode_slice.Goals.{In-Some}
 
-pub returns-then-out-n-clause-exact : goal.returns-then-out-n-clause-exact
-returns-then-out-n-clause-exact c = grind (arith, length-crypt64_of)
-
-pub loop-letter-init : goal.loop-letter-init
-loop-letter-init c = record { front = search rules; back = refl; within = omega arith }
-
 -- there is a place for each letter
 room : (c : In-Some) → c.loop-letter.len < length c.loop-letter.out
 room c =

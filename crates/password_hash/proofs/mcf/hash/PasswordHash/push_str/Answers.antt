@@ -10,10 +10,3 @@ invariant_of-self-2 c =
     let before = string_bytes c.self.inside.text in
     let written : string_bytes c.push_str.new.self ≡ before ++ dollar ∷ c.args.field.now = grind (arith, common_steps) in
     IsMcfText-pushed before _ c.args.field.now written c.self.invariant (c.is_field.ensures.0 c.if-not-is_field.false)
-
--- redundant, so that a mutant is refused here at once
-pub unwrap-requires : goal.unwrap-requires
-unwrap-requires c = search rules
-
-pub unwrap-requires-2 : goal.unwrap-requires-2
-unwrap-requires-2 c = search rules

@@ -9,7 +9,7 @@ use Rattle.password_hash.specs.PhcReading.{decoded_bytes}
 use Rattle.password_hash.specs.ShortBytes.{AreBytesFromTo}
 use Rattle.password_hash.proofs.Base64Facts.{decode_of-base64, length-base64}
 use Rattle.password_hash.proofs.PhcReadingFacts.{bytes_exact, none_exact}
-use Rattle.password_hash.proofs.phc.encoding.decode.Goals as goal
+use Rattle.password_hash.proofs.phc.parts.decode.Goals as goal
 
 -- letters that do not encode bytes of these lengths
 none : (least : ℕ) (letters : List ℕ) → ((bytes : List ℕ) → AreBytesFromTo least 64 bytes → letters ≡ base64 bytes → ⊥)
