@@ -17,7 +17,12 @@ fi
 (
   cd bindings/c
   cmake --preset "$1"
-  cmake --build "../../build/$1" -- --quiet
+  targets=all
+  case $1 in asan | tsan | by-rattle) # only what the preset tests
+    targets=$(ctest --preset "$1" -N | sed -n 's/.*Test *#[0-9]*: //p') ;;
+  esac
+  # shellcheck disable=SC2086 # names without blanks
+  cmake --build "../../build/$1" --target $targets -- --quiet
   ctest --preset "$1" -j2
 )
 if [ -e "crates/scrypt_tool/out/$1/scrypt_tool.o" ]; then
