@@ -1,6 +1,6 @@
-/* The hasher in threads: order, batches, timeouts, closing, failed allocations, and forks.
+/* The hasher in threads: order, batches, windows, timeouts, failed allocations, and signals.
  * test_queue.c is a model checker of its decisions, test_hasher_parts.c has its options, errors and
- * numbers, and test_hasher_load.c what happens at any time. */
+ * numbers, and test_hasher_load.c what happens at any time: closing and forks too. */
 #include "test_hasher.h"
 
 /* The derivation of a call: keys, and verifications with these parameters. */
@@ -92,11 +92,6 @@ static void end_first(void) {
   settle();
 }
 
-static void close_now(void) {
-  scrypt_hasher_close(hasher);
-  settle();
-}
-
 static void let_all_end(void) {
   WRITE(is_stopped, 0);
   until(READ(over) == started);
@@ -133,16 +128,13 @@ static const struct {
 } BATCHES[] = {
     {"first come, first served", 1, 1, 4, {A, B, A, KEYS, A, P2, A}, "0 1 2 3 4 5 6"},
     {"two pass what is not compatible", 1, 2, 4, {A, B, A, B, A, A, B, A, A}, "0 13 24 57 6 8"},
-    {"three", 1, 3, 4, {A, B, A, B, A, KEYS, A, A}, "0 13 246 5 7"},
     {"four", 1, 4, 4, {A, A, A, A, A, A, A, B, B}, "0 1234 56 78"},
     {"a processor on which three pay", 1, 4, 3, {A, A, A, A, A, A, A}, "0 123 456"},
     {"with p of 2, two in four tables", 1, 4, 4, {P2, P2, P2, P2, P2}, "0 12 34"},
-    {"with p of 2 and three tables, alone in two", 1, 3, 4, {P2, P2, P2}, "0 1 2"},
     {"with p of 4 and of 16, alone in four", 1, 4, 4, {P4, P4, P16, P16}, "0 1 2 3"},
     {"a cheap one doesn't join a costly one", 1, 4, 4, {P16, A, P16, A}, "0 13 2"},
     {"N * r * p is not enough", 1, 4, 4, {A, P2, R16, B, R16, A}, "0 1 24 3 5"},
     {"a key is alone, and compatible calls pass it", 1, 2, 4, {A, A, KEYS, KEYS, A}, "0 14 2 3"},
-    {"more tables than slots can use", 1, 1000, 4, {A, A, A, A, A, A}, "0 1234 5"},
     {"more processors than tables", 64, 2, 4, {A, A, A}, "0 1 2"},
 };
 
@@ -165,19 +157,6 @@ static void in_batches(void) {
     end(BATCHES[i].batches);
   }
   WRITE(interleave, 4);
-}
-
-static void share_of_a_slot(void) {
-  begin("two slots, of which the second has two tables", 2, 3);
-  start_all((enum kind[]){A, A, A, A, A, NONE});
-  end_first();
-  end_first();
-  end("0 1 2 34");
-  begin("no batch is so large that a processor is idle", 2, 8);
-  start_all((enum kind[]){A, A, A, A, A, NONE});
-  end_first();
-  end_first();
-  end("0 1 23 4");
 }
 
 static void in_a_window(void) {
@@ -230,30 +209,6 @@ static void timeouts(void) {
   end("0 12");
 }
 
-static void closed(void) {
-  begin("closed while one derives", 1, 4);
-  start_all((enum kind[]){A, A, B, KEYS, NONE});
-  for (int i = 1; i < 4; i++) all[i].wanted = SCRYPT_CLOSED;
-  close_now();
-  start(A);
-  all[4].wanted = SCRYPT_CLOSED;
-  end("0");
-  begin("closed while a batch derives", 1, 4);
-  start_all((enum kind[]){A, A, A, NONE});
-  end_first();
-  start_all((enum kind[]){B, KEYS, NONE});
-  for (int i = 3; i < 5; i++) all[i].wanted = SCRYPT_CLOSED;
-  close_now();
-  end("0 12");
-  begin("closed in a window", 1, 4);
-  let_windows_last(1);
-  start_all((enum kind[]){SLOW, SLOW, NONE});
-  all[1].wanted = SCRYPT_CLOSED;
-  close_now();
-  let_windows_last(0);
-  end("0~");
-}
-
 static void memory_refused(void) {
   scrypt_cost cost;
   begin("memory for one table: a batch is derived one after another", 1, 4);
@@ -280,7 +235,7 @@ static void memory_refused(void) {
   end("0 2 3");
 }
 
-#if HAS_FORKS
+#ifndef _WIN32
 static void nothing(int number) { (void)number; }
 
 static void signals(void) {
@@ -295,30 +250,15 @@ static void signals(void) {
   settle();
   end("0 12");
 }
-
-static void forks(void) {
-  begin("fork while one derives and one waits", 1, 2);
-  start_all((enum kind[]){A, A, NONE});
-  fork_here(hasher, scenario);
-  end("0 1");
-  begin("fork while a batch derives", 1, 2);
-  start_all((enum kind[]){A, A, A, NONE});
-  end_first();
-  fork_here(hasher, scenario);
-  end("0 12");
-}
 #endif
 
 int main(void) {
   RUN(in_batches);
-  RUN(share_of_a_slot);
   RUN(in_a_window);
   RUN(timeouts);
-  RUN(closed);
   RUN(memory_refused);
-#if HAS_FORKS
+#ifndef _WIN32
   RUN(signals);
-  RUN(forks);
 #endif
   return failed;
 }

@@ -230,41 +230,6 @@ static struct look { int leading, is_idle; scrypt_stats stats; } look_at(scrypt_
   return at;
 }
 
-/* ---- Children ---- */
-
-#if HAS_FORKS
-/* In a child: the hasher works, and has no calls or memory of the parent. */
-static void check_child(scrypt_hasher *hasher) {
-  char text[SCRYPT_PHC_CAPACITY];
-  scrypt_stats stats = {1, 1, 1};
-  failed = inside = tables_inside = is_stopped = windows_last = 0;
-  mapped = 0;
-  IS(scrypt_hasher_stats(hasher, &stats), SCRYPT_OK);
-  expect(stats.waiting == 0 && stats.deriving == 0 && stats.failed == 0, "stats of the parent");
-  make_text(text, "right", 4, 8, 1);
-  IS(verify(hasher, text, "right", 5000), hasher->is_closed ? SCRYPT_CLOSED : SCRYPT_OK);
-  IS(verify(hasher, text, "wrong", 5000), hasher->is_closed ? SCRYPT_CLOSED : SCRYPT_MISMATCH);
-  expect(look_at(hasher).is_idle, "something of the parent is left");
-  scrypt_hasher_close(hasher);
-  IS(READ(mapped), 0);
-  _exit(failed);
-}
-#endif
-
-static void fork_here(scrypt_hasher *hasher, const char *what) {
-#if HAS_FORKS
-  int status = -1;
-  pid_t child = fork(), ended_child = 0;
-  if (child == 0) check_child(hasher);
-  until((ended_child = waitpid(child, &status, WNOHANG)) == child);
-  expect(ended_child == child, "a child hangs: %s", what);
-  if (ended_child != child) kill(child, SIGKILL), waitpid(child, &status, 0);
-  else expect(WIFEXITED(status) && WEXITSTATUS(status) == 0, "%s: child %#x", what, status);
-#else
-  (void)hasher, (void)what;
-#endif
-}
-
 #define RUN(test) run_test(test, #test)
 static void run_test(void (*test)(void), const char *name) {
   int64_t begun_at = now_ns();

@@ -3,10 +3,38 @@
 #define MIN_LINGER_NS 0
 #include "test_hasher.h"
 
-#ifdef __SANITIZE_THREAD__ /* which knows no child of several threads */
+#if !HAS_FORKS || defined __SANITIZE_THREAD__ /* which knows no child of several threads */
 #define FORKS 0
-#elif !defined FORKS /* no forks under valgrind, where each takes seconds */
+static void fork_here(scrypt_hasher *hasher, const char *what) { (void)hasher, (void)what; }
+#else
 #define FORKS 4
+
+/* In a child: the hasher works, and has no calls or memory of the parent. */
+static void check_child(scrypt_hasher *hasher) {
+  char text[SCRYPT_PHC_CAPACITY];
+  scrypt_stats stats = {1, 1, 1};
+  failed = inside = tables_inside = is_stopped = windows_last = 0;
+  mapped = 0;
+  IS(scrypt_hasher_stats(hasher, &stats), SCRYPT_OK);
+  expect(stats.waiting == 0 && stats.deriving == 0 && stats.failed == 0, "stats of the parent");
+  make_text(text, "right", 4, 8, 1);
+  IS(verify(hasher, text, "right", 5000), hasher->is_closed ? SCRYPT_CLOSED : SCRYPT_OK);
+  IS(verify(hasher, text, "wrong", 5000), hasher->is_closed ? SCRYPT_CLOSED : SCRYPT_MISMATCH);
+  expect(look_at(hasher).is_idle, "something of the parent is left");
+  scrypt_hasher_close(hasher);
+  IS(READ(mapped), 0);
+  _exit(failed);
+}
+
+static void fork_here(scrypt_hasher *hasher, const char *what) {
+  int status = -1;
+  pid_t child = fork(), ended_child = 0;
+  if (child == 0) check_child(hasher);
+  until((ended_child = waitpid(child, &status, WNOHANG)) == child);
+  expect(ended_child == child, "a child hangs: %s", what);
+  if (ended_child != child) kill(child, SIGKILL), waitpid(child, &status, 0);
+  else expect(WIFEXITED(status) && WEXITSTATUS(status) == 0, "%s: child %#x", what, status);
+}
 #endif
 
 static char texts[3][SCRYPT_PHC_CAPACITY];
@@ -53,7 +81,7 @@ static void at_any_time(void) {
     scrypt_hasher_close(hasher);
     for (int i = 0; i < 16; i++) pthread_join(all[i], NULL);
     expect(look_at(hasher).is_idle, "idle after load");
-    if (FORKS > 0) fork_here(hasher, "closed");
+    fork_here(hasher, "closed");
     scrypt_hasher_free(hasher);
   }
 }
