@@ -3,8 +3,7 @@ use Rattle.std.proofs.Common.{◌≡◌, ◌≢◌, ℕ, zero, suc, ◌<◌, ◌
 use Rattle.std.proofs.Common.{sym, ap, ap₂, ◌∙◌, take_all, arith, rules, inl, inr, add-zero, zero-add, append_assoc}
 use Rattle.std.proofs.Math.Nat.{mul-le-mul_right}
 use Rattle.std.proofs.lemmas.Bool.{cases_lt}
-use Rattle.std.proofs.lemmas.List.{take_at, take-take, drop-drop, take-append-drop, length-take-le, places, same_lists}
-use Rattle.std.proofs.lemmas.List.{length-append, length-drop, nil_from_length}
+use Rattle.std.proofs.lemmas.List.{take_at, take-take, drop-drop, take-append-drop, length-take-le, places, same_lists, length-append, length-drop, nil_from_length}
 use Rattle.std.proofs.lemmas.Slice.{drop-put_mid}
 use Rattle.std.proofs.lemmas.List.FromFn.{fill_by_all}
 use Rattle.std.proofs.lemmas.List.Folds.{flat_map-map}

@@ -1,17 +1,14 @@
 -- Facts on HMAC and PBKDF2.
-use Rattle.std.proofs.Common.{◌≡◌, ℕ, zero, inl, inr, ◌<◌, ◌≤◌, ◌+◌, ◌-◌, ◌*◌, ◌/◌, ◌%◌, suc, List, [], ◌∷◌, ◌++◌}
+use Rattle.std.proofs.Common.{◌≡◌, ℕ, zero, inl, inr, ◌<◌, ◌≤◌, ◌+◌, ◌-◌, ◌*◌, ◌/◌, ◌%◌, suc, List, [], ◌∷◌, ◌++◌, refl, sym, ◌∙◌, arith, rules}
 use Rattle.std.proofs.Common.{length, map, take, drop, get_or, slice_index, replicate, false, nat_lt}
-use Rattle.std.proofs.Common.{refl, sym, ◌∙◌, arith, rules}
 use Rattle.std.proofs.lemmas.Bool.{cases_lt, le-ltb, lt-ltb}
-use Rattle.std.proofs.lemmas.List.{drop-replicate, get_or_append_left, get_or-append_right, get_or-take, get_or-drop}
-use Rattle.std.proofs.lemmas.List.{ext_get_or}
+use Rattle.std.proofs.lemmas.List.{drop-replicate, get_or_append_left, get_or-append_right, get_or-take, get_or-drop, ext_get_or, get_or_past, places, same_lists}
 use Rattle.std.proofs.lemmas.List.FromFn.{get_or-map-range_with_len, length-map-range_with_len}
 use Rattle.std.specs.List.{flat_map, range_with_len}
 use Rattle.sha2.proofs.Facts256.{length-sha256}
 use Rattle.sha2.specs.Sha256.{digest_bytes, sha256}
 use Rattle.std.specs.Int.{to_be_bytes, w32}
 use Rattle.std.proofs.lemmas.Grind.{common_steps}
-use Rattle.std.proofs.lemmas.List.{get_or_past, places, same_lists}
 use borrow.Rule.Slice.PartMut.{put_mid}
 use Rattle.scrypt_kernel.specs.Hmac.{hmac_sha256, padded_key}
 use Rattle.scrypt_kernel.specs.Pbkdf2.{pbkdf2, pbkdf2_block, pbkdf2_byte, pbkdf2_from}

@@ -7,7 +7,7 @@ use Rattle.std.proofs.Math.Nat.{mul-le-mul_right}
 use Rattle.scrypt_kernel.specs.Words.{part}
 use Rattle.scrypt_kernel.specs.RoMix.{row, ro_mix, walk}
 use Rattle.scrypt_kernel.specs.Diagonal.{AreInverse, permuted}
-use Rattle.scrypt_kernel.specs.KeptRows.{AddsRow, IsInWalk, mixed_in, place}
+use Rattle.scrypt_kernel.specs.KeptRows.{AddsRow, AreWalkLens, IsInWalk, mixed_in, place}
 use Rattle.scrypt_kernel.specs.Steps.{IsMixing, all_mixes}
 use Rattle.scrypt_kernel.proofs.PartFacts.{length-part, part-take, part_append_front, part_inside, parts_apart}
 use Rattle.scrypt_kernel.proofs.RoMixFacts.{part_of_row, place_inside, row_after_in}
@@ -28,6 +28,23 @@ pub length-rows : (n len rows a : ℕ) (v : List ℕ) → a ≡ n * len * rows �
 length-rows n len rows a v is room =
     let long : a ≡ rows * (n * len) = omega arith in
     length-take-le a v (omega (arith, long, room)) ∙ long
+
+-- the lengths in steps, whose table keeps every row, for a count that is computed
+pub step_lens : {n count r log_n x next table : ℕ} → count ≡ n → 0 < count → 0 < r → log_n ≤ 56 → x ≡ count * (32 * r) → next ≡ x
+    → table ≡ 2 ^ log_n * (n * (32 * r)) → AreWalkLens n (32 * r) log_n 0 x next 0 table
+step_lens {r = r} {log_n = log_n} is some blocks small chunks scratch rows =
+    let every : log_n - 0 ≡ log_n = omega arith in
+    record {
+      some = omega arith;
+      row = record { some = omega arith; whole = omega arith };
+      small = small;
+      most = omega arith;
+      chunks = chunks ∙ ap (λ n. n * (32 * r)) is;
+      scratch = scratch;
+      alone = λ none. absurd (omega (arith, none));
+      room = λ none. absurd (omega (arith, none));
+      rows = rw every rows;
+    }
 
 -- as many words in all as in these rows
 pub all_rows_len : (n len rows a : ℕ) → a ≡ n * len * rows → a ≡ rows * (n * len)
@@ -127,13 +144,13 @@ module _ (p q : List ℕ) (inverse : AreInverse p q) {n s log_n done : ℕ} {b :
   }
 
   pub steps_walked : (x' : List ℕ) (end count : ℕ) → 2 ^ log_n ≤ done → done + count ≡ end
-      → ((k : ℕ) → k < n → (b : List ℕ) → (i : ℕ) → IsInWalk p b n k s log_n 0 i v x → part s x' k ≡ permuted p (walk b log_n (i + count)))
+      → ((k : ℕ) → k < n → (b : List ℕ) → (i : ℕ) → IsInWalk p b n k s log_n 0 i v x → IsInWalk p b n k s log_n 0 (i + count) v x')
       → IsMixing p n b s log_n end v x'
   steps_walked x' end count ended is walked = record {
     rows = λ m k inside made below. at.rows m k inside (omega arith) below;
     x = λ k below later.
         let there : done - 2 ^ log_n + count ≡ end - 2 ^ log_n = omega arith in
-        rw (← there) (walked k below (b k) (done - 2 ^ log_n) (in_walk k below ended));
+        rw (← there) (walked k below (b k) (done - 2 ^ log_n) (in_walk k below ended)).walked;
   }
 
 -- after all mixes X is the scryptROMix

@@ -1,17 +1,16 @@
 -- Facts on the walk over a table that keeps some rows, or all of them.
-use Rattle.std.proofs.Common.{◌≡◌, Bool, ℕ, zero, suc, ◌<◌, ◌≤◌, ◌+◌, ◌-◌, ◌*◌, ◌/◌, ◌%◌, ◌^◌, List, length, refl, sym, ap}
-use Rattle.std.proofs.Common.{subst, ◌∙◌, arith, add-one}
+use Rattle.std.proofs.Common.{◌≡◌, Bool, ℕ, zero, suc, ◌<◌, ◌≤◌, ◌+◌, ◌-◌, ◌*◌, ◌/◌, ◌%◌, ◌^◌, List, length, refl, sym, ap, subst, ◌∙◌, arith, add-one, add-zero}
 use Rattle.std.proofs.lemmas.Nat.{mod_below, one_shl, pow-add, pow_pos, shr_below}
-use Rattle.std.proofs.Math.Nat.{div-mul-le_self, lt_of_mul-lt-mul_left}
+use Rattle.std.proofs.Math.Nat.{add_assoc, div-mul-le_self, lt_of_mul-lt-mul_left}
 use Rattle.scrypt_kernel.specs.Words.{part}
 use Rattle.scrypt_kernel.specs.declared.cores.count.CoreCount.{CoreCount}
 use Rattle.scrypt_kernel.specs.Count.{AreCountedAs}
 use Rattle.scrypt_kernel.specs.RoMix.{integerify, row, walk}
 use Rattle.scrypt_kernel.specs.RoMixCost.{ro_mix_cost}
 use Rattle.scrypt_kernel.specs.Table.{extra_rows, recomputed_rows, thin_ro_mix_cost}
-use Rattle.scrypt_kernel.specs.KeptRows.{AreWalkLens, IsFilled, IsInWalk, KeepsRows, mixed_in, place, steps_cost, x_after}
+use Rattle.scrypt_kernel.specs.KeptRows.{AfterSteps, AreWalkLens, IsFilled, IsInWalk, mixed_in, place, steps_cost, x_after}
 use Rattle.scrypt_kernel.specs.Diagonal.{AreInverse, permuted}
-use Rattle.scrypt_kernel.proofs.CountFacts.{counted_both}
+use Rattle.scrypt_kernel.proofs.CountFacts.{counted_both, counted_none}
 use Rattle.scrypt_kernel.proofs.PartFacts.{length-part}
 use Rattle.scrypt_kernel.proofs.OrderFacts.{standard_of}
 use Rattle.scrypt_kernel.proofs.RoMixFacts.{HoldsRows, length-mixed_in, length-part_of_row, next_step_in, part_of_row, place_inside, row_after_in}
@@ -89,26 +88,6 @@ some_missing (suc s) j missing = omega arith
 pub missing_rows : (s j i : ℕ) → s ≤ 56 → j ≡ i → j % (1 * 2 ^ s % 2 ^ 64) ≡ i % 2 ^ s
 missing_rows s j i small is = ap (λ n. j % n) (one_shl s 64 (omega arith)) ∙ ap (λ j. j % 2 ^ s) is
 
--- the step after one of chunk k, from the X in x to the one in y
-pub next_step : (p q : List ℕ) → AreInverse p q → {n s log_n t a c d : ℕ} {kept : List ℕ} → AreWalkLens n s log_n t a c d (length kept)
-    → (x y : List ℕ) (k : ℕ) → k < n → length x ≡ n * s → part s y k ≡ x_after p q n k s log_n t kept (part s x k)
-    → (b : List ℕ) (i : ℕ) → KeepsRows p b n k s t (2 ^ log_n) kept → part s x k ≡ permuted p (walk b log_n i)
-    → part s y k ≡ permuted p (walk b log_n (i + 1))
-next_step p q inverse {n} {s} {log_n} {t} {kept = kept} lens x y k below size stepped b i keeps is =
-    let j : ℕ = integerify (permuted q (part s x k)) % 2 ^ log_n in
-    let step : ℕ = 2 ^ t in
-    let inside : j < 2 ^ log_n = mod_below _ (2 ^ log_n) (pow_pos log_n) in
-    let at : ℕ = place n (j / step) k in
-    let low : List ℕ = part s kept at in
-    let long = length-part s at kept (kept_place n s t log_n j k _ lens.most inside below lens.rows) in
-    let kept_row : j / step * step < 2 ^ log_n = omega (arith, div-mul-le_self j step, inside) in
-    let there : j / step * step + j % step ≡ j = omega arith in
-    let x_long = length-part_of_row n s k x below size in
-    let same = length-mixed_in p q low (j % step) (omega (arith, long, lens.row.some)) (omega (arith, long, lens.row.whole)) in
-    let taken = row_after_in p q inverse b low (j / step * step) (j % step) (omega (arith, long, lens.row.whole)) (keeps.each (j / step) kept_row) in
-    stepped ∙ next_step_in p q inverse b log_n i (part s x k) _ j (omega (arith, x_long, lens.row.whole)) (same ∙ long ∙ sym x_long) is refl
-    (taken ∙ ap (λ i. permuted p (row b i)) there)
-
 -- X after step 2 is that before the walk
 pub starts_walk : {p q : List ℕ} {n s log_n t : ℕ} {x kept last : List ℕ} → IsFilled p q n s log_n t x kept last → (k : ℕ) → k < n
     → IsInWalk p (permuted q (part s x k)) n k s log_n t 0 kept last
@@ -125,24 +104,56 @@ extra_rows-more : (b : List ℕ) (log_n s k : ℕ)
 unfolding extra_rows
 extra_rows-more b log_n s k = rw add-one refl
 
--- the cores of one more step, from x, which has a part for each chunk
-pub one_more_counted : (p q : List ℕ) → AreInverse p q → (b x : List ℕ) (n s log_n t i : ℕ) {simd : Bool} {begin before after : CoreCount}
-    → 0 < n → length x ≡ n * s → s % 32 ≡ 0
-    → AreCountedAs simd (steps_cost b n s log_n t i) begin before → part s x 0 ≡ permuted p (walk b log_n i)
+-- one step, from the X in x to the one in y
+pub one_step : (p q : List ℕ) → AreInverse p q → {n s log_n t a c d : ℕ} {kept : List ℕ} → AreWalkLens n s log_n t a c d (length kept)
+    → {simd : Bool} {before after : CoreCount} (x y : List ℕ) → length x ≡ n * s
+    → ((k : ℕ) → k < n → part s y k ≡ x_after p q n k s log_n t kept (part s x k))
     → AreCountedAs simd ((recomputed_rows t (integerify (permuted q (part s x 0)) % 2 ^ log_n) + 1) * (n * (2 * (s / 32)))) before after
-    → AreCountedAs simd (steps_cost b n s log_n t (i + 1)) begin after
-one_more_counted p q inverse b x n s log_n t i some long whole until is counted =
-    let size = length-part_of_row n s 0 x some long in
-    let standard = standard_of p q inverse (part s x 0) (walk b log_n i) (omega (arith, size, whole)) is in
-    counted_both _ until (rw standard at counted) (rw (extra_rows-more b log_n t i) (omega arith))
+    → AfterSteps p n s log_n t simd kept 1 x before y after
+one_step p q inverse {n} {s} {log_n} {t} {kept = kept} lens x y size stepped counted = record {
+  walked = λ k below b i at.
+      let j : ℕ = integerify (permuted q (part s x k)) % 2 ^ log_n in
+      let step : ℕ = 2 ^ t in
+      let inside : j < 2 ^ log_n = mod_below _ (2 ^ log_n) (pow_pos log_n) in
+      let low : List ℕ = part s kept (place n (j / step) k) in
+      let long = length-part s (place n (j / step) k) kept (kept_place n s t log_n j k _ lens.most inside below lens.rows) in
+      let kept_row : j / step * step < 2 ^ log_n = omega (arith, div-mul-le_self j step, inside) in
+      let there : j / step * step + j % step ≡ j = omega arith in
+      let x_long = length-part_of_row n s k x below size in
+      let same = length-mixed_in p q low (j % step) (omega (arith, long, lens.row.some)) (omega (arith, long, lens.row.whole)) in
+      let taken = row_after_in p q inverse b low (j / step * step) (j % step) (omega (arith, long, lens.row.whole)) (at.rows.each (j / step) kept_row) in
+      record {
+        rows = at.rows;
+        walked = stepped k below
+            ∙ next_step_in p q inverse b log_n i (part s x k) _ j (omega (arith, x_long, lens.row.whole)) (same ∙ long ∙ sym x_long) at.walked refl
+            (taken ∙ ap (λ i. permuted p (row b i)) there);
+      };
+  counted = λ b i begin at until.
+      let x_long = length-part_of_row n s 0 x lens.some size in
+      let standard = standard_of p q inverse (part s x 0) (walk b log_n i) (omega (arith, x_long, lens.row.whole)) at.walked in
+      counted_both _ until (rw standard at counted) (rw (extra_rows-more b log_n t i) (omega arith));
+  whole = λ every. let none : integerify (permuted q (part s x 0)) % 2 ^ log_n % 2 ^ t ≡ 0 = rw every (omega arith) in rw none at counted;
+}
 
--- the same with a table that keeps every row
-pub one_more_whole : {simd : Bool} {begin before after : CoreCount} (t c m i j : ℕ) → t ≡ 0
-    → AreCountedAs simd (i * c) begin before → AreCountedAs simd ((recomputed_rows t m + 1) * c) before after
-    → i + 1 ≡ j → AreCountedAs simd (j * c) begin after
-one_more_whole t c m i j kept until counted next =
-    let none : m % 2 ^ t ≡ 0 = rw kept (omega arith) in
-    rw (← next) (counted_both _ until (rw none at counted) (omega arith))
+-- no step
+pub no_step : {p : List ℕ} {n s log_n t : ℕ} {simd : Bool} {kept x : List ℕ} {cores : CoreCount} (count : ℕ) → count ≡ 0
+    → AfterSteps p n s log_n t simd kept count x cores x cores
+no_step count none = rw none (record {
+  walked = λ k below b i at. rw add-zero at;
+  counted = λ b i begin at until. rw add-zero until;
+  whole = λ every. counted_none _ _ _ (omega arith);
+})
+
+-- and more steps after some
+pub more_steps : {p : List ℕ} {n s log_n t m l : ℕ} {simd : Bool} {kept x y z : List ℕ} {a b c : CoreCount} → 0 < n
+    → AfterSteps p n s log_n t simd kept m x a y b → AfterSteps p n s log_n t simd kept l y b z c
+    → (count : ℕ) → count ≡ m + l → AfterSteps p n s log_n t simd kept count x a z c
+more_steps {m = m} {l} some one two count sum = rw sum (record {
+  walked = λ k below b i at. rw (← add_assoc i m l) (two.walked k below b (i + m) (one.walked k below b i at));
+  counted = λ b i begin at until.
+      rw (← add_assoc i m l) (two.counted b (i + m) begin (one.walked 0 some b i at) (one.counted b i begin at until));
+  whole = λ every. counted_both _ (one.whole every) (two.whole every) (omega arith);
+})
 
 -- the cores of the fill and of the walk
 pub filled_and_walked : {simd : Bool} {before filled after : CoreCount} (b : List ℕ) (n s log_n t r : ℕ) → s / 32 ≡ r

@@ -1,6 +1,8 @@
 -- The rows that a table keeps, and the walk over them.
-use Rattle.std.specs.Prelude.{◌≡◌, ℕ, ◌+◌, ◌-◌, ◌*◌, ◌/◌, ◌%◌, ◌^◌, ◌<◌, ◌≤◌, List, length}
+use Rattle.std.specs.Prelude.{◌≡◌, ℕ, ◌+◌, ◌-◌, ◌*◌, ◌/◌, ◌%◌, ◌^◌, ◌<◌, ◌≤◌, Bool, List, length}
+use Rattle.scrypt_kernel.specs.declared.cores.count.CoreCount.{CoreCount}
 use Rattle.scrypt_kernel.specs.Words.{part, xor_words}
+use Rattle.scrypt_kernel.specs.Count.{AreCountedAs}
 use Rattle.scrypt_kernel.specs.BlockMix.{block_mix}
 use Rattle.scrypt_kernel.specs.RoMix.{integerify, row, walk}
 use Rattle.scrypt_kernel.specs.Diagonal.{permuted}
@@ -72,3 +74,14 @@ x_after p q n k part_len log_n spacing kept x =
 -- recomputed
 abbrev pub steps_cost : List ℕ → ℕ → ℕ → ℕ → ℕ → ℕ → ℕ
 steps_cost b n part_len log_n spacing i = (i + extra_rows b log_n spacing i) * (n * (2 * (part_len / 32)))
+
+-- After `count` steps of the walk X is `to`, where it was `from`. The cores are those of the steps
+-- and of the rows that were recomputed, which at spacing 0 are none.
+pub record AfterSteps (p : List ℕ) (n part_len log_n spacing : ℕ) (simd : Bool) (kept : List ℕ) (count : ℕ)
+    (from : List ℕ) (before : CoreCount) (to : List ℕ) (after : CoreCount) : Type 0 where
+  pub walked : (k : ℕ) → k < n → (b : List ℕ) → (i : ℕ) → IsInWalk p b n k part_len log_n spacing i kept from
+      → IsInWalk p b n k part_len log_n spacing (i + count) kept to
+  pub counted : (b : List ℕ) → (i : ℕ) → (begin : CoreCount) → IsInWalk p b n 0 part_len log_n spacing i kept from
+      → AreCountedAs simd (steps_cost b n part_len log_n spacing i) begin before
+      → AreCountedAs simd (steps_cost b n part_len log_n spacing (i + count)) begin after
+  pub whole : spacing ≡ 0 → AreCountedAs simd (count * (n * (2 * (part_len / 32)))) before after

@@ -7,8 +7,7 @@ ghost use Rattle.scrypt_kernel.specs.RoMix.{ro_mix};
 ghost use Rattle.scrypt_kernel.specs.Diagonal.{permuted};
 ghost use Rattle.scrypt_kernel.specs.KeptRows.{AreWalkLens};
 ghost use Rattle.scrypt_kernel.specs.Table.{thin_ro_mix_cost};
-ghost use Rattle.scrypt_kernel.specs.RoMixCost.{AreBytesOfB, AreRoMixLens, AreThinLens, ro_mix_cost};
-ghost use Rattle.scrypt_kernel.specs.RoMixCost.{scratch_words, table_words, thin_scratch_words};
+ghost use Rattle.scrypt_kernel.specs.RoMixCost.{AreBytesOfB, AreRoMixLens, AreThinLens, ro_mix_cost, scratch_words, table_words, thin_scratch_words};
 
 use crate::CoreCount;
 use crate::memory::{Buffer, TableMemory};

@@ -78,46 +78,16 @@ pub fn step_chunks<O: OrderedBlocks>(
     let (x, rest) = scratch.split_at_mut(n * len);
     let next = &mut rest[..n * len];
     let table = &mut table[..n * len * rows];
-    let at = fill_rows::<O>(table, len, log_n, done, end, x, cores);
-    let at = mix_last::<O>(table, len, log_n, at, end, x, next, cores);
+    let at = fill_on::<O>(table, len, log_n, done, end, x, next, cores);
     walk_on::<O>(table, len, log_n, at, end, x, next, cores);
     end
 }
 
-// Step 2 from mix `done` on, up to `end`, but not the last one. Returns how many are done then.
+// Step 2 from mix `done` on, up to `end`. The last mix puts X into `x`. Returns how many mixes are
+// done then.
 #[inline(always)]
-fn fill_rows<O: OrderedBlocks>(
+fn fill_on<O: OrderedBlocks>(
     table: &mut [u32],
-    len: usize,
-    log_n: u8,
-    done: usize,
-    end: usize,
-    x: &[u32],
-    cores: &mut CoreCount,
-) -> usize
-    requires row { IsRowLen len }
-    requires small { log_n ≤ 56 }
-    requires order { done ≤ end }
-    requires chunks { length x.now ≡ O.count * len }
-    requires table { length table.old ≡ 2 ^ log_n * (O.count * len) }
-    ensures done { result ≡ max done (min end (2 ^ log_n - 1)) }
-    ensures mixed { (b : ℕ → List ℕ) → IsMixing O.pivot O.count b len log_n done table.old x.now
-        → IsMixing O.pivot O.count b len log_n result table.new x.now }
-    ensures counted { AreCountedAs O.simd ((result - done) * (O.count * (2 * (len / 32)))) cores.old cores.new }
-{
-    let row_len = x.len();
-    let to = done.max(end.min((1usize << log_n) - 1));
-    'rows: for m in done..to {
-        mix_next::<O>(table, (m + 1) * row_len, row_len, m, len, cores);
-    }
-    to
-}
-
-// Does the last mix of step 2, if it is the next mix and before `end`: X is in `x` then.
-// Returns how many mixes are done then.
-#[inline(always)]
-fn mix_last<O: OrderedBlocks>(
-    table: &[u32],
     len: usize,
     log_n: u8,
     done: usize,
@@ -126,26 +96,23 @@ fn mix_last<O: OrderedBlocks>(
     next: &mut [u32],
     cores: &mut CoreCount,
 ) -> usize
-    requires row { IsRowLen len }
-    requires small { log_n ≤ 56 }
+    requires lens { AreWalkLens O.count len log_n 0 (length x.old) (length next.old) 0 (length table.old) }
     requires order { done ≤ end }
-    requires filled { done < 2 ^ log_n - 1 → done ≡ end }
-    requires chunks { length x.old ≡ O.count * len }
-    requires scratch { length next.old ≡ length x.old }
-    requires table { length table.now ≡ 2 ^ log_n * (O.count * len) }
-    ensures order { done ≤ result }
-    ensures within { result ≤ end }
-    ensures filled { result < end → 2 ^ log_n ≤ result }
-    ensures mixed { (b : ℕ → List ℕ) → IsMixing O.pivot O.count b len log_n done table.now x.old
-        → IsMixing O.pivot O.count b len log_n result table.now x.new }
+    ensures done { result ≡ max done (min end (2 ^ log_n)) }
+    ensures mixed { (b : ℕ → List ℕ) → IsMixing O.pivot O.count b len log_n done table.old x.old
+        → IsMixing O.pivot O.count b len log_n result table.new x.new }
     ensures counted { AreCountedAs O.simd ((result - done) * (O.count * (2 * (len / 32)))) cores.old cores.new }
 {
-    let last = (1usize << log_n) - 1;
-    if done != last || end == last {
-        return done;
+    let row_len = x.len();
+    let to = done.max(end.min(1usize << log_n));
+    'mixes: for m in done..to {
+        if m + 1 < 1usize << log_n {
+            mix_next::<O>(table, (m + 1) * row_len, row_len, m, len, cores);
+        } else {
+            recompute::<O>(part(row_len, table, m), len, 1, x, next, cores);
+        }
     }
-    recompute::<O>(part(x.len(), table, last), len, 1, x, next, cores);
-    done + 1
+    to
 }
 
 // Step 3 from mix `done` on, up to `end`.
@@ -160,14 +127,9 @@ fn walk_on<O: OrderedBlocks>(
     next: &mut [u32],
     cores: &mut CoreCount,
 )
-    requires some { 0 < O.count }
-    requires row { IsRowLen len }
-    requires small { log_n ≤ 56 }
+    requires lens { AreWalkLens O.count len log_n 0 (length x.old) (length next.old) 0 (length table.now) }
     requires order { done ≤ end }
     requires filled { done < end → 2 ^ log_n ≤ done }
-    requires chunks { length x.old ≡ O.count * len }
-    requires scratch { length next.old ≡ length x.old }
-    requires table { length table.now ≡ 2 ^ log_n * (O.count * len) }
     ensures mixed { (b : ℕ → List ℕ) → IsMixing O.pivot O.count b len log_n done table.now x.old
         → IsMixing O.pivot O.count b len log_n end table.now x.new }
     ensures counted { AreCountedAs O.simd ((end - done) * (O.count * (2 * (len / 32)))) cores.old cores.new }

@@ -6,7 +6,7 @@
 ghost use Rattle.std.specs.Prelude.{◌≡◌, ℕ, ◌+◌, ◌-◌, ◌*◌, ◌/◌, ◌%◌, ◌^◌, ◌<◌, ◌≤◌, length};
 ghost use Rattle.scrypt_kernel.specs.Words.{part};
 ghost use Rattle.scrypt_kernel.specs.Count.{AreCountedAs};
-ghost use Rattle.scrypt_kernel.specs.KeptRows.{AddsRow, IsFilled, IsRowLen, mixed_in};
+ghost use Rattle.scrypt_kernel.specs.KeptRows.{AddsRow, AreWalkLens, IsFilled, IsRowLen, mixed_in};
 
 use crate::CoreCount;
 use crate::block_mix::mix;
@@ -27,11 +27,7 @@ pub(crate) fn fill<O: OrderedBlocks, M: TableMemory>(
     s: u8,
     cores: &mut CoreCount,
 )
-    requires row { IsRowLen len }
-    requires chunks { length x.old ≡ O.count * len }
-    requires scratch { length next.old ≡ length x.old }
-    requires small { log_n ≤ 56 }
-    requires spacing { s ≤ log_n }
+    requires lens { (spare_len : ℕ) × AreWalkLens O.count len log_n s (length x.old) (length next.old) spare_len (2 ^ (log_n - s) * (O.count * len)) }
     requires room { 2 ^ (log_n - s) * (O.count * len) ≤ M.room rows.old }
     ensures room { M.room rows.old ≤ M.room rows.new }
     ensures filled { IsFilled O.pivot O.inverse_pivot O.count len log_n s x.old (M.words rows.new) x.new }

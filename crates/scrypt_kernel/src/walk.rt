@@ -3,11 +3,10 @@
 ghost use Rattle.std.specs.Prelude.{◌≡◌, ℕ, ◌+◌, ◌-◌, ◌*◌, ◌/◌, ◌%◌, ◌^◌, ◌<◌, ◌≤◌, List, length, slice_index};
 ghost use Rattle.scrypt_kernel.specs.Words.{part};
 ghost use Rattle.scrypt_kernel.specs.Count.{AreCountedAs};
-ghost use Rattle.scrypt_kernel.specs.declared.cores.count.CoreCount.{CoreCount};
 ghost use Rattle.scrypt_kernel.specs.Diagonal.{permuted};
-ghost use Rattle.scrypt_kernel.specs.RoMix.{integerify, walk};
+ghost use Rattle.scrypt_kernel.specs.RoMix.{integerify};
 ghost use Rattle.scrypt_kernel.specs.Table.{recomputed_rows};
-ghost use Rattle.scrypt_kernel.specs.KeptRows.{AreWalkLens, IsInWalk, IsRowLen, mix_of, mixed_in, place, steps_cost, x_after};
+ghost use Rattle.scrypt_kernel.specs.KeptRows.{AfterSteps, AreWalkLens, IsRowLen, mix_of, mixed_in, place, x_after};
 
 use crate::CoreCount;
 use crate::block_mix::{Xor, mix};
@@ -35,12 +34,7 @@ pub(crate) fn take_steps<O: OrderedBlocks>(
     cores: &mut CoreCount,
 )
     requires lens { AreWalkLens O.count len log_n s (length x.old) (length next.old) (length spare.old) (length v.now) }
-    ensures walked { (k : ℕ) → k < O.count → (b : List ℕ) → (i : ℕ) → IsInWalk O.pivot b O.count k len log_n s i v.now x.old
-        → part len x.new k ≡ permuted O.pivot (walk b log_n (i + count)) }
-    ensures counted { (b : List ℕ) → (i : ℕ) → (begin : CoreCount) → IsInWalk O.pivot b O.count 0 len log_n s i v.now x.old
-        → AreCountedAs O.simd (steps_cost b O.count len log_n s i) begin cores.old
-        → AreCountedAs O.simd (steps_cost b O.count len log_n s (i + count)) begin cores.new }
-    ensures whole { s ≡ 0 → AreCountedAs O.simd (count * (O.count * (2 * (len / 32)))) cores.old cores.new }
+    ensures steps { AfterSteps O.pivot O.count len log_n s O.simd v.now count x.old cores.old x.new cores.new }
 {
     'pairs: for _k in 0..count / 2 {
         step::<O>(x, v, next, spare, len, log_n, s, cores);
@@ -128,12 +122,7 @@ fn take_rows<O: OrderedBlocks>(
     log_n: u8,
     s: u8,
 ) -> ([usize; 4], [usize; 4])
-    requires row { IsRowLen len }
-    requires small { log_n ≤ 56 }
-    requires spacing { s ≤ log_n }
-    requires chunks { length x.now ≡ O.count * len }
-    requires scratch { length next.old ≡ length x.now }
-    requires rows { length v.now ≡ 2 ^ (log_n - s) * (O.count * len) }
+    requires lens { (spare_len : ℕ) × AreWalkLens O.count len log_n s (length x.now) (length next.old) spare_len (length v.now) }
     ensures numbers { (k : ℕ) → k < O.count → slice_index result.0 k
         ≡ integerify (permuted O.inverse_pivot (part len x.now k)) % 2 ^ log_n }
     ensures starts { (k : ℕ) → k < O.count → slice_index result.1 k

@@ -11,7 +11,7 @@ pub rows-init : goal.rows-init
 rows-init g c = record {
   room = omega (arith, c.clear.ensures.room, c.append.ensures.room);
   held = first_row g.O.OrderedBlocks.pivot g.O.OrderedBlocks.inverse_pivot g.met.O.OrderedBlocks.inverse g.O.OrderedBlocks.count c.args.len (2 ^ c.args.s) c.args.x.now _ _
-      c.requires.chunks c.requires.row.whole c.clear.ensures.words c.append.ensures.words;
+      c.requires.lens.1.chunks c.requires.lens.1.row.whole c.clear.ensures.words c.append.ensures.words;
   counted = counted_none _ _ _ (omega arith);
 }
 
@@ -23,31 +23,31 @@ append-requires g c =
       mul-le-mul_right (g.O.OrderedBlocks.count * c.args.len) one,
       c.requires.room,
       c.clear.ensures.room,
-      c.requires.chunks,
+      c.requires.lens.1.chunks,
     ))
 
 pub rows-preserved : goal.rows-preserved
 rows-preserved g c = record {
   room = omega (arith, c.rows.invariant.room, c.append_next.ensures.room);
   held = more_rows g.O.OrderedBlocks.pivot g.O.OrderedBlocks.inverse_pivot g.met.O.OrderedBlocks.inverse g.O.OrderedBlocks.count c.args.len (2 ^ c.args.s) c.rows.m _ _ _
-      c.requires.row.whole c.rows.invariant.held c.append_next.ensures.words;
+      c.requires.lens.1.row.whole c.rows.invariant.held c.append_next.ensures.words;
   counted = counted_both _ c.rows.invariant.counted c.append_next.ensures.counted (omega arith);
 }
 
 pub returns-clause-filled : goal.returns-clause-filled
 returns-clause-filled g c =
     let last : 1 * 2 ^ (c.args.log_n - c.args.s) % 2 ^ 64 - 1 ≡ c.rows.m = omega arith in
-    let long : length c.rows.x ≡ g.O.OrderedBlocks.count * c.args.len = omega (arith, c.rows.auto.x, c.requires.chunks) in
+    let long : length c.rows.x ≡ g.O.OrderedBlocks.count * c.args.len = omega (arith, c.rows.auto.x, c.requires.lens.1.chunks) in
     filled g.O.OrderedBlocks.pivot g.O.OrderedBlocks.inverse_pivot g.met.O.OrderedBlocks.inverse g.O.OrderedBlocks.count c.args.len c.args.log_n c.args.s c.rows.m
-    c.args.x.now (g.M.TableMemory.words c.rows.rows) c.part.result.now _ c.requires.small c.requires.spacing (sym last) c.requires.row.whole
+    c.args.x.now (g.M.TableMemory.words c.rows.rows) c.part.result.now _ c.requires.lens.1.small c.requires.lens.1.most (sym last) c.requires.lens.1.row.whole
     c.rows.invariant.held (rw (c.words.ensures.value, long, last) at c.part.ensures.value)
     (rw (one_shl c.args.s 64 (omega arith)) at c.recompute.ensures.value)
 
 pub returns-clause-counted : goal.returns-clause-counted
 returns-clause-counted g c =
     let last : 1 * 2 ^ (c.args.log_n - c.args.s) % 2 ^ 64 - 1 ≡ c.rows.m = omega arith in
-    let kept = kept_rows c.args.log_n c.args.s c.rows.m c.requires.small (sym last) in
-    let all = all_rows _ _ _ c.requires.spacing kept in
+    let kept = kept_rows c.args.log_n c.args.s c.rows.m c.requires.lens.1.small (sym last) in
+    let all = all_rows _ _ _ c.requires.lens.1.most kept in
     counted_both _ c.rows.invariant.counted (rw (one_shl c.args.s 64 (omega arith)) at c.recompute.ensures.counted)
     (rw (← all) (omega arith))
 

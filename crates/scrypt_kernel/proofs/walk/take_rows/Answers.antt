@@ -14,23 +14,23 @@ number_inside a len total some inside = let one : 1 ≤ len = some in omega (ari
 
 pub overflow_mul-at : goal.overflow_mul-at
 overflow_mul-at g c =
-    let room = kept_place _ _ _ _ _ c.chunks.k _ c.requires.spacing c.integerify-j.ensures.inside (omega (arith, c.count-n.ensures.value)) c.requires.rows in
-    rw c.count-n.ensures.value (omega (arith, number_inside _ _ _ c.requires.row.some room))
+    let room = kept_place _ _ _ _ _ c.chunks.k _ c.requires.lens.1.most c.integerify-j.ensures.inside (omega (arith, c.count-n.ensures.value)) c.requires.lens.1.rows in
+    rw c.count-n.ensures.value (omega (arith, number_inside _ _ _ c.requires.lens.1.row.some room))
 
 pub overflow_add-at : goal.overflow_add-at
 overflow_add-at g c =
-    let room = kept_place _ _ _ _ _ c.chunks.k _ c.requires.spacing c.integerify-j.ensures.inside (omega (arith, c.count-n.ensures.value)) c.requires.rows in
-    rw c.count-n.ensures.value (omega (arith, number_inside _ _ _ c.requires.row.some room))
+    let room = kept_place _ _ _ _ _ c.chunks.k _ c.requires.lens.1.most c.integerify-j.ensures.inside (omega (arith, c.count-n.ensures.value)) c.requires.lens.1.rows in
+    rw c.count-n.ensures.value (omega (arith, number_inside _ _ _ c.requires.lens.1.row.some room))
 
 pub overflow_mul-starts : goal.overflow_mul-starts
 overflow_mul-starts g c =
-    let room = kept_place _ _ _ _ _ c.chunks.k _ c.requires.spacing c.integerify-j.ensures.inside (omega (arith, c.count-n.ensures.value)) c.requires.rows in
+    let room = kept_place _ _ _ _ _ c.chunks.k _ c.requires.lens.1.most c.integerify-j.ensures.inside (omega (arith, c.count-n.ensures.value)) c.requires.lens.1.rows in
     rw c.count-n.ensures.value (omega (arith, room))
 
 pub part-requires-in-chunks : goal.part-requires-in-chunks
 part-requires-in-chunks g c =
-    rw c.count-n.ensures.value (kept_place _ _ _ _ _ c.chunks.k _ c.requires.spacing c.integerify-j.ensures.inside
-    (omega (arith, c.count-n.ensures.value)) c.requires.rows)
+    rw c.count-n.ensures.value (kept_place _ _ _ _ _ c.chunks.k _ c.requires.lens.1.most c.integerify-j.ensures.inside
+    (omega (arith, c.count-n.ensures.value)) c.requires.lens.1.rows)
 
 pub chunks-preserved : goal.chunks-preserved
 chunks-preserved g c =

@@ -1,13 +1,13 @@
 use Rattle.std.proofs.Common.{ℕ, List, ◌-◌, ◌*◌, ◌/◌}
 use Rattle.scrypt_kernel.specs.Count.{AreCountedAs}
 use Rattle.scrypt_kernel.specs.Steps.{IsMixing}
-use Rattle.scrypt_kernel.proofs.steps.fill_rows.Given as goal
+use Rattle.scrypt_kernel.proofs.steps.fill_on.Given as goal
 
-abbrev pub invariant-rows : goal.invariant-rows
-invariant-rows g l =
+abbrev pub invariant-mixes : goal.invariant-mixes
+invariant-mixes g l =
     let o = g.O.OrderedBlocks in
     record {
-      mixed : (b : ℕ → List ℕ) → IsMixing o.pivot o.count b l.len l.log_n l.done l.initial.table l.x
+      mixed : (b : ℕ → List ℕ) → IsMixing o.pivot o.count b l.len l.log_n l.done l.initial.table l.initial.x
           → IsMixing o.pivot o.count b l.len l.log_n l.m l.table l.x;
       counted : AreCountedAs o.simd ((l.m - l.done) * (o.count * (2 * (l.len / 32)))) l.initial.cores l.cores;
     }
