@@ -12,7 +12,7 @@ rejected.
 
 import sys
 
-I32, I64, F32, F64, V128 = 0x7F, 0x7E, 0x7D, 0x7C, 0x7B
+I32, I64, V128 = 0x7F, 0x7E, 0x7B
 SIZE = "a number of bytes"  # an i64, whose high half is cut off too
 WRAP = b"\xa7"  # i32.wrap_i64
 SET, GET = 0x21, 0x20  # a local
@@ -28,13 +28,13 @@ def simd(*codes):
 
 # The operands above the address, for instructions that access the memory.
 COPY, FILL = bulk(10), bulk(11)
-LANES = simd(*range(84, 92))
+LANES = simd(*range(84, 88))
 ACCESSES = {
-    **dict.fromkeys([*range(0x28, 0x36), *simd(*range(11), 92, 93)], ()),
+    **dict.fromkeys([0x28, 0x29, *range(0x2C, 0x36), *simd(0, 92, 93)], ()),
     **dict.fromkeys([0x36, 0x3A, 0x3B], (I32,)),
     **dict.fromkeys([0x37, 0x3C, 0x3D, 0x3E], (I64,)),
-    **{0x38: (F32,), 0x39: (F64,), COPY: (SIZE, SIZE), FILL: (I32, SIZE)},
     **dict.fromkeys([*simd(11), *LANES], (V128,)),
+    **{COPY: (SIZE, SIZE), FILL: (I32, SIZE)},
 }
 
 # The others: how many numbers follow them, or how many bytes. After br_table there is one number more than its first one.
@@ -157,8 +157,8 @@ def lowered(body, params):
     """A function with this number of parameters."""
     it = Reader(body)
     own = [(it.number(), it.byte()) for _ in range(it.number())]
-    if not {kind for _, kind in own} <= {I32, I64, F32, F64, V128}:
-        raise Unknown("a local that is not a number")
+    if not {kind for _, kind in own} <= {I32, I64, V128}:
+        raise Unknown("a local that is neither an integer nor a vector")
     made = Function(params + sum(count for count, _ in own))
     while it.more():
         made.add(it)

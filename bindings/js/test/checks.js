@@ -6,8 +6,7 @@ import { workerChecks } from './worker_checks.js';
 
 const { RefusedHashError } = workers;
 
-// A view of a buffer that has shrunk or, like all in old engines, was detached: its password would
-// be empty.
+// A view of a buffer that has shrunk, or was detached: its password would be empty.
 function gone(isShrunk) {
   const buffer = new ArrayBuffer(8, { maxByteLength: 8 });
   const it = new Uint8Array(buffer, 0, 8);
@@ -49,22 +48,15 @@ const REFUSED = [
   ['INVALID_TYPE', 'scrypt', 'secret', ''], ['INVALID_TYPE', 'scrypt', undefined, '', OF],
   ['INVALID_TYPE', 'hash', null], ['INVALID_TYPE', 'hash', 'secret', { format: 'bcrypt' }],
   ['INVALID_TYPE', 'hash', 'secret', { ...OF, salt: 5 }],
-  ['INVALID_PARAMS', 'verify', '', '$7$', { N: 3 }], ['INVALID_PARAMS', 'needsRehash', '$7$', { N: 3 }],
-  ['INVALID_PARAMS', 'hash', 'secret', { ...OF, dkLen: 9 }],
-  ['INVALID_OUTPUT_LEN', 'scrypt', 'secret', '', { ...OF, dkLen: 0 }],
-  ['SALT_INVALID', 'hash', 'secret', { ...OF, salt: new Uint8Array(65) }],
-  ['SALT_INVALID', 'hash', 'secret', { ...OF, salt: '' }],
+  ['INVALID_PARAMS', 'verify', '', '$7$', { N: 3 }], ['INVALID_PARAMS', 'needsRehash', '', { N: 3 }],
+  ['INVALID_PARAMS', 'hash', '', { dkLen: 9 }], ['INVALID_OUTPUT_LEN', 'scrypt', '', '', { ...OF, dkLen: 0 }],
+  ['SALT_INVALID', 'hash', '', { salt: new Uint8Array(65) }], ['SALT_INVALID', 'hash', '', { salt: '' }],
   ['ENCODING_INVALID', 'verify', 'secret', Uint8Array.of(0xff, 0xfe)],
-  ['TOO_COSTLY', 'scrypt', 'secret', '', { N: 2 ** 21, r: 8, p: 1 }],
-  ['TOO_COSTLY', 'scrypt', 'secret', '', { ...OF, maxwork: 1 }],
+  ['TOO_COSTLY', 'scrypt', '', '', { N: 2 ** 21, r: 8, p: 1 }],
+  ['TOO_COSTLY', 'scrypt', '', '', { ...OF, maxwork: 1 }],
   ['OUT_OF_MEMORY', 'scrypt', 'secret', '', { N: 2 ** 30, r: 8, p: 1, maxmem: 2 ** 45 }],
 ];
 
-// Of `pässword` and a salt of `saltsalt`, by node:crypto.
-const HASHES = {
-  phc: '$scrypt$ln=5,r=3,p=5$c2FsdHNhbHQ$8K5X034OoVRtpY/RqyQEOcDGVeo',
-  mcf: '$7$31....3....n34PoBLMgF5$QnpiCV/N/YkuXdK2DpZJBKMqgxB',
-};
 // Above the default limits, but fast.
 const COSTLY = `$scrypt$ln=4,r=8,p=11000$AAAAAAAA$${'A'.repeat(43)}`;
 
@@ -81,14 +73,17 @@ const OF_EACH = {
   },
   hashes: async (api) => {
     const of = { N: 32, r: 3, p: 5, dkLen: 20 };
-    for (const [format, text] of Object.entries(HASHES)) {
+    for (const [format, text] of [ // by node:crypto
+      ['phc', '$scrypt$ln=5,r=3,p=5$c2FsdHNhbHQ$8K5X034OoVRtpY/RqyQEOcDGVeo'],
+      ['mcf', '$7$31....3....n34PoBLMgF5$QnpiCV/N/YkuXdK2DpZJBKMqgxB'],
+    ]) {
       equal(await api.hash('pässword', { ...of, salt: 'saltsalt', format }), text);
       equal(await api.verify('pässword', text), true, text);
       equal(await api.verify('password', text), false, text);
       equal(JSON.stringify(await api.params(text)), JSON.stringify(of));
       equal(await api.needsRehash(text, of), false, text);
-      for (const it of [{ N: 64 }, { r: 4 }, { p: 6 }, { dkLen: 21 }]) {
-        equal(await api.needsRehash(text, { ...of, ...it }), true, `${text} of ${Object.keys(it)}`);
+      for (const name of Object.keys(of)) {
+        equal(await api.needsRehash(text, { ...of, [name]: 2 * of[name] }), true, name);
       }
     }
     const long = await api.hash('', { ...of, salt: new Uint8Array(1000), format: 'mcf' });
@@ -100,7 +95,7 @@ const OF_EACH = {
       const text = it.replace('\\0', '\0');
       const wanted = { OK: true, MISMATCH: false }[status] ?? status;
       equal(await outcome(api.verify(password, text)), wanted, text.slice(0, 60));
-      if (wanted !== status || ['TOO_COSTLY', 'KEY_TOO_SHORT'].includes(status)) continue;
+      if (/OK|MISMATCH|TOO_/.test(status)) continue; // it can be read
       equal(await outcome(api.params(text)), status, text.slice(0, 60));
       equal(await outcome(api.needsRehash(text)), status, text.slice(0, 60));
     }
@@ -126,17 +121,14 @@ const OF_EACH = {
     for (const it of [{ maxmem, maxwork }, { maxmem: Infinity, maxwork: Infinity }]) {
       equal(await api.verify('', text, it), true, 'as much as it needs');
     }
-    const getter = new (class { get maxmem() { return 1; } })();
-    const [less, inherited] = [{ maxmem: maxmem - 1 }, Object.create({ maxmem: 1 })];
-    for (const it of [less, { maxwork: maxwork - 1 }, inherited, getter]) {
+    const inherited = Object.create({ get maxmem() { return 1; } });
+    for (const it of [{ maxmem: maxmem - 1 }, { maxwork: maxwork - 1 }, inherited]) {
       await refused('TOO_COSTLY', () => api.verify('', text, it));
     }
     const short = await api.hash('', { N: 2, dkLen: 10 });
-    const least = 'a key of 10 bytes (minKeyLength is 16)';
-    await refused('KEY_TOO_SHORT', () => api.verify('', short), least);
-    for (const it of [{ dkLen: 10 }, { minKeyLength: 10 }]) {
-      equal(await api.verify('', short, it), true, 'a short key');
-    }
+    await refused('KEY_TOO_SHORT', () => api.verify('', short), '10 bytes (minKeyLength is 16)');
+    equal(await api.verify('', short, { dkLen: 10 }), true, 'as short as new ones');
+    equal(await api.verify('', short, { minKeyLength: 10 }), true, 'long enough');
   },
   // A stranger can put a property there, which must not lift a limit.
   'properties of Object.prototype': async (api) => {
@@ -156,8 +148,7 @@ const OF_EACH = {
       const words = given.map((it) => String(Object(it) === it ? Object.entries(it) : it));
       await refused(code, () => api[name](...given), '', `${name}(${words.join('; ')})`);
     }
-    const reason = 'verify takes the password first';
-    await refused('ENCODING_INVALID', () => api.verify('$7$', 'secret'), reason);
+    await refused('ENCODING_INVALID', () => api.verify('$7$', 'secret'), 'the password first');
     equal(hex(await api.scrypt('', '', { N: 16, r: 1, p: 1, dkLen: 4 })), '77d65762', 'the next');
   },
 };
@@ -193,17 +184,13 @@ const OF_MODULE = {
     const [{ own }, it] = [await opened(module), await opened(module)];
     const key = hex(own.scrypt(...given));
     it.most = 0;
-    for (const name of ['scrypt', 'scryptAsync']) {
-      await refused('OUT_OF_MEMORY', () => it.own[name](...given));
-    }
-    // No hash takes a table, as a wrong password does.
-    for (const name of ['verify', 'verifyAsync']) {
-      await refused('OUT_OF_MEMORY', () => it.own[name]('', null));
+    for (const how of ['', 'Async']) {
+      await refused('OUT_OF_MEMORY', () => it.own[`scrypt${how}`](...given));
+      // No hash takes a table, as a wrong password does.
+      await refused('OUT_OF_MEMORY', () => it.own[`verify${how}`]('', null));
     }
     // The limits are checked before a key takes memory.
-    const long = { N: 2 ** 17, r: 8, p: 1, maxmem: 2 ** 20, dkLen: 2 ** 31 };
-    const reason = ': 134220800 bytes (maxmem is 1048576)';
-    await refused('TOO_COSTLY', () => it.own.scrypt('', '', long), reason);
+    await refused('TOO_COSTLY', () => it.own.scrypt('', '', { ...OF, maxmem: 1, dkLen: 2 ** 31 }));
     for (const most of [own.memory - 2 ** 20 + 65536, Infinity]) { // one chunk at a time, and two
       it.most = most;
       equal(hex(it.own.scrypt(...given)), key, `${most}`);

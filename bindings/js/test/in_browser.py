@@ -1,8 +1,6 @@
 #!/usr/bin/env python3
-"""Runs checks.js in a browser, with the cases that node.test.js wrote.
-
-usage: in_browser.py              in a headless Chromium
-       in_browser.py COMMAND..    as firefox-esr --headless --profile FOLDER, and the address
+"""Runs checks.js with the cases that node.test.js wrote, in a headless Chromium, or in the browser
+that a command opens, as `in_browser.py firefox-esr --headless --profile FOLDER`.
 """
 
 import functools
@@ -15,7 +13,6 @@ import threading
 from pathlib import Path
 
 TOP = Path(__file__).resolve().parents[3]
-
 # As strict as it can be for a page that uses the package.
 POLICY = "default-src 'none'; script-src 'self' 'wasm-unsafe-eval'; worker-src 'self'; connect-src 'self'"
 
@@ -24,6 +21,7 @@ class Handler(http.server.SimpleHTTPRequestHandler):
     """Serves the repository, and takes what a page posts."""
 
     said = queue.Queue()
+    log_message = lambda *_: None
 
     def do_POST(self):
         self.said.put(self.rfile.read(int(self.headers["Content-Length"])).decode())
@@ -34,8 +32,6 @@ class Handler(http.server.SimpleHTTPRequestHandler):
         self.send_header("Content-Security-Policy", POLICY)
         super().end_headers()
 
-    log_message = lambda *_: None
-
 
 def posted(page, command, seconds=240):
     """What a page of the repository posts, which the command opens, or else Chromium."""
@@ -43,12 +39,13 @@ def posted(page, command, seconds=240):
     threading.Thread(target=server.serve_forever, daemon=True).start()
     with tempfile.TemporaryDirectory(ignore_cleanup_errors=True) as profile:
         words = command or ["chromium", "--headless=new", "--no-sandbox", f"--user-data-dir={profile}"]
-        quiet = {"stdout": subprocess.DEVNULL, "stderr": subprocess.DEVNULL}
-        with subprocess.Popen([*words, f"http://127.0.0.1:{server.server_port}/{page}"], **quiet) as ran:
-            try:
-                return Handler.said.get(timeout=seconds)
-            finally:
-                ran.terminate()
+        address = f"http://127.0.0.1:{server.server_port}/{page}"
+        ran = subprocess.Popen([*words, address], stdout=subprocess.DEVNULL, stderr=subprocess.DEVNULL)
+        try:
+            return Handler.said.get(timeout=seconds)
+        finally:
+            ran.terminate()
+            ran.wait()
 
 
 if __name__ == "__main__":

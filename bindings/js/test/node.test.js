@@ -1,10 +1,9 @@
-// Runs the checks with random keys of node:crypto, which is OpenSSL's, and writes these for
+// Runs the checks with KEYS random keys of node:crypto, which is OpenSSL's, and writes these for
 // in_browser.py.
-// usage: [KEYS=10000] node --test node.test.js    with this many keys
 import { deepStrictEqual, throws } from 'node:assert';
 import { spawnSync } from 'node:child_process';
 import { randomBytes, randomInt, scryptSync } from 'node:crypto';
-import { mkdirSync, readFileSync, writeFileSync } from 'node:fs';
+import { readFileSync, writeFileSync } from 'node:fs';
 import { test } from 'node:test';
 import { ScryptError, storedText } from '../index.js';
 import { checks } from './checks.js';
@@ -24,7 +23,6 @@ function randomKey() {
 
 const keys = Array.from({ length: process.env.KEYS ?? 100 }, randomKey);
 const cases = { keys, lines: read('bindings/cases.tsv') };
-mkdirSync(at('build/wasm'), { recursive: true });
 writeFileSync(at('build/wasm/cases.json'), JSON.stringify(cases));
 for (const [name, check] of Object.entries(checks(cases))) test(name, check);
 
@@ -33,16 +31,15 @@ test('the texts of bindings/stored.tsv', () => {
     const [salt, key, N, r, p, wanted] = line.split('\t');
     const bytes = [salt, key].map((it) => Buffer.from(it, 'hex'));
     const stored = () => storedText(...bytes, { N: Number(N), r: Number(r), p: Number(p) });
-    if (!wanted) throws(stored, ScryptError, line);
-    else deepStrictEqual(stored(), wanted);
+    if (wanted) deepStrictEqual(stored(), wanted);
+    else throws(stored, ScryptError, line);
   }
 });
 
 // Programs of the command line, with a flag that no file may have; they end by themselves.
 function prints(program) {
   const text = program.replaceAll("'scrypt-proved'", `'${at('bindings/js/index.js')}'`);
-  const words = ['--input-type=module', '-e', text];
-  const { stdout, status } = spawnSync(process.execPath, words, { encoding: 'utf8' });
+  const { stdout, status } = spawnSync(process.execPath, ['--input-type=module', '-e', text]);
   return `${stdout}${status || ''}`;
 }
 

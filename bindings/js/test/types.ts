@@ -1,5 +1,4 @@
-// Compiled by tsc with `strict`, and not run: tests that the types accept correct calls, and reject
-// wrong ones.
+// Compiled and not run: the types accept correct calls, and reject wrong ones.
 import { Bytes, ErrorCode, RefusedHashError, Scrypt, ScryptError, configure, hash, isSupported, load, needsRehash, params, scrypt, storedText, verify } from 'scrypt-proved';
 
 const signal = new AbortController().signal;
@@ -25,15 +24,11 @@ export async function calls(password: Bytes): Promise<unknown> {
   }
 }
 
-// @ts-expect-error: parameters of a key are not left out
-export const noParams = () => [scrypt('', ''), scrypt('', '', { N: 2, r: 8 })];
-// @ts-expect-error: a number is not a password
-export const aNumber = () => hash(5);
-// @ts-expect-error: no such format
-export const noFormat = () => hash('', { format: 'bcrypt' });
-// @ts-expect-error: a hash has no steps
-export const noSteps = () => hash('', { onProgress: () => {} });
-// @ts-expect-error: a misspelt name
-export const misspelt = () => verify('', '', { maxMem: 5 });
-// @ts-expect-error: only this package makes these
-export const noError = () => new ScryptError('INTERNAL', '');
+export const refused = [
+  // @ts-expect-error: parameters of a key are not left out
+  () => scrypt('', '', { N: 2, r: 8 }),
+  // @ts-expect-error: a hash has no steps
+  () => hash('', { onProgress: () => {} }),
+  // @ts-expect-error: a misspelt name
+  () => verify('', '', { maxMem: 5 }),
+];
