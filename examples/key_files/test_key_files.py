@@ -83,7 +83,7 @@ class KeyFilesTest(unittest.TestCase):
     def test_files_of_age(self):
         with tempfile.TemporaryDirectory() as folder:
             source, target = Path(folder, "source"), Path(folder, "target")
-            for length in (0, 1, 65536, 65537, 200_000):
+            for length in (0, 65536, 200_000):
                 source.write_bytes(os.urandom(length))
                 words = ["age", "-p", "-o", str(target), str(source)]
                 self.assertEqual(on_terminal(words, [PASSWORD] * 2), 0)

@@ -1,5 +1,6 @@
 #!/bin/sh
-# Tests the site over build/lib, with SQLite, and with PostgreSQL in a temporary cluster.
+# Tests the site over build/lib: with SQLite behind waitress, and with PostgreSQL, in a temporary
+# cluster, behind gunicorn.
 set -eu
 unset CDPATH
 cd "$(dirname "$0")"
@@ -10,9 +11,9 @@ for module in django waitress gunicorn selenium; do
     exit
   fi
 done
-python3 -B manage.py test "$@"
+python3 -B manage.py test -k Client -k Waitress "$@"
 if command -v pg_virtualenv > /dev/null && python3 -c 'import psycopg2' 2> /dev/null; then
-  pg_virtualenv python3 -B manage.py test "$@"
+  pg_virtualenv python3 -B manage.py test -k sessions -k Gunicorn "$@"
 else
   echo "PostgreSQL is not installed (packages postgresql, python3-psycopg2): not run"
 fi
