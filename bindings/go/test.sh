@@ -6,7 +6,7 @@ cd "$(dirname "$0")/../.."
 . bindings/preset.sh
 begin_test
 has go golang-go && has "$CC" gcc || exit 0
-export GOPROXY=off GOCACHE="${GOCACHE:-$room/cache}"
+export GOPROXY=off
 quiet() { "$@" > "$room/log" 2>&1 || { cat "$room/log"; exit 1; }; }
 cp "$lib/libscrypt_c.a" "bindings/go/$bundled"
 cp "$lib/scrypt_c.h" bindings/go/
