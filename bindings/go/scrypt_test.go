@@ -112,7 +112,7 @@ func TestHashes(t *testing.T) {
 		want    string // the text, whose key is hashlib's
 	}{
 		{Options{Params: Params{5, 3, 2, 20}}, salt, "$scrypt$ln=5,r=3,p=2$c2FsdHNhbHQ$JKedy3/pPEaQ9TR4ftXUBiuxkK8"},
-		{Options{Params: Params{LogN: 4}, MCF: true}, nil, "$7$26..../....$fQQtT8CamUzif3mWSfaXAN/SUnYR6iHSdkE.XUbEX/7"},
+		{Options{Params: Params{4, 8, 1, 32}, MCF: true}, nil, "$7$26..../....$fQQtT8CamUzif3mWSfaXAN/SUnYR6iHSdkE.XUbEX/7"},
 	} {
 		hasher := newHasher(t, it.options)
 		text, err := hasher.HashWithSalt(ctx, password, it.salt)
@@ -126,8 +126,7 @@ func TestHashes(t *testing.T) {
 		other, err := hasher.Hash(ctx, nil)
 		check(t, one != other && err == nil && hasher.Verify(ctx, one, nil) == nil, one, other, err)
 		key, err := hasher.Key(ctx, password, salt, 1000)
-		params := hasher.Options().Params
-		want, _ := Key(password, salt, 1<<params.LogN, params.R, params.P, 1000)
+		want, _ := Key(password, salt, 1<<it.options.LogN, it.options.R, it.options.P, 1000)
 		check(t, string(key) == string(want), key, err)
 	}
 }
@@ -237,10 +236,10 @@ func TestKeysInSteps(t *testing.T) {
 func TestTimes(t *testing.T) {
 	ctx, cancel := context.WithTimeout(ctx, 100*time.Millisecond)
 	defer cancel()
-	begun := time.Now()
+	end, _ := ctx.Deadline()
 	key, err := KeyContext(ctx, nil, nil, 1<<20, 8, 1, 32, nil)
-	took := time.Since(begun) // 150 ms on an idle machine
-	check(t, err == context.DeadlineExceeded && key == nil && took < 600*time.Millisecond, err, took)
+	late := time.Since(end) // 50 ms on an idle machine
+	check(t, err == context.DeadlineExceeded && key == nil && late < 500*time.Millisecond, err, late)
 	found, err := Calibrate(50*time.Millisecond, 32<<20)
 	check(t, err == nil && found.LogN >= 10 && found.LogN <= 15 && found.P >= 1 && found.KeyLen == 32, found, err)
 }
@@ -326,7 +325,7 @@ func TestStats(t *testing.T) {
 	wait(func() bool { return hasher.Stats() == Stats{Failed: 11} })
 }
 
-// A Hasher has at most MaxTables tables, and frees them at Close, or when nothing refers to it.
+// A Hasher keeps at most MaxTables tables, until Close or until nothing refers to it; KeyContext none.
 func TestMemory(t *testing.T) {
 	resident := func() (pages int) {
 		data, err := os.ReadFile("/proc/self/statm")
@@ -337,6 +336,7 @@ func TestMemory(t *testing.T) {
 		return pages * os.Getpagesize() >> 20
 	}
 	before, hashers := resident(), [2]*Hasher{}
+	_, _ = KeyContext(ctx, nil, nil, 1<<16, 8, 1, 32, nil)
 	for i := range hashers {
 		hashers[i] = newHasher(t, Options{Params: Params{LogN: 16, P: 4}, MaxTables: 1, Processors: 4})
 		_, _ = hashers[i].Hash(ctx, nil)
@@ -344,7 +344,7 @@ func TestMemory(t *testing.T) {
 	held := resident()
 	_ = hashers[0].Close()
 	closed := resident()
-	check(t, held < before+160 && closed < held-48, "2 tables of 64 MiB, and one", held-before, closed-before)
+	check(t, held < before+160 && closed < held-48, "2 tables of 64 MiB, and 1", held-before, closed-before)
 	runtime.KeepAlive(hashers)
 	wait(func() bool { runtime.GC(); return resident() < closed-48 })
 }

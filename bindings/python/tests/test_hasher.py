@@ -98,8 +98,7 @@ class Hashes(unittest.TestCase):
             self.assertEqual(params_of(text), hasher.params)
             for kind in (bytes, bytearray, memoryview, bytes.decode):
                 self.assertIs(hasher.verify(text.encode(), kind(b"pass\0word")), True)
-            for other in (b"pass", "", "Pass\0word"):
-                self.assertRaises(VerifyMismatchError, hasher.verify, text, other)
+            self.assertRaises(VerifyMismatchError, hasher.verify, text, b"pass")
             self.assertFalse(hasher.check_needs_rehash(text))
             self.assertTrue(PasswordHasher().check_needs_rehash(text))
             drawn = {hasher.hash("grün") for _ in range(20)}
@@ -109,14 +108,14 @@ class Hashes(unittest.TestCase):
 
     def test_options(self):
         """Each default is replaced by its value."""
-        usual = PasswordHasher().options
+        usual, cores = PasswordHasher().options, scrypt_c.RECOMMENDED.cores
         self.assertTrue(1 <= usual.max_tables <= 2 * usual.processors <= 2 * os.cpu_count(), usual)
         limits = scrypt_c.DEFAULT_MAX_MEM, scrypt_c.DEFAULT_MAX_WORK, scrypt_c.DEFAULT_MIN_KEY_LEN
         self.assertEqual(usual, (False, 16, *limits, usual.max_tables, usual.processors))
         given = {"mcf": True, "salt_len": 64, "max_mem": 1 << 20, "max_work": 1 << 16, "max_tables": 3}
-        named = PasswordHasher(log_n=4, key_len=10, **given).options._asdict()
-        self.assertEqual(scrypt_c.RECOMMENDED.cores, 4_194_304)
-        self.assertEqual(named, {**given, "min_key_len": 10, "processors": usual.processors})
+        named = PasswordHasher(4, key_len=10, **given).options._asdict()
+        wanted = {**given, "min_key_len": 10, "processors": usual.processors}
+        self.assertEqual((named, cores), (wanted, 4_194_304))
 
     def test_limits(self):
         """The limits on memory and work are exact, and 2^64 + 1 is not truncated to 1."""
@@ -163,7 +162,6 @@ class Hashes(unittest.TestCase):
     def test_refused(self):
         for error, words, call, arguments in REFUSED:
             for named in arguments:
-                with self.subTest(named):
-                    with self.assertRaises(error) as caught:
-                        call(**named)
-                    self.assertIn(words, str(caught.exception))
+                with self.assertRaises(error, msg=named) as caught:
+                    call(**named)
+                self.assertIn(words, str(caught.exception), named)

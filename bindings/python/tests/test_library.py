@@ -48,8 +48,8 @@ class Library(unittest.TestCase):
         """The package has the names that it exports, its version, and the types for annotations."""
         self.assertEqual([it for it in scrypt_c.__all__ if not hasattr(scrypt_c, it)], [])
         self.assertEqual(typing.get_args(scrypt_c.Password), (str, *typing.get_args(scrypt_c.Bytes)))
-        version = pathlib.Path(__file__).parents[3] / "VERSION"
-        self.assertEqual(scrypt_c.__version__, version.read_text("ascii").strip())
+        version = (pathlib.Path(__file__).parents[3] / "VERSION").read_text("ascii")
+        self.assertEqual(scrypt_c.__version__, version.strip())
 
     def test_command(self):
         """`python -m scrypt_c` prints a hash, its cost and the time to verify it, or an error."""

@@ -28,19 +28,22 @@ def busy(hasher):
         assert isinstance(running.exception(), VerifyMismatchError)
 
 
-# A program ends while daemon threads derive and wait.
+# A program forks, and ends, while daemon threads derive and wait.
 DAEMONS = """
-import scrypt_c, threading, time
+import os, scrypt_c, threading, time
 hasher = scrypt_c.PasswordHasher(log_n=12, max_tables=2)
 text = hasher.hash("pw")
 for _ in range(8):
     verify = lambda: [hasher.verify(text, "pw") for _ in iter(int, 1)]
     threading.Thread(target=verify, daemon=True).start()
 time.sleep(0.05)
+child = os.fork()
+if child == 0:
+    os._exit(not hasher.verify(text, "pw"))
+assert os.waitpid(child, 0)[1] == 0
 """
 
-# A program whose garbage is a cycle with a hasher that finalizers still use: values with `__del__`,
-# and a generator in a `with` block. The collector begins with the oldest one.
+# A program whose garbage is a cycle: a hasher, and finalizers, older and younger, that still use it.
 FINALIZERS = """
 import gc, scrypt_c
 gc.disable()
