@@ -1,5 +1,3 @@
--- The options before a command.
-pub mod OptionsFacts
 -- The words of a command, and the tests of parameters and lengths.
 pub mod CommandFacts
 -- Making hashes, carrying out a command, and the outcome of a run.

@@ -15,12 +15,11 @@ use Rattle.scrypt.specs.Hashing.{by_algorithm, by_memory, by_salt, by_version}
 use Rattle.scrypt.specs.PhcHash.{HashIsRefused, IsMadeHash, IsSaltLen}
 use Rattle.std.proofs.lemmas.Bool.{false_from_ne_true}
 use Rattle.std.proofs.lemmas.Bool.Decides.{nat_tests}
-use Rattle.scrypt_commands.specs.CliError.{ErrorLine, error_line, hash_error, status_of}
+use Rattle.scrypt_commands.specs.CliError.{ErrorLine, FailsWith, error_line, hash_error, status_of}
 use Rattle.scrypt_commands.specs.Command.{request_of}
 use Rattle.scrypt_commands.specs.Invocation.{CommandLine}
 use Rattle.scrypt_commands.specs.Outcome.{Reply, is_salt_len, new_hash, outcome, phc_text, reply_by}
-use Rattle.scrypt_commands.specs.Run.{HasOutcome, OnInput, Streams}
-use Rattle.scrypt_commands.specs.Steps.{AppendsReply, FailsWith}
+use Rattle.scrypt_commands.specs.Run.{AppendsReply, HasOutcome, OnInput, Streams}
 use Rattle.scrypt_commands.specs.declared.command.Format.TheVariants.{Phc}
 use Rattle.scrypt_commands.specs.declared.error.CliError.{CliError}
 use Rattle.scrypt_commands.specs.declared.error.CliError.TheVariants.{InputFailed, OutOfMemory, OutputFailed}

@@ -5,8 +5,8 @@ use Rattle.std.specs.Option.{option_map_or}
 use Rattle.scrypt_commands.specs.Invocation.{Tell, asked_by, command_by, invocation_by, invocation_of, command_line_of, name_of, text_of_words, wants_file}
 use Rattle.scrypt_commands.specs.Options.{no_options, options_of}
 use Rattle.scrypt_commands.specs.Run.{plan_of, plan_of_command, plan_of_words}
-use Rattle.scrypt_commands.specs.declared.command_name.Name.{Name}
-use Rattle.scrypt_commands.specs.declared.command_name.Name.TheVariants.{Key, Hash, Verify, Rehash}
+use Rattle.scrypt_commands.specs.declared.command_line.Name.{Name}
+use Rattle.scrypt_commands.specs.declared.command_line.Name.TheVariants.{Key, Hash, Verify, Rehash}
 use Rattle.scrypt_commands.specs.declared.error.CliError.{CliError}
 
 -- a command without options has the plan of its words

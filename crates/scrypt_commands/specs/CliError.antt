@@ -1,5 +1,5 @@
 -- The errors that end a run without an answer: each has a status and an error line.
-use Rattle.std.specs.Prelude.{ℕ, ◌++◌, bytes_eq, if◌then◌else◌, List, [], codes, decimal, Result, Err}
+use Rattle.std.specs.Prelude.{◌≡◌, ◌⊎◌, ℕ, ◌++◌, bytes_eq, if◌then◌else◌, List, [], codes, decimal, Result, Ok, Err}
 use Rattle.password_hash.specs.Refusal.{Refusal}
 use Rattle.password_hash.specs.Refusal as refusals
 use Rattle.password_hash.specs.declared.error.Error.{Error}
@@ -9,8 +9,9 @@ use Rattle.scrypt.specs.declared.errors.LimitedError.{LimitedError}
 use Rattle.scrypt.specs.declared.errors.LimitedError.TheVariants.{Hash}
 use Rattle.scrypt.specs.declared.limits.Limits.{Limits}
 use Rattle.scrypt.specs.declared.limits.TheConstants.Limits.{DEFAULT}
+use Rattle.scrypt_commands.specs.declared.command_line.Name.TheVariants as names
 use Rattle.scrypt_commands.specs.declared.error.CliError.{CliError}
-use Rattle.scrypt_commands.specs.declared.error.CliError.TheVariants.{NoHashFile, KeyMisfit, HashMisfit, VerifyMisfit, RehashMisfit}
+use Rattle.scrypt_commands.specs.declared.error.CliError.TheVariants.{NoHashFile, Misfit}
 use Rattle.scrypt_commands.specs.declared.error.CliError.TheVariants.{Usage, SaltNotHex, InvalidParams, InvalidOutputLen, Refused}
 use Rattle.scrypt_commands.specs.declared.error.CliError.TheVariants.{OutOfMemory, InputFailed, OutputFailed}
 
@@ -47,10 +48,10 @@ abbrev pub fixed_line : CliError → List ℕ
 fixed_line Usage =
     codes "usage: key LOG_N R P LEN SALT_HEX | hash phc|mcf LOG_N R P SALT_HEX [LEN] | verify HASH | rehash phc|mcf LOG_N R P LEN SALT_HEX HASH\n"
 fixed_line NoHashFile = codes "--hash-file wants its file after =, as in --hash-file=FILE\n"
-fixed_line KeyMisfit = codes "key takes no option except --raw and --strip-newline: see --help\n"
-fixed_line HashMisfit = codes "hash takes no option except --generate-salt, --recommended and --strip-newline: see --help\n"
-fixed_line VerifyMisfit = codes "verify does not take --generate-salt, --raw and --recommended: see --help\n"
-fixed_line RehashMisfit = codes "rehash does not take --raw and --recommended: see --help\n"
+fixed_line (Misfit names.Key) = codes "key takes no option except --raw and --strip-newline: see --help\n"
+fixed_line (Misfit names.Hash) = codes "hash takes no option except --generate-salt, --recommended and --strip-newline: see --help\n"
+fixed_line (Misfit names.Verify) = codes "verify does not take --generate-salt, --raw and --recommended: see --help\n"
+fixed_line (Misfit names.Rehash) = codes "rehash does not take --raw and --recommended: see --help\n"
 fixed_line SaltNotHex = codes "salt is not hexadecimal\n"
 fixed_line InvalidParams = codes "invalid scrypt parameters\n"
 fixed_line InvalidOutputLen = codes "invalid output buffer length\n"
@@ -80,3 +81,12 @@ ErrorLine = List ℕ
 -- fails with this error
 abbrev pub refuse : {A : Type 0} → CliError → Result A ErrorLine
 refuse error = Err (error_line error)
+
+-- an allocation failed, or this holds of an error with status 2
+abbrev pub FailsWith : (CliError → Type 0) → CliError → Type 0
+FailsWith Is error = (error ≡ OutOfMemory) ⊎ ((status_of error ≡ 2) × Is error)
+
+-- a step returns the expected value or error line, or an allocation failed
+abbrev pub Gives : {A B : Type 0} → (A → B) → Result B ErrorLine → Result A CliError → Type 0
+Gives view expected (Ok x) = expected ≡ Ok (view x)
+Gives view expected (Err error) = FailsWith (λ error. expected ≡ Err (error_line error)) error

@@ -2,7 +2,9 @@
 -- and their decimals, these are read in this order: the salt, the parameters, the length of the
 -- key, the text of a hash.
 use Rattle.std.specs.Prelude.{ℕ, ◌^◌, ◌&&◌, Bool, false, true, bytes_eq, if◌then◌else◌, codes, ⊤}
-use Rattle.std.specs.Prelude.{List, [], ◌∷◌, Option, None, Some, is_some, ok_or, Result, Ok, Err}
+use Rattle.std.specs.Prelude.{List, [], ◌∷◌, Option, None, Some, is_some, ok_or, option_map, Result, Ok, Err, String}
+use Rattle.std.specs.Borrow.{Bor}
+use Rattle.std.specs.Global.{Global}
 use Rattle.hex.specs.Hex.{decode_of}
 use Rattle.password_hash.specs.declared.error.Error.TheVariants.{EncodingInvalid}
 use Rattle.password_hash.specs.Decimal.{decimal_below}
@@ -11,10 +13,16 @@ use Rattle.scrypt.specs.Reading.{◌and_then◌ as ◌>>=◌}
 use Rattle.scrypt.specs.StoredHash.{is_stored_text}
 use Rattle.scrypt_commands.specs.CliError.{ErrorLine, error_line, hash_error, refuse}
 use Rattle.scrypt_commands.specs.Invocation.{CommandLine}
+use Rattle.scrypt_commands.specs.Options.{texts_of}
+use Rattle.scrypt_commands.specs.declared.command.Command.{Command}
+use Rattle.scrypt_commands.specs.declared.command.Command.TheVariants.{Make, Verify}
 use Rattle.scrypt_commands.specs.declared.command.Format.{Format}
 use Rattle.scrypt_commands.specs.declared.command.Format.TheVariants.{Phc, Mcf}
-use Rattle.scrypt_commands.specs.declared.command_name.Name.{Name}
-use Rattle.scrypt_commands.specs.declared.command_name.Name.TheVariants as names
+use Rattle.scrypt_commands.specs.declared.command_line.Name.{Name}
+use Rattle.scrypt_commands.specs.declared.command_line.Name.TheVariants as names
+use Rattle.scrypt_commands.specs.declared.command.Making.{Making as MakingOf}
+use Rattle.scrypt_commands.specs.declared.command.Salt.{Salt}
+use Rattle.scrypt_commands.specs.declared.command.Salt.TheVariants.{Digits, Drawn}
 use Rattle.scrypt_commands.specs.declared.command.Target.{Target}
 use Rattle.scrypt_commands.specs.declared.command.Target.TheVariants.{Key, Hash}
 use Rattle.scrypt_commands.specs.declared.command.UncheckedParams.{UncheckedParams}
@@ -120,25 +128,25 @@ format_word words = do
       else refuse Usage
 
 -- after `key`: LOG_N R P LEN SALT_HEX
-unfoldable pub key_words : Bool → List (List ℕ) → Result Making ErrorLine
+unfoldable pub key_words : Bool → List (List ℕ) → Result Request ErrorLine
 key_words is_raw words = do
   (params, words) ← params_words false words
   (len, words) ← len_word words
   (salt, words) ← salt_word None words
   _ ← end_of words
   making ← making_of (Key len is_raw) params None salt
-  if is_output_len len then Ok making else refuse InvalidOutputLen
+  if is_output_len len then Ok (ToMake making) else refuse InvalidOutputLen
 
 -- after `hash`: phc|mcf LOG_N R P SALT_HEX [LEN], or phc|mcf SALT_HEX for the recommended
 -- parameters
-unfoldable pub hash_words : Bool → Option (List ℕ) → List (List ℕ) → Result Making ErrorLine
+unfoldable pub hash_words : Bool → Option (List ℕ) → List (List ℕ) → Result Request ErrorLine
 hash_words is_recommended drawn words = do
   (format, words) ← format_word words
   (params, words) ← params_words is_recommended words
   (salt, words) ← salt_word drawn words
   len ← optional_len words
-  if is_recommended && is_some len then refuse Usage
-      else making_of (Hash format) params len salt
+  making ← if is_recommended && is_some len then refuse Usage else making_of (Hash format) params len salt
+  Ok (ToMake making)
 
 -- after `verify`: HASH
 unfoldable pub verify_words : Option (List ℕ) → List (List ℕ) → Result Request ErrorLine
@@ -161,19 +169,32 @@ rehash_words drawn file words = do
   text ← hash_of text
   Ok (ToVerify text (Some wanted))
 
--- the request to make this
-abbrev pub to_make : Result Making ErrorLine → Result Request ErrorLine
-to_make making = making >>= λ making. Ok (ToMake making)
-
 -- The request in the words of a command. There are no words for the recommended parameters of
 -- `hash`, for a drawn salt, and for a hash that is read from a file.
 abbrev pub requested_by : CommandLine → Name → Result Request ErrorLine
-requested_by command_line names.Key = to_make (key_words command_line.options.is_raw command_line.words)
-requested_by command_line names.Hash =
-    to_make (hash_words command_line.options.is_recommended command_line.salt command_line.words)
+requested_by command_line names.Key = key_words command_line.options.is_raw command_line.words
+requested_by command_line names.Hash = hash_words command_line.options.is_recommended command_line.salt command_line.words
 requested_by command_line names.Verify = verify_words command_line.file_text command_line.words
 requested_by command_line names.Rehash = rehash_words command_line.salt command_line.file_text command_line.words
 
 -- the request of a command
 abbrev pub request_of : CommandLine → Result Request ErrorLine
 request_of command_line = requested_by command_line command_line.name
+
+-- the salt of a command: its hexadecimal digits, or bytes that were drawn
+abbrev pub salt_of : Salt → Result (List ℕ) ErrorLine
+salt_of (Digits digits) = decoded_salt (decode_of digits.now)
+salt_of (Drawn salt) = Ok salt
+
+-- the value that is read from the first words, and the words after them
+abbrev pub before_words : {A B : Type 0} → (A → B) → A × Bor (List (String Global)) → B × List (List ℕ)
+before_words view (read, words) = (view read, texts_of words.now)
+
+-- the key or hash to make, with the bytes of the salt
+abbrev pub making_view : MakingOf → Making
+making_view it = record { target = it.target; params = it.params; salt = it.salt.items }
+
+-- the request of a command that was read
+abbrev pub request_view : Command → Request
+request_view (Make making) = ToMake (making_view making)
+request_view (Verify hash wanted) = ToVerify hash (option_map making_view wanted)

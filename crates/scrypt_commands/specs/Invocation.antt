@@ -4,12 +4,12 @@ use Rattle.std.specs.Prelude.{List, [], ◌∷◌, Option, None, Some, Result, O
 use Rattle.std.specs.Bool.{then_some}
 use Rattle.std.specs.Option.{option_copied, option_map_or}
 use Rattle.scrypt.specs.Reading.{◌and_then◌}
-use Rattle.scrypt_commands.specs.Options.{Options, options_of, texts_of}
+use Rattle.scrypt_commands.specs.Options.{Options, no_options, options_of, texts_of}
 use Rattle.scrypt_commands.specs.declared.command_line.CommandLine.{CommandLine as CommandLineOf}
-use Rattle.scrypt_commands.specs.declared.command_name.Name.{Name}
-use Rattle.scrypt_commands.specs.declared.command_name.Name.TheVariants.{Key, Hash, Verify, Rehash}
+use Rattle.scrypt_commands.specs.declared.command_line.Name.{Name}
+use Rattle.scrypt_commands.specs.declared.command_line.Name.TheVariants.{Key, Hash, Verify, Rehash}
 use Rattle.scrypt_commands.specs.declared.error.CliError.{CliError}
-use Rattle.scrypt_commands.specs.declared.error.CliError.TheVariants.{HashMisfit, KeyMisfit, NoHashFile, RehashMisfit, Usage, VerifyMisfit}
+use Rattle.scrypt_commands.specs.declared.error.CliError.TheVariants.{Misfit, NoHashFile, Usage}
 use Rattle.scrypt_commands.specs.declared.invocation.Invocation.{Invocation as InvocationOf}
 use Rattle.scrypt_commands.specs.declared.invocation.Invocation.TheVariants as typed
 use Rattle.scrypt_commands.specs.declared.options.Options.{Options as OptionsOf}
@@ -43,14 +43,18 @@ name_of word =
 abbrev pub is_about_hash : Options → Bool
 is_about_hash o = is_some o.limit_options || is_some o.hash_file
 
--- Why the options do not fit a command, if they don't. Only `verify` and `rehash` take options
--- about a stored hash, only `hash` and `rehash` draw a salt, only `hash` has recommended
--- parameters, and only a key is written raw.
+-- Whether an option does not fit a command. Only `verify` and `rehash` take options about a stored
+-- hash, only `hash` and `rehash` draw a salt, only `hash` has recommended parameters, and only a key
+-- is written raw.
+abbrev pub is_unfit : Options → Name → Bool
+is_unfit o Key = is_about_hash o || o.draws_salt
+is_unfit o Hash = is_about_hash o || o.is_raw
+is_unfit o Verify = o.draws_salt || o.is_raw
+is_unfit o Rehash = o.is_recommended || o.is_raw
+
+-- the error of options that do not fit a command
 abbrev pub misfit : Options → Name → Option CliError
-misfit o Key = then_some (is_about_hash o || o.draws_salt) KeyMisfit
-misfit o Hash = then_some (is_about_hash o || o.is_raw) HashMisfit
-misfit o Verify = then_some (o.draws_salt || o.is_raw) VerifyMisfit
-misfit o Rehash = then_some (o.is_recommended || o.is_raw) RehashMisfit
+misfit o name = then_some (is_unfit o name) (Misfit name)
 
 -- this command with these options, if they fit it
 abbrev pub command_line_of : Options → List (List ℕ) → Name → Result CommandLine CliError
@@ -93,20 +97,10 @@ invocation_by (o, words) = if wants_file words then Refuse NoHashFile else asked
 abbrev pub invocation_of : List (List ℕ) → Invocation
 invocation_of words = option_map_or Tell (text_of_words words) (invocation_by (options_of words))
 
--- whether a salt is drawn
-abbrev pub draws_salt : Invocation → Bool
-draws_salt (Command command_line) = command_line.options.draws_salt
-draws_salt others = false
-
--- whether a key is written as its bytes
-abbrev pub is_raw : Invocation → Bool
-is_raw (Command command_line) = command_line.options.is_raw
-is_raw others = false
-
--- the name of the file that contains the hash, if the hash is not a word
-abbrev pub hash_file_of : Invocation → Option (List ℕ)
-hash_file_of (Command command_line) = command_line.options.hash_file
-hash_file_of others = None
+-- the options of a command, or none if there is no command
+abbrev pub options_in : Invocation → Options
+options_in (Command command_line) = command_line.options
+options_in others = no_options
 
 -- the options, with the texts that they contain
 abbrev pub options_view : OptionsOf → Options

@@ -1,10 +1,8 @@
 -- In reading order: the options, the errors, the commands that the arguments ask for, and the
 -- output of the program.
 
--- the limits on the cost of a stored hash, and on the length of its key
-pub mod LimitOptions
 -- the texts that the program prints about itself
--- the options before a command
+-- the options before a command, and the limits that they set on a stored hash
 pub mod Options
 -- the errors that end a run without an answer: statuses and error lines
 pub mod CliError
@@ -16,5 +14,3 @@ pub mod Command
 pub mod Outcome
 -- runs: their output, and the bytes that they read and write
 pub mod Run
--- private: the steps of a run
-pub mod Steps

@@ -1,11 +1,34 @@
--- The options before a command.
-use Rattle.std.specs.Prelude.{ℕ, ◌-◌, Bool, ◌==◌, false, true, bytes_eq, codes, if◌then◌else◌, nat_eq, nat_lt}
-use Rattle.std.specs.Prelude.{List, [], ◌∷◌, Option, None, Some, String, length, map, option_map, string_bytes, take, unwrap_or}
+-- The options before a command, and the limits that they set on a stored hash.
+use Rattle.std.specs.Prelude.{ℕ, ◌-◌, ◌^◌, Bool, ◌==◌, false, true, bytes_eq, codes, if◌then◌else◌, nat_eq, nat_lt}
+use Rattle.std.specs.Prelude.{List, [], ◌∷◌, Option, None, Some, String, length, map, option_and_then, option_map, string_bytes, take, unwrap_or}
 use Rattle.std.specs.Global.{Global}
 use Rattle.std.specs.List.{after_first, before_first, ends_with, position_or_len}
 use Rattle.std.specs.Option.{option_map_or}
-use Rattle.scrypt_commands.specs.LimitOptions.{defaults, with_number}
+use Rattle.password_hash.specs.Decimal.{decimal_below}
+use Rattle.scrypt.specs.Accepted.{Parameters}
+use Rattle.scrypt.specs.Limits.{admitting}
+use Rattle.scrypt.specs.declared.limits.Limits.{Limits}
+use Rattle.scrypt.specs.declared.limits.TheConstants.Limits.{DEFAULT}
 use Rattle.scrypt_commands.specs.declared.limit_options.LimitOptions.{LimitOptions}
+
+-- the default limits of the library
+abbrev pub defaults : LimitOptions
+defaults = record { limits = DEFAULT; min_key_len = None }
+
+-- the options with the option of this name added, if its value is a number below 2 ^ 64
+unfoldable pub with_number : LimitOptions → List ℕ → List ℕ → Option LimitOptions
+with_number b name value = option_and_then (λ n.
+    if bytes_eq name (codes "--max-mem") then Some (record b { limits = record b.limits { max_mem = n } })
+    else if bytes_eq name (codes "--max-work") then Some (record b { limits = record b.limits { max_work = n } })
+    else if bytes_eq name (codes "--min-key-len") then Some (record b { min_key_len = Some n })
+    else None) (decimal_below (2 ^ 64) value)
+
+-- The limits on a hash. The minimum key length is the default unless an option sets it. If a new
+-- hash is wanted, the limits are raised where necessary to admit it, and a short key, which is
+-- weaker than wanted, is allowed unless an option sets a minimum.
+abbrev pub limits_of : LimitOptions → Option Parameters → Limits
+limits_of b None = record b.limits { min_key_len = unwrap_or b.min_key_len b.limits.min_key_len }
+limits_of b (Some wanted) = record (admitting b.limits wanted) { min_key_len = unwrap_or b.min_key_len 0 }
 
 -- the texts of words
 abbrev pub texts_of : List (String Global) → List (List ℕ)

@@ -1,5 +1,5 @@
 -- The outcome of a command line: the program's output for its arguments and its input.
-use Rattle.std.specs.Prelude.{ℕ, ◌&&◌, Bool, false, true, nat_le, if◌then◌else◌, List, [], ◌++◌, length, codes}
+use Rattle.std.specs.Prelude.{◌≡◌, ℕ, ◌+◌, ◌&&◌, Bool, false, true, nat_le, if◌then◌else◌, List, [], ◌++◌, length, codes}
 use Rattle.std.specs.Prelude.{Option, None, Some, option_map, unwrap_or, Result, Ok, Err, ⊤}
 use Rattle.std.specs.Result.{result_unwrap_or}
 use Rattle.hex.specs.Hex.{encode_lower}
@@ -7,20 +7,25 @@ use Rattle.password_hash.specs.Phc.{hash_text}
 use Rattle.password_hash.specs.Refusal.{PasswordInvalid, Refusal}
 use Rattle.password_hash.specs.declared.error.Error.TheVariants.{SaltInvalid}
 use Rattle.scrypt.specs.Accepted.{Parameters}
+use Rattle.scrypt.specs.Cost.{cost}
 use Rattle.scrypt.specs.Hashing.{key_len_or_default}
 use Rattle.scrypt.specs.KeyOfParams.{key_by}
 use Rattle.scrypt.specs.McfHash.{made_hash, mcf_text}
 use Rattle.scrypt.specs.PhcParams.{written_pairs}
-use Rattle.scrypt.specs.Reading.{◌and_then◌ as ◌>>=◌, Stored, verdict, weaker}
+use Rattle.scrypt.specs.Reading.{◌and_then◌ as ◌>>=◌, Stored, verdict, verify_cost, weaker}
 use Rattle.scrypt.specs.declared.limits.Limits.{Limits}
 use Rattle.scrypt.specs.declared.limits.TheConstants.Limits.{DEFAULT}
 use Rattle.scrypt.specs.StoredHash.{reading}
 use Rattle.scrypt.specs.WithinLimits.{within}
-use Rattle.scrypt_commands.specs.LimitOptions.{limits_of}
+use Rattle.scrypt_kernel.specs.Count.{AreCounted}
+use Rattle.scrypt_kernel.specs.declared.cores.count.CoreCount.{CoreCount}
+use Rattle.scrypt_commands.specs.Options.{limits_of}
 use Rattle.scrypt_commands.specs.Invocation.{CommandLine}
 use Rattle.scrypt_commands.specs.Options.{password_of}
 use Rattle.scrypt_commands.specs.Command.{Making, Request, ToMake, ToVerify, request_of}
 use Rattle.scrypt_commands.specs.CliError.{ErrorLine, error_line, hash_error, limited_line, refuse, status_of}
+use Rattle.scrypt_commands.specs.declared.answer.Answer.{Answer}
+use Rattle.scrypt_commands.specs.declared.answer.Answer.TheVariants.{Made, Right, Wrong}
 use Rattle.scrypt_commands.specs.declared.limit_options.LimitOptions.{LimitOptions}
 use Rattle.scrypt_commands.specs.declared.command.Format.{Format}
 use Rattle.scrypt_commands.specs.declared.command.Format.TheVariants.{Phc, Mcf}
@@ -119,3 +124,24 @@ abbrev pub reply_by : CommandLine → List ℕ → Result Reply ErrorLine
 reply_by command_line input = do
   request ← request_of command_line
   reply_to command_line.options.limit_options request (password_of command_line.options.strips_newline input)
+
+-- the status and the output line of an answer
+abbrev pub reply_view : Answer → Reply
+reply_view Right = record { status = 0; line = codes "ok\n" }
+reply_view Wrong = record { status = 1; line = codes "no\n" }
+reply_view (Made line) = record { status = 0; line = line.items }
+
+-- The cores of verifying a password against a hash with this reading, and the blocks that SHA-256
+-- compresses: none if the hash is rejected; otherwise the cost of its parameters, unless an
+-- allocation failed.
+abbrev pub AreOfHash : List ℕ → Result Stored Refusal → (failed : Type 0) → CoreCount → CoreCount → Type 0
+AreOfHash password (Err why) failed before after = after ≡ before
+AreOfHash password (Ok s) failed before after = ¬ failed → AreCounted (cost s.params.log_n s.params.r s.params.p) before after
+    × (after.compressions ≡ before.compressions + verify_cost password s)
+
+-- the cores of verifying for a request within limits, if options set any: none if nothing is
+-- verified
+abbrev pub AreOfRequest : Option LimitOptions → Request → List ℕ → (failed : Type 0) → CoreCount → CoreCount → Type 0
+AreOfRequest limit_options (ToMake making) password failed before after = after ≡ before
+AreOfRequest limit_options (ToVerify text wanted) password failed before after =
+    AreOfHash password (bounded (limits_by limit_options wanted) (reading text)) failed before after

@@ -3,11 +3,11 @@ use Rattle.std.specs.Prelude.{◌≡◌, ◌⊎◌, ℕ, Bool, false, true, if�
 use Rattle.std.specs.Bool.{then_some}
 use Rattle.std.specs.Result.{is_err}
 use Rattle.std.specs.Io.KnownBytes.{Appends, IsAtEnd, Keeps}
-use Rattle.scrypt_commands.specs.CliError.{error_line, status_of}
+use Rattle.scrypt_commands.specs.CliError.{ErrorLine, error_line, status_of}
 use Rattle.scrypt_commands.specs.Command.{request_of}
 use Rattle.scrypt_commands.specs.Invocation.{Command, CommandLine, Invocation, Refuse, Tell, command_by}
 use Rattle.scrypt_commands.specs.Options.{no_options}
-use Rattle.scrypt_commands.specs.Outcome.{Outcome, failure, outcome, reply_by}
+use Rattle.scrypt_commands.specs.Outcome.{Outcome, Reply, failure, outcome, reply_by}
 use Rattle.scrypt_commands.specs.declared.error.CliError.{CliError}
 use Rattle.scrypt_commands.specs.declared.error.CliError.TheVariants.{InputFailed, OutOfMemory, OutputFailed}
 use Rattle.scrypt_commands.specs.declared.run.Ended.{Ended}
@@ -96,3 +96,12 @@ pub record IsRun (plan : Plan) (before after : Streams) (ended : Ended) : Type 0
       → IsAtEnd after.input
   pub done : IsAnswer ended.status → IsTrue ended.fault_told
   pub no_error : IsAnswer ended.status → Keeps before.faults after.faults
+
+-- a salt of 16 bytes was drawn if required, and this holds of it
+abbrev pub IsDrawn : Bool → (List ℕ → Type 0) → Option (List ℕ) → Type 0
+IsDrawn is_drawn Is drawn = (salt : List ℕ) × (length salt ≡ 16) × (is_drawn ≡ true → Is salt) × (drawn ≡ then_some is_drawn salt)
+
+-- the output line of the answer with this status was appended
+abbrev pub AppendsReply : (List ℕ → Result Reply ErrorLine) → Option (List ℕ) → Option (List ℕ) → Option (List ℕ) → ℕ → Type 0
+AppendsReply reply_on known old new status =
+    OnInput known (λ input. (line : List ℕ) × (reply_on input ≡ Ok (record { status = status; line = line })) × Appends old new line)

@@ -1,18 +1,18 @@
 // The answer to a command.
 
-ghost use Rattle.std.specs.Prelude.{◌≡◌, IsErrOf, false, option_map, string_bytes};
-ghost use Rattle.std.specs.Result.{result_unwrap_or};
+ghost use Rattle.std.specs.Prelude.{◌≡◌, IsErrOf, option_map, string_bytes};
 ghost use Rattle.password_hash.specs.Refusal.{OutOfMemory as Refused};
-ghost use Rattle.scrypt.specs.Reading.{IsVerdict, verdict, weaker};
+ghost use Rattle.scrypt.specs.Reading.{IsVerdict, verdict};
 ghost use Rattle.scrypt.specs.StoredHash.{reading};
 ghost use Rattle.scrypt.specs.WithinLimits.{with_limited_refusal};
-ghost use Rattle.scrypt_commands.specs.Outcome.{bounded, limits_by, made_reply, new_hash, new_line, reply_to, right_of, right_reply};
-ghost use Rattle.scrypt_commands.specs.Steps.{AreOfHash, AreOfRequest, Gives, making_view, reply_view, request_view};
+ghost use Rattle.scrypt_commands.specs.CliError.{Gives};
+ghost use Rattle.scrypt_commands.specs.Command.{making_view, request_view};
+ghost use Rattle.scrypt_commands.specs.Outcome.{AreOfHash, AreOfRequest, bounded, limits_by, made_reply, new_hash, new_line, reply_to, reply_view, right_of, right_reply};
 ghost use Rattle.scrypt_commands.specs.declared.command.Target.TheVariants.{Key};
 ghost use Rattle.scrypt_commands.specs.declared.error.CliError.TheVariants.{OutOfMemory};
 
 use crate::command::{Command, Format, Making, Target};
-use crate::error::CliError;
+use crate::error::{CliError, Result};
 use crate::limit_options::LimitOptions;
 use password_hash::Error;
 use scrypt::laws::mcf_texts_are_read;
@@ -60,7 +60,7 @@ impl<'a> Command<'a> {
         password: &[u8],
         options: Option<LimitOptions>,
         cores: &mut CoreCount,
-    ) -> Result<Answer, CliError>
+    ) -> Result<Answer>
         ensures reply { Gives reply_view (reply_to options (request_view self.now) password.now) result }
         ensures cores { AreOfRequest options (request_view self.now) password.now (IsErrOf result OutOfMemory) cores.old cores.new }
     {
@@ -93,11 +93,13 @@ fn replace<M: Backend>(
     hash: &StoredHash<'_>,
     password: &[u8],
     wanted: &Option<Making>,
-) -> Result<Answer, CliError>
+) -> Result<Answer>
     ensures { Gives reply_view (right_reply (option_map making_view wanted.now) (reading hash.now) password.now) result }
 {
     match wanted {
-        Some(making) if is_weaker(hash, &making.params) => make::<M>(alloc, password, making),
+        Some(making) if hash.needs_rehash(&making.params).unwrap_or(false) => {
+            make::<M>(alloc, password, making)
+        }
         _ => Ok(Answer::Right),
     }
 }
@@ -109,7 +111,7 @@ fn verify<M: Backend>(
     password: &[u8],
     limits: Option<Limits>,
     cores: &mut CoreCount,
-) -> Result<bool, CliError>
+) -> Result<bool>
     ensures right { Gives (λ right. right)
         (right_of limits (verdict password.now (bounded limits (reading hash.now)))) result }
     ensures cores { AreOfHash password.now (bounded limits (reading hash.now)) (IsErrOf result OutOfMemory) cores.old cores.new }
@@ -128,7 +130,7 @@ fn verify_within<M: Backend>(
     password: &[u8],
     limits: Option<Limits>,
     cores: &mut CoreCount,
-) -> Result<(), LimitedError>
+) -> std::result::Result<(), LimitedError>
     ensures verdict { IsVerdict password.now (bounded limits (reading hash.now)) (with_limited_refusal result) }
     ensures cores { AreOfHash password.now (bounded limits (reading hash.now)) (IsErrOf (with_limited_refusal result) Refused)
         cores.old cores.new }
@@ -142,18 +144,8 @@ fn verify_within<M: Backend>(
     }
 }
 
-// Returns whether the hash can be read, and is weaker than these parameters.
-fn is_weaker(hash: &StoredHash<'_>, wanted: &Params) -> bool
-    ensures { result ≡ result_unwrap_or (weaker wanted.now (reading hash.now)) false }
-{
-    match hash.needs_rehash(wanted) {
-        Ok(weaker) => weaker,
-        Err(_) => false,
-    }
-}
-
 // Makes a key or a hash from the password.
-fn make<M: Backend>(alloc: Global, password: &[u8], making: &Making) -> Result<Answer, CliError>
+fn make<M: Backend>(alloc: Global, password: &[u8], making: &Making) -> Result<Answer>
     ensures { Gives reply_view (made_reply (making_view making.now) password.now) result }
 {
     let line = line::<M>(alloc, password, making)?;
@@ -161,7 +153,7 @@ fn make<M: Backend>(alloc: Global, password: &[u8], making: &Making) -> Result<A
 }
 
 // Returns the output line of a new key or hash.
-fn line<M: Backend>(alloc: Global, password: &[u8], making: &Making) -> Result<Vec<u8>, CliError>
+fn line<M: Backend>(alloc: Global, password: &[u8], making: &Making) -> Result<Vec<u8>>
     ensures { Gives (λ line. line.items) (new_line making.now.target making.now.params password.now making.now.salt.items) result }
 {
     let Making {
@@ -187,7 +179,7 @@ fn make_hash<M: Backend>(
     salt: &[u8],
     params: &Params,
     format: Format,
-) -> Result<String, CliError>
+) -> Result<String>
     ensures { Gives string_bytes (new_hash format params.now password.now salt.now) result }
 {
     mcf_texts_are_read();
@@ -211,7 +203,7 @@ fn key<M: Backend>(
     params: &Params,
     len: usize,
     is_raw: bool,
-) -> Result<Vec<u8>, CliError>
+) -> Result<Vec<u8>>
     ensures { Gives (λ line. line.items) (new_line (Key len is_raw) params.now password.now salt.now) result }
 {
     let mut key = vec![in alloc; 0u8; len]?;

@@ -3,17 +3,14 @@
 ghost use Rattle.std.specs.Prelude.{◌≡◌};
 ghost use Rattle.std.specs.Option.{option_copied};
 ghost use Rattle.password_hash.specs.Decimal.{decimal_below};
-ghost use Rattle.scrypt_commands.specs.Command.{checked_params, end_of, first_word, format_word, hash_of, hash_word, hash_words};
-ghost use Rattle.scrypt_commands.specs.Command.{key_words, len_word, making_of, optional_len, params_words, rehash_words, request_of, salt_word};
-ghost use Rattle.scrypt_commands.specs.Command.{verify_words};
+ghost use Rattle.scrypt_commands.specs.CliError.{Gives};
+ghost use Rattle.scrypt_commands.specs.Command.{before_words, checked_params, end_of, first_word, format_word, hash_word, hash_words, key_words, len_word, making_of, making_view, optional_len, params_words, rehash_words, request_of, request_view, salt_of, salt_word, verify_words};
 ghost use Rattle.scrypt_commands.specs.Invocation.{command_line_view};
 ghost use Rattle.scrypt_commands.specs.Options.{texts_of};
-ghost use Rattle.scrypt_commands.specs.Steps.{Gives, before_words, making_view, request_view, salt_of};
 
-use crate::command_line::CommandLine;
-use crate::command_name::Name;
+use crate::command_line::{CommandLine, Name};
 use crate::decimals::{parse_byte, parse_len, parse_word};
-use crate::error::CliError;
+use crate::error::{CliError, Result};
 use hex::FromHexError;
 use scrypt::{Params, StoredHash, output_len_ok};
 use std::alloc::Global;
@@ -81,6 +78,9 @@ const RECOMMENDED: UncheckedParams = UncheckedParams {
     p: Params::RECOMMENDED_P,
 };
 
+// A value that is read from the first words, and the words after them.
+type Read<'a, T> = Result<(T, &'a [String])>;
+
 impl<'a> Command<'a> {
     /// Reads the words of a command. There are no words for the recommended parameters of `hash`,
     /// for a drawn salt, and for a hash that is read from a file.
@@ -88,34 +88,23 @@ impl<'a> Command<'a> {
     /// Returns the error of the first of these that is wrong: `Usage`, `SaltNotHex`,
     /// `InvalidParams`, `InvalidOutputLen`, and `EncodingInvalid`. Returns `OutOfMemory` if the
     /// allocation of the salt fails.
-    pub fn read(alloc: Global, command_line: CommandLine<'a>) -> Result<Command<'a>, CliError>
-        ensures command { Gives request_view (request_of (command_line_view command_line.entry)) result }
+    pub fn read(alloc: Global, given: CommandLine<'a>) -> Result<Command<'a>>
+        ensures command { Gives request_view (request_of (command_line_view given.entry)) result }
     {
-        let CommandLine {
-            name,
-            options,
-            words,
-            drawn,
-            file_text,
-        } = command_line;
-        match name {
-            Name::Key => Ok(Command::Make(key_words(alloc, options.is_raw, words)?)),
-            Name::Hash => Ok(Command::Make(hash_words(
-                alloc,
-                options.is_recommended,
-                drawn,
-                words,
-            )?)),
-            Name::Verify => verify_words(file_text, words),
-            Name::Rehash => rehash_words(alloc, drawn, file_text, words),
+        let (options, words, drawn) = (given.options, given.words, given.drawn);
+        match given.name {
+            Name::Key => key_words(alloc, options.is_raw, words),
+            Name::Hash => hash_words(alloc, options.is_recommended, drawn, words),
+            Name::Verify => verify_words(given.file_text, words),
+            Name::Rehash => rehash_words(alloc, drawn, given.file_text, words),
         }
     }
 }
 
 // Reads the words after `key`.
 #[tactic(auto, unfolding(crate::specs::Command::key_words))]
-fn key_words(alloc: Global, is_raw: bool, words: &[String]) -> Result<Making, CliError>
-    ensures { Gives making_view (key_words is_raw (texts_of words.now)) result }
+fn key_words<'a>(alloc: Global, is_raw: bool, words: &'a [String]) -> Result<Command<'a>>
+    ensures { Gives request_view (key_words is_raw (texts_of words.now)) result }
 {
     let (params, words) = params_words(false, words)?;
     let (len, words) = len_word(words)?;
@@ -125,18 +114,18 @@ fn key_words(alloc: Global, is_raw: bool, words: &[String]) -> Result<Making, Cl
     if !output_len_ok(len) {
         return Err(CliError::InvalidOutputLen);
     }
-    Ok(making)
+    Ok(Command::Make(making))
 }
 
 // Reads the words after `hash`. There are no words for the recommended parameters.
 #[tactic(auto, unfolding(crate::specs::Command::hash_words))]
-fn hash_words(
+fn hash_words<'a>(
     alloc: Global,
     is_recommended: bool,
     drawn: Option<[u8; 16]>,
-    words: &[String],
-) -> Result<Making, CliError>
-    ensures { Gives making_view (hash_words is_recommended drawn (texts_of words.now)) result }
+    words: &'a [String],
+) -> Result<Command<'a>>
+    ensures { Gives request_view (hash_words is_recommended drawn (texts_of words.now)) result }
 {
     let (format, words) = format_word(words)?;
     let (params, words) = params_words(is_recommended, words)?;
@@ -145,20 +134,18 @@ fn hash_words(
     if is_recommended && len.is_some() {
         return Err(CliError::Usage);
     }
-    making_of(alloc, Target::Hash { format }, params, len, salt)
+    let making = making_of(alloc, Target::Hash { format }, params, len, salt)?;
+    Ok(Command::Make(making))
 }
 
 // Reads the words after `verify`.
 #[tactic(auto, unfolding(crate::specs::Command::verify_words))]
-fn verify_words<'a>(
-    file_text: Option<&'a str>,
-    words: &'a [String],
-) -> Result<Command<'a>, CliError>
+fn verify_words<'a>(file_text: Option<&'a str>, words: &'a [String]) -> Result<Command<'a>>
     ensures { Gives request_view (verify_words (option_copied file_text.entry) (texts_of words.now)) result }
 {
     let (text, words) = hash_word(file_text, words)?;
     end_of(words)?;
-    let hash = hash_of(text)?;
+    let hash = StoredHash::read(text)?;
     Ok(Command::Verify { hash, wanted: None })
 }
 
@@ -169,7 +156,7 @@ fn rehash_words<'a>(
     drawn: Option<[u8; 16]>,
     file_text: Option<&'a str>,
     words: &'a [String],
-) -> Result<Command<'a>, CliError>
+) -> Result<Command<'a>>
     ensures { Gives request_view (rehash_words drawn (option_copied file_text.entry) (texts_of words.now)) result }
 {
     let (format, words) = format_word(words)?;
@@ -179,7 +166,7 @@ fn rehash_words<'a>(
     let (text, words) = hash_word(file_text, words)?;
     end_of(words)?;
     let wanted = making_of(alloc, Target::Hash { format }, params, Some(len), salt)?;
-    let hash = hash_of(text)?;
+    let hash = StoredHash::read(text)?;
     Ok(Command::Verify {
         hash,
         wanted: Some(wanted),
@@ -188,10 +175,7 @@ fn rehash_words<'a>(
 
 // Reads LOG_N R P, and also returns the words after them. The recommended parameters have no words.
 #[tactic(auto, unfolding(crate::specs::Command::params_words))]
-fn params_words<'a>(
-    is_recommended: bool,
-    words: &'a [String],
-) -> Result<(UncheckedParams, &'a [String]), CliError>
+fn params_words<'a>(is_recommended: bool, words: &'a [String]) -> Read<'a, UncheckedParams>
     ensures { Gives (before_words (λ params. params)) (params_words is_recommended (texts_of words.now)) result }
 {
     if is_recommended {
@@ -210,7 +194,7 @@ fn params_words<'a>(
 
 // Reads phc|mcf, and also returns the words after it.
 #[tactic(auto, using(crate::proofs::CommandFacts::other), unfolding(crate::specs::Command::format_word))]
-fn format_word<'a>(words: &'a [String]) -> Result<(Format, &'a [String]), CliError>
+fn format_word<'a>(words: &'a [String]) -> Read<'a, Format>
     ensures { Gives (before_words (λ format. format)) (format_word (texts_of words.now)) result }
 {
     let (name, words) = first_word(words)?;
@@ -223,10 +207,7 @@ fn format_word<'a>(words: &'a [String]) -> Result<(Format, &'a [String]), CliErr
 
 // Reads SALT_HEX, and also returns the words after it. A drawn salt has no word.
 #[tactic(auto, unfolding(crate::specs::Command::salt_word))]
-fn salt_word<'a>(
-    drawn: Option<[u8; 16]>,
-    words: &'a [String],
-) -> Result<(Salt<'a>, &'a [String]), CliError>
+fn salt_word<'a>(drawn: Option<[u8; 16]>, words: &'a [String]) -> Read<'a, Salt<'a>>
     ensures { Gives (before_words salt_of) (salt_word drawn (texts_of words.now)) result }
 {
     if let Some(salt) = drawn {
@@ -237,10 +218,7 @@ fn salt_word<'a>(
 }
 
 // Reads HASH, and also returns the words after it. The text of a file has no word.
-fn hash_word<'a>(
-    file_text: Option<&'a str>,
-    words: &'a [String],
-) -> Result<(&'a str, &'a [String]), CliError>
+fn hash_word<'a>(file_text: Option<&'a str>, words: &'a [String]) -> Read<'a, &'a str>
     ensures { Gives (before_words (λ text. text.now)) (hash_word (option_copied file_text.entry) (texts_of words.now)) result }
 {
     match file_text {
@@ -251,7 +229,7 @@ fn hash_word<'a>(
 
 // Reads LEN, and also returns the words after it.
 #[tactic(auto, unfolding(crate::specs::Command::len_word))]
-fn len_word<'a>(words: &'a [String]) -> Result<(usize, &'a [String]), CliError>
+fn len_word<'a>(words: &'a [String]) -> Read<'a, usize>
     ensures { Gives (before_words (λ len. len)) (len_word (texts_of words.now)) result }
 {
     let (len, words) = first_word(words)?;
@@ -260,7 +238,7 @@ fn len_word<'a>(words: &'a [String]) -> Result<(usize, &'a [String]), CliError>
 
 // Reads LEN if it is given. It must be the last word.
 #[tactic(auto, unfolding(crate::specs::Command::optional_len))]
-fn optional_len(words: &[String]) -> Result<Option<usize>, CliError>
+fn optional_len(words: &[String]) -> Result<Option<usize>>
     ensures { Gives (λ len. len) (optional_len (texts_of words.now)) result }
 {
     if words.is_empty() {
@@ -272,7 +250,7 @@ fn optional_len(words: &[String]) -> Result<Option<usize>, CliError>
 }
 
 // Returns the first word, and the words after it.
-fn first_word<'a>(words: &'a [String]) -> Result<(&'a str, &'a [String]), CliError>
+fn first_word<'a>(words: &'a [String]) -> Read<'a, &'a str>
     ensures first { Gives (before_words (λ text. text.now)) (first_word (texts_of words.now)) result }
 {
     match words.split_first() {
@@ -282,7 +260,7 @@ fn first_word<'a>(words: &'a [String]) -> Result<(&'a str, &'a [String]), CliErr
 }
 
 // Rejects words after the last one.
-fn end_of(words: &[String]) -> Result<(), CliError>
+fn end_of(words: &[String]) -> Result<()>
     ensures { Gives (λ done. done) (end_of (texts_of words.now)) result }
 {
     if words.is_empty() {
@@ -299,7 +277,7 @@ fn making_of(
     unchecked: UncheckedParams,
     key_len: Option<usize>,
     salt: Salt<'_>,
-) -> Result<Making, CliError>
+) -> Result<Making>
     ensures { Gives making_view (making_of target unchecked key_len (salt_of salt.entry)) result }
 {
     let salt = read_salt(alloc, salt)?;
@@ -325,15 +303,8 @@ fn checked_params(unchecked: UncheckedParams, key_len: Option<usize>) -> Option<
     }
 }
 
-// Reads the hash from its text.
-fn hash_of(text: &str) -> Result<StoredHash<'_>, CliError>
-    ensures { Gives (λ hash. hash) (hash_of text.now) result }
-{
-    Ok(StoredHash::read(text)?)
-}
-
 // Returns the bytes of the salt. SALT_HEX is an even number of hexadecimal digits of either case.
-fn read_salt(alloc: Global, salt: Salt<'_>) -> Result<Vec<u8>, CliError>
+fn read_salt(alloc: Global, salt: Salt<'_>) -> Result<Vec<u8>>
     ensures { Gives (λ salt. salt.items) (salt_of salt.entry) result }
 {
     match salt {

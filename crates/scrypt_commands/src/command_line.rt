@@ -1,14 +1,39 @@
-// A command with its options.
+// The names of commands, and a command with its options.
 
 ghost use Rattle.std.specs.Prelude.{◌≡◌, IfErr};
 ghost use Rattle.scrypt.specs.Reading.{mapped};
 ghost use Rattle.scrypt_commands.specs.CliError.{status_of};
-ghost use Rattle.scrypt_commands.specs.Invocation.{command_by, command_line_view, options_view};
+ghost use Rattle.scrypt_commands.specs.Invocation.{command_by, command_line_view, name_of, options_view};
 ghost use Rattle.scrypt_commands.specs.Options.{texts_of};
 
-use crate::command_name::Name;
-use crate::error::CliError;
+use crate::error::{CliError, Result};
 use crate::options::Options;
+
+/// The name of a command.
+#[derive(Clone, Copy)]
+pub enum Name {
+    Key,
+    Hash,
+    Verify,
+    Rehash,
+}
+
+impl Name {
+    /// Returns the command of this name, or `Usage` if no command has this name.
+    #[tactic(auto, using(crate::proofs::CommandFacts::other), unfolding(crate::specs::Invocation::name_of))]
+    pub fn of(word: &str) -> Result<Name>
+        ensures value { result ≡ name_of word.now }
+        ensures refused { IfErr result (λ error. status_of error ≡ 2) }
+    {
+        match word {
+            "key" => Ok(Name::Key),
+            "hash" => Ok(Name::Hash),
+            "verify" => Ok(Name::Verify),
+            "rehash" => Ok(Name::Rehash),
+            _ => Err(CliError::Usage),
+        }
+    }
+}
 
 /// A command with its options, whose words are not read yet.
 #[derive(Clone, Copy)]
@@ -28,7 +53,7 @@ impl<'a> CommandLine<'a> {
     /// of a file.
     ///
     /// Returns `Usage` if the words name no command, and the error of options that do not fit it.
-    pub fn new(options: Options<'a>, words: &'a [String]) -> Result<CommandLine<'a>, CliError>
+    pub fn new(options: Options<'a>, words: &'a [String]) -> Result<CommandLine<'a>>
         ensures value { mapped command_line_view result ≡ command_by (options_view options.entry) (texts_of words.now) }
         ensures refused { IfErr result (λ error. status_of error ≡ 2) }
     {

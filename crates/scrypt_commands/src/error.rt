@@ -7,12 +7,16 @@ ghost use Rattle.scrypt.specs.WithinLimits.{limited_refusal};
 ghost use Rattle.scrypt_commands.specs.CliError.{error_line, error_of, fixed_line, hash_error, limited_line, refused_line, status_of};
 ghost use Rattle.scrypt_commands.specs.declared.error.CliError.TheVariants.{OutOfMemory};
 
+use crate::command_line::Name;
 use crate::usage::USAGE;
 use password_hash::Error;
 use scrypt::{LimitedError, Limits};
 use std::alloc::AllocError;
 use std::io;
 use std::io::Write;
+
+/// A value, or an error that ends the run.
+pub type Result<T> = std::result::Result<T, CliError>;
 
 /// An error that ends a run without an answer.
 #[derive(Clone, Copy)]
@@ -21,14 +25,8 @@ pub enum CliError {
     Usage,
     /// `--hash-file` has no value.
     NoHashFile,
-    /// The options do not fit `key`.
-    KeyMisfit,
-    /// The options do not fit `hash`.
-    HashMisfit,
-    /// The options do not fit `verify`.
-    VerifyMisfit,
-    /// The options do not fit `rehash`.
-    RehashMisfit,
+    /// The options do not fit the command of this name.
+    Misfit(Name),
     /// The salt is not an even number of hexadecimal digits.
     SaltNotHex,
     /// The parameters are not accepted.
@@ -90,16 +88,16 @@ impl CliError {
             CliError::NoHashFile => {
                 b"--hash-file wants its file after =, as in --hash-file=FILE\n"
             }
-            CliError::KeyMisfit => {
+            CliError::Misfit(Name::Key) => {
                 b"key takes no option except --raw and --strip-newline: see --help\n"
             }
-            CliError::HashMisfit => {
+            CliError::Misfit(Name::Hash) => {
                 b"hash takes no option except --generate-salt, --recommended and --strip-newline: see --help\n"
             }
-            CliError::VerifyMisfit => {
+            CliError::Misfit(Name::Verify) => {
                 b"verify does not take --generate-salt, --raw and --recommended: see --help\n"
             }
-            CliError::RehashMisfit => {
+            CliError::Misfit(Name::Rehash) => {
                 b"rehash does not take --raw and --recommended: see --help\n"
             }
             CliError::SaltNotHex => b"salt is not hexadecimal\n",

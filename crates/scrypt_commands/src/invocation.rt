@@ -3,15 +3,13 @@
 ghost use Rattle.std.specs.Prelude.{◌≡◌, ◌⊎◌, ℕ, IfOk, IsTrue, List, [], OnErr, Option, length, true};
 ghost use Rattle.std.specs.Io.KnownBytes.{Keeps};
 ghost use Rattle.std.specs.Option.{option_copied};
-ghost use Rattle.scrypt_commands.specs.Invocation.{draws_salt, hash_file_of, invocation_of, invocation_view, is_raw};
-ghost use Rattle.scrypt_commands.specs.Invocation.{text_of, text_of_words, wants_file};
+ghost use Rattle.scrypt_commands.specs.Invocation.{invocation_of, invocation_view, options_in, options_view, text_of, text_of_words, wants_file};
 ghost use Rattle.scrypt_commands.specs.Options.{texts_of};
-ghost use Rattle.scrypt_commands.specs.Run.{EndsUnread, IsRefusedUnread, IsRun, unread_plan, plan_of};
-ghost use Rattle.scrypt_commands.specs.Steps.{IsDrawn};
+ghost use Rattle.scrypt_commands.specs.Run.{EndsUnread, IsDrawn, IsRefusedUnread, IsRun, unread_plan, plan_of};
 
 use crate::command_line::CommandLine;
 use crate::error::CliError;
-use crate::options::parse_options;
+use crate::options::{NONE, Options, parse_options};
 use crate::run::{Ended, answered, end, run_command, write_line};
 use crate::usage::{HELP, VERSION};
 use scrypt::Backend;
@@ -62,26 +60,30 @@ impl<'a> Invocation<'a> {
         }
     }
 
+    // Returns the options of the command, or none if there is no command.
+    fn options(&self) -> Options<'a>
+        ensures { options_view result ≡ options_in (invocation_view self.now) }
+    {
+        match self {
+            Invocation::Command(command_line) => command_line.options,
+            _ => NONE,
+        }
+    }
+
     /// Returns the name of the file that contains the hash, if `--hash-file` is given: then pass
     /// its text to `run`, which reads no files.
     pub fn hash_file(&self) -> Option<&'a str>
-        ensures value { option_copied result ≡ hash_file_of (invocation_view self.now) }
+        ensures value { option_copied result ≡ (options_in (invocation_view self.now)).hash_file }
     {
-        match self {
-            Invocation::Command(command_line) => command_line.options.hash_file,
-            _ => None,
-        }
+        self.options().hash_file
     }
 
     /// Returns whether the output is the raw bytes of a key (`--raw`), which should not go to a
     /// terminal.
     pub fn is_raw(&self) -> bool
-        ensures value { result ≡ is_raw (invocation_view self.now) }
+        ensures value { result ≡ (options_in (invocation_view self.now)).is_raw }
     {
-        match self {
-            Invocation::Command(command_line) => command_line.options.is_raw,
-            _ => false,
-        }
+        self.options().is_raw
     }
 
     /// Runs the program on this invocation, with the text of the hash file if the options name one.
@@ -104,14 +106,14 @@ impl<'a> Invocation<'a> {
         faults: &mut F,
     ) -> io::Result<Ended>
         ensures run { IfOk result (λ ended. (salt : List ℕ) × (length salt ≡ 16)
-            × (draws_salt (invocation_view self.entry) ≡ true → M.draws machine.now salt)
+            × ((options_in (invocation_view self.entry)).draws_salt ≡ true → M.draws machine.now salt)
             × IsRun (plan_of salt (option_copied file_text.entry) (invocation_view self.entry))
             (record { input = R.remaining reader.old; output = W.contents writer.old; faults = F.contents faults.old })
             (record { input = R.remaining reader.new; output = W.contents writer.new; faults = F.contents faults.new }) ended) }
         ensures without_input { IfOk result (EndsUnread (invocation_view self.entry)) }
         ensures refused { IfOk result (λ ended. IsRefusedUnread (option_copied file_text.entry) (invocation_view self.entry)
             → (ended.status ≡ 2) ⊎ (ended.status ≡ 3)) }
-        ensures drawn { OnErr result (IsTrue (draws_salt (invocation_view self.entry))) }
+        ensures drawn { OnErr result (IsTrue (options_in (invocation_view self.entry)).draws_salt) }
         ensures unread { OnErr result (Keeps (R.remaining reader.old) (R.remaining reader.new)
             × Keeps (W.contents writer.old) (W.contents writer.new) × Keeps (F.contents faults.old) (F.contents faults.new)) }
     {
@@ -141,6 +143,17 @@ fn draw<M: Machine>(machine: &M, is_drawn: bool) -> io::Result<Option<[u8; 16]>>
     Ok(Some(machine.draw_salt()?))
 }
 
+// Returns the text about the program that these words ask for: only a single word asks for one.
+#[tactic(auto, unfolding(crate::specs::Invocation::text_of_words))]
+fn text_of_words(words: &[String]) -> Option<&'static str>
+    ensures { option_copied result ≡ text_of_words (texts_of words.now) }
+{
+    match words {
+        [word] => text_of(word.as_str()),
+        _ => None,
+    }
+}
+
 // Returns the text about the program that a word asks for, or `None`.
 #[tactic(auto, using(crate::proofs::CommandFacts::other), unfolding(crate::specs::Invocation::text_of))]
 fn text_of(word: &str) -> Option<&'static str>
@@ -151,20 +164,6 @@ fn text_of(word: &str) -> Option<&'static str>
         "--version" => Some(VERSION),
         _ => None,
     }
-}
-
-// Returns the text about the program that these words ask for: only a single word asks for one.
-#[tactic(auto, unfolding(crate::specs::Invocation::text_of_words))]
-fn text_of_words(words: &[String]) -> Option<&'static str>
-    ensures { option_copied result ≡ text_of_words (texts_of words.now) }
-{
-    let Some((word, rest)) = words.split_first() else {
-        return None;
-    };
-    if !rest.is_empty() {
-        return None;
-    }
-    text_of(word.as_str())
 }
 
 // Returns whether the first word is `--hash-file`, which is not an option without a file.

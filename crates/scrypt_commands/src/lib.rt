@@ -5,7 +5,6 @@
 mod answer;
 mod command;
 mod command_line;
-mod command_name;
 mod decimals;
 mod error;
 pub mod invocation;

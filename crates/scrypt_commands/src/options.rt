@@ -2,10 +2,10 @@
 
 ghost use Rattle.std.specs.Prelude.{◌≡◌, IfSome, option_map};
 ghost use Rattle.scrypt_commands.specs.CliError.{status_of};
-ghost use Rattle.scrypt_commands.specs.Invocation.{is_about_hash, misfit, options_view};
+ghost use Rattle.scrypt_commands.specs.Invocation.{is_about_hash, is_unfit, misfit, options_view};
 ghost use Rattle.scrypt_commands.specs.Options.{options_of, password_of, texts_of, with_option, with_value, without_newline};
 
-use crate::command_name::Name;
+use crate::command_line::Name;
 use crate::error::CliError;
 use crate::limit_options::LimitOptions;
 
@@ -38,7 +38,7 @@ pub const NONE: Options<'static> = Options {
 
 /// Parses the options, and also returns the words after them. The command begins at the first word
 /// that is not an option.
-#[tactic(auto, using(crate::proofs::OptionsFacts::options))]
+#[tactic(auto, unfolding(crate::specs::Options::options_after))]
 pub fn parse_options<'a>(words: &'a [String]) -> (Options<'a>, &'a [String])
     ensures value { (options_view result.0, texts_of result.1.now) ≡ options_of (texts_of words.now) }
 {
@@ -84,20 +84,14 @@ impl<'a> Options<'a> {
         let Some((name, value)) = word.split_once('=') else {
             return None;
         };
+        let mut options = self;
         if name == "--hash-file" {
-            return Some(Options {
-                hash_file: Some(value),
-                ..self
-            });
+            options.hash_file = Some(value);
+        } else {
+            let limits = self.limit_options.unwrap_or(LimitOptions::defaults());
+            options.limit_options = Some(limits.with_number(name, value)?);
         }
-        let limit_options = self
-            .limit_options
-            .unwrap_or(LimitOptions::defaults())
-            .with_number(name, value)?;
-        Some(Options {
-            limit_options: Some(limit_options),
-            ..self
-        })
+        Some(options)
     }
 
     // Returns whether an option applies only to a stored hash.
@@ -112,11 +106,18 @@ impl<'a> Options<'a> {
         ensures value { result ≡ misfit (options_view self.entry) name }
         ensures refused { IfSome result (λ error. status_of error ≡ 2) }
     {
+        self.is_unfit(name).then_some(CliError::Misfit(name))
+    }
+
+    // Returns whether an option does not fit this command.
+    fn is_unfit(self, name: Name) -> bool
+        ensures { result ≡ is_unfit (options_view self.entry) name }
+    {
         match name {
-            Name::Key => (self.is_about_hash() || self.draws_salt).then_some(CliError::KeyMisfit),
-            Name::Hash => (self.is_about_hash() || self.is_raw).then_some(CliError::HashMisfit),
-            Name::Verify => (self.draws_salt || self.is_raw).then_some(CliError::VerifyMisfit),
-            Name::Rehash => (self.is_recommended || self.is_raw).then_some(CliError::RehashMisfit),
+            Name::Key => self.is_about_hash() || self.draws_salt,
+            Name::Hash => self.is_about_hash() || self.is_raw,
+            Name::Verify => self.draws_salt || self.is_raw,
+            Name::Rehash => self.is_recommended || self.is_raw,
         }
     }
 

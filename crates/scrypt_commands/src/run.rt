@@ -7,13 +7,12 @@ ghost use Rattle.scrypt_commands.specs.Command.{request_of};
 ghost use Rattle.scrypt_commands.specs.Invocation.{command_line_view};
 ghost use Rattle.scrypt_commands.specs.Options.{texts_of};
 ghost use Rattle.scrypt_commands.specs.Outcome.{outcome, reply_by};
-ghost use Rattle.scrypt_commands.specs.Run.{AppendsBeginning, IsAnswer, IsRun, OnInput, plan_by, plan_of_words};
-ghost use Rattle.scrypt_commands.specs.Steps.{AppendsReply};
+ghost use Rattle.scrypt_commands.specs.Run.{AppendsBeginning, AppendsReply, IsAnswer, IsRun, OnInput, plan_by, plan_of_words};
 ghost use Rattle.scrypt_commands.specs.declared.error.CliError.TheVariants.{InputFailed, OutOfMemory, OutputFailed};
 
 use crate::command::Command;
 use crate::command_line::CommandLine;
-use crate::error::CliError;
+use crate::error::{CliError, Result};
 use crate::options::NONE;
 use scrypt::{Backend, CoreCount, Simd};
 use std::alloc::Global;
@@ -90,7 +89,7 @@ fn execute<M: Backend, R: Read, W: Write>(
     command_line: CommandLine<'_>,
     reader: &mut R,
     writer: &mut W,
-) -> Result<u8, CliError>
+) -> Result<u8>
     ensures line { IfOk result (AppendsReply (reply_by (command_line_view command_line.entry)) (R.remaining reader.old)
         (W.contents writer.old) (W.contents writer.new)) }
     ensures ok { IfOk result IsAnswer }
@@ -123,7 +122,7 @@ fn execute<M: Backend, R: Read, W: Write>(
 }
 
 // Returns every byte of the input.
-fn read_all<R: Read>(alloc: Global, reader: &mut R) -> Result<Vec<u8>, CliError>
+fn read_all<R: Read>(alloc: Global, reader: &mut R) -> Result<Vec<u8>>
     ensures ok { IfOk result (λ bytes. IfSome (R.remaining reader.old) (λ input. bytes.items ≡ input)) }
     ensures read { OnOk result (IsAtEnd (R.remaining reader.new)) }
     ensures err { IfErr result (λ error. (error ≡ OutOfMemory) ⊎ (error ≡ InputFailed)) }
@@ -146,7 +145,7 @@ fn read_all<R: Read>(alloc: Global, reader: &mut R) -> Result<Vec<u8>, CliError>
 /// write is repeated.
 ///
 /// `write_all` of std is not used, because it does not specify what it wrote before an error.
-pub(crate) fn write_line<W: Write>(writer: &mut W, line: &[u8]) -> Result<(), CliError>
+pub(crate) fn write_line<W: Write>(writer: &mut W, line: &[u8]) -> Result<()>
     ensures ok { OnOk result (Appends (W.contents writer.old) (W.contents writer.new) line.now) }
     ensures begun { AppendsBeginning (W.contents writer.old) (W.contents writer.new) line.now }
     ensures err { IfErr result (λ error. error ≡ OutputFailed) }
