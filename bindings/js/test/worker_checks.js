@@ -55,13 +55,14 @@ const endings = {
     equal(await next, OTHER, 'the next call');
     equal(`${made.length} ${worker.sent.length} ${worker.isEnded}`, '1 3 undefined', 'workers');
   }),
-  'an abort after an answer': withWorkers(async (call, made, busy, answer) => {
+  'an abort after an answer': withWorkers(async (call, _, busy, answer) => {
     const abort = new AbortController();
     const calls = [call({ signal: abort.signal }), call()];
+    const worker = await busy();
     // The worker gets the next call immediately; that call is not aborted.
-    await answer(KEY);
+    worker.says({ value: KEY });
     abort.abort();
-    equal(made[0].sent.filter((it) => it.isAborted).length, 0, 'aborts');
+    equal(worker.sent.filter((it) => it.isAborted).length, 0, 'aborts');
     await answer(OTHER);
     equal((await Promise.all(calls)).join(), '1,2', 'both answers');
   }),
@@ -86,8 +87,7 @@ const endings = {
     equal((await Promise.all(calls)).join(), '1,1,1');
   }, (count) => count === 1),
   'no worker starts': withWorkers(async (call) => {
-    const refusal = () => refused('WORKER_FAILED', () => call(), 'no room');
-    await Promise.all(Array.from({ length: 9 }, refusal));
+    await Promise.all(Array.from({ length: 9 }, () => refused('WORKER_FAILED', call, 'no room')));
   }, () => false),
   'more calls than workers': withWorkers(async (call, made, busy, answer, configure) => {
     configure({ maxQueue: 3 });
