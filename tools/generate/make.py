@@ -9,12 +9,14 @@ that no longer exists.
 usage: python3 -m tools.generate.make [FOLDER]    the folder of the pages, which is replaced: build/doc
 """
 
+import html
 import json
 import os
 import re
 import shutil
 import sys
 import time
+from collections import Counter
 
 from tools import debian
 
@@ -24,7 +26,7 @@ try:
 except ImportError as missing:
     sys.exit(f"make doc needs Debian's python3-jinja2 and python3-pygments: {missing}")
 
-from tools.generate import checks, comments, promises
+from tools.generate import comments, promises
 from tools.generate.library import Library, module_page, page_of
 from tools.generate.views import Views
 from tools.generate.sources import read
@@ -32,8 +34,31 @@ from tools.generate.sources import read
 HERE = os.path.dirname(os.path.abspath(__file__))
 
 
+LINK = re.compile(r'<a\b[^>]*?\bhref="([^"]*)"')
+TARGET = re.compile(r'\bid="([^"]*)"')
+
+
 def first_sentence(text):
     return comments.inline(comments.first_sentence(text))
+
+
+def checked(pages):
+    """The number of links in the pages, and the errors in them and in their targets."""
+    targets = {name: Counter(map(html.unescape, TARGET.findall(text))) for name, text in pages.items()}
+    wrong = [f"{name}: two targets are named {it}" for name, those in targets.items() for it in those if those[it] > 1]
+    links = [(name, html.unescape(it)) for name, text in pages.items() for it in LINK.findall(text)]
+    for name, href in links:
+        page, _, place = href.partition("#")
+        found = targets.get(page or name)
+        if not re.match(r"https?:", href) and (found is None or place and place not in found):
+            wrong.append(f"{name}: the link {href} leads nowhere")
+    return len(links), wrong
+
+
+def plain(text):
+    """The words of a text, without the markup of quotations, links and code."""
+    text = re.sub(r"\[([^\]]*)\]\([^)]*\)", r"\1", re.sub(r"^>", "", text, flags=re.M))
+    return " ".join(re.sub(r"[`*]", "", text).split())
 
 
 class Pages:
@@ -66,14 +91,16 @@ class Pages:
                 self.module(crate, module, [(it, [], []) for it in shown], f"The vectors of {crate}", vectors=True)
 
     def module(self, crate, module, shown, title, vectors):
+        names = [(it.name, it.name) for it, *_ in shown]
         self.write(module_page(module.name), "definitions.html", title=title, crate=crate, module=module,
-                   shown=shown, vectors=vectors)
+                   shown=shown, vectors=vectors, names=names)
 
     def sources(self):
         for crate, sources in self.views.sources.items():
             for source, shown in sources:
                 template = "source.html" if source.module else "crate.html"
-                more = {} if source.module else self.of_crate(crate, sources)
+                names = [(it.anchor, it.name.removeprefix(f"{crate}::")) for it in shown]
+                more = {"names": names} if source.module else self.of_crate(crate, sources)
                 self.write(page_of(source), template, title=source.name, crate=crate, shown=shown,
                            doc=comments.html(source.doc), **more)
 
@@ -97,8 +124,8 @@ class Pages:
         return {"definitions": len(every), "lines": lines}
 
     def front(self):
-        """The first page, and the definitions that the headline depends on. Returns an error if PROMISES has
-        another headline."""
+        """The first page, and the definitions that the headline depends on. Returns an error if
+        PROMISES has another headline."""
         rows = json.loads(read(f"{HERE}/headline.json"))
         phrases, verifying = self.phrases(rows["headline"]), self.phrases(rows["verifying"])
         headline = self.reading("reading.html", "the headline", [clause for it in phrases for clause in it["clauses"]])
@@ -115,7 +142,8 @@ class Pages:
                    numbers=numbers, headline=headline, verdict=verdict,
                    about=[(it, first_sentence(self.library.sources[it][""].doc), functions[it], self.library.uses[it])
                           for it in self.views.crates])
-        return checks.headline("".join(it["text"] for it in phrases), read("docs/PROMISES.md"))
+        is_same = plain("".join(it["text"] for it in phrases)) in plain(read("docs/PROMISES.md"))
+        return [] if is_same else ["headline.json: PROMISES has another headline: make promises"]
 
     def trust(self):
         own = self.library.uses
@@ -139,7 +167,7 @@ def main(folder="build/doc"):
     pages.sources()
     wrong = [*pages.front(), *pages.views.wrong()]
     pages.trust()
-    links, broken = checks.links(pages.written)
+    links, broken = checked(pages.written)
     pages.save(folder)
     print(f"doc: {folder}/index.html: {len(pages.written)} pages, {links} links, in {time.monotonic() - begun:.1f} seconds")
     sys.exit("\n".join(wrong + broken) or 0)
