@@ -36,7 +36,7 @@ by_esbuild() {
 
 has "nodejs, from 20.16 on" node -e 'process.getBuiltinModule("node:fs")' || exit 0
 python3 -B -m bindings.js.test.test_lower
-node --test $here/node.test.js > "$room/log" || { cat "$room/log"; exit 1; }
+node --test --test-reporter=tap $here/node.test.js > "$room/log" || { cat "$room/log"; exit 1; }
 grep -E '^# (pass|fail) ' "$room/log"
 if has esbuild esbuild --version; then by_esbuild; fi
 if has node-typescript tsc --version; then
