@@ -7,8 +7,8 @@ use Rattle.std.specs.Prelude.{IsTrue, Result, ℤ, nat_le, ⊤}
 use Rattle.password_hash.specs.Refusal.{Refusal}
 use Rattle.scrypt.specs.Cost.{chunks_bytes, scratch_words, table_words}
 use Rattle.scrypt.specs.InBuffers.{are_enough}
-use Rattle.scrypt.specs.Reading.{Stored}
-use Rattle.scrypt.specs.Workspace.{Workspace, buffers, verdict_in}
+use Rattle.scrypt.specs.Logins.{Attempt, verdict_on}
+use Rattle.scrypt.specs.Workspace.{Workspace, buffers}
 use Rattle.scrypt_c.specs.Buffers.{AreBuffers}
 use Rattle.scrypt_c.specs.Limits.{params_of}
 use Rattle.scrypt_c.specs.Statuses.{IsKeyStatus, buffers_status}
@@ -18,11 +18,10 @@ pub from_zero : (w : Workspace) → (w.cores.all ≡ 0) × (w.cores.lanes ≡ 0)
 from_zero w zero = λ i. record w { cores = record { seal = tt; all = zero.0 i; lanes = zero.1 i; compressions = zero.2 i } }
 
 -- the status of one of a group, as an array keeps it
-pub kept_status : {out : Result ⊤ Refusal} (status : ℤ) (w w' : Workspace) (password password' : List ℕ) (reading reading' : Result Stored Refusal)
-    → w ≡ w' → password ≡ password' → reading ≡ reading' → SFits w32 status → status ≡ buffers_status out
-    → out ≡ verdict_in w password reading → to_z w32 (of_z w32 status) ≡ buffers_status (verdict_in w' password' reading')
-kept_status {out} status w w' password password' reading reading' work same read fits is verdict =
-    to_z-of_z w32 status fits ∙ is ∙ ap buffers_status (rw (← work, ← same, ← read) verdict)
+pub kept_status : {out : Result ⊤ Refusal} (status : ℤ) (w w' : Workspace) (a b : Attempt) → w ≡ w' → a ≡ b → SFits w32 status
+    → status ≡ buffers_status out → out ≡ verdict_on w a → to_z w32 (of_z w32 status) ≡ buffers_status (verdict_on w' b)
+kept_status {out} status w w' a b work same fits is verdict =
+    to_z-of_z w32 status fits ∙ is ∙ ap buffers_status (rw (← work, ← same) verdict)
 
 fits : (m n : ℕ) → Decides (nat_le m n) (m ≤ n)
 fits m n = grind (arith, nat_tests)

@@ -1,14 +1,22 @@
 -- The status of a cost within limits.
-use Rattle.std.specs.Prelude.{◌≡◌, ◌⊎◌, ◌↔◌, ℕ, ℤ, ◌+◌, ◌*◌, ◌^◌, if◌then◌else◌, min, nat_lt, pos, IsTrue, None}
+use Rattle.std.specs.Prelude.{◌≡◌, ◌⊎◌, ◌↔◌, ℕ, ℤ, ◌+◌, ◌*◌, ◌^◌, if◌then◌else◌, min, nat_lt, pos, IsTrue, List, None, Result}
+use Rattle.password_hash.specs.Refusal.{Refusal}
 use Rattle.scrypt.specs.Accepted.{are_accepted, Parameters}
 use Rattle.scrypt.specs.Cost.{chunks_bytes, scratch_words, table_words}
 use Rattle.scrypt.specs.Limits.{are_within, tables_within}
+use Rattle.scrypt.specs.Reading.{Stored}
+use Rattle.scrypt.specs.WithinLimits.{within}
 use Rattle.scrypt.specs.declared.limits.Limits.{Limits}
+use Rattle.scrypt_c.specs.Texts.{bytes_reading}
 
 -- these limits
 abbrev pub limits_of : ℕ → ℕ → ℕ → Limits
 limits_of max_mem max_work min_key_len =
     record { max_mem = max_mem; max_work = max_work; min_key_len = min_key_len }
+
+-- the reading of bytes, if the hash is within these limits
+abbrev pub limited_reading : ℕ → ℕ → ℕ → List ℕ → Result Stored Refusal
+limited_reading max_mem max_work min_key_len bytes = within (limits_of max_mem max_work min_key_len) (bytes_reading bytes)
 
 -- these parameters, without a length
 abbrev pub params_of : ℕ → ℕ → ℕ → Parameters

@@ -3,16 +3,14 @@
 ghost use Rattle.std.specs.Prelude.{◌≡◌, ◌≢◌, ◌↔◌, ◌⊎◌, IfOk, OnErr, IsTrue, length};
 ghost use Rattle.scrypt.specs.Accepted.{are_accepted};
 ghost use Rattle.scrypt.specs.Limits.{limits_for_new};
-ghost use Rattle.scrypt.specs.WithinLimits.{within};
-ghost use Rattle.scrypt_c.specs.Limits.{IsNeedStatus, limits_of, params_of};
+ghost use Rattle.scrypt_c.specs.Limits.{IsNeedStatus, limited_reading, limits_of, params_of};
 ghost use Rattle.scrypt_c.specs.Cost.{cost_of};
 ghost use Rattle.scrypt_c.specs.Statuses.{result_status};
 ghost use Rattle.scrypt_c.specs.Texts.{bytes_reading};
 
 use crate::statuses::{INVALID_PARAMS, OK, TOO_COSTLY, limited_status_of, status_of};
-use crate::texts::stored_hash;
-use scrypt::laws::{parameters_are_those_of_the_reading, reading_names_no_password};
-use scrypt::{BufferLens, LimitedError, Limits, Params};
+use crate::texts::{stored_hash, whole_params};
+use scrypt::{BufferLens, Limits, Params};
 
 /// The cost of a derivation: its parameters; the length of the key if it is the key of a hash; the
 /// number of tables and scratches that it can use, from 1 to 4 and not above `p`; the length of the
@@ -50,31 +48,28 @@ pub extern "C" fn scrypt_hash_cost(
     min_key_len: usize,
     cost: &mut Cost,
 ) -> i32
-    ensures status { result ≡ result_status (within (limits_of max_mem max_work min_key_len) (bytes_reading text.now)) }
+    ensures status { result ≡ result_status (limited_reading max_mem max_work min_key_len text.now) }
     ensures read { IfOk (bytes_reading text.now) (λ s. cost.new ≡ cost_of max_mem s.params (length s.key)) }
     ensures unread { OnErr (bytes_reading text.now) (cost.new ≡ cost.old) }
 {
-    parameters_are_those_of_the_reading();
-    reading_names_no_password();
     let hash = match stored_hash(text) {
         Ok(hash) => hash,
         Err(error) => return status_of(error),
     };
+    let (params, len) = match whole_params(&hash) {
+        Ok(read) => read,
+        Err(error) => return status_of(error),
+    };
+    *cost = cost_of(&params, len, max_mem);
     let limits = Limits {
         max_mem,
         max_work,
         min_key_len,
     };
-    let status = match hash.within(&limits) {
+    match hash.within(&limits) {
         Ok(_) => OK,
-        Err(LimitedError::Hash(error)) => return status_of(error),
         Err(error) => limited_status_of(error),
-    };
-    let Ok((params, len)) = hash.params_and_key_len() else {
-        unreachable!();
-    };
-    *cost = cost_of(&params, len, max_mem);
-    status
+    }
 }
 
 /// Writes to `cost` what a derivation with these parameters needs, if the buffers may have
@@ -150,8 +145,7 @@ pub extern "C" fn scrypt_default_limits(
     ensures one { (result ≡ OK) ⊎ (result ≡ INVALID_PARAMS) }
     ensures limits { result ≡ OK → limits_of max_mem.new max_work.new min_key_len.new
         ≡ limits_for_new Limits.DEFAULT (params_of log_n r p) key_len }
-    ensures refused { result ≢ OK → (max_mem.new ≡ max_mem.old) × (max_work.new ≡ max_work.old)
-        × (min_key_len.new ≡ min_key_len.old) }
+    ensures refused { result ≢ OK → (max_mem.new ≡ max_mem.old) × (max_work.new ≡ max_work.old) × (min_key_len.new ≡ min_key_len.old) }
 {
     match Params::new(log_n, r, p) {
         Ok(params) => {

@@ -5,10 +5,10 @@ ghost use Rattle.password_hash.specs.Refusal.{with_refusal};
 ghost use Rattle.scrypt.specs.McfHash.{IsMadeHash as IsMadeMcf};
 ghost use Rattle.scrypt.specs.PhcHash.{IsMadeText, IsSaltLen};
 ghost use Rattle.scrypt.specs.Reading.{weaker};
-ghost use Rattle.scrypt.specs.WithinLimits.{within};
-ghost use Rattle.scrypt_c.specs.Limits.{limits_of};
+ghost use Rattle.scrypt.specs.StoredHash.{reading};
+ghost use Rattle.scrypt_c.specs.Limits.{limited_reading};
 ghost use Rattle.scrypt_c.specs.Made.{AreHashParams, IsTooLong, IsWrittenTo, wanted};
-ghost use Rattle.scrypt_c.specs.Statuses.{IsVerifyStatus, ReadsParams, rehash_status, result_status};
+ghost use Rattle.scrypt_c.specs.Statuses.{IsVerifyStatus, ReadsParams, rehash_status};
 ghost use Rattle.scrypt_c.specs.Texts.{bytes_reading};
 
 use crate::statuses::{
@@ -16,10 +16,10 @@ use crate::statuses::{
     limited_status_of, status_of,
 };
 use crate::target::Target;
-use crate::texts::{copy_to, stored_hash};
+use crate::texts::{copy_to, limited_hash, stored_hash};
 use password_hash::Result;
 use scrypt::laws::reading_names_no_password;
-use scrypt::{CoreCount, Limits, Params, mcf, phc};
+use scrypt::{CoreCount, Params, StoredHash, mcf, phc};
 use std::alloc::Global;
 
 /// Writes the PHC string of the hash of `password` and `salt` to the start of `text`, and its
@@ -46,10 +46,8 @@ pub extern "C" fn scrypt_hash_phc(
         text.old text.new text_len.new }
     ensures params { (result ≡ INVALID_PARAMS) ↔ (¬ AreHashParams log_n r p key_len) }
     ensures salt { (result ≡ SALT_INVALID) ↔ (AreHashParams log_n r p key_len × ¬ IsSaltLen (length salt.now)) }
-    ensures size { result ≡ BUFFER_SIZE → IsTooLong
-        (IsMadeText (wanted log_n r p key_len) password.now salt.now) text.old text_len.new }
-    ensures status { (result ≡ OK) ⊎ (result ≡ INVALID_PARAMS) ⊎ (result ≡ SALT_INVALID)
-        ⊎ (result ≡ OUT_OF_MEMORY) ⊎ (result ≡ BUFFER_SIZE) }
+    ensures size { result ≡ BUFFER_SIZE → IsTooLong (IsMadeText (wanted log_n r p key_len) password.now salt.now) text.old text_len.new }
+    ensures status { (result ≡ OK) ⊎ (result ≡ INVALID_PARAMS) ⊎ (result ≡ SALT_INVALID) ⊎ (result ≡ OUT_OF_MEMORY) ⊎ (result ≡ BUFFER_SIZE) }
     ensures refused { result ≢ OK → text.new ≡ text.old }
     ensures unchanged { result ≢ OK → result ≢ BUFFER_SIZE → text_len.new ≡ text_len.old }
 {
@@ -85,10 +83,8 @@ pub extern "C" fn scrypt_hash_mcf(
     ensures made { result ≡ OK → IsWrittenTo (IsMadeMcf (wanted log_n r p key_len) password.now salt.now)
         text.old text.new text_len.new }
     ensures params { (result ≡ INVALID_PARAMS) ↔ (¬ AreHashParams log_n r p key_len) }
-    ensures size { result ≡ BUFFER_SIZE → IsTooLong
-        (IsMadeMcf (wanted log_n r p key_len) password.now salt.now) text.old text_len.new }
-    ensures status { (result ≡ OK) ⊎ (result ≡ INVALID_PARAMS) ⊎ (result ≡ OUT_OF_MEMORY)
-        ⊎ (result ≡ BUFFER_SIZE) }
+    ensures size { result ≡ BUFFER_SIZE → IsTooLong (IsMadeMcf (wanted log_n r p key_len) password.now salt.now) text.old text_len.new }
+    ensures status { (result ≡ OK) ⊎ (result ≡ INVALID_PARAMS) ⊎ (result ≡ OUT_OF_MEMORY) ⊎ (result ≡ BUFFER_SIZE) }
     ensures refused { result ≢ OK → text.new ≡ text.old }
     ensures unchanged { result ≢ OK → result ≢ BUFFER_SIZE → text_len.new ≡ text_len.old }
 {
@@ -118,8 +114,7 @@ pub extern "C" fn scrypt_hash_params(
 ) -> i32
     ensures read { ReadsParams text.now result log_n.new r.new p.new key_len.new }
     ensures missing { (result ≢ MISMATCH) × (result ≢ OUT_OF_MEMORY) }
-    ensures unchanged { result ≢ OK → (log_n.new ≡ log_n.old) × (r.new ≡ r.old) × (p.new ≡ p.old)
-        × (key_len.new ≡ key_len.old) }
+    ensures unchanged { result ≢ OK → (log_n.new ≡ log_n.old) × (r.new ≡ r.old) × (p.new ≡ p.old) × (key_len.new ≡ key_len.old) }
 {
     reading_names_no_password();
     let hash = match stored_hash(text) {
@@ -150,11 +145,7 @@ pub extern "C" fn scrypt_verify(alloc: Global, password: &[u8], text: &[u8]) -> 
     ensures status { IsVerifyStatus password.now (bytes_reading text.now) result }
 {
     match stored_hash(text) {
-        Ok(hash) => verify_status(hash.verify_counted::<Target>(
-            alloc,
-            password,
-            &mut CoreCount::new(),
-        )),
+        Ok(hash) => verify(alloc, password, &hash),
         Err(error) => status_of(error),
     }
 }
@@ -176,24 +167,10 @@ pub extern "C" fn scrypt_verify_limited(
     max_work: u64,
     min_key_len: usize,
 ) -> i32
-    ensures status { IsVerifyStatus password.now
-        (within (limits_of max_mem max_work min_key_len) (bytes_reading text.now)) result }
+    ensures status { IsVerifyStatus password.now (limited_reading max_mem max_work min_key_len text.now) result }
 {
-    let hash = match stored_hash(text) {
-        Ok(hash) => hash,
-        Err(error) => return status_of(error),
-    };
-    let limits = Limits {
-        max_mem,
-        max_work,
-        min_key_len,
-    };
-    match hash.within(&limits) {
-        Ok(hash) => verify_status(hash.verify_counted::<Target>(
-            alloc,
-            password,
-            &mut CoreCount::new(),
-        )),
+    match limited_hash(text, max_mem, max_work, min_key_len) {
+        Ok(hash) => verify(alloc, password, &hash),
         Err(error) => limited_status_of(error),
     }
 }
@@ -220,11 +197,11 @@ pub extern "C" fn scrypt_needs_rehash(text: &[u8], log_n: u8, r: u32, p: u32, ke
     }
 }
 
-// Returns the status of the result of verifying.
-fn verify_status(verified: Result<()>) -> i32
-    ensures { result ≡ result_status (with_refusal verified) }
+// Verifies a password against a hash that was read.
+fn verify(alloc: Global, password: &[u8], hash: &StoredHash<'_>) -> i32
+    ensures { IsVerifyStatus password.now (reading hash.now) result }
 {
-    match verified {
+    match hash.verify_counted::<Target>(alloc, password, &mut CoreCount::new()) {
         Ok(()) => OK,
         Err(error) => status_of(error),
     }

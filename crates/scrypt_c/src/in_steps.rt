@@ -1,33 +1,25 @@
 //! Keys and verdicts in steps, in the caller's buffers: between two steps the caller can show
 //! progress or cancel.
 
-ghost use Rattle.std.specs.Prelude.{◌≡◌, ◌≢◌, ◌⊎◌, ◌↔◌, ◌≤◌, ◌<◌, ◌+◌, ◌-◌, ◌*◌, ℕ, List, length};
-ghost use Rattle.std.specs.Prelude.{min};
-ghost use Rattle.std.specs.Prelude.{IfOk, IsOk, IsTrue, None, OnErr};
+ghost use Rattle.std.specs.Prelude.{◌≡◌, ◌≢◌, ◌⊎◌, ◌↔◌, ◌≤◌, ◌<◌, ◌+◌, ◌*◌, List, ℕ, length, min, IfOk, IsTrue, OnErr};
 ghost use Rattle.scrypt.specs.Accepted.{are_accepted, is_output_len};
-ghost use Rattle.scrypt.specs.Key.{derived_key};
-ghost use Rattle.scrypt.specs.Reading.{mapped, verdict, with_refusal};
-ghost use Rattle.scrypt.specs.StoredHash.{reading};
-ghost use Rattle.scrypt.specs.WithinLimits.{within};
-ghost use Rattle.scrypt.specs.Stepping.{AreMixable, IsWithin};
 ghost use Rattle.scrypt.specs.Cost.{chunks_bytes};
-ghost use Rattle.scrypt.specs.declared.stepping.Progress.{Progress};
-ghost use Rattle.scrypt_c.specs.Limits.{limits_of, params_of};
+ghost use Rattle.scrypt.specs.Key.{derived_key};
+ghost use Rattle.scrypt.specs.Reading.{verdict};
+ghost use Rattle.scrypt.specs.Stepping.{IsUnderWay, lacking, mixes_done};
+ghost use Rattle.scrypt_c.specs.Limits.{limited_reading, params_of};
 ghost use Rattle.scrypt_c.specs.Statuses.{result_status};
+ghost use Rattle.scrypt_c.specs.Steps.{AreForSteps, CanBe, IsAt, IsBegun};
 ghost use Rattle.scrypt_c.specs.Texts.{bytes_reading};
-ghost use Rattle.scrypt_c.specs.Steps.{AreForSteps, CanBe, HasCome, done_in_all, lacking_in};
 
 use crate::statuses::{
     BUFFER_SIZE, INVALID_OUTPUT_LEN, INVALID_PARAMS, INVALID_PROGRESS, OK, UNFINISHED,
     limited_status_of, status_of,
 };
 use crate::target::Target;
-use crate::texts::stored_hash;
-use password_hash::Result;
-use scrypt::laws::parameters_are_those_of_the_reading;
+use crate::texts::{limited_hash, stored_hash, whole_params};
 use scrypt::{
-    Backend, BufferLens, CoreCount, FinishError, Limits, Params, Progress, StoredHash, begin,
-    finish, is_within, step,
+    Backend, BufferLens, CoreCount, FinishError, Params, Progress, begin, finish, is_within, step,
 };
 
 /// Begins a key in steps. It runs no core yet: `scrypt_key_step` does, and `scrypt_key_finish`
@@ -51,21 +43,12 @@ pub extern "C" fn scrypt_key_begin(
     at: &mut Progress,
 ) -> i32
     ensures params { (result ≡ INVALID_PARAMS) ↔ (¬ IsTrue (are_accepted log_n r p)) }
-    ensures buffers { (result ≡ BUFFER_SIZE)
-        ↔ (IsTrue (are_accepted log_n r p)
-        × ¬ AreForSteps log_n r p 1 chunks.old table.old scratch.old) }
+    ensures buffers { (result ≡ BUFFER_SIZE) ↔ (IsTrue (are_accepted log_n r p)
+        × ¬ AreForSteps (params_of log_n r p) 1 chunks.old table.old scratch.old) }
     ensures status { (result ≡ OK) ⊎ (result ≡ INVALID_PARAMS) ⊎ (result ≡ BUFFER_SIZE) }
-    ensures start { result ≡ OK → (at.new.chunks ≡ 0) × (at.new.mixes ≡ 0) }
-    ensures within { result ≡ OK
-        → CanBe log_n r p at.new
-        × AreMixable ⟦<Target as Backend>⟧.most ⟦<Target as Backend>⟧.scalar at.new.interleaved }
-    ensures fits { result ≡ OK
-        → AreForSteps log_n r p at.new.interleaved chunks.new table.new scratch.new }
-    ensures under_way { result ≡ OK
-        → HasCome password.now salt.now log_n r p at.new chunks.new table.new scratch.new }
-    ensures unchanged { result ≢ OK
-        → (chunks.new ≡ chunks.old) × (table.new ≡ table.old) × (scratch.new ≡ scratch.old)
-        × (at.new ≡ at.old) }
+    ensures begun { result ≡ OK → IsBegun ⟦<Target as Backend>⟧.most ⟦<Target as Backend>⟧.scalar
+        password.now salt.now (params_of log_n r p) at.new chunks.new table.new scratch.new }
+    ensures unchanged { result ≢ OK → (chunks.new ≡ chunks.old) × (table.new ≡ table.old) × (scratch.new ≡ scratch.old) × (at.new ≡ at.old) }
 {
     let Ok(params) = Params::new(log_n, r, p) else {
         return INVALID_PARAMS;
@@ -99,28 +82,18 @@ pub extern "C" fn scrypt_key_step(
 ) -> i32
     ensures params { (result ≡ INVALID_PARAMS) ↔ (¬ IsTrue (are_accepted log_n r p)) }
     ensures buffers { (result ≡ BUFFER_SIZE) ↔ (IsTrue (are_accepted log_n r p)
-        × ¬ AreForSteps log_n r p at.old.interleaved chunks.old table.old scratch.old) }
-    ensures status { (result ≡ OK) ⊎ (result ≡ INVALID_PARAMS) ⊎ (result ≡ BUFFER_SIZE)
-        ⊎ (result ≡ INVALID_PROGRESS) }
-    ensures before { result ≡ OK
-        → CanBe log_n r p at.old
-        × AreMixable ⟦<Target as Backend>⟧.most ⟦<Target as Backend>⟧.scalar at.old.interleaved }
-    ensures within { result ≡ OK
-        → CanBe log_n r p at.new
-        × AreMixable ⟦<Target as Backend>⟧.most ⟦<Target as Backend>⟧.scalar at.new.interleaved }
-    ensures fits { result ≡ OK
-        → AreForSteps log_n r p at.new.interleaved chunks.new table.new scratch.new }
-    ensures outside { result ≡ INVALID_PROGRESS
-        → ¬ (CanBe log_n r p at.old
-        × AreMixable ⟦<Target as Backend>⟧.most ⟦<Target as Backend>⟧.scalar at.old.interleaved) }
-    ensures under_way { result ≡ OK → (password : List ℕ) → (salt : List ℕ)
-        → HasCome password salt log_n r p at.old chunks.old table.old scratch.old
-        → HasCome password salt log_n r p at.new chunks.new table.new scratch.new }
-    ensures exact { result ≡ OK → done_in_all log_n r p at.new
-        ≡ done_in_all log_n r p at.old + at.old.interleaved * min count (lacking_in log_n r p at.old) }
-    ensures unchanged { result ≢ OK
-        → (chunks.new ≡ chunks.old) × (table.new ≡ table.old) × (scratch.new ≡ scratch.old)
-        × (at.new ≡ at.old) }
+        × ¬ AreForSteps (params_of log_n r p) at.old.interleaved chunks.old table.old scratch.old) }
+    ensures status { (result ≡ OK) ⊎ (result ≡ INVALID_PARAMS) ⊎ (result ≡ BUFFER_SIZE) ⊎ (result ≡ INVALID_PROGRESS) }
+    ensures before { result ≡ OK → CanBe ⟦<Target as Backend>⟧.most ⟦<Target as Backend>⟧.scalar (params_of log_n r p) at.old }
+    ensures outside { result ≡ INVALID_PROGRESS → ¬ CanBe ⟦<Target as Backend>⟧.most ⟦<Target as Backend>⟧.scalar (params_of log_n r p) at.old }
+    ensures after { result ≡ OK → IsAt ⟦<Target as Backend>⟧.most ⟦<Target as Backend>⟧.scalar
+        (params_of log_n r p) at.new chunks.new table.new scratch.new }
+    ensures under_way { result ≡ OK → (password salt : List ℕ)
+        → IsUnderWay password salt (params_of log_n r p) at.old chunks.old table.old scratch.old
+        → IsUnderWay password salt (params_of log_n r p) at.new chunks.new table.new scratch.new }
+    ensures exact { result ≡ OK → mixes_done (params_of log_n r p) at.new
+        ≡ mixes_done (params_of log_n r p) at.old + at.old.interleaved * min count (lacking (params_of log_n r p) at.old) }
+    ensures unchanged { result ≢ OK → (chunks.new ≡ chunks.old) × (table.new ≡ table.old) × (scratch.new ≡ scratch.old) × (at.new ≡ at.old) }
 {
     let Ok(params) = Params::new(log_n, r, p) else {
         return INVALID_PARAMS;
@@ -152,16 +125,13 @@ pub extern "C" fn scrypt_key_finish(
     output: &mut [u8],
 ) -> i32
     ensures params { (result ≡ INVALID_PARAMS) ↔ (¬ IsTrue (are_accepted log_n r p)) }
-    ensures buffers { (result ≡ BUFFER_SIZE) ↔ (IsTrue (are_accepted log_n r p)
-        × (length chunks.old ≢ chunks_bytes r p)) }
-    ensures status { (result ≡ OK) ⊎ (result ≡ INVALID_PARAMS) ⊎ (result ≡ BUFFER_SIZE)
-        ⊎ (result ≡ UNFINISHED)
-        ⊎ (result ≡ INVALID_OUTPUT_LEN) }
+    ensures buffers { (result ≡ BUFFER_SIZE) ↔ (IsTrue (are_accepted log_n r p) × (length chunks.old ≢ chunks_bytes r p)) }
+    ensures status { (result ≡ OK) ⊎ (result ≡ INVALID_PARAMS) ⊎ (result ≡ BUFFER_SIZE) ⊎ (result ≡ UNFINISHED) ⊎ (result ≡ INVALID_OUTPUT_LEN) }
     ensures unfinished { result ≡ UNFINISHED → at.now.chunks ≢ p }
     ensures length { result ≡ INVALID_OUTPUT_LEN → ¬ IsTrue (is_output_len (length output.old)) }
     ensures ended { result ≡ OK → (at.now.chunks ≡ p) × IsTrue (is_output_len (length output.old)) }
-    ensures value { result ≡ OK → (salt : List ℕ) → (table : List ℕ) → (scratch : List ℕ)
-        → HasCome password.now salt log_n r p at.now chunks.old table scratch
+    ensures value { result ≡ OK → (salt table scratch : List ℕ)
+        → IsUnderWay password.now salt (params_of log_n r p) at.now chunks.old table scratch
         → output.new ≡ derived_key password.now salt log_n r p (length output.old) }
     ensures kept { chunks.new ≡ chunks.old }
     ensures refused { result ≢ OK → output.new ≡ output.old }
@@ -201,45 +171,23 @@ pub extern "C" fn scrypt_verify_begin(
     scratch: &mut [u32],
     at: &mut Progress,
 ) -> i32
-    ensures refused { OnErr (within (limits_of max_mem max_work min_key_len) (bytes_reading
-        text.now))
-        (result ≡ result_status (within (limits_of max_mem max_work min_key_len) (bytes_reading text.now))) }
-    ensures status { IfOk (within (limits_of max_mem max_work min_key_len) (bytes_reading
-        text.now))
-        (λ s. (result ≡ OK) ⊎ (result ≡ BUFFER_SIZE)) }
-    ensures buffers { IfOk (within (limits_of max_mem max_work min_key_len) (bytes_reading
-        text.now))
-        (λ s. (result ≡ BUFFER_SIZE)
-        ↔ ¬ AreForSteps s.params.log_n s.params.r s.params.p 1 chunks.old table.old
-        scratch.old) }
+    ensures refused { OnErr (limited_reading max_mem max_work min_key_len text.now) (result ≡ result_status (limited_reading max_mem max_work min_key_len text.now)) }
+    ensures status { IfOk (limited_reading max_mem max_work min_key_len text.now) (λ s. (result ≡ OK) ⊎ (result ≡ BUFFER_SIZE)) }
+    ensures buffers { IfOk (limited_reading max_mem max_work min_key_len text.now)
+        (λ s. (result ≡ BUFFER_SIZE) ↔ ¬ AreForSteps s.params 1 chunks.old table.old scratch.old) }
     ensures params { result ≡ OK → IfOk (bytes_reading text.now)
         (λ s. (log_n.new ≡ s.params.log_n) × (r.new ≡ s.params.r) × (p.new ≡ s.params.p)) }
-    ensures start { result ≡ OK → (at.new.chunks ≡ 0) × (at.new.mixes ≡ 0) }
-    ensures within { result ≡ OK → CanBe log_n.new r.new p.new at.new
-        × AreMixable ⟦<Target as Backend>⟧.most ⟦<Target as Backend>⟧.scalar at.new.interleaved }
-    ensures fits { result ≡ OK
-        → AreForSteps log_n.new r.new p.new at.new.interleaved chunks.new table.new scratch.new }
-    ensures under_way { result ≡ OK → IfOk (bytes_reading text.now)
-        (λ s. HasCome password.now s.salt log_n.new r.new p.new at.new chunks.new table.new
-        scratch.new) }
-    ensures unchanged { result ≢ OK
-        → (chunks.new ≡ chunks.old) × (table.new ≡ table.old) × (scratch.new ≡ scratch.old)
-        × (at.new ≡ at.old) × (log_n.new ≡ log_n.old) × (r.new ≡ r.old) × (p.new ≡ p.old) }
+    ensures begun { result ≡ OK → IfOk (bytes_reading text.now)
+        (λ s. IsBegun ⟦<Target as Backend>⟧.most ⟦<Target as Backend>⟧.scalar
+        password.now s.salt (params_of log_n.new r.new p.new) at.new chunks.new table.new scratch.new) }
+    ensures unchanged { result ≢ OK → (chunks.new ≡ chunks.old) × (table.new ≡ table.old) × (scratch.new ≡ scratch.old) × (at.new ≡ at.old)
+        × (log_n.new ≡ log_n.old) × (r.new ≡ r.old) × (p.new ≡ p.old) }
 {
-    parameters_are_those_of_the_reading();
-    let hash = match stored_hash(text) {
+    let hash = match limited_hash(text, max_mem, max_work, min_key_len) {
         Ok(hash) => hash,
-        Err(error) => return status_of(error),
+        Err(error) => return limited_status_of(error),
     };
-    let limits = Limits {
-        max_mem,
-        max_work,
-        min_key_len,
-    };
-    if let Err(error) = hash.within(&limits) {
-        return limited_status_of(error);
-    }
-    let Ok(params) = hash.params() else {
+    let Ok((params, _)) = whole_params(&hash) else {
         unreachable!();
     };
     let Ok(salt) = hash.salt() else {
@@ -269,17 +217,14 @@ pub extern "C" fn scrypt_verify_finish(
     chunks: &mut [u8],
     at: &Progress,
 ) -> i32
-    ensures unread { OnErr (bytes_reading text.now) (result
-        ≡ result_status (bytes_reading text.now)) }
+    ensures unread { OnErr (bytes_reading text.now) (result ≡ result_status (bytes_reading text.now)) }
     ensures buffers { IfOk (bytes_reading text.now)
         (λ s. (result ≡ BUFFER_SIZE) ↔ (length chunks.old ≢ chunks_bytes s.params.r s.params.p)) }
     ensures unfinished { IfOk (bytes_reading text.now) (λ s. (result ≡ UNFINISHED)
-        ↔ ((length chunks.old ≡ chunks_bytes s.params.r s.params.p)
-        × (at.now.chunks ≢ s.params.p))) }
-    ensures verdict { result ≢ BUFFER_SIZE → result ≢ UNFINISHED → (table : List ℕ)
-        → (scratch : List ℕ)
-        → IfOk (bytes_reading text.now) (λ s. HasCome password.now s.salt
-        s.params.log_n s.params.r s.params.p at.now chunks.old table scratch)
+        ↔ ((length chunks.old ≡ chunks_bytes s.params.r s.params.p) × (at.now.chunks ≢ s.params.p))) }
+    ensures verdict { result ≢ BUFFER_SIZE → result ≢ UNFINISHED → (table scratch : List ℕ)
+        → IfOk (bytes_reading text.now) (λ s. IsUnderWay password.now s.salt
+        (params_of s.params.log_n s.params.r s.params.p) at.now chunks.old table scratch)
         → result ≡ result_status (verdict password.now (bytes_reading text.now)) }
     ensures kept { chunks.new ≡ chunks.old }
 {
@@ -288,7 +233,7 @@ pub extern "C" fn scrypt_verify_finish(
         Err(error) => return status_of(error),
     };
     let params = match whole_params(&hash) {
-        Ok(params) => params,
+        Ok((params, _)) => params,
         Err(error) => return status_of(error),
     };
     if chunks.len() != BufferLens::of(&params).chunks {
@@ -304,17 +249,6 @@ pub extern "C" fn scrypt_verify_finish(
     }
 }
 
-// Returns the parameters of a hash that has a salt and a key, or the error of reading it.
-fn whole_params(hash: &StoredHash<'_>) -> Result<Params>
-    ensures value { with_refusal result ≡ mapped (λ s. s.params) (reading hash.now) }
-{
-    parameters_are_those_of_the_reading();
-    match hash.salt() {
-        Ok(_) => hash.params(),
-        Err(error) => Err(error),
-    }
-}
-
 // Whether the chunks have their length, and the table and the scratch fit `tables` chunks.
 fn are_for_steps(
     params: &Params,
@@ -323,22 +257,11 @@ fn are_for_steps(
     table: &[u32],
     scratch: &[u32],
 ) -> bool
-    ensures exact { IsTrue result
-        ↔ AreForSteps params.now.log_n params.now.r params.now.p tables chunks.now table.now
-        scratch.now }
+    ensures exact { IsTrue result ↔ AreForSteps params.now tables chunks.now table.now scratch.now }
 {
-    // Proof hint: r is not 0, so neither is any length.
-    let _ = params.r();
     let lens = BufferLens::of(params);
+    let (table_words, scratch_words) = (lens.table as u128, lens.scratch as u128);
     chunks.len() == lens.chunks
-        && fits(tables, lens.table, table.len())
-        && fits(tables, lens.scratch, scratch.len())
-}
-
-// Whether `tables` buffers of length `each` fit into `len`.
-fn fits(tables: usize, each: usize, len: usize) -> bool
-    requires some { 0 < each }
-    ensures exact { IsTrue result ↔ (tables * each ≤ len) }
-{
-    tables <= len / each
+        && tables as u128 * table_words <= table.len() as u128
+        && tables as u128 * scratch_words <= scratch.len() as u128
 }

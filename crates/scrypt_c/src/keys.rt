@@ -1,6 +1,6 @@
 //! Keys, derived in allocated memory or in the caller's buffers.
 
-ghost use Rattle.std.specs.Prelude.{◌≡◌, ◌≢◌, ◌⊎◌, ◌↔◌, ◌≤◌, length, take, None, IsSome, IfSome, IsTrue};
+ghost use Rattle.std.specs.Prelude.{◌≡◌, ◌≢◌, ◌⊎◌, ◌↔◌, ◌≤◌, length, take, IsSome, IfSome, IsTrue};
 ghost use Rattle.scrypt.specs.Accepted.{are_accepted, is_output_len};
 ghost use Rattle.scrypt.specs.InBuffers.{are_enough};
 ghost use Rattle.scrypt.specs.Cost.{chunks_bytes};
@@ -44,13 +44,10 @@ pub extern "C" fn scrypt_kdf(
     max_mem: usize,
     output: &mut [u8],
 ) -> i32
-    ensures value { result ≡ OK → output.new
-        ≡ derived_key password.now salt.now log_n r p (length output.old) }
+    ensures value { result ≡ OK → output.new ≡ derived_key password.now salt.now log_n r p (length output.old) }
     ensures params { (result ≡ INVALID_PARAMS) ↔ (¬ IsTrue (are_accepted log_n r p)) }
-    ensures length { (result ≡ INVALID_OUTPUT_LEN)
-        ↔ (IsTrue (are_accepted log_n r p) × ¬ IsTrue (is_output_len (length output.old))) }
-    ensures status { (result ≡ OK) ⊎ (result ≡ INVALID_PARAMS) ⊎ (result ≡ INVALID_OUTPUT_LEN)
-        ⊎ (result ≡ OUT_OF_MEMORY) }
+    ensures length { (result ≡ INVALID_OUTPUT_LEN) ↔ (IsTrue (are_accepted log_n r p) × ¬ IsTrue (is_output_len (length output.old))) }
+    ensures status { (result ≡ OK) ⊎ (result ≡ INVALID_PARAMS) ⊎ (result ≡ INVALID_OUTPUT_LEN) ⊎ (result ≡ OUT_OF_MEMORY) }
     ensures refused { result ≢ OK → output.new ≡ output.old }
 {
     let Ok(params) = Params::new(log_n, r, p) else {
@@ -86,15 +83,13 @@ pub extern "C" fn scrypt_kdf_limited(
     max_work: u64,
     output: &mut [u8],
 ) -> i32
-    ensures value { result ≡ OK → output.new
-        ≡ derived_key password.now salt.now log_n r p (length output.old) }
+    ensures value { result ≡ OK → output.new ≡ derived_key password.now salt.now log_n r p (length output.old) }
     ensures params { (result ≡ INVALID_PARAMS) ↔ (¬ IsTrue (are_accepted log_n r p)) }
     ensures costly { (result ≡ TOO_COSTLY) ↔ (IsTrue (are_accepted log_n r p)
         × (¬ IsTrue (are_within (limits_of max_mem max_work 0) (params_of log_n r p)))) }
     ensures length { (result ≡ INVALID_OUTPUT_LEN) ↔ (IsTrue (are_accepted log_n r p)
         × IsTrue (are_within (limits_of max_mem max_work 0) (params_of log_n r p)) × ¬ IsTrue (is_output_len (length output.old))) }
-    ensures status { (result ≡ OK) ⊎ (result ≡ INVALID_PARAMS) ⊎ (result ≡ TOO_COSTLY) ⊎ (result ≡ INVALID_OUTPUT_LEN)
-        ⊎ (result ≡ OUT_OF_MEMORY) }
+    ensures status { (result ≡ OK) ⊎ (result ≡ INVALID_PARAMS) ⊎ (result ≡ TOO_COSTLY) ⊎ (result ≡ INVALID_OUTPUT_LEN) ⊎ (result ≡ OUT_OF_MEMORY) }
     ensures refused { result ≢ OK → output.new ≡ output.old }
 {
     let Ok(params) = Params::new(log_n, r, p) else {
@@ -148,8 +143,7 @@ pub extern "C" fn scrypt_buffer_lens(
     ensures exact { (result ≡ OK) ↔ (IsTrue (are_accepted log_n r p) × IsSpacing log_n s) }
     ensures lens { result ≡ OK → AreBuffers log_n r p s chunks.new table.new scratch.new }
     ensures status { (result ≡ OK) ⊎ (result ≡ INVALID_PARAMS) }
-    ensures refused { result ≢ OK →
-        (chunks.new ≡ chunks.old) × (table.new ≡ table.old) × (scratch.new ≡ scratch.old) }
+    ensures refused { result ≢ OK → (chunks.new ≡ chunks.old) × (table.new ≡ table.old) × (scratch.new ≡ scratch.old) }
 {
     let Some((_, lens)) = params_and_lens(log_n, r, p, s) else {
         return INVALID_PARAMS;
@@ -260,8 +254,7 @@ pub extern "C" fn scrypt_kdf_thin(
 // The parameters, and the lengths of their buffers, if `log_n`, `r`, `p` and `s` are accepted.
 fn params_and_lens(log_n: u8, r: u32, p: u32, s: u8) -> Option<(Params, BufferLens)>
     ensures exact { IsSome result ↔ (IsTrue (are_accepted log_n r p) × IsSpacing log_n s) }
-    ensures params { IfSome result (λ both. both.0
-        ≡ record { log_n = log_n; r = r; p = p; output_len = None }) }
+    ensures params { IfSome result (λ both. both.0 ≡ params_of log_n r p) }
     ensures lens { IfSome result (λ both. AreBuffers log_n r p s both.1.chunks both.1.table both.1.scratch) }
 {
     let params = Params::new(log_n, r, p).ok()?;

@@ -1,14 +1,17 @@
 // The texts of hashes: read from the caller's bytes, and copied to the caller's buffer.
 
-ghost use Rattle.std.specs.Prelude.{◌≡◌, ◌≢◌, ◌↔◌, ◌⊎◌, ◌≤◌, ◌++◌, drop, length, IfErr};
+ghost use Rattle.std.specs.Prelude.{◌≡◌, ◌≢◌, ◌↔◌, ◌⊎◌, ◌≤◌, ◌++◌, drop, length, IfErr, IfOk, IsOk};
 ghost use Rattle.password_hash.specs.declared.error.Error.TheVariants.{EncodingInvalid};
-ghost use Rattle.scrypt.specs.Reading.{◌and_then◌, with_refusal};
+ghost use Rattle.scrypt.specs.Reading.{◌and_then◌, mapped, with_refusal};
 ghost use Rattle.scrypt.specs.StoredHash.{params_reading, reading};
+ghost use Rattle.scrypt.specs.WithinLimits.{with_limited_refusal};
+ghost use Rattle.scrypt_c.specs.Limits.{limited_reading};
 ghost use Rattle.scrypt_c.specs.Texts.{bytes_params, bytes_reading};
 
 use crate::statuses::{BUFFER_SIZE, OK};
 use password_hash::{Error, Result};
-use scrypt::StoredHash;
+use scrypt::laws::parameters_are_those_of_the_reading;
+use scrypt::{LimitedError, Limits, Params, StoredHash};
 
 /// Reads the text of a hash.
 ///
@@ -21,6 +24,43 @@ pub fn stored_hash(bytes: &[u8]) -> Result<StoredHash<'_>>
     match std::str::from_utf8(bytes) {
         Ok(text) => StoredHash::read(text),
         Err(_) => Err(Error::EncodingInvalid),
+    }
+}
+
+/// Reads the text of a hash that is within the limits.
+pub fn limited_hash(
+    bytes: &[u8],
+    max_mem: usize,
+    max_work: u64,
+    min_key_len: usize,
+) -> std::result::Result<StoredHash<'_>, LimitedError>
+    ensures reading { limited_reading max_mem max_work min_key_len bytes.now ≡ with_limited_refusal result and_then reading }
+    ensures read { IfOk result (λ hash. IsOk (reading hash) × (bytes_reading bytes.now ≡ reading hash)) }
+{
+    let hash = match stored_hash(bytes) {
+        Ok(hash) => hash,
+        Err(error) => return Err(LimitedError::Hash(error)),
+    };
+    let limits = Limits {
+        max_mem,
+        max_work,
+        min_key_len,
+    };
+    if let Err(error) = hash.within(&limits) {
+        return Err(error);
+    }
+    Ok(hash)
+}
+
+/// Returns the parameters of a hash that has a salt and a key, and the length of the key, or the
+/// error of reading it.
+pub fn whole_params(hash: &StoredHash<'_>) -> Result<(Params, usize)>
+    ensures value { with_refusal result ≡ mapped (λ s. (s.params, length s.key)) (reading hash.now) }
+{
+    parameters_are_those_of_the_reading();
+    match hash.salt() {
+        Ok(_) => hash.params_and_key_len(),
+        Err(error) => Err(error),
     }
 }
 

@@ -1,16 +1,20 @@
-//! Hashes, made and verified in the caller's buffers.
+//! Hashes, made and verified in the caller's buffers; nothing is allocated.
+//!
+//! A derivation uses the same prefix of each buffer as `scrypt_kdf_with_buffers` does. After it the
+//! prefixes of the chunks and of the scratch are zeros, the prefix of the table is unspecified, and
+//! nothing after them has changed. Without one the buffers are unchanged.
 
 ghost use Rattle.std.specs.Prelude.{◌≡◌, ◌≢◌, ◌↔◌, ◌⊎◌, ◌<◌, ◌≤◌, [], ◌∷◌, length, replicate, IsTrue};
 ghost use Rattle.password_hash.specs.Refusal.{refusal};
 ghost use Rattle.scrypt.specs.InBuffers.{are_enough};
 ghost use Rattle.scrypt.specs.McfHash.{IsMadeHash as IsMadeMcf, made_text_len};
 ghost use Rattle.scrypt.specs.PhcHash.{IsMadeText, IsSaltLen};
-ghost use Rattle.scrypt.specs.Logins.{AreLeft, reading_of};
+ghost use Rattle.scrypt.specs.Logins.{AreLeft, attempt_of};
 ghost use Rattle.scrypt.specs.StoredHash.{reading};
-ghost use Rattle.scrypt.specs.WithinLimits.{with_limited_refusal, within};
+ghost use Rattle.scrypt.specs.WithinLimits.{with_limited_refusal};
 ghost use Rattle.scrypt.specs.Workspace.{IsDone, IsLeft, LeftIn, buffers, verdict_in};
 ghost use Rattle.scrypt_c.specs.InBuffers.{statuses_in};
-ghost use Rattle.scrypt_c.specs.Limits.{limits_of};
+ghost use Rattle.scrypt_c.specs.Limits.{limited_reading};
 ghost use Rattle.scrypt_c.specs.Made.{AreHashParams, IsTooLong, IsTooShort, IsWrittenTo, wanted};
 ghost use Rattle.scrypt_c.specs.Statuses.{buffers_status, short_status};
 ghost use Rattle.scrypt_c.specs.Texts.{bytes_reading};
@@ -19,24 +23,18 @@ use crate::statuses::{
     BUFFER_SIZE, INVALID_PARAMS, OK, SALT_INVALID, limited_status_of, status_of,
 };
 use crate::target::Target;
-use crate::texts::{copy_to, stored_hash};
+use crate::texts::{copy_to, limited_hash, stored_hash};
 use password_hash::Error;
-use scrypt::{
-    CoreCount, LimitedError, Limits, Login, Params, StoredHash, mcf, phc, verify_logins, wipe,
-};
+use scrypt::{CoreCount, LimitedError, Login, Params, StoredHash, mcf, phc, verify_logins, wipe};
 
-/// Does what `scrypt_hash_phc` does, in the caller's buffers, and allocates nothing.
+/// Does what `scrypt_hash_phc` does, in the caller's buffers.
 ///
 /// Returns `OK`, or the first of these: `INVALID_PARAMS` and `SALT_INVALID` as there; `BUFFER_SIZE`
 /// if a buffer is shorter than `scrypt_buffer_lens` returns for `log_n`, `r` and `p` with `s = 0`,
 /// and then `text_len` is unchanged, however short `text` is; and `BUFFER_SIZE` if the new text is
 /// longer than `text`, and then `text_len` is its length. On any other error `text_len` is
-/// unchanged, and `text` is unchanged on every error.
-///
-/// The derivation uses the same prefix of each buffer as `scrypt_kdf_with_buffers` does. After it,
-/// with `OK` or a text that is too long, the prefixes of the chunks and of the scratch are zeros,
-/// the prefix of the table is unspecified, and nothing after them has changed. Without it the
-/// buffers are unchanged.
+/// unchanged, and `text` is unchanged on every error. A key is derived unless an error comes before
+/// the last.
 #[unsafe(no_mangle)]
 pub extern "C" fn scrypt_hash_phc_with_buffers(
     password: &[u8],
@@ -80,17 +78,13 @@ pub extern "C" fn scrypt_hash_phc_with_buffers(
     }
 }
 
-/// Does what `scrypt_hash_mcf` does, in the caller's buffers, and allocates nothing.
+/// Does what `scrypt_hash_mcf` does, in the caller's buffers.
 ///
 /// Returns `OK`, or the first of these: `INVALID_PARAMS` as there; `BUFFER_SIZE` if the new text is
 /// longer than `text`, and then `text_len` is its length, however short the buffers are; and
 /// `BUFFER_SIZE` if a buffer is shorter than `scrypt_buffer_lens` returns for `log_n`, `r` and `p`
 /// with `s = 0`. Unless the text is too long, an error leaves `text_len` unchanged, and every error
 /// leaves `text` and the buffers unchanged.
-///
-/// The derivation uses the same prefix of each buffer as `scrypt_kdf_with_buffers` does. After `OK`
-/// the prefixes of the chunks and of the scratch are zeros, the prefix of the table is unspecified,
-/// and nothing after them has changed.
 #[unsafe(no_mangle)]
 pub extern "C" fn scrypt_hash_mcf_with_buffers(
     password: &[u8],
@@ -135,16 +129,11 @@ pub extern "C" fn scrypt_hash_mcf_with_buffers(
     }
 }
 
-/// Does what `scrypt_verify` does, in the caller's buffers, and allocates nothing.
+/// Does what `scrypt_verify` does, in the caller's buffers. A key is derived if keys are compared.
 ///
 /// Returns `OK` as there, or the first of these: the first error of `scrypt_verify` before it
 /// allocates; `BUFFER_SIZE` if a buffer is shorter than `scrypt_buffer_lens` returns for the
 /// parameters of the hash with `s = 0`; and `MISMATCH` if the keys differ.
-///
-/// The derivation uses the same prefix of each buffer as `scrypt_kdf_with_buffers` does. If the
-/// keys are compared, the prefixes of the chunks and of the scratch are zeros afterwards, the
-/// prefix of the table is unspecified, and nothing after them has changed; otherwise the buffers
-/// are unchanged.
 #[unsafe(no_mangle)]
 pub extern "C" fn scrypt_verify_with_buffers(
     password: &[u8],
@@ -153,8 +142,7 @@ pub extern "C" fn scrypt_verify_with_buffers(
     table: &mut [u32],
     scratch: &mut [u32],
 ) -> i32
-    ensures status { result
-        ≡ buffers_status (verdict_in (buffers chunks.old table.old scratch.old) password.now (bytes_reading text.now)) }
+    ensures status { result ≡ buffers_status (verdict_in (buffers chunks.old table.old scratch.old) password.now (bytes_reading text.now)) }
     ensures left { LeftIn (IsLeft (bytes_reading text.now) (buffers chunks.old table.old scratch.old))
         chunks.new table.new scratch.new }
 {
@@ -182,21 +170,12 @@ pub extern "C" fn scrypt_verify_limited_with_buffers(
     scratch: &mut [u32],
 ) -> i32
     ensures status { result ≡ buffers_status (verdict_in (buffers chunks.old table.old scratch.old) password.now
-        (within (limits_of max_mem max_work min_key_len) (bytes_reading text.now))) }
-    ensures left { LeftIn (IsLeft (within (limits_of max_mem max_work min_key_len) (bytes_reading text.now))
+        (limited_reading max_mem max_work min_key_len text.now)) }
+    ensures left { LeftIn (IsLeft (limited_reading max_mem max_work min_key_len text.now)
         (buffers chunks.old table.old scratch.old)) chunks.new table.new scratch.new }
 {
-    let hash = match stored_hash(text) {
-        Ok(hash) => hash,
-        Err(error) => return short_status_of(error),
-    };
-    let limits = Limits {
-        max_mem,
-        max_work,
-        min_key_len,
-    };
-    match hash.within(&limits) {
-        Ok(hash) => verify(password, hash, chunks, table, scratch),
+    match limited_hash(text, max_mem, max_work, min_key_len) {
+        Ok(hash) => verify(password, &hash, chunks, table, scratch),
         Err(error) => status(Err(error)),
     }
 }
@@ -220,8 +199,8 @@ fn verify(
 }
 
 /// Verifies up to four passwords, each against its own hash and with its own verdict, in the
-/// caller's buffers. Does not allocate. If there are fewer than four, pass empty texts for the last
-/// ones: an empty text is rejected without deriving a key.
+/// caller's buffers. If there are fewer, pass empty texts for the last ones: an empty text is
+/// rejected without deriving a key.
 ///
 /// Writes to each status what `scrypt_verify_with_buffers` returns for that password and hash in
 /// these buffers, whatever the others are. All keys are derived in one batch if all hashes that are
@@ -229,9 +208,6 @@ fn verify(
 /// for one derivation with the chunks of all: up to four chunks are then interleaved, one for each
 /// table and scratch. Otherwise the first is verified on its own, and the rest are tried in the
 /// same way.
-///
-/// Afterwards the used prefixes of the chunks and of the scratch are zeros, the used prefix of the
-/// table is unspecified, and nothing after them has changed.
 #[unsafe(no_mangle)]
 pub extern "C" fn scrypt_verify_batch_with_buffers<'a>(
     password: &'a [u8],
@@ -269,8 +245,7 @@ pub extern "C" fn scrypt_verify_batch_with_buffers<'a>(
 
 // Reads the hash that a password is verified against.
 fn login<'p, 't>(password: &'p [u8], text: &'t [u8]) -> Login<'p, 't>
-    ensures password { result.password.now ≡ password.now }
-    ensures reading { reading_of result ≡ bytes_reading text.now }
+    ensures attempt { attempt_of result ≡ (password.now, bytes_reading text.now) }
 {
     let hash = match stored_hash(text) {
         Ok(hash) => Ok(hash),

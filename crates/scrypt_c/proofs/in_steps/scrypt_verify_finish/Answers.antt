@@ -1,15 +1,15 @@
-use Rattle.std.proofs.Common.{◌≡◌, ◌∙◌, ap, ℕ, List, Result, Ok, Err, IfOk, rules}
+use Rattle.std.proofs.Common.{ap, ℕ, List, Result, Ok, Err, IfOk, rules}
 use Rattle.password_hash.specs.Refusal.{Refusal}
 use Rattle.scrypt.specs.Reading.{Stored}
 use Rattle.scrypt.specs.Stepping.{IsUnderWay}
 use Rattle.scrypt.specs.declared.stepping.Progress.{Progress}
 use Rattle.scrypt_c.specs.Statuses.{result_status}
-use Rattle.scrypt_c.specs.Steps.{HasCome}
+use Rattle.scrypt_c.specs.Limits.{params_of}
 use Rattle.scrypt_c.proofs.in_steps.scrypt_verify_finish.Goals as goal
 
 -- the length that parameters may have does not matter
 under_way : (password : List ℕ) (at : Progress) (chunks table scratch : List ℕ) (read : Result Stored Refusal)
-    → IfOk read (λ s. HasCome password s.salt s.params.log_n s.params.r s.params.p at chunks table scratch)
+    → IfOk read (λ s. IsUnderWay password s.salt (params_of s.params.log_n s.params.r s.params.p) at chunks table scratch)
     → IfOk read (λ s. IsUnderWay password s.salt s.params at chunks table scratch)
 under_way password at chunks table scratch (Ok s) come = record { mixed = come.mixed; next = come.next }
 under_way password at chunks table scratch (Err why) come = tt

@@ -4,7 +4,3 @@ use Rattle.scrypt_c.proofs.with_buffers.scrypt_verify_limited_with_buffers.Goals
 
 pub returns-in-Err-clause-left : goal.returns-in-Err-clause-left
 returns-in-Err-clause-left c = rw c.in-Err.ensures.reading (buffers c.args.chunks.now c.args.table.now c.args.scratch.now, refl)
-
-pub returns-in-Err-within-clause-left : goal.returns-in-Err-within-clause-left
-returns-in-Err-within-clause-left c =
-    rw (c.in-Ok.ensures.reading, c.in-Err-within.ensures.err) (buffers c.args.chunks.now c.args.table.now c.args.scratch.now, refl)
