@@ -130,11 +130,12 @@ static int all_match; /* each key is taken to match its hash */
 static int watched_batch(const scrypt_login *logins, size_t count, int *statuses, uint8_t *chunks,
                          size_t chunks_len, uint32_t *table, size_t table_len, uint32_t *scratch,
                          size_t scratch_len) {
-  uint32_t log_n = 0, r = 1, p;
+  uint32_t log_n = 0, r = 1, p = 0;
   size_t key_len, i;
   int tables, status;
   status = scrypt_hash_params(logins[0].text, logins[0].text_len, &log_n, &r, &p, &key_len);
   for (i = 0; i < count; i++) expect(statuses[i] != SCRYPT_OK, "SCRYPT_OK before the derivation");
+  expect(chunks_len == count * 128 * r * p, "other chunks than those of all logins");
   tables = begin_watched(logins, count, table_len, log_n, r);
   status |= scrypt_verify_batch_with_buffers(logins, count, statuses, chunks, chunks_len, table,
                                              table_len, scratch, scratch_len);

@@ -156,6 +156,16 @@ static void calls(void) {
   scrypt_hasher_free(of_mcf);
 }
 
+/* The number of letters of a drawn salt, which is another for the next hash. */
+static size_t letters_of_salt(scrypt_hasher *hasher) {
+  char text[SCRYPT_PHC_CAPACITY], other[SCRYPT_PHC_CAPACITY];
+  IS(scrypt_hasher_hash(hasher, "a", 1, NULL, 0, text, sizeof text, -1), SCRYPT_OK);
+  IS(scrypt_hasher_hash(hasher, "a", 1, NULL, 0, other, sizeof other, -1), SCRYPT_OK);
+  expect(hasher->options.salt_len < 16 || strcmp(text, other) != 0, "the same salt twice");
+  *strrchr(text, '$') = '\0';
+  return strlen(strrchr(text, '$')) - (hasher->options.mcf ? 12 : 1);
+}
+
 /* A login without a hash costs what a new hash costs, and is never accepted. */
 static void decoy(void) {
   static const scrypt_options PARAMS[] = {
@@ -174,6 +184,7 @@ static void decoy(void) {
     expect(cost.log_n == new->log_n && cost.r == new->r && cost.p == new->p, "parameters");
     IS(cost.key_len, hasher->options.key_len);
     IS(strlen(text) - 15 - (8 * cost.key_len + 5) / 6, hasher->options.salt_len);
+    IS(letters_of_salt(hasher), (8 * hasher->options.salt_len + 5) / 6);
     all_match = 1;
     IS(scrypt_hasher_verify(hasher, "right", 5, NULL, 0, -1), SCRYPT_MISMATCH);
     all_match = 0;
