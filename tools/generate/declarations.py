@@ -170,9 +170,9 @@ def proved_calls():
 
 
 def each_call():
-    yield from (f"/* {NOTE}bindings/c/scrypt_c.h: each call that returns a status, as CALL(name, memory, arguments),",
-                " * which whoever includes this list defines. The arguments are variables of arguments.h. The memory is HASHER, BUFFERS or",
-                " * NEITHER. P(argument) is a pointer that may not be NULL. */")
+    yield from (f"/* {NOTE}bindings/c/scrypt_c.h: each call that returns a status, as CALL(name, arguments), which",
+                " * whoever includes this list defines. The arguments are variables of arguments.h. P(argument) is a pointer that",
+                " * may not be NULL. */")
     unchecked = set(re.findall(r"SCRYPT_NONNULL\n\w+ (\w+)\(", header.TEXT))
     for _, name, given in (it for it in CALLS if it[0] == "int" and it[2] != ["int status"]):
         words = []
@@ -181,9 +181,7 @@ def each_call():
             words.append(("made." if is_made else "given.") + header.name_of(it))
             if "*" in it and name not in unchecked and it != "void *context":
                 words[-1] = f"P({words[-1]})"
-        text = ", ".join(words)
-        memory = "HASHER" if "given.hasher" in text else "BUFFERS" if re.search(r"made\.(chunks|steps)\)", text) else "NEITHER"
-        yield f"CALL({name}, {memory}, ({text}))"
+        yield f"CALL({name}, ({', '.join(words)}))"
 
 
 PACKAGES = {

@@ -86,7 +86,7 @@ __attribute__((noinline)) static void check_stack(const char *name, int (*call)(
 
 /* ---- Each call ---- */
 
-#define CALL(name, memory, arguments) \
+#define CALL(name, arguments) \
   static int each_##name(void) { return name arguments; }
 #include "each_call.h"
 #undef CALL
@@ -112,7 +112,7 @@ static const struct {
   const char *name;
   int (*call)(void);
 } CALLS[] = {
-#define CALL(name, memory, arguments) {#name, each_##name},
+#define CALL(name, arguments) {#name, each_##name},
 #include "each_call.h"
 };
 

@@ -28,7 +28,7 @@ static int has_pointers(const char *call) { return strcmp(call, "scrypt_buffer_l
 static void each_pointer(void) {
 #undef P
 #define P(pointer) (is_null(#pointer) ? NULL : pointer)
-#define CALL(name, memory, arguments)                                            \
+#define CALL(name, arguments)                                                    \
   for (turn = 0, pointers = has_pointers(#name); turn < pointers; turn++) {      \
     const int status = (pointers = 0, name arguments);                           \
     char why[64];                                                                \

@@ -129,7 +129,7 @@ static void check_call(const char *name, int status) {
 /* N in place of log_n is rejected, even if its last 8 bits are a log_n. */
 static void n_in_place_of_log_n(uint32_t n) {
   given.log_n = made.steps->log_n = ended.log_n = n;
-#define CALL(name, memory, arguments)                                                      \
+#define CALL(name, arguments)                                                              \
   if (strstr(#arguments, "given.log_n") != NULL || strncmp(#name, "scrypt_key_", 11) == 0) \
     check(name arguments == SCRYPT_INVALID_PARAMS, #name ", N in place of log_n");
 #include "each_call.h"
@@ -149,7 +149,7 @@ static void *arguments(void *text) {
   if (scrypt_key_with_buffers(SECRETS, PARAMS, made.output, 20, ended.chunks, ended.chunks_len, ended.table, ended.table_len,
                               ended.scratch, ended.scratch_len) != SCRYPT_OK) exit(3); /* the chunks are mixed */
   forget();
-#define CALL(name, memory, arguments) check_call(#name, name arguments);
+#define CALL(name, arguments) check_call(#name, name arguments);
 #include "each_call.h"
 #undef CALL
   check_call("scrypt_buffer_lens, of half a table",

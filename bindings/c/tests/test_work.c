@@ -13,7 +13,7 @@ int main(void) {
   take_arguments("pw", 2, "salt", 4, 8, 8, 1, 32, 1);
   take_text(PHC, &login, 1);
   given.hasher = scrypt_hasher_new(&options, NULL);
-#define CALL(name, memory, arguments)                                                                \
+#define CALL(name, arguments)                                                                        \
   if (strcmp(#name, "scrypt_hash_password") != 0 && strcmp(#name, "scrypt_calibrate") != 0) {        \
     CALLGRIND_ZERO_STATS;                                                                            \
     (void)!name arguments;                                                                           \
