@@ -164,7 +164,9 @@ static void not_unmapped(void) {
 int main(void) {
   /* The number of tables that is fastest, by the measurements in docs/DECISIONS.md. */
   const size_t that_pay = strstr(scrypt_version(), "x86-64-v2") != NULL ? 3 : 4;
+#ifndef IS_EMULATED
   little_is_touched();
+#endif
   tables_of_keys(that_pay);
   tables_of_keys_within(that_pay);
   one_table_of_hashes();

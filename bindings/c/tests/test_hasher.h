@@ -5,15 +5,16 @@
 #include "windows.c"
 
 #include "test_windows.h"
-#define HAS_FORKS 0
 #else
 #include "linux.c"
 
 #include <signal.h>
 #include <sys/wait.h>
-#ifndef HAS_FORKS
-#define HAS_FORKS 1
 #endif
+#if defined _WIN32 || defined IS_EMULATED
+#define HAS_FORKS 0
+#else
+#define HAS_FORKS 1
 #endif
 
 #include "groups.h"
