@@ -87,7 +87,7 @@ static void tables_of_keys(size_t that_pay) {
 }
 
 /* All buffers together are within the limit. */
-static void tables_of_keys_within(size_t that_pay) {
+static void tables_of_limited_keys(size_t that_pay) {
   static const size_t EACH = 4 * (32 * R << 14) + 4 * 64 * R, CHUNKS = 4 * 128 * R;
   const struct {
     const char *why;
@@ -168,7 +168,7 @@ int main(void) {
   little_is_touched();
 #endif
   tables_of_keys(that_pay);
-  tables_of_keys_within(that_pay);
+  tables_of_limited_keys(that_pay);
   one_table_of_hashes();
   no_table();
   one_of_several();
