@@ -132,16 +132,17 @@ fn timeouts() {
         let hasher = Hasher::new(options).unwrap();
         thread::scope(|scope| {
             let deriving = scope.spawn(|| hasher.verify(&costly, "pw"));
-            thread::sleep(Duration::from_millis(100));
+            while hasher.stats().deriving == 0 {
+                thread::yield_now();
+            }
             let begun = Instant::now();
             let status = hasher.key("pw", b"", &mut [0]);
             if min_ms == u128::MAX {
                 assert_eq!(status, Ok(()), "its turn came");
             } else {
                 assert_eq!(status, Err(Error::Timeout));
-                assert!(begun.elapsed().as_millis() >= min_ms && !deriving.is_finished());
-                let now = hasher.stats();
-                assert_eq!((now.waiting, now.deriving, now.failed), (0, 1, 1));
+                let (late, now) = (begun.elapsed().as_millis() >= min_ms, hasher.stats());
+                assert_eq!((late, now.waiting, now.deriving, now.failed), (true, 0, 1, 1));
             }
             assert_eq!(deriving.join().unwrap(), Err(Error::PasswordInvalid));
         });
