@@ -89,6 +89,9 @@ def leave_out(name, changed, folder):
             if path is None or path in changed or lines[it.last - 1].endswith(";"):
                 continue
             proofs = Path(folder, "proofs", *path.split("::"))
+            # The proof of a recursion is in a folder of another name, and has no hole.
+            if proofs.with_name("+" + proofs.name).is_dir():
+                continue
             proofs.mkdir(parents=True, exist_ok=True)
             for file in ("Invariants.antt", "Answers.antt"):
                 (proofs / file).unlink(missing_ok=True)

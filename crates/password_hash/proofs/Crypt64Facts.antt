@@ -1,7 +1,6 @@
 -- What follows from the definitions of crypt Base64.
-use Rattle.std.proofs.Math.Seq.{drop-length, drop-cons}
 use Rattle.std.proofs.Common.{◌≡◌, ◌≢◌, sym, ap, refl, arith, ℕ, zero, suc, ◌+◌, ◌-◌, ◌*◌, ◌/◌, ◌%◌, ◌^◌, ◌<◌, ◌≤◌, Option, Some, None}
-use Rattle.std.proofs.Common.{List, [], ◌∷◌, ◌++◌, length, drop, get_or, length-drop}
+use Rattle.std.proofs.Common.{List, [], ◌∷◌, ◌++◌, length}
 use Rattle.std.specs.Prelude.{IsSome}
 use Rattle.std.proofs.Math.Nat.{pow-suc, pow-le-pow_right}
 use Rattle.std.specs.List.{All}
@@ -53,40 +52,16 @@ letters_of-number_of (first ∷ letters) number h =
     let quotient : number / 64 ≡ high = omega arith in
     (rw (remainder, quotient, digit, rest) refl, rw (pow-suc 64 (length letters)) (omega arith))
 
--- reading letters one by one, from the last to the first
+-- a number of at most four letters leaves room for one more digit
+pub number_of-fits : (letters : List ℕ) (number : ℕ) → number_of letters ≡ Some number → length letters ≤ 4 → number < 64 ^ 4
+number_of-fits letters number read short =
+    let grows : 64 ^ length letters ≤ 64 ^ 4 = pow-le-pow_right (omega arith) short in
+    omega (arith, (letters_of-number_of letters number read).1)
 
-pub number_of-more : (letters : List ℕ) (place value number : ℕ) → 0 < place → place ≤ length letters
-    → number_of (drop place letters) ≡ Some number → letter_value (get_or letters (place - 1) 0) ≡ Some value
-    → number_of (drop (place - 1) letters) ≡ Some (number * 64 + value)
-unfolding number_of
-number_of-more letters zero value number some most read is = absurd (omega arith)
-number_of-more letters (suc place) value number some most read is =
-    let here : suc place - 1 ≡ place = omega arith in
-    let inside : place < length letters = omega arith in
-    let digit : letter_value (get_or letters place 0) ≡ Some value = rw here at is in
-    let sum : value + 64 * number ≡ number * 64 + value = omega arith in
-    rw (here, drop-cons letters place 0, digit, read) (ap Some sum)
-
-pub number_of-None : (letters : List ℕ) (place : ℕ) → place < length letters → letter_value (get_or letters place 0) ≡ None
-    → number_of letters ≡ None
-unfolding number_of
-number_of-None [] place below none = absurd (omega arith)
-number_of-None (first ∷ letters) zero below none = rw none refl
-number_of-None (first ∷ letters) (suc place) below none =
-    rw (number_of-None letters place (omega arith) none) (no_number (letter_value first))
-  where
-    no_number : (value : Option ℕ) → with_digit value None ≡ None
-    no_number None = refl
-    no_number (Some value) = refl
-
--- where at most five letters are read, the last four leave room for one more
-pub number_of-last : (letters : List ℕ) (place number : ℕ) → 0 < place → number_of (drop place letters) ≡ Some number
-    → length letters ≤ 5 → number < 64 ^ 4
-number_of-last letters place number some read most =
-    let fits = (letters_of-number_of (drop place letters) number read).1 in
-    let short : length (drop place letters) ≤ 4 = simp length-drop (omega arith) in
-    let grows : 64 ^ length (drop place letters) ≤ 64 ^ 4 = pow-le-pow_right (omega arith) short in
-    omega arith
+-- without the digits above there is no number
+pub no_number : (value : Option ℕ) → with_digit value None ≡ None
+no_number None = refl
+no_number (Some value) = refl
 
 -- a letter is taken off the letters that are left
 pub next_letter : (pending number pending' number' x : ℕ) (bytes bytes' : List ℕ)
@@ -140,4 +115,4 @@ letter-is_plain pending number x bytes left' next =
     (crypt64_of bytes) (letters_of-plain pending number) (crypt64_of-plain bytes)))
 
 -- reading letters, the last one first
-pub ruleset numbers = (number_of-more, number_of-None, number_of-last, letter-of_value, drop-length)
+pub ruleset numbers = (number_of-fits, no_number, letter-of_value)

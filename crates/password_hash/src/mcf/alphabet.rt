@@ -34,9 +34,10 @@ pub fn number(letters: &[u8]) -> Option<u32>
     requires short { length letters.now ≤ 5 }
     ensures value { result ≡ number_of letters.now }
 {
-    let mut number = 0;
-    for place in (0..letters.len()).rev() {
-        number = number * 64 + u32::from(value(letters[place])?);
-    }
-    Some(number)
+    let Some((first, rest)) = letters.split_first() else {
+        return Some(0);
+    };
+    let digit = value(*first)?;
+    let above = number(rest)?;
+    Some(u32::from(digit) + 64 * above)
 }

@@ -1,4 +1,4 @@
-use Rattle.std.proofs.Common.{◌<◌, ◌∙◌, ◌++◌, ◌+◌, sym, ap, arith, rules, refl, length, take, append_assoc, length-append}
+use Rattle.std.proofs.Common.{◌<◌, ◌∙◌, ◌++◌, ◌+◌, sym, ap, arith, length, take, append_assoc, length-append}
 use Rattle.std.proofs.Math.ListN.{length-set}
 use Rattle.std.proofs.lemmas.Grind.{drop_more_same}
 use Rattle.std.proofs.lemmas.List.{drop-set-lt, length-take, take_more_set}
