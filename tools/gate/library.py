@@ -1,11 +1,12 @@
 """Proves and builds the crate scrypt_c for both levels of x86-64.
 
-usage: python3 -m tools.gate.library OUT KEPT BACKEND
+usage: python3 -m tools.gate.library OUT KEPT BACKEND [LEVEL]
 
 OUT gets the files of crates/scrypt_c/out after `make lib`: libscrypt_c.a and
 x86-64-v3/libscrypt_c.a. Next to each is a folder `given` with clang's input, from which
 bindings/bitcode.py compiles the library for Windows. KEPT has the kept proofs, and can be empty.
-BACKEND is llvm, or rattle, the kit's own compiler. The libraries below the crate have to be proved.
+BACKEND is llvm, or rattle, the kit's own compiler. With a LEVEL, only this one is built. The libraries
+below the crate have to be proved.
 """
 
 import os
@@ -37,11 +38,11 @@ def build(level, out, kept, backend):
     print(f"== scrypt_c-{level}-{backend}\n{verdict[0]}", flush=True)
 
 
-def main(out, kept, backend):
+def main(out, kept, backend, *levels):
     kept = Path(kept).resolve()
     kept.mkdir(parents=True, exist_ok=True)
-    for level, (_, folder) in LEVELS.items():
-        build(level, Path(out, folder).resolve(), kept, backend)
+    for level in levels or LEVELS:
+        build(level, Path(out, LEVELS[level][1]).resolve(), kept, backend)
 
 
 if __name__ == "__main__":
