@@ -6,8 +6,7 @@
 TASK = @NICE=$(or $(NICE),10) tools/gate/step.sh $@
 PY = python3 -B -m
 
-# The output of building the crate scrypt_c by clang, and the kept proofs.
-LLVM = build/gate/llvm
+# The proofs that building the crate scrypt_c keeps.
 KEPT = build/gate/kept
 PROGRAM = crates/scrypt_tool/out/scrypt_tool
 LIBRARY = build/lib/libscrypt_c.so
@@ -24,13 +23,17 @@ proved = $1
 endif
 
 # The longest tasks, and tasks that others wait for, are first.
-BUILDS = library module program $(CROSS:%=program-%) $(MACHINES:%=library-%)
+BUILDS = library linked module program $(CROSS:%=program-%) $(MACHINES:%=library-%)
 CRATE_MUTANTS = $(patsubst %,mutants-%,scrypt scrypt_kernel scrypt_commands password_hash scrypt_c scrypt_examples)
 DOCUMENTS = pages lint links version fit promises formats cores
 EXAMPLES = $(patsubst examples/%/test.sh,example-%,$(wildcard examples/*/test.sh))
 LANGUAGES = python go rust javascript drop-in $(EXAMPLES) examples-of-pages
 SUITES = native asan tsan $(LANGUAGES) answers hashes migration oracle hostile completions
-TASKS = proofs $(BUILDS) $(CRATE_MUTANTS) must-not-compile new-user $(DOCUMENTS) $(SUITES) by-rattle mutants-hasher $(MACHINES)
+TASKS = proofs $(BUILDS) $(MACHINES) $(CROSS:%=answers-%) $(CRATE_MUTANTS) must-not-compile new-user \
+  $(DOCUMENTS) $(SUITES) by-rattle mutants-hasher
+# Tasks give way to the proofs: not those that others wait for, and less those that take long alone.
+library linked: private NICE = 0
+mutants-scrypt $(CROSS:%=program-%) $(CROSS:%=library-%) $(CROSS) $(CROSS:%=answers-%): private NICE = 5
 .PHONY: gate tasks documents suites examples $(TASKS)
 gate: $(TASKS)
 documents: $(DOCUMENTS)
@@ -82,48 +85,49 @@ pages:
 
 # ---- The library from C ----
 library: $(PROVED)/scrypt
-	@tools/gate/step.sh $@ --needs cc:gcc $(PY) tools.gate.library $(LLVM) $(KEPT) llvm
-native: $(call proved,library)
-	$(TASK) tools/gate/c_tests.sh native $(call proved,$(LLVM))
-asan tsan: native
+	$(TASK) --needs cc:gcc $(PY) tools.gate.library crates/scrypt_c/out $(KEPT) llvm
+linked: $(call proved,library)
+	$(TASK) $(MAKE) --no-print-directory -f Makefile linked
+native asan tsan: linked
 	$(TASK) tools/gate/c_tests.sh $@
 # Mutants of the hasher by rules: another twelfth of them with each commit.
-mutants-hasher: native
+mutants-hasher: linked
 	$(TASK) $(PY) bindings.c.tests.mutants $$(($$(git rev-list --count HEAD) % 12 + 1)) 12
-by-rattle: library native
+by-rattle: library
 	$(TASK) tools/gate/c_tests.sh by-rattle
 $(CROSS:%=library-%): library-%: library
 	$(TASK) $(call FOR,$*) $(PY) bindings.cross $* scrypt_c=$(KEPT)
 library-windows: library
-	$(TASK) $(call FOR,windows) $(PY) bindings.bitcode $(LLVM)
-$(CROSS): %: program-%
-$(MACHINES): %: library-% native
+	$(TASK) $(call FOR,windows) $(PY) bindings.bitcode crates/scrypt_c/out
+$(MACHINES): %: library-%
 	$(TASK) $(call FOR,$*) tools/gate/c_tests.sh $*
 
 # ---- Other languages ----
-python go rust drop-in: native
+python go rust drop-in: linked
 	$(TASK) bindings/$(subst -,_,$@)/test.sh
 module: library
 	$(TASK) $(PY) bindings.js.build $(KEPT)
-javascript: $(call proved,module) native
+javascript: $(call proved,module) linked
 	$(TASK) $(firstword $(wildcard bindings/js/test.sh bindings/js/test/test.sh))
-$(EXAMPLES): example-%: $(call proved,module) native
+$(EXAMPLES): example-%: $(call proved,module) linked
 	$(TASK) examples/$*/test.sh
-examples-of-pages: native
+examples-of-pages: linked
 	$(TASK) python3 -B bindings/readme_examples.py
-hostile: native
+hostile: linked
 	$(TASK) $(PY) tools.tests.hostile $(LIBRARY) 30000
 
 # ---- The program ----
-program: $(call proved,$(PROVED)/scrypt_tool native)
+program: $(call proved,$(PROVED)/scrypt_tool linked)
 	$(TASK) --needs cc:gcc /usr/include/bsd/readpassphrase.h:libbsd-dev tools/gate/program.sh
 $(CROSS:%=program-%): program-%: $(PROVED)/scrypt_commands
 	$(TASK) $(call FOR,$*) $(PY) bindings.cross $* scrypt_tool
+$(CROSS:%=answers-%): answers-%: % program-%
+	$(TASK) $(call FOR,$*) env PRESET=$* tools/gate/program.sh
 answers: program
 	$(TASK) $(PY) tools.tests.program $(PROGRAM)
 hashes oracle: program
 	$(TASK) $(PY) tools.tests.$@ $(PROGRAM)
-migration: program native
+migration: program linked
 	$(TASK) $(PY) tools.tests.migration $(PROGRAM)
 completions:
 	$(TASK) python3 -B bindings/cli/test_completions.py

@@ -1,9 +1,19 @@
 #!/bin/sh
-# Links the program with the password prompt. If `rt ci` left only the program, because it proved the same
-# files earlier on this machine, the object is made over the proved libraries.
+# Links the program with the password prompt; with PRESET, for that machine, and tests it in an
+# emulator. If `rt ci` left only the program, because it proved the same files earlier on this machine,
+# the object is made over the proved libraries.
 set -eu
 unset CDPATH
 cd "$(dirname "$0")/../.."
+if [ "${PRESET:-native}" != native ]; then
+  . bindings/preset.sh
+  begin_test
+  bindings/cli/build.sh
+  cc -O2 -static -DPROGRAM="\"$PWD/$build/bin/scrypt_tool\"" -DEMULATOR="\"${emulator%% *}\"" \
+    -DLIBRARIES="\"${emulator##* }\"" bindings/cli/emulated.c -o "$room/scrypt_tool"
+  CC=$CC python3 -B -m tools.tests.program "$room/scrypt_tool"
+  exit
+fi
 if [ ! -e crates/scrypt_tool/out/scrypt_tool.o ]; then
   words=$(python3 -B -c 'from tools import prover_command; print(*prover_command.of("build", "scrypt_tool"))')
   toolchain=$(dirname "$(rt doc)")/toolchain
