@@ -1,9 +1,9 @@
--- Making hashes, carrying out a command, and the outcome of a run.
-use Rattle.std.proofs.Common.{◌≡◌, ◌⊎◌, ℕ, true, List, [], Option, Some, None, Ok, Err, inl, inr, length}
-use Rattle.std.proofs.Common.{◌∙◌, refl, sym, append-nil, arith}
+-- Making hashes, carrying out a command, and the outcome and the plan of a run.
+use Rattle.std.proofs.Common.{◌≡◌, ◌⊎◌, ℕ, true, false, List, [], ◌∷◌, Option, Some, None, Ok, Err, inl, inr, length, ◌∙◌, ap, refl, sym, append-nil, arith}
 use Rattle.std.specs.Prelude.{IfSome, Result}
 use Rattle.std.specs.Bool.{Decides}
 use Rattle.std.specs.Io.KnownBytes.{Appends, Keeps}
+use Rattle.std.specs.Option.{option_map_or}
 use Rattle.password_hash.specs.Phc.{hash_text}
 use Rattle.password_hash.specs.Refusal.{Refusal, refusal, OutOfMemory as Refused}
 use Rattle.password_hash.specs.Refusal as refusals
@@ -13,14 +13,18 @@ use Rattle.password_hash.specs.declared.phc.hash.PasswordHash.{PasswordHash}
 use Rattle.scrypt.specs.Accepted.{Parameters}
 use Rattle.scrypt.specs.Hashing.{by_algorithm, by_memory, by_salt, by_version}
 use Rattle.scrypt.specs.PhcHash.{HashIsRefused, IsMadeHash, IsSaltLen}
+use Rattle.scrypt.specs.Reading.{◌and_then◌}
 use Rattle.std.proofs.lemmas.Bool.{false_from_ne_true}
 use Rattle.std.proofs.lemmas.Bool.Decides.{nat_tests}
 use Rattle.scrypt_commands.specs.CliError.{ErrorLine, FailsWith, error_line, hash_error, status_of}
 use Rattle.scrypt_commands.specs.Command.{request_of}
-use Rattle.scrypt_commands.specs.Invocation.{CommandLine}
+use Rattle.scrypt_commands.specs.Invocation.{CommandLine, Tell, asked_by, command_by, command_line_of, invocation_by, invocation_of, name_of, text_of_words, wants_file}
+use Rattle.scrypt_commands.specs.Options.{no_options, options_of}
 use Rattle.scrypt_commands.specs.Outcome.{Reply, is_salt_len, new_hash, outcome, phc_text, reply_by}
-use Rattle.scrypt_commands.specs.Run.{AppendsReply, HasOutcome, OnInput, Streams}
+use Rattle.scrypt_commands.specs.Run.{AppendsReply, HasOutcome, OnInput, Streams, plan_of, plan_of_command, plan_of_words}
 use Rattle.scrypt_commands.specs.declared.command.Format.TheVariants.{Phc}
+use Rattle.scrypt_commands.specs.declared.command_line.Name.{Name}
+use Rattle.scrypt_commands.specs.declared.command_line.Name.TheVariants.{Key, Hash, Verify, Rehash}
 use Rattle.scrypt_commands.specs.declared.error.CliError.{CliError}
 use Rattle.scrypt_commands.specs.declared.error.CliError.TheVariants.{InputFailed, OutOfMemory, OutputFailed}
 use Rattle.scrypt_commands.specs.declared.run.Ended.{Ended}
@@ -125,6 +129,26 @@ pub answered_outcome : (reply_on : List ℕ → Result Reply ErrorLine) (before 
     → OnInput before.input (λ input. HasOutcome ended before after (outcome (reply_on input)))
 answered_outcome reply_on before after status ended is same_faults (input, same, (line, has, appends)) =
     (input, same, rw has (is, appends, λ _. appends_nothing before.faults after.faults same_faults))
+
+-- a command without options has the plan of its words
+of_command : (salt : List ℕ) (words : List (List ℕ))
+    → plan_of salt None (asked_by (command_by no_options words)) ≡ plan_of_command (command_by no_options words)
+of_command salt [] = refl
+of_command salt (word ∷ words) = of_name (name_of word)
+  where
+    of_name : (read : Result Name CliError)
+        → plan_of salt None (asked_by (read and_then command_line_of no_options words)) ≡ plan_of_command (read and_then command_line_of no_options words)
+    of_name (Ok Key) = refl
+    of_name (Ok Hash) = refl
+    of_name (Ok Verify) = refl
+    of_name (Ok Rehash) = refl
+    of_name (Err error) = refl
+
+pub without_options : (salt : List ℕ) (words : List (List ℕ)) → text_of_words words ≡ None → options_of words ≡ (no_options, words)
+    → wants_file words ≡ false → plan_of salt None (invocation_of words) ≡ plan_of_words words
+without_options salt words no_text none no_file =
+    ap (λ text. plan_of salt None (option_map_or Tell text (invocation_by (options_of words)))) no_text
+    ∙ ap (λ read. plan_of salt None (invocation_by read)) none ∙ rw no_file (of_command salt words)
 
 -- the ends of a run
 pub ruleset endings = (refused_args, refused_input)

@@ -11,9 +11,7 @@ use Rattle.scrypt.specs.declared.limits.Limits.{Limits}
 use Rattle.scrypt.specs.declared.limits.TheConstants.Limits.{DEFAULT}
 use Rattle.scrypt_commands.specs.declared.command_line.Name.TheVariants as names
 use Rattle.scrypt_commands.specs.declared.error.CliError.{CliError}
-use Rattle.scrypt_commands.specs.declared.error.CliError.TheVariants.{NoHashFile, Misfit}
-use Rattle.scrypt_commands.specs.declared.error.CliError.TheVariants.{Usage, SaltNotHex, InvalidParams, InvalidOutputLen, Refused}
-use Rattle.scrypt_commands.specs.declared.error.CliError.TheVariants.{OutOfMemory, InputFailed, OutputFailed}
+use Rattle.scrypt_commands.specs.declared.error.CliError.TheVariants.{NoHashFile, Misfit, Usage, SaltNotHex, InvalidParams, InvalidOutputLen, Refused, OutOfMemory, InputFailed, OutputFailed}
 
 -- the exit status
 abbrev pub status_of : CliError → ℕ

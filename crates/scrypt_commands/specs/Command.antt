@@ -1,8 +1,7 @@
 -- The request of a command, or the error of the first thing that is wrong with it. After the words
 -- and their decimals, these are read in this order: the salt, the parameters, the length of the
 -- key, the text of a hash.
-use Rattle.std.specs.Prelude.{ℕ, ◌^◌, ◌&&◌, Bool, false, true, bytes_eq, if◌then◌else◌, codes, ⊤}
-use Rattle.std.specs.Prelude.{List, [], ◌∷◌, Option, None, Some, is_some, ok_or, option_map, Result, Ok, Err, String}
+use Rattle.std.specs.Prelude.{ℕ, ◌^◌, ◌&&◌, Bool, false, true, bytes_eq, if◌then◌else◌, codes, ⊤, List, [], ◌∷◌, Option, None, Some, is_some, ok_or, option_map, Result, Ok, Err, String}
 use Rattle.std.specs.Borrow.{Bor}
 use Rattle.std.specs.Global.{Global}
 use Rattle.hex.specs.Hex.{decode_of}

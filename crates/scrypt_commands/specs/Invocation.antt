@@ -1,6 +1,5 @@
 -- Parsed command lines.
-use Rattle.std.specs.Prelude.{ℕ, ◌||◌, Bool, false, bytes_eq, codes, if◌then◌else◌, is_some}
-use Rattle.std.specs.Prelude.{List, [], ◌∷◌, Option, None, Some, Result, Ok, Err}
+use Rattle.std.specs.Prelude.{ℕ, ◌||◌, Bool, false, bytes_eq, codes, if◌then◌else◌, is_some, List, [], ◌∷◌, Option, None, Some, Result, Ok, Err}
 use Rattle.std.specs.Bool.{then_some}
 use Rattle.std.specs.Option.{option_copied, option_map_or}
 use Rattle.scrypt.specs.Reading.{◌and_then◌}
@@ -39,16 +38,12 @@ name_of word =
     else if bytes_eq word (codes "rehash") then Ok Rehash
     else Err Usage
 
--- whether an option applies only to a stored hash: its limits, or its file
-abbrev pub is_about_hash : Options → Bool
-is_about_hash o = is_some o.limit_options || is_some o.hash_file
-
 -- Whether an option does not fit a command. Only `verify` and `rehash` take options about a stored
 -- hash, only `hash` and `rehash` draw a salt, only `hash` has recommended parameters, and only a key
 -- is written raw.
 abbrev pub is_unfit : Options → Name → Bool
-is_unfit o Key = is_about_hash o || o.draws_salt
-is_unfit o Hash = is_about_hash o || o.is_raw
+is_unfit o Key = (is_some o.limit_options || is_some o.hash_file) || o.draws_salt
+is_unfit o Hash = (is_some o.limit_options || is_some o.hash_file) || o.is_raw
 is_unfit o Verify = o.draws_salt || o.is_raw
 is_unfit o Rehash = o.is_recommended || o.is_raw
 

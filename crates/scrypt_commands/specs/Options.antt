@@ -1,6 +1,5 @@
 -- The options before a command, and the limits that they set on a stored hash.
-use Rattle.std.specs.Prelude.{ℕ, ◌-◌, ◌^◌, Bool, ◌==◌, false, true, bytes_eq, codes, if◌then◌else◌, nat_eq, nat_lt}
-use Rattle.std.specs.Prelude.{List, [], ◌∷◌, Option, None, Some, String, length, map, option_and_then, option_map, string_bytes, take, unwrap_or}
+use Rattle.std.specs.Prelude.{ℕ, ◌-◌, ◌^◌, Bool, ◌==◌, false, true, bytes_eq, codes, if◌then◌else◌, nat_eq, nat_lt, List, [], ◌∷◌, Option, None, Some, String, length, map, option_and_then, option_map, string_bytes, take, unwrap_or}
 use Rattle.std.specs.Global.{Global}
 use Rattle.std.specs.List.{after_first, before_first, ends_with, position_or_len}
 use Rattle.std.specs.Option.{option_map_or}
@@ -54,18 +53,15 @@ no_options = record {
   hash_file = None;
 }
 
--- the options with the option of this name added, which has a value
-abbrev pub with_named : Options → List ℕ → List ℕ → Option Options
-with_named o name value =
-    if bytes_eq name (codes "--hash-file") then Some (record o { hash_file = Some value })
-    else option_map (λ limit_options. record o { limit_options = Some limit_options }) (with_number (unwrap_or o.limit_options defaults) name value)
-
--- the same, for an option whose value follows its first `=`
+-- the options with an option added whose value follows its first `=`
 abbrev pub with_value : Options → List ℕ → Option Options
 with_value o word =
-    if nat_lt (position_or_len (λ b. b == 61) word) (length word)
-    then with_named o (before_first (λ b. b == 61) word) (after_first (λ b. b == 61) word)
-    else None
+    let name = before_first (λ b. b == 61) word in
+    let value = after_first (λ b. b == 61) word in
+    if nat_lt (position_or_len (λ b. b == 61) word) (length word) then (
+    if bytes_eq name (codes "--hash-file") then Some (record o { hash_file = Some value })
+    else option_map (λ limits. record o { limit_options = Some limits }) (with_number (unwrap_or o.limit_options defaults) name value)
+    ) else None
 
 -- the options with this word's option added; a later one overrides an earlier one
 unfoldable pub with_option : Options → List ℕ → Option Options

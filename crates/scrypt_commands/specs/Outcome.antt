@@ -1,6 +1,5 @@
 -- The outcome of a command line: the program's output for its arguments and its input.
-use Rattle.std.specs.Prelude.{◌≡◌, ℕ, ◌+◌, ◌&&◌, Bool, false, true, nat_le, if◌then◌else◌, List, [], ◌++◌, length, codes}
-use Rattle.std.specs.Prelude.{Option, None, Some, option_map, unwrap_or, Result, Ok, Err, ⊤}
+use Rattle.std.specs.Prelude.{◌≡◌, ℕ, ◌+◌, ◌&&◌, Bool, false, true, nat_le, if◌then◌else◌, List, [], ◌++◌, length, codes, Option, None, Some, option_map, unwrap_or, Result, Ok, Err, ⊤}
 use Rattle.std.specs.Result.{result_unwrap_or}
 use Rattle.hex.specs.Hex.{encode_lower}
 use Rattle.password_hash.specs.Phc.{hash_text}
@@ -19,9 +18,8 @@ use Rattle.scrypt.specs.StoredHash.{reading}
 use Rattle.scrypt.specs.WithinLimits.{within}
 use Rattle.scrypt_kernel.specs.Count.{AreCounted}
 use Rattle.scrypt_kernel.specs.declared.cores.count.CoreCount.{CoreCount}
-use Rattle.scrypt_commands.specs.Options.{limits_of}
+use Rattle.scrypt_commands.specs.Options.{limits_of, password_of}
 use Rattle.scrypt_commands.specs.Invocation.{CommandLine}
-use Rattle.scrypt_commands.specs.Options.{password_of}
 use Rattle.scrypt_commands.specs.Command.{Making, Request, ToMake, ToVerify, request_of}
 use Rattle.scrypt_commands.specs.CliError.{ErrorLine, error_line, hash_error, limited_line, refuse, status_of}
 use Rattle.scrypt_commands.specs.declared.answer.Answer.{Answer}
@@ -73,13 +71,11 @@ new_hash Phc c password salt =
     if is_salt_len (length salt) then Ok (phc_text c password salt) else refuse (hash_error SaltInvalid)
 new_hash Mcf c password salt = Ok (mcf_text (made_hash c password salt))
 
--- the output line of a key: its hexadecimal digits, or its bytes without a newline
-abbrev pub key_line : Bool → List ℕ → List ℕ
-key_line is_raw key = if is_raw then key else encode_lower key ++ codes "\n"
-
--- the output line of a new key or hash of a password and a salt
+-- The output line of a new key or hash of a password and a salt. A key is written as its
+-- hexadecimal digits, or as its bytes without a newline.
 abbrev pub new_line : Target → Parameters → List ℕ → List ℕ → Result (List ℕ) ErrorLine
-new_line (Key len is_raw) c password salt = Ok (key_line is_raw (key_by c password salt len))
+new_line (Key len is_raw) c password salt =
+    let key = key_by c password salt len in Ok (if is_raw then key else encode_lower key ++ codes "\n")
 new_line (Hash format) c password salt = do
   text ← new_hash format c password salt
   Ok (text ++ codes "\n")

@@ -97,10 +97,6 @@ pub record IsRun (plan : Plan) (before after : Streams) (ended : Ended) : Type 0
   pub done : IsAnswer ended.status → IsTrue ended.fault_told
   pub no_error : IsAnswer ended.status → Keeps before.faults after.faults
 
--- a salt of 16 bytes was drawn if required, and this holds of it
-abbrev pub IsDrawn : Bool → (List ℕ → Type 0) → Option (List ℕ) → Type 0
-IsDrawn is_drawn Is drawn = (salt : List ℕ) × (length salt ≡ 16) × (is_drawn ≡ true → Is salt) × (drawn ≡ then_some is_drawn salt)
-
 -- the output line of the answer with this status was appended
 abbrev pub AppendsReply : (List ℕ → Result Reply ErrorLine) → Option (List ℕ) → Option (List ℕ) → Option (List ℕ) → ℕ → Type 0
 AppendsReply reply_on known old new status =

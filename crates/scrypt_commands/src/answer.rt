@@ -7,7 +7,7 @@ ghost use Rattle.scrypt.specs.StoredHash.{reading};
 ghost use Rattle.scrypt.specs.WithinLimits.{with_limited_refusal};
 ghost use Rattle.scrypt_commands.specs.CliError.{Gives};
 ghost use Rattle.scrypt_commands.specs.Command.{making_view, request_view};
-ghost use Rattle.scrypt_commands.specs.Outcome.{AreOfHash, AreOfRequest, bounded, limits_by, made_reply, new_hash, new_line, reply_to, reply_view, right_of, right_reply};
+ghost use Rattle.scrypt_commands.specs.Outcome.{AreOfHash, AreOfRequest, bounded, limits_by, made_reply, new_hash, reply_to, reply_view, right_of, right_reply};
 ghost use Rattle.scrypt_commands.specs.declared.command.Target.TheVariants.{Key};
 ghost use Rattle.scrypt_commands.specs.declared.error.CliError.TheVariants.{OutOfMemory};
 
@@ -29,7 +29,7 @@ pub enum Answer {
     /// The password does not match the hash.
     Wrong,
     /// A key or a hash was made from the password.
-    Made { line: Vec<u8> },
+    Made(Vec<u8>),
 }
 
 impl Answer {
@@ -41,7 +41,7 @@ impl Answer {
         match self {
             Answer::Right => (0, b"ok\n"),
             Answer::Wrong => (1, b"no\n"),
-            Answer::Made { line } => (0, line.as_slice()),
+            Answer::Made(line) => (0, line.as_slice()),
         }
     }
 }
@@ -66,7 +66,7 @@ impl<'a> Command<'a> {
     {
         match self {
             Command::Make(making) => make::<M>(alloc, password, making),
-            Command::Verify { hash, wanted } => {
+            Command::Verify(hash, wanted) => {
                 if !verify::<M>(alloc, hash, password, limits_by(options, wanted), cores)? {
                     return Ok(Answer::Wrong);
                 }
@@ -112,8 +112,7 @@ fn verify<M: Backend>(
     limits: Option<Limits>,
     cores: &mut CoreCount,
 ) -> Result<bool>
-    ensures right { Gives (λ right. right)
-        (right_of limits (verdict password.now (bounded limits (reading hash.now)))) result }
+    ensures right { Gives (λ right. right) (right_of limits (verdict password.now (bounded limits (reading hash.now)))) result }
     ensures cores { AreOfHash password.now (bounded limits (reading hash.now)) (IsErrOf result OutOfMemory) cores.old cores.new }
 {
     match verify_within::<M>(alloc, hash, password, limits, cores) {
@@ -148,25 +147,13 @@ fn verify_within<M: Backend>(
 fn make<M: Backend>(alloc: Global, password: &[u8], making: &Making) -> Result<Answer>
     ensures { Gives reply_view (made_reply (making_view making.now) password.now) result }
 {
-    let line = line::<M>(alloc, password, making)?;
-    Ok(Answer::Made { line })
-}
-
-// Returns the output line of a new key or hash.
-fn line<M: Backend>(alloc: Global, password: &[u8], making: &Making) -> Result<Vec<u8>>
-    ensures { Gives (λ line. line.items) (new_line making.now.target making.now.params password.now making.now.salt.items) result }
-{
-    let Making {
-        target,
-        params,
-        salt,
-    } = making;
-    match target {
-        Target::Key { len, is_raw } => key::<M>(alloc, password, salt, params, *len, *is_raw),
+    let (salt, params) = (&making.salt, &making.params);
+    match making.target {
+        Target::Key { len, is_raw } => key::<M>(alloc, password, salt, params, len, is_raw),
         Target::Hash { format } => {
-            let mut text = make_hash::<M>(alloc, password, salt, params, *format)?;
+            let mut text = make_hash::<M>(alloc, password, salt, params, format)?;
             text.push('\n')?;
-            Ok(text.into_bytes())
+            Ok(Answer::Made(text.into_bytes()))
         }
     }
 }
@@ -195,7 +182,7 @@ fn make_hash<M: Backend>(
     }
 }
 
-// Returns the output line of the derived key of `len` bytes.
+// Makes the derived key of `len` bytes.
 fn key<M: Backend>(
     alloc: Global,
     password: &[u8],
@@ -203,8 +190,8 @@ fn key<M: Backend>(
     params: &Params,
     len: usize,
     is_raw: bool,
-) -> Result<Vec<u8>>
-    ensures { Gives (λ line. line.items) (new_line (Key len is_raw) params.now password.now salt.now) result }
+) -> Result<Answer>
+    ensures { Gives reply_view (made_reply (record { target = Key len is_raw; params = params.now; salt = salt.now }) password.now) result }
 {
     let mut key = vec![in alloc; 0u8; len]?;
     // The length is allowed, so this fails only if an allocation does.
@@ -213,9 +200,9 @@ fn key<M: Backend>(
         return Err(CliError::OutOfMemory);
     }
     if is_raw {
-        return Ok(key);
+        return Ok(Answer::Made(key));
     }
     let mut digits = hex::encode(alloc, key.as_slice())?;
     digits.push('\n')?;
-    Ok(digits.into_bytes())
+    Ok(Answer::Made(digits.into_bytes()))
 }

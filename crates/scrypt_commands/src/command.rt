@@ -1,6 +1,6 @@
 // Commands, read from their words.
 
-ghost use Rattle.std.specs.Prelude.{◌≡◌};
+ghost use Rattle.std.specs.Prelude.{◌≡◌, ◌^◌};
 ghost use Rattle.std.specs.Option.{option_copied};
 ghost use Rattle.password_hash.specs.Decimal.{decimal_below};
 ghost use Rattle.scrypt_commands.specs.CliError.{Gives};
@@ -9,9 +9,10 @@ ghost use Rattle.scrypt_commands.specs.Invocation.{command_line_view};
 ghost use Rattle.scrypt_commands.specs.Options.{texts_of};
 
 use crate::command_line::{CommandLine, Name};
-use crate::decimals::{parse_byte, parse_len, parse_word};
 use crate::error::{CliError, Result};
 use hex::FromHexError;
+use password_hash::decimal::read_decimal;
+use password_hash::laws::decimals_are_read;
 use scrypt::{Params, StoredHash, output_len_ok};
 use std::alloc::Global;
 
@@ -22,10 +23,7 @@ pub enum Command<'a> {
     Make(Making),
     /// `verify` or `rehash`: verify the password against the hash. If it matches, and the hash is
     /// weaker than wanted, make the wanted one in its place.
-    Verify {
-        hash: StoredHash<'a>,
-        wanted: Option<Making>,
-    },
+    Verify(StoredHash<'a>, Option<Making>),
 }
 
 /// A key or a hash that is to be made from a password.
@@ -146,7 +144,7 @@ fn verify_words<'a>(file_text: Option<&'a str>, words: &'a [String]) -> Result<C
     let (text, words) = hash_word(file_text, words)?;
     end_of(words)?;
     let hash = StoredHash::read(text)?;
-    Ok(Command::Verify { hash, wanted: None })
+    Ok(Command::Verify(hash, None))
 }
 
 // Reads the words after `rehash`.
@@ -167,10 +165,7 @@ fn rehash_words<'a>(
     end_of(words)?;
     let wanted = making_of(alloc, Target::Hash { format }, params, Some(len), salt)?;
     let hash = StoredHash::read(text)?;
-    Ok(Command::Verify {
-        hash,
-        wanted: Some(wanted),
-    })
+    Ok(Command::Verify(hash, Some(wanted)))
 }
 
 // Reads LOG_N R P, and also returns the words after them. The recommended parameters have no words.
@@ -315,4 +310,28 @@ fn read_salt(alloc: Global, salt: Salt<'_>) -> Result<Vec<u8>>
         },
         Salt::Drawn(salt) => Ok(salt.to_vec(alloc)?),
     }
+}
+
+/// Parses LEN, or the value of an option.
+pub fn parse_len(word: &str) -> Option<usize>
+    ensures value { result ≡ decimal_below (2 ^ 64) word.now }
+{
+    decimals_are_read();
+    read_decimal(word)
+}
+
+// Parses R or P.
+fn parse_word(word: &str) -> Option<u32>
+    ensures value { result ≡ decimal_below (2 ^ 32) word.now }
+{
+    decimals_are_read();
+    read_decimal(word)
+}
+
+// Parses LOG_N.
+fn parse_byte(word: &str) -> Option<u8>
+    ensures value { result ≡ decimal_below (2 ^ 8) word.now }
+{
+    decimals_are_read();
+    read_decimal(word)
 }

@@ -33,12 +33,9 @@ pub enum CliError {
     InvalidParams,
     /// LEN is 0, or above 32 * (2^32 - 1).
     InvalidOutputLen,
-    /// The library rejects a hash, or the salt of a new one.
-    Refused {
-        why: LimitedError,
-        /// the limits, if the hash exceeds them
-        limits: Limits,
-    },
+    /// The library rejects a hash, or the salt of a new one. The limits are those that the hash
+    /// exceeds, if it does.
+    Refused(LimitedError, Limits),
     /// An allocation failed.
     OutOfMemory,
     /// The input could not be read to its end.
@@ -54,7 +51,7 @@ impl CliError {
     {
         match why {
             LimitedError::Hash(Error::OutOfMemory) => CliError::OutOfMemory,
-            _ => CliError::Refused { why, limits },
+            _ => CliError::Refused(why, limits),
         }
     }
 
@@ -74,7 +71,7 @@ impl CliError {
         ensures written { OnOk result (Appends (F.contents faults.old) (F.contents faults.new) (error_line self)) }
     {
         match self {
-            CliError::Refused { why, limits } => write_refused(faults, why, limits),
+            CliError::Refused(why, limits) => write_refused(faults, why, limits),
             _ => faults.write_all(self.fixed_line()),
         }
     }
@@ -106,7 +103,7 @@ impl CliError {
             CliError::OutOfMemory => b"out of memory\n",
             CliError::InputFailed => b"input failed\n",
             CliError::OutputFailed => b"output failed\n",
-            CliError::Refused { .. } => b"",
+            CliError::Refused(..) => b"",
         }
     }
 }

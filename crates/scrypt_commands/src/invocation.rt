@@ -2,10 +2,11 @@
 
 ghost use Rattle.std.specs.Prelude.{◌≡◌, ◌⊎◌, ℕ, IfOk, IsTrue, List, [], OnErr, Option, length, true};
 ghost use Rattle.std.specs.Io.KnownBytes.{Keeps};
+ghost use Rattle.std.specs.Bool.{then_some};
 ghost use Rattle.std.specs.Option.{option_copied};
 ghost use Rattle.scrypt_commands.specs.Invocation.{invocation_of, invocation_view, options_in, options_view, text_of, text_of_words, wants_file};
 ghost use Rattle.scrypt_commands.specs.Options.{texts_of};
-ghost use Rattle.scrypt_commands.specs.Run.{EndsUnread, IsDrawn, IsRefusedUnread, IsRun, unread_plan, plan_of};
+ghost use Rattle.scrypt_commands.specs.Run.{EndsUnread, IsRefusedUnread, IsRun, unread_plan, plan_of};
 
 use crate::command_line::CommandLine;
 use crate::error::CliError;
@@ -134,7 +135,8 @@ impl<'a> Invocation<'a> {
 
 // Draws a salt if required. Returns the machine's error.
 fn draw<M: Machine>(machine: &M, is_drawn: bool) -> io::Result<Option<[u8; 16]>>
-    ensures salt { IfOk result (IsDrawn is_drawn (M.draws machine.now)) }
+    ensures salt { IfOk result (λ drawn. (salt : List ℕ) × (length salt ≡ 16) × (is_drawn ≡ true → M.draws machine.now salt)
+        × (drawn ≡ then_some is_drawn salt)) }
     ensures drawn { OnErr result (IsTrue is_drawn) }
 {
     if !is_drawn {

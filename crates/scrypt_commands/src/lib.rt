@@ -5,7 +5,6 @@
 mod answer;
 mod command;
 mod command_line;
-mod decimals;
 mod error;
 pub mod invocation;
 pub mod laws;

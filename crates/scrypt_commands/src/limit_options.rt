@@ -1,9 +1,9 @@
 // The limits on the cost of a stored hash, and on the length of its key.
 
 ghost use Rattle.std.specs.Prelude.{◌≡◌};
-ghost use Rattle.scrypt_commands.specs.Options.{limits_of, defaults, with_number};
+ghost use Rattle.scrypt_commands.specs.Options.{limits_of, with_number};
 
-use crate::decimals::parse_len;
+use crate::command::parse_len;
 use scrypt::{Limits, Params};
 
 /// Limits on a stored hash.
@@ -16,15 +16,11 @@ pub struct LimitOptions {
 }
 
 impl LimitOptions {
-    /// Returns the default limits.
-    pub fn defaults() -> LimitOptions
-        ensures value { result ≡ defaults }
-    {
-        LimitOptions {
-            limits: Limits::DEFAULT,
-            min_key_len: None,
-        }
-    }
+    /// The default limits.
+    pub const DEFAULT: LimitOptions = LimitOptions {
+        limits: Limits::DEFAULT,
+        min_key_len: None,
+    };
 
     /// Returns the options with the option of this name added, or `None` if there is no such
     /// option, or the value is not a number.

@@ -2,7 +2,7 @@
 
 ghost use Rattle.std.specs.Prelude.{◌≡◌, IfSome, option_map};
 ghost use Rattle.scrypt_commands.specs.CliError.{status_of};
-ghost use Rattle.scrypt_commands.specs.Invocation.{is_about_hash, is_unfit, misfit, options_view};
+ghost use Rattle.scrypt_commands.specs.Invocation.{is_unfit, misfit, options_view};
 ghost use Rattle.scrypt_commands.specs.Options.{options_of, password_of, texts_of, with_option, with_value, without_newline};
 
 use crate::command_line::Name;
@@ -62,7 +62,7 @@ impl<'a> Options<'a> {
     {
         let mut options = self;
         match word {
-            "--default-limits" => options.limit_options = Some(LimitOptions::defaults()),
+            "--default-limits" => options.limit_options = Some(LimitOptions::DEFAULT),
             "--generate-salt" => options.draws_salt = true,
             "--recommended" => {
                 options.is_recommended = true;
@@ -88,17 +88,10 @@ impl<'a> Options<'a> {
         if name == "--hash-file" {
             options.hash_file = Some(value);
         } else {
-            let limits = self.limit_options.unwrap_or(LimitOptions::defaults());
+            let limits = self.limit_options.unwrap_or(LimitOptions::DEFAULT);
             options.limit_options = Some(limits.with_number(name, value)?);
         }
         Some(options)
-    }
-
-    // Returns whether an option applies only to a stored hash.
-    fn is_about_hash(self) -> bool
-        ensures { result ≡ is_about_hash (options_view self.entry) }
-    {
-        self.limit_options.is_some() || self.hash_file.is_some()
     }
 
     /// Returns why the options do not fit this command, if they don't.
@@ -114,8 +107,10 @@ impl<'a> Options<'a> {
         ensures { result ≡ is_unfit (options_view self.entry) name }
     {
         match name {
-            Name::Key => self.is_about_hash() || self.draws_salt,
-            Name::Hash => self.is_about_hash() || self.is_raw,
+            Name::Key => self.limit_options.is_some()
+                || self.hash_file.is_some()
+                || self.draws_salt,
+            Name::Hash => self.limit_options.is_some() || self.hash_file.is_some() || self.is_raw,
             Name::Verify => self.draws_salt || self.is_raw,
             Name::Rehash => self.is_recommended || self.is_raw,
         }

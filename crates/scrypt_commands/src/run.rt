@@ -51,13 +51,7 @@ pub fn run<R: Read, W: Write, F: Write>(
     ensures refused { (plan_of_words (texts_of words.now)).is_unread ≡ true → (result.status ≡ 2) ⊎ (result.status ≡ 3) }
 {
     match CommandLine::new(NONE, words) {
-        Ok(command_line) => run_command::<Simd, R, W, F>(
-            alloc,
-            command_line,
-            reader,
-            writer,
-            faults,
-        ),
+        Ok(given) => run_command::<Simd, R, W, F>(alloc, given, reader, writer, faults),
         Err(usage) => end(usage, faults),
     }
 }
@@ -94,19 +88,15 @@ fn execute<M: Backend, R: Read, W: Write>(
         (W.contents writer.old) (W.contents writer.new)) }
     ensures ok { IfOk result IsAnswer }
     ensures read { OnOk result (IsAtEnd (R.remaining reader.new)) }
-    ensures err { IfErr result (λ error. status_of error ≡ 2
-        → OnInput (R.remaining reader.old) (λ input.
+    ensures err { IfErr result (λ error. status_of error ≡ 2 → OnInput (R.remaining reader.old) (λ input.
         reply_by (command_line_view command_line.entry) input ≡ Err (error_line error))) }
     ensures read_before_error { IfErr result (λ error. (error ≡ OutOfMemory) ⊎ (error ≡ InputFailed)
         ⊎ IsErr (request_of (command_line_view command_line.entry)) ⊎ IsAtEnd (R.remaining reader.new)) }
-    ensures nothing { IfErr result (λ error. (error ≡ OutputFailed)
-        ⊎ Keeps (W.contents writer.old) (W.contents writer.new)) }
+    ensures nothing { IfErr result (λ error. (error ≡ OutputFailed) ⊎ Keeps (W.contents writer.old) (W.contents writer.new)) }
     ensures begun { IfErr result (λ error. error ≡ OutputFailed → OnInput (R.remaining reader.old) (λ input.
-        AppendsBeginning (W.contents writer.old) (W.contents writer.new)
-        (outcome (reply_by (command_line_view command_line.entry) input)).line)) }
+        AppendsBeginning (W.contents writer.old) (W.contents writer.new) (outcome (reply_by (command_line_view command_line.entry) input)).line)) }
     ensures refused { IsErr (request_of (command_line_view command_line.entry))
-        → IfErr result (λ error. (error ≡ OutOfMemory) ⊎ (status_of error ≡ 2))
-        × IsErr result × Keeps (R.remaining reader.old) (R.remaining reader.new) }
+        → IfErr result (λ error. (error ≡ OutOfMemory) ⊎ (status_of error ≡ 2)) × IsErr result × Keeps (R.remaining reader.old) (R.remaining reader.new) }
 {
     let command = Command::read(alloc, command_line)?;
     let input = read_all(alloc, reader)?;
@@ -184,8 +174,7 @@ pub(crate) fn answered(status: u8) -> Ended
 pub(crate) fn end<F: Write>(error: CliError, faults: &mut F) -> Ended
     ensures status { result.status ≡ status_of error }
     ensures failed { IsTrue result.input_failed ↔ (error ≡ InputFailed) }
-    ensures written { IsTrue result.fault_told →
-        Appends (F.contents faults.old) (F.contents faults.new) (error_line error) }
+    ensures written { IsTrue result.fault_told → Appends (F.contents faults.old) (F.contents faults.new) (error_line error) }
 {
     Ended {
         status: error.status(),
