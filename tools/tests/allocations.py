@@ -50,8 +50,8 @@ RUNS = [
     ("--default-limits verify $7$s/..../....$" + "z" * 40, b"password", 2, 1),
 ]
 
-# the arguments of runs that derive a key with four chunks, and the sizes of the chunks, the table and
-# the scratch, or of these after the text of a `$7$` hash
+# the arguments of runs that derive a key with four chunks, and the sizes of the chunks, the table
+# and the scratch, or of these after the text of a `$7$` hash
 BUFFERS = [
     ("key 4 1 4 32 4e61436c", [512, 2048, 256]),
     ("hash phc 5 1 4 4e61436c", [512, 4096, 256]),

@@ -44,14 +44,16 @@ DJANGO_TEXTS = [
      "ECMIUp+LMxMSK8xB/IVyba+KYGTI7FTnet025q/1f/vBAVnnP3hdYqJuRi+mJn6ji6ze3Fbb7JEFPKGpuEf5vw=="),
 ]
 
-# Spellings that passlib reads and the program does not: a part of a text with the salt `s`, another spelling.
+# Spellings that passlib reads and the program does not: a part of a text with the salt `s`, and
+# another spelling.
 PASSLIB_SPELLINGS = [
     ("ln=4", "ln=04", "ParamInvalid ln"),
     ("$cw$", "$cw==$", "EncodingInvalid"),
     ("$cw$", "$cx$", "EncodingInvalid"),
 ]
 
-# Hashes that crypt(3) does not verify and the program does: log_n, r, p and the key's length, a password.
+# Hashes that crypt(3) does not verify and the program does: log_n, r, p and the key's length, and a
+# password.
 CRYPT_REFUSES = [
     ((0, 8, 1, 32), b"password"),
     ((1, 8, 1, 32), b"password"),
@@ -164,10 +166,8 @@ def answers(words, cases, **env):
 
 
 def passlib(trial):
-    """passlib's hashes are verified, and it finds the same ones weaker, and makes the same new ones.
-
-    The two agree on log_n, and on keys of 32 bytes, the only length in passlib. passlib rehashes if r or p differs from
-    the wanted value, this library only if it is below.
+    """passlib's hashes are verified. It finds the same ones weaker, and makes the same new ones,
+    with keys of 32 bytes, its only length; but it also rehashes if r or p is above the wanted value.
     """
     try:
         from passlib.hash import scrypt

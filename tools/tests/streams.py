@@ -51,7 +51,7 @@ def without_reader(words):
 
 
 def writes_of(stream, words):
-    """The content of each write to one of the outputs of a run, through a pipe that keeps writes separate."""
+    """The content of each write to an output of a run, through a pipe that keeps writes separate."""
     read, write = os.pipe2(os.O_DIRECT)
     how = {"stdin": subprocess.DEVNULL, "stdout": subprocess.DEVNULL, "stderr": subprocess.DEVNULL, stream: write}
     ran = subprocess.Popen(words, **how)
@@ -64,7 +64,7 @@ def writes_of(stream, words):
 
 
 def cut_at(length, stream, words):
-    """The status of a run one of whose outputs is a file that takes only `length` bytes, and the content of both outputs."""
+    """The status of a run one of whose outputs is a file of at most `length` bytes, and both outputs."""
     with tempfile.TemporaryFile() as file:
         # Python ignores the signal of a file that is too large, and so do its child processes:
         # writing fails.
@@ -75,8 +75,9 @@ def cut_at(length, stream, words):
 
 
 def cuts(program):
-    """Each line is written by one write. An output that takes only its start fails, and a fault keeps its status.
-    crates/caller_tests/src/streams.rt has inputs and outputs that fail at each byte."""
+    """Each line is written by one write. An output that takes only its start fails, and a fault
+    keeps its status. crates/caller_tests/src/streams.rt has inputs and outputs that fail at each byte.
+    """
     lines = [(it, "stdout", 0) for it in STREAM_COMMANDS]
     lines += [("verify $7$", "stderr", 2), ("key 56 1 1 32 ", "stderr", 3), ("\udcff", "stderr", 3)]
     for line, stream, status in lines:

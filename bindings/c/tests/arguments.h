@@ -1,5 +1,5 @@
-/* Variables for each_call.h, named as the arguments in the header: the inputs and the outputs, which
- * each thread has. */
+/* Variables for each_call.h, named as the arguments in the header: the inputs and the outputs of a
+ * thread. */
 #ifndef ARGUMENTS_H
 #define ARGUMENTS_H
 
