@@ -1,4 +1,4 @@
-// Hostile texts: every call that reads them returns the same verdict. `tools/tests/hashes.py` has
+// Hostile texts: every call that reads them returns the same verdict. `tools/tests/hostile.py` has
 // more.
 
 use crate::hash_allocations::followed;

@@ -68,8 +68,8 @@ fn added_parameters() -> Result<(), Fail> {
 pub const HASH: &str =
     "$scrypt$ln=16,r=8,p=1$aM15713r3Xsvxbi31lqr1Q$nFNh2CVHVjNldFVKDHDlm4CbdRSCdEBsjjJxD+iCs5E";
 
-// Texts that print as they were read, and the reason for the row. `tools/tests/hashes.py` has more
-// texts, which are rejected.
+// Texts that print as they were read, and the reason for the row. `tools/tests/hostile.py` has
+// more texts, which are rejected.
 static PRINTED: [(&str, &str); 6] = [
     (HASH, "a whole one"),
     ("$scrypt", "the algorithm alone"),
