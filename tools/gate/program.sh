@@ -11,7 +11,7 @@ if [ "${PRESET:-native}" != native ]; then
   bindings/cli/build.sh
   cc -O2 -static -DPROGRAM="\"$PWD/$build/bin/scrypt_tool\"" -DEMULATOR="\"${emulator%% *}\"" \
     -DLIBRARIES="\"${emulator##* }\"" bindings/cli/emulated.c -o "$room/scrypt_tool"
-  CC=$CC python3 -B -m tools.tests.program "$room/scrypt_tool"
+  CC=$CC python3 -B -m tools.tests.program "$room/scrypt_tool" emulated
   exit
 fi
 if [ ! -e crates/scrypt_tool/out/scrypt_tool.o ]; then
