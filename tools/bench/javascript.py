@@ -37,7 +37,7 @@ def in_node():
 
 def rows_of_page(command=()):
     """The rows that the page posts; empty if it posts an error."""
-    rows = json.loads(in_browser.posted("tools/bench/javascript.html", command, 900) or "null")
+    rows = json.loads(in_browser.posted("tools/bench/javascript.html", command) or "null")
     if not isinstance(rows, list):
         print(f"a page failed: {rows}\n")
         return []

@@ -33,7 +33,7 @@ class Handler(http.server.SimpleHTTPRequestHandler):
         super().end_headers()
 
 
-def posted(page, command, seconds=240):
+def posted(page, command):
     """What a page of the repository posts, which the command opens, or else Chromium."""
     server = http.server.ThreadingHTTPServer(("127.0.0.1", 0), functools.partial(Handler, directory=TOP))
     threading.Thread(target=server.serve_forever, daemon=True).start()
@@ -42,7 +42,7 @@ def posted(page, command, seconds=240):
         address = f"http://127.0.0.1:{server.server_port}/{page}"
         ran = subprocess.Popen([*words, address], stdout=subprocess.DEVNULL, stderr=subprocess.DEVNULL)
         try:
-            return Handler.said.get(timeout=seconds)
+            return Handler.said.get(timeout=900)
         finally:
             ran.terminate()
             ran.wait()

@@ -203,6 +203,13 @@ mod tests {
         bytes.iter().map(|it| format!("{it:02x}")).collect()
     }
 
+    #[test]
+    fn steps_of_10_ms() {
+        let next =
+            [(100, STEP / 4), (100, 4 * STEP), (1, 4 * STEP)].map(|it| next_mixes(it.0, it.1));
+        assert_eq!(next, [200, 25, 1]);
+    }
+
     /// Keys derived in steps of random lengths equal the keys of one call. STEPS is the number of
     /// keys, which are printed for ../compare_keys.py.
     #[test]
