@@ -1,7 +1,7 @@
 //! Keys and verdicts in steps, in the caller's buffers: between two steps the caller can show
 //! progress or cancel.
 
-ghost use Rattle.std.specs.Prelude.{◌≡◌, ◌≢◌, ◌⊎◌, ◌↔◌, ◌≤◌, ◌<◌, ◌+◌, ◌*◌, List, ℕ, length, min, IfOk, IsTrue, OnErr};
+ghost use Rattle.std.specs.Prelude.{◌≡◌, ◌≢◌, ◌⊎◌, ◌↔◌, ◌+◌, ◌*◌, List, ℕ, length, min, IfOk, IsTrue, OnErr};
 ghost use Rattle.scrypt.specs.Accepted.{are_accepted, is_output_len};
 ghost use Rattle.scrypt.specs.Cost.{chunks_bytes};
 ghost use Rattle.scrypt.specs.Key.{derived_key};

@@ -1,6 +1,6 @@
 //! Keys, derived in allocated memory or in the caller's buffers.
 
-ghost use Rattle.std.specs.Prelude.{◌≡◌, ◌≢◌, ◌⊎◌, ◌↔◌, ◌≤◌, length, take, IsSome, IfSome, IsTrue};
+ghost use Rattle.std.specs.Prelude.{◌≡◌, ◌≢◌, ◌⊎◌, ◌↔◌, length, take, IsSome, IfSome, IsTrue};
 ghost use Rattle.scrypt.specs.Accepted.{are_accepted, is_output_len};
 ghost use Rattle.scrypt.specs.InBuffers.{are_enough};
 ghost use Rattle.scrypt.specs.Cost.{chunks_bytes};
