@@ -88,13 +88,11 @@ library: $(PROVED)/scrypt
 	$(TASK) --needs cc:gcc $(PY) tools.gate.library crates/scrypt_c/out $(KEPT) llvm
 linked: $(call proved,library)
 	$(TASK) $(MAKE) --no-print-directory -f Makefile linked
-native asan tsan: linked
+native asan tsan by-rattle: linked
 	$(TASK) tools/gate/c_tests.sh $@
 # Mutants of the hasher by rules: another twelfth of them with each commit.
 mutants-hasher: linked
 	$(TASK) $(PY) bindings.c.tests.mutants $$(($$(git rev-list --count HEAD) % 12 + 1)) 12
-by-rattle: library
-	$(TASK) tools/gate/c_tests.sh by-rattle
 $(CROSS:%=library-%): library-%: library
 	$(TASK) $(call FOR,$*) $(PY) bindings.cross $* scrypt_c=$(KEPT)
 library-windows: library
@@ -123,11 +121,7 @@ $(CROSS:%=program-%): program-%: $(PROVED)/scrypt_commands
 	$(TASK) $(call FOR,$*) $(PY) bindings.cross $* scrypt_tool
 $(CROSS:%=answers-%): answers-%: % program-%
 	$(TASK) $(call FOR,$*) env PRESET=$* tools/gate/program.sh
-answers: program
-	$(TASK) $(PY) tools.tests.program $(PROGRAM)
-hashes oracle: program
-	$(TASK) $(PY) tools.tests.$@ $(PROGRAM)
-migration: program linked
-	$(TASK) $(PY) tools.tests.migration $(PROGRAM)
+answers hashes oracle migration: program
+	$(TASK) $(PY) tools.tests.$(@:answers=program) $(PROGRAM)
 completions:
 	$(TASK) python3 -B bindings/cli/test_completions.py
