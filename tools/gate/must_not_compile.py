@@ -44,7 +44,7 @@ NEW_COUNTS = {
     "crates/scrypt/src/mcf/verifying.rt": 1,
     "crates/scrypt/src/phc/verifying.rt": 1,
     "crates/scrypt/src/stored_hash.rt": 1,
-    "crates/scrypt_c/src/hashes.rt": 2,
+    "crates/scrypt_c/src/hashes.rt": 1,
     "crates/scrypt_c/src/with_buffers.rt": 4,
     "crates/scrypt_c/src/in_steps.rt": 5,
     "crates/scrypt_c/src/keys.rt": 3,
