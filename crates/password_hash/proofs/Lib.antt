@@ -1,11 +1,9 @@
--- Pairs and their text, one more pair at the end, and the pairs of a text in turn.
+-- Pairs and their text, one more pair at the end, and texts of parts, each after a `$`.
 pub mod ParamsFacts
 -- Base64 of bytes, and the bytes that letters decode to.
 pub mod Base64Facts
 -- Decimal digits.
 pub mod DecimalFacts
--- Texts of parts, each after a `$`.
-pub mod PartsFacts
 -- A hash and the parts of its text: PHC strings are read as the hashes that they are printed of.
 pub mod PhcReadingFacts
 -- The alphabet's table: each letter has its value, and no other byte has one.

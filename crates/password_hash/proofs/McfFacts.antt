@@ -12,8 +12,7 @@ use Rattle.password_hash.specs.Letters.{is_identifier_letter}
 use Rattle.password_hash.specs.Mcf.{IsId, IsField, IsMcfText, IsMcf, id_of, fields_of}
 use Rattle.password_hash.specs.Parts.{dollar, parts_of}
 use Rattle.password_hash.proofs.Crypt64Facts.{IsPlain, crypt64_of-plain}
-use Rattle.password_hash.proofs.ParamsFacts.{Lacks, letters_lack}
-use Rattle.password_hash.proofs.PartsFacts.{parts_of-parts_text, parts_text-push, text_of_parts}
+use Rattle.password_hash.proofs.ParamsFacts.{Lacks, letters_lack, parts_of-parts_text, parts_text-push, text_of_parts}
 
 -- a field has no byte that is a dollar
 no_dollar : (field : List ℕ) → IsField field → All (λ byte. (byte == dollar) ≡ false) field

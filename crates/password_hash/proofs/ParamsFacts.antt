@@ -1,21 +1,23 @@
--- Pairs and their text, one more pair at the end, and the pairs of a text in turn.
+-- Pairs and their text, one more pair at the end, and texts of parts, each after a `$`.
 use Rattle.std.proofs.Common.{◌≡◌, ◌≢◌, ℕ, ◌+◌, ◌<◌, ◌≤◌, ◌==◌, Bool, List, [], ◌∷◌, ◌++◌, length, map, get_or, refl, sym, ap, ◌∙◌, arith, true, false, IsTrue}
+use Rattle.std.proofs.Common.{◌&&◌, ◌||◌, not}
 use Rattle.std.specs.Prelude.{◌↔◌, All, Result, Ok, Err, IsOk, OnOk, OnErr, nat_eq}
-use Rattle.std.specs.List.{join_with_byte, slice_split, after_first, position_or_len, list_all, before_first}
+use Rattle.std.specs.List.{join_with_byte, slice_split, after_first, position_or_len, list_all, before_first, list_any}
 use Rattle.std.proofs.lemmas.Bool.{eqb-true, false≢true, ne_eqb, eq-eqb}
 use Rattle.std.proofs.lemmas.List.{append-nil, append_assoc, length-append, get_or_append_left, get_or_push, length_push, map-append, map_push, length-drop}
+use Rattle.std.proofs.lemmas.List.{take_at, drop_at, get_or_at}
+use Rattle.std.proofs.lemmas.Grind.{flat_map-append}
 use Rattle.std.proofs.lemmas.List.Sums.{split_at_first, passes_at_first, position_or_len_is, AllPass-from_list_all}
 use Rattle.std.proofs.lemmas.List.Elements.{All-head, All-push, All-tail, All-cons, All-append, All-get_or, All-map, All-weaker}
 use Rattle.std.proofs.lemmas.List.Splits.{join_with_byte-slice_split, slice_split_none, slice_split_at}
 use Rattle.std.proofs.lemmas.List.Quantifiers.{all_pairs_push}
 use Rattle.std.specs.Bool.{Decides}
 use Rattle.std.specs.Cmp.Lexicographic.{pointwise}
-use Rattle.std.proofs.lemmas.Bool.Decides.{same_from_decides, Decides-and, Decides-like}
+use Rattle.std.proofs.lemmas.Bool.Decides.{same_from_decides, Decides-and, Decides-like, Decides-by_and, Decides-eqb, Decides-not}
 use Rattle.std.proofs.lemmas.Slice.Eq.{bytes_eq-Decides, slice_eq-Decides}
-use Rattle.password_hash.specs.Pairs.{IsPair, pair_text, pairs_text, ArePairs, pair_of, pairs_of, pair_eq, with_pair}
-use Rattle.std.proofs.lemmas.List.{take_at, drop_at}
-use Rattle.std.proofs.lemmas.List.{get_or_at}
 use Rattle.password_hash.specs.Letters.{is_identifier_letter, is_value_letter}
+use Rattle.password_hash.specs.Pairs.{IsPair, pair_text, pairs_text, ArePairs, pair_of, pairs_of, pair_eq, with_pair}
+use Rattle.password_hash.specs.Parts.{dollar, parts_text, parts_of}
 
 -- no byte is c
 abbrev pub Lacks : ℕ → List ℕ → Type 0
@@ -232,3 +234,37 @@ tested xs ys r hx hy e =
       λ same. e ∙ texts.1 (ap pairs_text same),
     ) in
     same_from_decides r (pointwise pair_eq xs ys) decided (pairs_eq-Decides xs ys)
+
+-- the text of parts is a `$` and the parts, joined by `$`
+parts_text-join : (part : List ℕ) (parts : List (List ℕ)) → parts_text (part ∷ parts) ≡ dollar ∷ join_with_byte dollar (part ∷ parts)
+parts_text-join part [] = ap (λ text. dollar ∷ text) (append-nil part)
+parts_text-join part (next ∷ parts) = ap (λ rest. dollar ∷ (part ++ rest)) (parts_text-join next parts)
+
+-- parts without `$` are those of their text
+pub parts_of-parts_text : (text part : List ℕ) (parts : List (List ℕ)) → All (Lacks dollar) (part ∷ parts)
+    → dollar ∷ text ≡ parts_text (part ∷ parts) → parts_of text ≡ part ∷ parts
+parts_of-parts_text text part parts none e =
+    let rest = e ∙ parts_text-join part parts in
+    let same : text ≡ join_with_byte dollar (part ∷ parts) = cc in
+    ap parts_of same ∙ slice_split-join dollar part parts none
+
+-- a text that begins with a `$` is that of its parts after it
+pub text_of_parts : (text part : List ℕ) (parts : List (List ℕ)) → parts_of text ≡ [] ∷ part ∷ parts → text ≡ parts_text (part ∷ parts)
+text_of_parts text part parts e =
+    sym (join_with_byte-slice_split dollar text) ∙ ap (join_with_byte dollar) e ∙ sym (parts_text-join part parts)
+
+-- the text of one part more
+pub parts_text-push : (parts : List (List ℕ)) (part : List ℕ) → parts_text (parts ++ part ∷ []) ≡ parts_text parts ++ dollar ∷ part
+parts_text-push parts part =
+    flat_map-append (λ part. dollar ∷ part) parts (part ∷ []) ∙ ap (λ more. parts_text parts ++ more) (append-nil (dollar ∷ part))
+
+-- whether a text lacks a byte
+pub lacks_decided : (c : ℕ) (text : List ℕ) (found : Bool) → found ≡ list_any (λ b. b == c) text
+    → IsTrue (not found) ↔ All (λ b. b ≢ c) text
+lacks_decided c text found is =
+    rw is (Decides-by_and (λ b. not (b == c)) (λ b. b ≢ c) (λ text. not (list_any (λ b. b == c) text))
+    (λ b. Decides-not (b == c) (Decides-eqb b c)) refl (λ b text. not_or (b == c) (list_any (λ b. b == c) text)) text)
+  where
+    not_or : (a b : Bool) → not (a || b) ≡ (not a && not b)
+    not_or true b = refl
+    not_or false b = refl

@@ -30,7 +30,7 @@ use Rattle.base64.proofs.Streams.{decoded_of-ok}
 use Rattle.password_hash.proofs.Base64Facts.{decode_of-base64, base64_lacks}
 use Rattle.password_hash.proofs.DecimalFacts.{decimal_exact, IsValue-decimal}
 use Rattle.password_hash.proofs.ParamsFacts.{text_of_pairs, Lacks, equals_of_pairs, pairs_of-pairs_text, letters_lack, texts_lack, cut_at_first}
-use Rattle.password_hash.proofs.PartsFacts.{parts_of-parts_text, text_of_parts}
+use Rattle.password_hash.proofs.ParamsFacts.{parts_of-parts_text, text_of_parts}
 
 -- a version below 2 ^ 32, or none
 abbrev pub IsVersion : Option ℕ → Type 0

@@ -1,5 +1,5 @@
 use Rattle.password_hash.specs.Parts.{dollar}
-use Rattle.password_hash.proofs.PartsFacts.{lacks_decided}
+use Rattle.password_hash.proofs.ParamsFacts.{lacks_decided}
 use Rattle.password_hash.proofs.mcf.fields.is_field.Goals as goal
 
 pub returns : goal.returns
