@@ -107,3 +107,6 @@ module _ (b : List ℕ) (whole : length b % 128 ≡ 0) where
       → AreCountedAs simd (1 * thin_ro_mix_cost (words_of (part (128 * (length b / 128)) b 0)) log_n 0 (length b / 128)) before after
       → AreCountedAs simd (ro_mix_cost log_n (length b / 128)) before after
   counted_whole log_n counted = rw whole_cost at (counted_alone _ b log_n 0 (length b / 128) only_chunk counted)
+
+-- a scryptROMix of one chunk
+pub ruleset alone = (mixed_alone, counted_alone, only_chunk)

@@ -4,7 +4,7 @@ pub mod CountFacts
 pub mod WordFacts
 -- Facts on a list that is cut into parts of s elements each.
 pub mod PartFacts
--- Facts on words whose blocks are permuted.
+-- Facts on words whose blocks are permuted, and on the number that the last block's bytes write.
 pub mod OrderFacts
 -- Facts on vectors of four lanes, and on a block in diagonal order as four of them.
 pub mod LaneFacts
@@ -12,8 +12,6 @@ pub mod LaneFacts
 pub mod SalsaFacts
 -- Facts on scryptBlockMix.
 pub mod BlockMixFacts
--- Facts on the number that the last block's bytes write.
-pub mod IntegerifyFacts
 -- Facts on scryptROMix.
 pub mod RoMixFacts
 -- Facts on the walk over a table that keeps some rows, or all of them.

@@ -13,7 +13,6 @@ pub mod memory;
 pub mod order;
 pub mod parts;
 pub mod pbkdf2;
-mod prefetch;
 pub mod romix;
 pub mod salsa;
 pub mod steps;

@@ -84,7 +84,7 @@ pub trait OrderedBlocks: Copy {
 
 // Returns the low `log_n` bits of the little-endian number that begins with these two words.
 #[inline(always)]
-#[tactic(auto, using(crate::proofs::IntegerifyFacts::low_bits))]
+#[tactic(auto, using(crate::proofs::OrderFacts::low_bits))]
 fn low_bits(first: u32, second: u32, log_n: u8) -> usize
     requires { log_n ≤ 56 }
     ensures value { result ≡ (first + 2 ^ 32 * second) % 2 ^ log_n }

@@ -110,6 +110,7 @@ fn fill_and_walk<O: OrderedBlocks, M: TableMemory>(
 /// `b` has `128 * r` bytes with `r` at least 1, the table `v` has `32 * r * N` words, the scratch
 /// `t` has `64 * r` words, and `log_n` is at most 56. The contents of `v` and `t` before the call
 /// do not matter, and after it they are unspecified.
+#[tactic(auto, using(crate::proofs::ChunkFacts::alone))]
 pub fn scrypt_ro_mix(b: &mut [u8], v: &mut [u32], t: &mut [u32], log_n: u8, cores: &mut CoreCount)
     requires lens { AreRoMixLens log_n (length b.old) (length v.old) (length t.old) }
     ensures value { b.new ≡ bytes_of (ro_mix (words_of b.old) log_n) }
@@ -126,6 +127,7 @@ pub fn scrypt_ro_mix(b: &mut [u8], v: &mut [u32], t: &mut [u32], log_n: u8, core
 /// `b` has `128 * r` bytes with `r` at least 1, the table `v` has `32 * r * 2^(log_n - s)` words,
 /// the scratch `t` has `96 * r` words, `log_n` is at most 56, and `s` at most `log_n`. The contents
 /// of `v` and `t` before the call do not matter, and after it they are unspecified.
+#[tactic(auto, using(crate::proofs::ChunkFacts::alone))]
 pub fn thin_ro_mix(
     b: &mut [u8],
     v: &mut [u32],
@@ -147,6 +149,7 @@ pub fn thin_ro_mix(
 /// as a SIMD core.
 ///
 /// The lengths are the same as for [`scrypt_ro_mix`].
+#[tactic(auto, using(crate::proofs::ChunkFacts::alone))]
 pub fn plain_ro_mix(b: &mut [u8], v: &mut [u32], t: &mut [u32], log_n: u8, cores: &mut CoreCount)
     requires lens { AreRoMixLens log_n (length b.old) (length v.old) (length t.old) }
     ensures value { b.new ≡ bytes_of (ro_mix (words_of b.old) log_n) }

@@ -42,6 +42,7 @@ fn double_round(x: &mut [u32; 16])
 }
 
 #[inline(always)]
+#[tactic(auto, unfolding(crate::specs::Salsa::quarter_round))]
 fn quarter_round(x: &mut [u32; 16], a: usize, b: usize, c: usize, d: usize)
     requires places { (a < 16) × (b < 16) × (c < 16) × (d < 16) }
     requires apart { (a ≢ b) × (a ≢ c) × (a ≢ d) × (b ≢ c) × (b ≢ d) × (c ≢ d) }

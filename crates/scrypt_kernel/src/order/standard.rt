@@ -86,7 +86,7 @@ impl OrderedBlocks for Standard {
 ///
 /// The length of `x` is a positive multiple of 16, and `log_n` is at most 56.
 #[inline(always)]
-#[tactic(auto, using(crate::proofs::IntegerifyFacts::integerify_low))]
+#[tactic(auto, using(crate::proofs::OrderFacts::integerify_low))]
 pub fn integerify_plain(x: &[u32], log_n: u8) -> usize
     requires some { 0 < length x.now }
     requires whole { length x.now % 16 ≡ 0 }

@@ -1,6 +1,6 @@
 use Rattle.std.proofs.Common.{◌-◌, ◌*◌, ◌/◌, length, sym, ap, ◌∙◌, arith}
 use Rattle.scrypt_kernel.specs.Words.{block}
-use Rattle.scrypt_kernel.proofs.CountFacts.{counted_both, counted_none}
+use Rattle.scrypt_kernel.proofs.CountFacts.{counted_none}
 use Rattle.scrypt_kernel.proofs.PartFacts.{length-part, part_inside}
 use Rattle.scrypt_kernel.proofs.BlockMixFacts.{all_turns, no_turn}
 use Rattle.scrypt_kernel.proofs.block_mix.mix.Goals as goal
@@ -11,12 +11,6 @@ turns-init g c = record {
   mixed = λ k h. let long = c.read-x.ensures.long k h in
       no_turn _ _ g.met.O.OrderedBlocks.inverse _ (omega (arith, long, c.requires.row.some)) (omega (arith, long, c.requires.row.whole)) _ _
       (c.read-x.ensures.value k h ∙ ap (λ n. block (g.I.Input.words c.args.input.now k) (2 * (n / 32) - 1)) (sym long));
-}
-
-pub turns-preserved : goal.turns-preserved
-turns-preserved g c = record {
-  counted = counted_both _ c.turns.invariant.counted c.take_turn-x.ensures.counted (omega arith);
-  mixed = λ k h. c.take_turn-x.ensures.mixed k h (c.turns.invariant.mixed k h);
 }
 
 pub returns-clause-value : goal.returns-clause-value

@@ -1,6 +1,5 @@
 use Rattle.std.proofs.Common.{◌+◌, ◌/◌, ap, ◌∙◌, arith}
 use Rattle.scrypt_kernel.specs.Words.{block, part}
-use Rattle.scrypt_kernel.proofs.CountFacts.{counted_both}
 use Rattle.scrypt_kernel.proofs.BlockMixFacts.{one_more_turn}
 use Rattle.scrypt_kernel.proofs.block_mix.take_turn.Goals as goal
 
@@ -14,6 +13,3 @@ returns-clause-mixed g c k h before =
     _ _ _ _ _ _ _ (omega (arith, long, c.requires.inside)) before
     (one.value k h) (c.write.ensures.written k h) (λ j other. c.write.ensures.others k j h other)
     (two.value k h) (at ∙ c.write-2.ensures.written k h) (λ j other. c.write-2.ensures.others k j h (rw long at other))
-
-pub returns-clause-counted : goal.returns-clause-counted
-returns-clause-counted g c = counted_both _ c.mix_block-x.ensures.counted c.mix_block-x-2.ensures.counted (omega arith)

@@ -1,11 +1,12 @@
 use Rattle.std.proofs.Common.{◌≡◌, ◌+◌, ◌-◌, ◌*◌, ◌/◌, ◌++◌, length, take, drop, ap, sym, ◌∙◌, arith, le_refl, refl}
-use Rattle.std.proofs.lemmas.List.{length-take-le, take_at}
+use Rattle.std.proofs.lemmas.List.{length-drop, length-take-le, take_at}
+use Rattle.std.proofs.Math.Seq.{take-add}
 use Rattle.scrypt_kernel.specs.Words.{block, part}
 use Rattle.scrypt_kernel.specs.KeptRows.{mixed_in, place}
 use Rattle.scrypt_kernel.proofs.CountFacts.{counted_both, counted_none}
 use Rattle.scrypt_kernel.proofs.BlockMixFacts.{all_turns, no_turn, turns_at}
-use Rattle.scrypt_kernel.proofs.PartFacts.{length-part, part-take, part_longer, parts_apart, take_longer}
-use Rattle.scrypt_kernel.proofs.RoMixFacts.{one_mix, part_of_row, place_inside}
+use Rattle.scrypt_kernel.proofs.PartFacts.{length-part, part-take, part_longer, take_longer}
+use Rattle.scrypt_kernel.proofs.RoMixFacts.{adds_row, one_mix, part_of_row, place_inside}
 use Rattle.scrypt_kernel.proofs.memory.mix_next_ahead.Goals as goal
 
 pub turns-init : goal.turns-init
@@ -71,24 +72,22 @@ returns-clause-words g c =
     let len = c.args.len in
     let i = c.args.i in
     let end = c.args.end in
-    let next_end = c.args.end + c.args.row_len in
     let first = c.args.memory.now.items in
+    let before = take end first in
     let all = c.turns.memory.items in
-    let inside : next_end ≡ (i + 2) * (n * len) = omega (arith, c.requires.last, c.requires.chunks) in
-    record {
-      len = length-take-le next_end all (omega (arith, c.requires.room, c.turns.invariant.len)) ∙ inside;
-      kept = λ a h.
-          let apart = parts_apart len a ((i + 1) * n) h in
-          part-take len a next_end all (omega (arith, apart, c.requires.last))
-          ∙ sym (part-take len a end all (omega (arith, apart, c.requires.last))) ∙ ap (λ z. part len z a) c.turns.invariant.kept;
-      added = λ k h.
-          let b = part len first (place n i k) in
-          let room = place_inside n len i (i + 1) k h (omega arith) in
-          let next_room = place_inside n len (i + 1) (i + 2) k h (omega arith) in
-          let long : length b ≡ len = length-part len (place n i k) first (omega (arith, room, c.requires.last, c.requires.room)) in
-          let full = length-part len (place n (i + 1) k) all (omega (arith, next_room, inside, c.requires.room, c.turns.invariant.len)) in
-          part-take len (place n (i + 1) k) next_end all (omega (arith, next_room, inside))
-          ∙ all_turns p q g.met.O.OrderedBlocks.inverse b (omega (arith, long, c.requires.row.some))
-          (omega (arith, long, c.requires.row.whole)) _ _ _ (omega (arith, long)) (full ∙ sym long) (c.turns.invariant.mixed k h)
-          ∙ one_mix p q b ∙ ap (mixed_in p q 1) (sym (part-take len (place n i k) end first (omega (arith, room, c.requires.last))));
-    }
+    adds_row (mixed_in p q 1) n len i before _ (take c.args.row_len (drop end all))
+    (length-take-le end first (omega (arith, c.requires.room)) ∙ c.requires.last)
+    (take-add end c.args.row_len all ∙ ap (λ z. z ++ take c.args.row_len (drop end all)) c.turns.invariant.kept)
+    (length-take-le c.args.row_len _ (omega (arith, length-drop end all, c.requires.room, c.turns.invariant.len)) ∙ c.requires.chunks)
+    (λ k h.
+    let b = part len first (place n i k) in
+    let room = place_inside n len i (i + 1) k h (omega arith) in
+    let next_room = place_inside n len (i + 1) (i + 2) k h (omega arith) in
+    let long : length b ≡ len = length-part len (place n i k) first (omega (arith, room, c.requires.last, c.requires.room)) in
+    let full = length-part len (place n (i + 1) k) all
+    (omega (arith, next_room, c.requires.last, c.requires.chunks, c.requires.room, c.turns.invariant.len)) in
+    let input_is = part_of_row n len i k before h ∙ part-take len (place n i k) end first (omega (arith, room, c.requires.last)) in
+    rw (c.requires.chunks, c.requires.last) (part_of_row n len (i + 1) k all h)
+    ∙ all_turns p q g.met.O.OrderedBlocks.inverse b (omega (arith, long, c.requires.row.some))
+    (omega (arith, long, c.requires.row.whole)) _ _ _ (omega (arith, long)) (full ∙ sym long) (c.turns.invariant.mixed k h)
+    ∙ one_mix p q b ∙ ap (mixed_in p q 1) (sym input_is))

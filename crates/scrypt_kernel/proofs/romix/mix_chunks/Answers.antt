@@ -2,14 +2,6 @@ use Rattle.std.proofs.Common.{◌≡◌, ◌<◌, ◌*◌, ◌/◌, ap, ◌∙�
 use Rattle.scrypt_kernel.proofs.ChunkFacts.{chunk_mixed, chunk_words}
 use Rattle.scrypt_kernel.proofs.romix.mix_chunks.Goals as goal
 
-pub split_at_mut-x-requires : goal.split_at_mut-x-requires
-split_at_mut-x-requires g c = rw c.count-n.ensures.value (omega arith)
-
-pub split_at_mut-next-requires : goal.split_at_mut-next-requires
-split_at_mut-next-requires g c =
-    let front = rw c.count-n.ensures.value at c.split_at_mut-x.ensures.front_len in
-    rw c.count-n.ensures.value (omega arith)
-
 pub returns-clause-value : goal.returns-clause-value
 returns-clause-value g c k h =
     let n = g.O.OrderedBlocks.count in

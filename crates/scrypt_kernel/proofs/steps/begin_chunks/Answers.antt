@@ -3,12 +3,8 @@ use Rattle.std.proofs.lemmas.List.{length-take-le}
 use Rattle.scrypt_kernel.specs.Words.{part}
 use Rattle.scrypt_kernel.proofs.PartFacts.{part_append_front, part_inside}
 use Rattle.scrypt_kernel.proofs.ChunkFacts.{chunk_in}
-use Rattle.scrypt_kernel.proofs.StepFacts.{no_mix_yet, one_of_several}
+use Rattle.scrypt_kernel.proofs.StepFacts.{no_mix_yet}
 use Rattle.scrypt_kernel.proofs.steps.begin_chunks.Goals as goal
-
-pub overflow_mul-row_len : goal.overflow_mul-row_len
-overflow_mul-row_len g c =
-    omega (arith, one_of_several c.args.n (32 * c.args.r) _ c.requires.several c.requires.scratch, c.type_inv.scratch)
 
 pub returns : goal.returns
 returns g c = record {

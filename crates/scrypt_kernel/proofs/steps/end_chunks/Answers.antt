@@ -1,14 +1,10 @@
-use Rattle.std.proofs.Common.{◌≡◌, ◌*◌, take, ap, ◌∙◌, arith}
+use Rattle.std.proofs.Common.{◌*◌, take, ap, ◌∙◌, arith}
 use Rattle.std.proofs.lemmas.List.{length-take-le}
 use Rattle.scrypt_kernel.specs.Words.{bytes_of}
 use Rattle.scrypt_kernel.proofs.PartFacts.{part-take, part_inside}
 use Rattle.scrypt_kernel.proofs.ChunkFacts.{chunk_out}
-use Rattle.scrypt_kernel.proofs.StepFacts.{all_mixed, one_of_several}
+use Rattle.scrypt_kernel.proofs.StepFacts.{all_mixed}
 use Rattle.scrypt_kernel.proofs.steps.end_chunks.Goals as goal
-
-pub overflow_mul-x : goal.overflow_mul-x
-overflow_mul-x g c =
-    omega (arith, one_of_several c.args.n (32 * c.args.r) _ c.requires.several c.requires.scratch, c.type_inv.scratch)
 
 pub returns : goal.returns
 returns g c = record {

@@ -1,5 +1,4 @@
 use Rattle.std.proofs.Common.{◌≡◌, ◌≤◌, length, ◌*◌, ◌%◌, ◌-◌, ◌^◌, sym, arith}
-use Rattle.std.proofs.lemmas.Grind.{common_steps}
 use Rattle.std.proofs.lemmas.Nat.{one_shl, pow_pos}
 use Rattle.std.proofs.Math.Nat.{mul-le-mul_right}
 use Rattle.scrypt_kernel.proofs.CountFacts.{counted_both, counted_none}
@@ -50,6 +49,3 @@ returns-clause-counted g c =
     let all = all_rows _ _ _ c.requires.lens.1.most kept in
     counted_both _ c.rows.invariant.counted (rw (one_shl c.args.s 64 (omega arith)) at c.recompute.ensures.counted)
     (rw (← all) (omega arith))
-
-pub append_next-requires-clause-room : goal.append_next-requires-clause-room
-append_next-requires-clause-room g c = grind (arith, common_steps)

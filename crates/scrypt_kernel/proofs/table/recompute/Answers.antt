@@ -1,4 +1,4 @@
-use Rattle.std.proofs.Common.{◌≡◌, ◌+◌, ◌-◌, ◌*◌, ◌/◌, refl, arith}
+use Rattle.std.proofs.Common.{◌+◌, ◌-◌, ◌*◌, ◌/◌, refl, arith}
 use Rattle.scrypt_kernel.proofs.RoMixFacts.{no_mix, one_more_mix}
 use Rattle.scrypt_kernel.proofs.table.recompute.Goals as goal
 use Rattle.scrypt_kernel.proofs.table.recompute.Goals.{then-n-eq0, else-n-eq0}
@@ -31,9 +31,3 @@ pairs-preserved g c =
     let more = one_more_mix o.pivot o.inverse_pivot g.met.O.OrderedBlocks.inverse o.count c.args.len c.requires.row.whole c.args.kept.now c.requires.chunks in
     more _ _ _ _ (i + 1) _ (more _ _ _ _ i _ c.pairs.invariant (omega arith) one.value one.counted refl)
     (omega arith) two.value two.counted (omega arith)
-
-pub returns-clause-value : goal.returns-clause-value
-returns-clause-value g c =
-    let n = c.args.n in
-    let all : n - 2 * ((n - 1) / 2) + 2 * c.pairs._k ≡ n = omega arith in
-    (rw all at c.pairs.invariant).value

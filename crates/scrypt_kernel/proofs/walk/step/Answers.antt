@@ -1,11 +1,10 @@
-use Rattle.std.proofs.Common.{◌≡◌, ℕ, ◌<◌, ◌/◌, ◌%◌, ◌^◌, get_or, take, drop, refl, sym, ap, ap₂, ◌∙◌, arith}
+use Rattle.std.proofs.Common.{◌≡◌, ℕ, ◌/◌, ◌%◌, ◌^◌, take, drop, sym, ap, ap₂, ◌∙◌, arith}
 use Rattle.std.proofs.lemmas.Nat.{mod_below, pow_pos}
 use Rattle.scrypt_kernel.specs.Words.{part}
 use Rattle.scrypt_kernel.specs.RoMix.{integerify}
 use Rattle.scrypt_kernel.specs.Diagonal.{permuted}
 use Rattle.scrypt_kernel.specs.KeptRows.{mix_of, mixed_in, place}
-use Rattle.scrypt_kernel.proofs.CountFacts.{counted_both, counted_none}
-use Rattle.scrypt_kernel.proofs.PartFacts.{length-part}
+use Rattle.scrypt_kernel.proofs.PartFacts.{length-part, part_inside}
 use Rattle.scrypt_kernel.proofs.RoMixFacts.{part_of_row, row_zero_in}
 use Rattle.scrypt_kernel.proofs.WalkFacts.{all_kept, kept_place, missing_rows, some_missing}
 use Rattle.scrypt_kernel.proofs.walk.step.Goals as goal
@@ -17,7 +16,7 @@ mix-requires-clause-rows g c =
       record { len = c.of.ensures.len; all = rw c.count.ensures.value at c.of.ensures.all },
       record {
         len = c.new.ensures.len;
-        all = c.new.ensures.all g.O.OrderedBlocks.count few (λ k h. rw (c.take_rows.ensures.starts k h)
+        all = c.new.ensures.all g.O.OrderedBlocks.count few (λ k h. rw (c.take_rows-starts.ensures.starts k h)
             (kept_place _ _ _ _ _ k _ lens.most (mod_below _ (2 ^ c.args.log_n) (pow_pos c.args.log_n)) h lens.rows));
       },
     )
@@ -31,43 +30,31 @@ returns-then-missing-eq0-clause-value g c k h =
     let lens = c.requires.lens in
     let number : ℕ → ℕ = λ k. integerify (permuted q (part len c.args.x.now k)) % 2 ^ c.args.log_n in
     let inside = mod_below _ (2 ^ c.args.log_n) (pow_pos c.args.log_n) in
-    let j_is = c.take_rows.ensures.numbers 0 lens.some in
+    let j_is = c.integerify-j.ensures.value ∙ ap (λ z. integerify (permuted q z) % 2 ^ c.args.log_n) c.part.ensures.value in
     let none = all_kept _ k s number lens.alone h (sym (missing_rows s _ _ (omega arith) j_is) ∙ c.if-missing-eq0.true) in
     let at = place g.O.OrderedBlocks.count (number k / 2 ^ s) k in
     let low = part len c.args.v.now at in
     let long = length-part len at c.args.v.now (kept_place _ _ _ _ (number k) k _ lens.most inside h lens.rows) in
-    let taken = c.new.ensures.parts k ∙ ap (λ a. take len (drop a c.args.v.now)) (c.take_rows.ensures.starts k h) in
+    let taken = c.new.ensures.parts k ∙ ap (λ a. take len (drop a c.args.v.now)) (c.take_rows-starts.ensures.starts k h) in
     let row = row_zero_in p q g.met.O.OrderedBlocks.inverse low (omega (arith, long, lens.row.whole)) in
     c.mix.ensures.value k h ∙ ap₂ (mix_of p q) (c.of.ensures.parts k (omega (arith, h, c.count.ensures.value)))
     (taken ∙ row ∙ ap (λ i. mixed_in p q i low) (sym none))
 
-pub returns-then-missing-eq0-clause-counted : goal.returns-then-missing-eq0-clause-counted
-returns-then-missing-eq0-clause-counted g c =
-    let j_is = c.take_rows.ensures.numbers 0 c.requires.lens.some in
-    let none = sym (missing_rows c.args.s _ _ (omega arith) j_is) ∙ c.if-missing-eq0.true in
-    counted_both _ (counted_none _ 0 _ refl) c.mix.ensures.counted (rw none (omega arith))
+pub part-requires : goal.part-requires
+part-requires g c = part_inside c.args.len 0 g.O.OrderedBlocks.count _ c.requires.lens.some (omega (arith, c.requires.lens.chunks))
 
 pub part-kept-requires : goal.part-kept-requires
 part-kept-requires g c =
     let lens = c.requires.lens in
     let one = lens.alone (some_missing _ _ c.if-missing-eq0.false) in
-    let number = integerify (permuted g.O.OrderedBlocks.inverse_pivot (part c.args.len c.args.x.now 0)) in
-    let below : get_or c.take_rows.result.0 0 0 < 2 ^ c.args.log_n =
-    rw (c.take_rows.ensures.numbers 0 lens.some) (mod_below number (2 ^ c.args.log_n) (pow_pos c.args.log_n)) in
-    let room = kept_place _ _ _ _ _ 0 _ lens.most below (omega (arith, one)) lens.rows in
-    let inside = rw one at room in
-    rw (lens.chunks, one) (omega (arith, inside))
+    let room = rw one at (kept_place _ _ _ _ _ 0 _ lens.most c.integerify-j.ensures.inside (omega (arith, one)) lens.rows) in
+    rw (lens.chunks, one) (omega (arith, room))
 
 pub mix_recomputed-requires-clause-room : goal.mix_recomputed-requires-clause-room
 mix_recomputed-requires-clause-room g c =
     let lens = c.requires.lens in
     let some = some_missing _ _ c.if-missing-eq0.false in
     rw (lens.chunks, lens.alone some) (omega (arith, lens.room some))
-
-pub returns-else-missing-eq0-clause-counted : goal.returns-else-missing-eq0-clause-counted
-returns-else-missing-eq0-clause-counted g c =
-    let j_is = c.take_rows.ensures.numbers 0 c.requires.lens.some in
-    rw (missing_rows c.args.s _ _ (omega arith) j_is) at c.mix_recomputed.ensures.counted
 
 pub returns-else-missing-eq0-clause-value : goal.returns-else-missing-eq0-clause-value
 returns-else-missing-eq0-clause-value g c k h =
@@ -78,7 +65,7 @@ returns-else-missing-eq0-clause-value g c k h =
     let one = c.requires.lens.alone (some_missing _ _ c.if-missing-eq0.false) in
     let first : 0 ≡ k = omega (arith, h, one) in
     let number : ℕ → ℕ = λ k. integerify (permuted q (part len c.args.x.now k)) % 2 ^ c.args.log_n in
-    let j_is = c.take_rows.ensures.numbers 0 c.requires.lens.some ∙ ap number first in
+    let j_is = c.integerify-j.ensures.value ∙ ap (λ z. integerify (permuted q z) % 2 ^ c.args.log_n) c.part.ensures.value ∙ ap number first in
     let below = ap (λ z. part len z k) (rw c.requires.lens.chunks at c.part-kept.ensures.value) ∙ part_of_row n len _ k c.args.v.now h
     ∙ ap (λ j. part len c.args.v.now (place n (j / 2 ^ c.args.s) k)) j_is in
     c.mix_recomputed.ensures.value k h

@@ -9,8 +9,6 @@ abbrev pub invariant-chunks : goal.invariant-chunks
 invariant-chunks g l =
     let o = g.O.OrderedBlocks in
     record {
-      numbers_long : length l.rows ≡ 4;
-      numbers : (i : ℕ) → i < l.k → get_or l.rows i 0 ≡ integerify (permuted o.inverse_pivot (part l.len l.x i)) % 2 ^ l.log_n;
       long : length l.starts ≡ 4;
       begin : (i : ℕ) → i < l.k → get_or l.starts i 0
           ≡ place o.count (integerify (permuted o.inverse_pivot (part l.len l.x i)) % 2 ^ l.log_n / 2 ^ l.s) i * l.len;

@@ -1,9 +1,6 @@
 use Rattle.std.proofs.Common.{◌≡◌, ◌*◌, arith, refl}
-use Rattle.scrypt_kernel.proofs.WalkFacts.{more_steps, no_step, one_step}
+use Rattle.scrypt_kernel.proofs.WalkFacts.{more_steps, one_step}
 use Rattle.scrypt_kernel.proofs.walk.take_steps.Goals as goal
-
-pub pairs-init : goal.pairs-init
-pairs-init g c = no_step _ (omega arith)
 
 pub pairs-preserved : goal.pairs-preserved
 pairs-preserved g c =

@@ -1,12 +1,7 @@
 use Rattle.std.proofs.Common.{◌/◌, length, arith}
-use Rattle.std.proofs.lemmas.Grind.{common_steps}
 use Rattle.std.proofs.lemmas.List.FromFn.{fill_by_all}
 use Rattle.scrypt_kernel.specs.Words.{le_number, part}
 use Rattle.scrypt_kernel.proofs.words.read_words.Goals as goal
-
--- redundant, so that a mutant is refused here at once
-pub loop-i-preserved : goal.loop-i-preserved
-loop-i-preserved c = grind (arith, common_steps)
 
 pub returns : goal.returns
 returns c =

@@ -1,7 +1,6 @@
 use Rattle.std.proofs.Common.{◌≡◌, ℕ, List, ◌<◌, ◌^◌, ◌+◌, ◌-◌, ◌*◌, ◌%◌, length, get_or, sym, ap₂, ◌∙◌, arith, rules}
 use Rattle.scrypt_kernel.specs.Diagonal.{inverse_pivot, standard_order}
-use Rattle.scrypt_kernel.proofs.IntegerifyFacts.{integerify_low}
-use Rattle.scrypt_kernel.proofs.OrderFacts.{get_or-permuted, length-permuted}
+use Rattle.scrypt_kernel.proofs.OrderFacts.{integerify_low, get_or-permuted, length-permuted}
 use Rattle.scrypt_kernel.proofs.order.diagonal.integerify_diagonal.Goals as goal
 
 -- words 0 and 1 of the block that begins at `at`

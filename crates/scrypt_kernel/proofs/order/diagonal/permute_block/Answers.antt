@@ -1,5 +1,4 @@
 use Rattle.std.proofs.Common.{length, arith, refl}
-use Rattle.std.proofs.lemmas.Grind.{common_steps}
 use Rattle.scrypt_kernel.proofs.OrderFacts.{block_by_places}
 use Rattle.scrypt_kernel.proofs.PartFacts.{only_part}
 use Rattle.scrypt_kernel.proofs.order.diagonal.permute_block.Goals as goal
@@ -14,9 +13,3 @@ pub returns-clause-others : goal.returns-clause-others
 returns-clause-others c j other =
     rw (only_part (length c.args.x.now) c.write.new.x (omega arith), only_part (length c.args.x.now) c.args.x.now refl)
     at (c.write.ensures.others 0 j (omega arith) other)
-
-pub offset_bounds-from-pivot : goal.offset_bounds-from-pivot
-offset_bounds-from-pivot c = grind (arith, common_steps)
-
-pub bounds-from-pivot : goal.bounds-from-pivot
-bounds-from-pivot c = grind (arith, common_steps)

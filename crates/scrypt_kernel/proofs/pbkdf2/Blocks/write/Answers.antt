@@ -5,15 +5,9 @@ use Rattle.std.proofs.lemmas.List.FromFn.{get_or-map-range_with_len, length-map-
 use Rattle.scrypt_kernel.specs.Hmac.{hmac_sha256}
 use Rattle.scrypt_kernel.specs.Pbkdf2.{pbkdf2_byte, pbkdf2_from}
 use Rattle.scrypt_kernel.specs.Pbkdf2Cost.{end_cost}
-use Rattle.scrypt_kernel.proofs.CountFacts.{hashed_as, hashed_both, hashed_none}
+use Rattle.scrypt_kernel.proofs.CountFacts.{hashed_as, hashed_both}
 use Rattle.scrypt_kernel.proofs.Pbkdf2Facts.{put_below, put_inside, byte_in_block}
 use Rattle.scrypt_kernel.proofs.pbkdf2.Blocks.write.Goals as goal
-
-pub loop-i-init : goal.loop-i-init
-loop-i-init c = record {
-  written = λ password salt derived k h inside. absurd (omega arith);
-  counted = λ password salt derived. hashed_none _ _ (omega arith);
-}
 
 pub loop-i-preserved : goal.loop-i-preserved
 loop-i-preserved c =
