@@ -301,6 +301,7 @@ func TestRun(t *testing.T) {
 		wait(func() bool { return hasher.of.calls.Load() == 0 })
 		check(t, err == nil && string(password) == "pw" && string(own) == "\x00\x00", err, password, own)
 	}
+	check(t, hasher.run(ctx, nil, func([]byte, milliseconds) status { return 18 }) == context.DeadlineExceeded, "TIMEOUT")
 }
 
 // Stats counts calls that wait, derive and fail. Close ends the calls that wait.

@@ -18,7 +18,6 @@ if [ "$system" = windows ]; then
 fi
 quiet go test -count=1 -timeout 5m -vet=all -race -v .
 python3 ../compare_keys.py < "$room/log"
-echo "called from Go, with no report by go vet and the race detector"
 
 # Linked statically, as for an empty image; and without cgo.
 quiet go test -c -tags netgo,osusergo -ldflags '-extldflags -static' -o "$room/program" .
@@ -26,4 +25,4 @@ quiet "$room/program" -test.run Example
 if ldd "$room/program" > /dev/null 2>&1; then echo "the program is not static" >&2; exit 1; fi
 if CGO_ENABLED=0 go build . 2> "$room/log"; then exit 1; fi
 grep -q 'undefined: scrypt_needs_cgo' "$room/log"
-echo "called from a static program; without cgo the build says what is missing"
+echo "called from Go, also statically, with no report by go vet and the race detector"
