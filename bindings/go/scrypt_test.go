@@ -74,7 +74,6 @@ func rows(t *testing.T, path string) (found [][]string) {
 	return found
 }
 
-// TestCases makes the verifications of bindings/cases.tsv.
 func TestCases(t *testing.T) {
 	hasher := newHasher(t, Options{})
 	for _, words := range rows(t, "../cases.tsv") {
@@ -127,7 +126,8 @@ func TestHashes(t *testing.T) {
 		other, err := hasher.Hash(ctx, nil)
 		check(t, one != other && err == nil && hasher.Verify(ctx, one, nil) == nil, one, other, err)
 		key, err := hasher.Key(ctx, password, salt, 1000)
-		want, _ := Key(password, salt, 1<<it.options.LogN, it.options.R, it.options.P, 1000)
+		params, _ := ParamsOf(text)
+		want, _ := Key(password, salt, 1<<params.LogN, params.R, params.P, 1000)
 		check(t, string(key) == string(want), key, err)
 	}
 }
