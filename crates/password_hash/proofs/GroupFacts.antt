@@ -1,12 +1,15 @@
--- Bytes and letters by groups: how many there are, and what a group encodes.
-use Rattle.std.proofs.Common.{◌≡◌, ◌∙◌, sym, ap, refl, arith, ℕ, zero, suc, ◌+◌, ◌-◌, ◌*◌, ◌/◌, ◌%◌, ◌^◌, ◌<◌, ◌≤◌, min, Some, List, []}
-use Rattle.std.proofs.Common.{◌∷◌, ◌++◌, length, take, drop, replicate, append_assoc, length-append, length-drop}
+-- Bytes and letters by groups: how many there are, what a group encodes, and what letters decode to.
+use Rattle.std.proofs.Common.{◌≡◌, ◌∙◌, sym, ap, refl, arith, ℕ, zero, suc, ◌+◌, ◌-◌, ◌*◌, ◌/◌, ◌%◌, ◌^◌, ◌<◌, ◌≤◌, min, Some, List, [], ◌∷◌, length, None, true}
+use Rattle.std.proofs.Common.{◌++◌, take, drop, replicate, append_assoc, length-append, length-drop}
 use Rattle.std.specs.Int.{to_le_bytes, from_le_bytes, w32}
 use Rattle.std.proofs.lemmas.List.{append-nil, take_at, drop_at, take_min, drop_min, take-append-drop, length-take, length-take-le}
-use Rattle.std.proofs.lemmas.List.Elements.{All-nil, All-append, All-take, All-drop, All-from_recursion}
-use Rattle.password_hash.specs.Crypt64.{letters_of, number_of, crypt64_of, Crypt64, IsCrypt64, encoded_len, Begins}
-use Rattle.password_hash.proofs.AlphabetFacts.{letter_value-letter}
-use Rattle.password_hash.proofs.Crypt64Facts.{AreBytes, length-letters_of, number_of-letters_of, letters_of-number_of}
+use Rattle.std.proofs.lemmas.List.Elements.{All-nil, All-append, All-take, All-drop, All-from_recursion, All-cons, All-head, All-tail}
+use Rattle.std.specs.Prelude.{Option, unwrap_or}
+use Rattle.std.specs.Str.{bytes_eq}
+use Rattle.std.proofs.lemmas.Option.{cond_some}
+use Rattle.std.proofs.lemmas.Slice.Eq.{bytes_eq-Decides}
+use Rattle.password_hash.specs.Crypt64.{letters_of, number_of, crypt64_of, Crypt64, IsCrypt64, encoded_len, Begins, bytes_of_number, decoded}
+use Rattle.password_hash.proofs.Crypt64Facts.{letter_value-letter, AreBytes, length-letters_of, number_of-letters_of, letters_of-number_of}
 
 -- the number of letters is the one that is stated
 pub length-crypt64_of : (bytes : List ℕ) → length (crypt64_of bytes) ≡ encoded_len (length bytes)
@@ -200,3 +203,51 @@ begins-stuck letters bytes rest begins stuck (all, is) =
         encoding = sym (drop_at (crypt64_of bytes) rest (encoded_len n) (length-crypt64_of bytes)) ∙ ap (drop (encoded_len n)) left ∙ cut.1;
       },
     )
+
+-- bytes are those of their number
+bytes_of-le_number : (bytes : List ℕ) → AreBytes bytes → bytes_of_number (length bytes) (le_number bytes) ≡ bytes
+unfolding bytes_of_number
+bytes_of-le_number [] are = refl
+bytes_of-le_number (byte ∷ bytes) are =
+    let small : byte < 256 = All-head (λ b. b < 256) byte bytes are in
+    let low : (byte + 256 * le_number bytes) % 256 ≡ byte = omega arith in
+    let high : (byte + 256 * le_number bytes) / 256 ≡ le_number bytes = omega arith in
+    rw (low, high, bytes_of-le_number bytes (All-tail (λ b. b < 256) byte bytes are)) refl
+
+bytes_of_number-are_bytes : (count number : ℕ) → AreBytes (bytes_of_number count number)
+unfolding bytes_of_number
+bytes_of_number-are_bytes zero number = All-nil (λ b. b < 256)
+bytes_of_number-are_bytes (suc count) number =
+    All-cons (λ b. b < 256) (number % 256) _ (omega arith) (bytes_of_number-are_bytes count (number / 256))
+
+-- letters that encode bytes are decoded as these
+pub decoded_is : (bytes letters : List ℕ) → Crypt64 bytes letters → decoded letters ≡ Some bytes
+unfolding decoded
+decoded_is bytes letters is =
+    let long : 3 * length letters / 4 ≡ length bytes = omega (arith, ap length is.encoding, length-crypt64_of bytes) in
+    let number : number_of letters ≡ Some (le_number bytes) = ap number_of is.encoding ∙ number_of-crypt64_of bytes is.are_bytes in
+    let same : bytes_eq letters (crypt64_of bytes) ≡ true = (bytes_eq-Decides letters (crypt64_of bytes)).1 is.encoding in
+    rw (long, number, bytes_of-le_number bytes is.are_bytes, same) refl
+
+-- and what they are decoded as they encode
+pub encoded_is : (bytes letters : List ℕ) → decoded letters ≡ Some bytes → Crypt64 bytes letters
+unfolding decoded
+encoded_is bytes letters is =
+    let made : List ℕ = bytes_of_number (3 * length letters / 4) (unwrap_or (number_of letters) 0) in
+    let (same, one) = cond_some (bytes_eq letters (crypt64_of made)) made bytes is in
+    rw (← one) (record {
+      are_bytes = bytes_of_number-are_bytes (3 * length letters / 4) (unwrap_or (number_of letters) 0);
+      encoding = (bytes_eq-Decides letters (crypt64_of made)).0 same;
+    })
+
+-- others are not decoded
+pub not_decoded : (letters : List ℕ) → ¬ IsCrypt64 letters → decoded letters ≡ None
+not_decoded letters none = at (decoded letters) refl
+  where
+    at : (answer : Option (List ℕ)) → decoded letters ≡ answer → decoded letters ≡ None
+    at None is = is
+    at (Some bytes) is = absurd (none (bytes, encoded_is bytes letters is))
+
+-- one text is the encoding of one list of bytes
+pub Crypt64-one : (letters xs ys : List ℕ) → Crypt64 xs letters → Crypt64 ys letters → xs ≡ ys
+Crypt64-one letters xs ys is is' = let both = sym (decoded_is xs letters is) ∙ decoded_is ys letters is' in cc

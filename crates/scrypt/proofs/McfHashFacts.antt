@@ -16,7 +16,7 @@ use Rattle.scrypt.specs.Reading.{◌and_then◌, NamesNoPassword, Stored}
 use Rattle.scrypt.proofs.AcceptedFacts.{ok_if, refuted}
 use Rattle.scrypt.proofs.McfParamsFacts.{field_accepted, field_fault, field_is}
 use Rattle.scrypt.proofs.ReadingFacts.{IsFault, both_read, faults, no_password}
-use Rattle.password_hash.proofs.DecodedFacts.{decoded_is, encoded_is, not_decoded}
+use Rattle.password_hash.proofs.GroupFacts.{decoded_is, encoded_is, not_decoded}
 
 -- what a text of some fields is read as
 

@@ -7,8 +7,7 @@ use Rattle.std.specs.Prelude.{All, Err, IfErr, IsSome, Ok, Option, Result, nat_l
 use Rattle.std.proofs.lemmas.List.{append-nil, take_all, take-append-drop, length-take-le, drop-drop}
 use Rattle.std.proofs.lemmas.List.Elements.{All-head, All-tail}
 use Rattle.password_hash.specs.Crypt64.{letter, letter_value, letters_of, number_of, with_digit}
-use Rattle.password_hash.proofs.Crypt64Facts.{length-letters_of, letters_of-number_of, number_of-letters_of}
-use Rattle.password_hash.proofs.AlphabetFacts.{letter-of_value}
+use Rattle.password_hash.proofs.Crypt64Facts.{length-letters_of, letters_of-number_of, number_of-letters_of, letter-of_value}
 use Rattle.password_hash.specs.Refusal.{Refusal, EncodingInvalid}
 use Rattle.scrypt.specs.Accepted.{are_accepted, Parameters}
 use Rattle.scrypt.specs.McfParams.{params_letters, field_params, five_letter_number}

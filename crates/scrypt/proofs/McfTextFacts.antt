@@ -11,8 +11,7 @@ use Rattle.password_hash.specs.Crypt64.{letter, letters_of, crypt64_of, encoded_
 use Rattle.password_hash.specs.Mcf.{IsField, IsMcf, IsMcfText}
 use Rattle.password_hash.specs.Parts.{dollar}
 use Rattle.password_hash.specs.Refusal.{Refusal}
-use Rattle.password_hash.proofs.AlphabetFacts.{letter-ascii, letter_value-letter}
-use Rattle.password_hash.proofs.Crypt64Facts.{IsPlain, crypt64_of-plain, length-letters_of, letters_of-plain}
+use Rattle.password_hash.proofs.Crypt64Facts.{letter-ascii, letter_value-letter, IsPlain, crypt64_of-plain, length-letters_of, letters_of-plain}
 use Rattle.password_hash.proofs.GroupFacts.{length-crypt64_of}
 use Rattle.password_hash.proofs.McfFacts.{IsField-crypt64_of}
 use Rattle.scrypt.specs.Accepted.{Parameters, are_accepted, is_stored_len, without_len}

@@ -41,7 +41,7 @@ pub(crate) enum Key<'a> {
 impl<'a> Key<'a> {
     /// Returns whether the key has `bytes` at byte `at`. Every byte is compared, also after a
     /// difference.
-    #[tactic(auto, using(password_hash::proofs::DecodedFacts::encoded_is))]
+    #[tactic(auto, using(password_hash::proofs::GroupFacts::encoded_is))]
     pub(crate) fn matches_at(&self, at: usize, bytes: &[u8]) -> bool
         requires encoding { decoded_key self.now ≡ Some (key_bytes self.now) }
         requires piece { IsPiece at (length bytes.now) (length (key_bytes self.now)) }

@@ -15,7 +15,7 @@ pub fn letter(value: u32) -> u8
 }
 
 /// Returns the value of a letter, from 0 to 63, or `None` if the byte is not a letter of crypt(5).
-#[tactic(auto, using(crate::proofs::AlphabetFacts::byte_values))]
+#[tactic(auto, using(crate::proofs::Crypt64Facts::byte_values))]
 pub fn value(byte: u8) -> Option<u8>
     ensures value { result ≡ letter_value byte }
 {

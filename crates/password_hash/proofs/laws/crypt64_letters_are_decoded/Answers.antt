@@ -1,4 +1,4 @@
-use Rattle.password_hash.proofs.DecodedFacts.{decoded_is, encoded_is}
+use Rattle.password_hash.proofs.GroupFacts.{decoded_is, encoded_is}
 use Rattle.password_hash.proofs.laws.crypt64_letters_are_decoded.Goals as goal
 
 pub returns : goal.returns

@@ -1,6 +1,6 @@
 use Rattle.std.proofs.Common.{sym, ◌∙◌}
 use Rattle.password_hash.proofs.McfFacts.{IsMcfText-one}
-use Rattle.password_hash.proofs.DecodedFacts.{Crypt64-one}
+use Rattle.password_hash.proofs.GroupFacts.{Crypt64-one}
 use Rattle.password_hash.proofs.PhcReadingFacts.{one_reading}
 use Rattle.scrypt.proofs.McfHashFacts.{text_of}
 use Rattle.scrypt.proofs.laws.texts_have_one_reading.Goals as goal

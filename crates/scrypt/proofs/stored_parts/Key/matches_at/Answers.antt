@@ -1,4 +1,4 @@
-use Rattle.password_hash.proofs.DecodedFacts.{encoded_is}
+use Rattle.password_hash.proofs.GroupFacts.{encoded_is}
 use Rattle.scrypt.proofs.stored_parts.Key.matches_at.Goals as goal
 
 pub base64_matches_at-requires : goal.base64_matches_at-requires

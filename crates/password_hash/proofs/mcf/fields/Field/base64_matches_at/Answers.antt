@@ -1,8 +1,7 @@
 use Rattle.std.proofs.Common.{◌≡◌, ◌∙◌, ℕ, ◌+◌, ◌*◌, ◌/◌, ◌<◌, ◌≤◌, List, ap, refl, arith, length, take, drop, length-drop}
 use Rattle.std.proofs.lemmas.List.Elements.{All-take, All-drop}
 use Rattle.password_hash.specs.Crypt64.{Crypt64, IsPiece, encoded_len}
-use Rattle.password_hash.proofs.DecodedFacts.{Crypt64-one}
-use Rattle.password_hash.proofs.GroupFacts.{crypt64_of-cut, length-crypt64_of}
+use Rattle.password_hash.proofs.GroupFacts.{Crypt64-one, crypt64_of-cut, length-crypt64_of}
 use Rattle.password_hash.proofs.mcf.fields.Field.base64_matches_at.Goals as goal
 
 -- the letters of a piece are together
