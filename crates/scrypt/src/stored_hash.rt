@@ -1,10 +1,10 @@
 // Stored hashes of either format.
 
-ghost use Rattle.std.specs.Prelude.{◌≡◌, ◌≢◌, ◌⊎◌, ◌↔◌, ◌+◌, Err, IfErr, IfOk, IsErrOf, IsOk, IsTrue, None, Ok, OnErr};
-ghost use Rattle.password_hash.specs.Refusal.{PasswordInvalid, refusal};
+ghost use Rattle.std.specs.Prelude.{◌≡◌, ◌⊎◌, ◌↔◌, ◌+◌, Err, IfErr, IfOk, IsErrOf, IsOk, IsTrue, None, Ok, OnErr};
+ghost use Rattle.password_hash.specs.Refusal.{refusal};
 ghost use Rattle.password_hash.specs.declared.error.Error.TheVariants.{EncodingInvalid, OutOfMemory};
 ghost use Rattle.scrypt_kernel.specs.Count.{AreCounted};
-ghost use Rattle.scrypt.specs.Cost.{chunks_bytes, cost, scratch_words, table_words};
+ghost use Rattle.scrypt.specs.Cost.{cost};
 ghost use Rattle.scrypt.specs.Reading.{◌and_then◌, IsVerdict, let_in, mapped, verdict, verify_cost, weaker, with_refusal};
 ghost use Rattle.scrypt.specs.StoredHash.{formatted, is_mcf_text, is_stored_text, key_len_or_zero, params_reading, reading};
 ghost use Rattle.scrypt.specs.StoredParts.{IsReadAs, stored};
@@ -17,7 +17,7 @@ use crate::mcf::reading::parts_of_mcf;
 use crate::phc::reading::{parts_of_phc, read_params};
 use crate::stored_parts::StoredParts;
 use crate::verifying::{verify_allocating, verify_in_buffers};
-use crate::{Backend, BufferLens, CoreCount, Params, Simd};
+use crate::{Backend, CoreCount, Params, Simd};
 use password_hash::{Error, Result, mcf, phc};
 use std::alloc::Global;
 use std::marker::Model;
@@ -113,19 +113,6 @@ impl<'a> StoredHash<'a> {
         }
     }
 
-    /// Returns the length of the key of the hash in bytes, or 0 if it has no key. Does not
-    /// allocate.
-    ///
-    /// Returns the same errors as [`StoredHash::params`].
-    pub fn key_len(&self) -> Result<usize>
-        ensures value { with_refusal result ≡ mapped (λ read. read.1) (params_reading self.now) }
-    {
-        match self.params_and_key_len() {
-            Ok((_, len)) => Ok(len),
-            Err(error) => Err(error),
-        }
-    }
-
     /// Verifies `password` with the parameters, the salt and the length of the key of the hash.
     /// Returns `Ok` only if the hash has the key of `password`, and `PasswordInvalid` only if it
     /// does not, or if the hash has no salt or no key.
@@ -193,35 +180,16 @@ impl<'a> StoredHash<'a> {
         }
     }
 
-    /// Returns the lengths of the buffers for [`StoredHash::verify_with_buffers`]. Does not
-    /// allocate.
-    ///
-    /// Returns the same errors as [`StoredHash::params`].
-    pub fn buffer_lens(&self) -> Result<BufferLens>
-        ensures value { with_refusal result ≡ mapped (λ read. record {
-          chunks = chunks_bytes read.0.r read.0.p;
-          table = table_words read.0.log_n read.0.r;
-          scratch = scratch_words read.0.r;
-        }) (params_reading self.now) }
-        ensures missing { with_refusal result ≢ Err PasswordInvalid }
-    {
-        // Proof hint: the text has its format.
-        let _ = self.as_str();
-        match self.params() {
-            Ok(params) => Ok(BufferLens::of(&params)),
-            Err(error) => Err(error),
-        }
-    }
-
     /// Verifies `password` as [`StoredHash::verify`] does, in the caller's buffers. Does not
     /// allocate.
     ///
-    /// Each buffer is at least as long as [`StoredHash::buffer_lens`] returns. Up to four chunks
-    /// are interleaved, each with its own part of the table and of the scratch, if these are long
-    /// enough. The call uses only the front of each buffer, and the rest is unchanged. The contents
-    /// of the buffers before the call do not matter. Afterwards the used parts of `chunks` and
-    /// `scratch` are zeros, and the used part of `table` is unspecified. `cores` counts the
-    /// `4 * N * r * p` cores of the hash's parameters, and the blocks that SHA-256 compresses.
+    /// Each buffer is at least as long as [`BufferLens::of`](crate::BufferLens::of) returns for the
+    /// parameters of the hash. Up to four chunks are interleaved, each with its own part of the table
+    /// and of the scratch, if these are long enough. The call uses only the front of each buffer, and
+    /// the rest is unchanged. The contents of the buffers before the call do not matter. Afterwards
+    /// the used parts of `chunks` and `scratch` are zeros, and the used part of `table` is
+    /// unspecified. `cores` counts the `4 * N * r * p` cores of the hash's parameters, and the blocks
+    /// that SHA-256 compresses.
     ///
     /// Returns the same errors in the same order, and `OutOfMemory` exactly if the hash can be read
     /// and a buffer is too short for it. Unless the keys are compared, the buffers and the count
@@ -247,7 +215,8 @@ impl<'a> StoredHash<'a> {
         }
     }
 
-    /// Returns the results of [`StoredHash::params`] and [`StoredHash::key_len`], read once.
+    /// Returns the result of [`StoredHash::params`], and the length of the key in bytes, or 0 if the
+    /// hash has no key.
     pub fn params_and_key_len(&self) -> Result<(Params, usize)>
         ensures value { with_refusal result ≡ params_reading self.now }
     {
