@@ -1,17 +1,21 @@
-use Rattle.std.proofs.Common.{◌≡◌, ◌∙◌, ◌<◌, ◌≤◌, ◌+◌, ◌*◌, ◌^◌, ◌++◌, ℕ, List, length, take, drop, get_or, zero, suc, false, refl, sym, ap, ap₂, add-one, arith, append-nil, length-append}
+use Rattle.std.proofs.Common.{◌≡◌, ◌∙◌, ◌<◌, ◌≤◌, ◌+◌, ◌*◌, ◌^◌, ◌++◌, ℕ, List, length, take, drop, get_or, zero, suc, false, refl, sym, ap, ap₂, add-one, arith, append_assoc, length-append}
 use Rattle.std.specs.Prelude.{Option, None, Some, Ok, Err, [], ◌∷◌, map, MatchBool, MatchOption, option_and_then, slice_set, IsTrue}
-use Rattle.std.specs.List.{sum_by}
+use Rattle.std.specs.List.{sum, sum_by}
 use Rattle.std.proofs.Math.Nat.{mul-le-mul_right}
 use Rattle.std.proofs.Math.ListN.{get_or-map}
 use Rattle.std.proofs.Math.Seq.{drop-append_seam, take-append_seam, take-suc-set}
 use Rattle.std.proofs.lemmas.Grind.{flat_map-append}
-use Rattle.std.proofs.lemmas.List.{drop_more, length-map, map-append, take-append-drop, take_all, take_more}
-use Rattle.std.proofs.lemmas.List.Sums.{sum_by-cons, sum_by_push}
+use Rattle.std.proofs.lemmas.List.{drop_all, drop_more, length-map, map-append, take-append-drop, take_all, take_more}
+use Rattle.std.proofs.lemmas.List.Sums.{sum-map, sum_by-cons}
 use Rattle.std.proofs.lemmas.Slice.{take-put_mid}
 use borrow.Rule.Slice.PartMut.{mid_of, put_mid, same_len_mid}
 use Rattle.std.proofs.lemmas.Option.{cond_some}
 use Rattle.std.proofs.lemmas.Bool.Decides.{Decides-and, Decides-eqb, Decides-ltb}
+use Rattle.scrypt_kernel.specs.Count.{AreHashed}
+use Rattle.scrypt_kernel.specs.declared.cores.count.CoreCount.{CoreCount}
+use Rattle.scrypt_kernel.proofs.CountFacts.{hashed_both}
 use Rattle.scrypt_kernel.proofs.Pbkdf2Facts.{length-pbkdf2}
+use Rattle.password_hash.specs.Refusal.{Refusal}
 use Rattle.scrypt.specs.Accepted.{Parameters}
 use Rattle.scrypt.specs.Cost.{chunks_bytes}
 use Rattle.scrypt.specs.InBuffers.{are_enough}
@@ -21,7 +25,7 @@ use Rattle.scrypt.specs.Reading.{Stored, chunks_of, mixed_of, verdict, verify_co
 use Rattle.scrypt.specs.Workspace.{IsDone, IsLeft, Workspace}
 use Rattle.scrypt.specs.declared.logins.Login.{Login}
 use Rattle.scrypt.proofs.KeyFacts.{both_mixed, length-mixed_chunks}
-use Rattle.scrypt.proofs.ReadingFacts.{enough_decided, same_hashed, same_verdict}
+use Rattle.scrypt.proofs.ReadingFacts.{enough_decided}
 
 -- n chunks, which are those of d and others
 pub record AreMore (c d : Parameters) (others : Option ℕ) (n : ℕ) : Type 0 where
@@ -78,23 +82,57 @@ fewer_fit c d n w log_n r fewer room =
     let bytes = mul-le-mul_right (128 * c.r) fewer in
     (enough_decided d w.chunks w.table w.scratch).1 (rw (log_n, r) (omega (arith, fits.0, bytes), fits.1))
 
--- where there is room for all, each verdict is that of its password alone
-pub alone : (c : Parameters) (these : List Attempt) (n : ℕ) (w : Workspace) → count_of c these ≡ Some n
-    → IsTrue (are_enough (record c { p = n }) w.chunks w.table w.scratch)
-    → map (λ (a : Attempt). verdict a.0 a.1) these ≡ map (verdict_on w) these
-alone c [] n w counted room = refl
-alone c ((password, Ok s) ∷ rest) n w counted room =
+-- where there is room for all, so that each has room, f of each is g of each
+each_fits : {X : Type 0} (f g : Attempt → X) (c : Parameters) (these : List Attempt) (n : ℕ) (w : Workspace)
+    → ((password : List ℕ) (s : Stored) → IsTrue (are_enough s.params w.chunks w.table w.scratch) → f (password, Ok s) ≡ g (password, Ok s))
+    → ((password : List ℕ) (why : Refusal) → f (password, Err why) ≡ g (password, Err why))
+    → count_of c these ≡ Some n → IsTrue (are_enough (record c { p = n }) w.chunks w.table w.scratch) → map f these ≡ map g these
+each_fits f g c [] n w read unread counted room = refl
+each_fits f g c ((password, Ok s) ∷ rest) n w read unread counted room =
     let more = are_more c s.params (count_of c rest) n counted in
     let own = fewer_fit c s.params n w more.log_n more.r (omega (arith, more.sum)) room in
     let others = fewer_fit c (record c { p = more.count }) n w refl refl (omega (arith, more.sum)) room in
-    ap₂ (λ out outs. out ∷ outs) (rw own refl) (alone c rest more.count w more.counted others)
-alone c ((password, Err why) ∷ rest) n w counted room = ap (λ outs. Err why ∷ outs) (alone c rest n w counted room)
+    ap₂ (λ out outs. out ∷ outs) (read password s own) (each_fits f g c rest more.count w read unread more.counted others)
+each_fits f g c ((password, Err why) ∷ rest) n w read unread counted room =
+    ap₂ (λ out outs. out ∷ outs) (unread password why) (each_fits f g c rest n w read unread counted room)
 
-pub same_verdicts : (w v : Workspace) → length w.chunks ≡ length v.chunks → length w.table ≡ length v.table → length w.scratch ≡ length v.scratch
-    → (these : List Attempt) → map (verdict_on w) these ≡ map (verdict_on v) these
-same_verdicts w v chunks table scratch [] = refl
-same_verdicts w v chunks table scratch (a ∷ rest) =
-    ap₂ (λ out outs. out ∷ outs) (same_verdict w v chunks table scratch a.0 a.1) (same_verdicts w v chunks table scratch rest)
+sums_alike : (f g : Attempt → ℕ) (these : List Attempt) → map f these ≡ map g these → sum_by f these ≡ sum_by g these
+sums_alike f g these same = sym (sum-map f these) ∙ ap sum same ∙ sum-map g these
+
+-- so each verdict is that of its password alone, and SHA-256 compresses as many blocks
+pub alone : (c : Parameters) (these : List Attempt) (n : ℕ) (w : Workspace) → count_of c these ≡ Some n
+    → IsTrue (are_enough (record c { p = n }) w.chunks w.table w.scratch)
+    → (map (λ (a : Attempt). verdict a.0 a.1) these ≡ map (verdict_on w) these) × (all_cost verify_cost these ≡ sum_by (hashed_on w) these)
+alone c these n w counted room = (
+  each_fits _ _ c these n w (λ password s own. rw own refl) (λ password why. refl) counted room,
+  sums_alike _ _ these (each_fits _ _ c these n w (λ password s own. rw own refl) (λ password why. refl) counted room),
+)
+
+-- buffers of the same lengths
+pub record AreAsLong (w v : Workspace) : Type 0 where
+  pub chunks : length w.chunks ≡ length v.chunks
+  pub table : length w.table ≡ length v.table
+  pub scratch : length w.scratch ≡ length v.scratch
+
+pub same_verdict : (w v : Workspace) → AreAsLong w v → (a : Attempt) → verdict_on w a ≡ verdict_on v a
+unfolding are_enough
+same_verdict w v long (password, Ok s) = rw (long.chunks, long.table, long.scratch) refl
+same_verdict w v long (password, Err why) = refl
+
+pub same_hashed : (w v : Workspace) → AreAsLong w v → (a : Attempt) → hashed_on w a ≡ hashed_on v a
+unfolding are_enough
+same_hashed w v long (password, Ok s) = rw (long.chunks, long.table, long.scratch) refl
+same_hashed w v long (password, Err why) = refl
+
+each_alike : {X : Type 0} (f g : Attempt → X) → ((a : Attempt) → f a ≡ g a) → (these : List Attempt) → map f these ≡ map g these
+each_alike f g same [] = refl
+each_alike f g same (a ∷ rest) = ap₂ (λ out outs. out ∷ outs) (same a) (each_alike f g same rest)
+
+pub same_verdicts : (w v : Workspace) → AreAsLong w v → (these : List Attempt) → map (verdict_on w) these ≡ map (verdict_on v) these
+same_verdicts w v long these = each_alike _ _ (same_verdict w v long) these
+
+pub same_costs : (w v : Workspace) → AreAsLong w v → (these : List Attempt) → sum_by (hashed_on w) these ≡ sum_by (hashed_on v) these
+same_costs w v long these = sums_alike _ _ these (each_alike _ _ (same_hashed w v long) these)
 
 -- what SHA-256 compresses for all
 
@@ -115,30 +153,6 @@ both_costs (a ∷ rest) =
     each (password, Ok s) = refl
     each (password, Err why) = refl
 
--- where there is room for all, it is what each alone takes
-pub alone_costs : (c : Parameters) (these : List Attempt) (n : ℕ) (w : Workspace) → count_of c these ≡ Some n
-    → IsTrue (are_enough (record c { p = n }) w.chunks w.table w.scratch) → all_cost verify_cost these ≡ sum_by (hashed_on w) these
-alone_costs c [] n w counted room = refl
-alone_costs c ((password, Ok s) ∷ rest) n w counted room =
-    let more = are_more c s.params (count_of c rest) n counted in
-    let own = fewer_fit c s.params n w more.log_n more.r (omega (arith, more.sum)) room in
-    let others = fewer_fit c (record c { p = more.count }) n w refl refl (omega (arith, more.sum)) room in
-    sum_by-cons (own_cost verify_cost) (password, Ok s) rest
-    ∙ ap₂ (λ x y. x + y) (rw own refl) (alone_costs c rest more.count w more.counted others)
-    ∙ sym (sum_by-cons (hashed_on w) (password, Ok s) rest)
-alone_costs c ((password, Err why) ∷ rest) n w counted room =
-    sum_by-cons (own_cost verify_cost) (password, Err why) rest
-    ∙ ap (λ n. 0 + n) (alone_costs c rest n w counted room)
-    ∙ sym (sum_by-cons (hashed_on w) (password, Err why) rest)
-
-pub same_costs : (w v : Workspace) → length w.chunks ≡ length v.chunks → length w.table ≡ length v.table → length w.scratch ≡ length v.scratch
-    → (these : List Attempt) → sum_by (hashed_on w) these ≡ sum_by (hashed_on v) these
-same_costs w v chunks table scratch [] = refl
-same_costs w v chunks table scratch (a ∷ rest) =
-    sum_by-cons (hashed_on w) a rest
-    ∙ ap₂ (λ x y. x + y) (same_hashed w v chunks table scratch a.0 a.1) (same_costs w v chunks table scratch rest)
-    ∙ sym (sum_by-cons (hashed_on v) a rest)
-
 -- one after another
 
 -- those from the i-th on
@@ -148,14 +162,22 @@ from logins i login below is =
     drop_more (attempts logins) i (attempt_of login) (rw (length-map logins attempt_of) below)
     ∙ ap (λ a. a ∷ drop (i + 1) (attempts logins)) (get_or-map attempt_of logins i login ∙ ap attempt_of (sym is))
 
--- one more of a list that is written, which says the same as another
-pub one_more : {X Y Z : Type 0} (f : X → Z) (g : Y → Z) (xs : List X) (ys : List Y) (i : ℕ) (x : X) (y : Y) → i < length xs → i < length ys
-    → get_or ys i y ≡ y → f x ≡ g y → map f (take i xs) ≡ map g (take i ys) → map f (take (i + 1) (slice_set xs i x)) ≡ map g (take (i + 1) ys)
-one_more f g xs ys i x y short below is same before =
-    let next : i + 1 ≡ suc i = add-one i in
-    ap (λ n. map f (take n (slice_set xs i x))) next ∙ ap (map f) (take-suc-set xs i x short) ∙ map-append f (take i xs) (x ∷ [])
-    ∙ ap₂ (λ zs z. zs ++ z ∷ []) before same
-    ∙ sym (ap (map g) (take_more ys i y below ∙ ap (λ z. take i ys ++ z ∷ []) is) ∙ map-append g (take i ys) (y ∷ []))
+-- after the last
+pub none_left : (logins : List Login) (i : ℕ) → length logins ≤ i → drop i (attempts logins) ≡ []
+none_left logins i all = drop_all i (attempts logins) (rw (length-map logins attempt_of) all)
+
+-- the blocks of one, and then those of the others
+pub hashed_more : (f : List ℕ → Stored → ℕ) {these others : List Attempt} {a : Attempt} {x y z : CoreCount} → these ≡ a ∷ others
+    → AreHashed (own_cost f a) x y → AreHashed (all_cost f others) y z → AreHashed (all_cost f these) x z
+hashed_more f {these} {others} {a} is one rest = hashed_both _ one rest (sym (ap (all_cost f) is ∙ sum_by-cons (own_cost f) a others))
+
+-- one more of a list that is written, before those that are not
+pub one_more : {X Y Z : Type 0} (f : X → Z) (g : Y → Z) (xs : List X) (i : ℕ) (x : X) (y : Y) (these others : List Y) → i < length xs
+    → f x ≡ g y → these ≡ y ∷ others → map f (take (i + 1) (slice_set xs i x)) ++ map g others ≡ map f (take i xs) ++ map g these
+one_more f g xs i x y these others short same is =
+    ap (λ n. map f (take n (slice_set xs i x)) ++ map g others) (add-one i) ∙ ap (λ z. map f z ++ map g others) (take-suc-set xs i x short)
+    ∙ ap (λ z. z ++ map g others) (map-append f (take i xs) (x ∷ [])) ∙ append_assoc (map f (take i xs)) (f x ∷ []) (map g others)
+    ∙ ap (λ z. map f (take i xs) ++ z ∷ map g others) same ∙ ap (λ ys. map f (take i xs) ++ map g ys) (sym is)
 
 -- those that are written first, and then all others
 pub all_put : {X : Type 0} (xs ys : List X) (i k : ℕ) → i ≤ length xs → length ys ≡ length (mid_of i k xs) → i + length ys ≡ length xs
@@ -163,50 +185,6 @@ pub all_put : {X : Type 0} (xs ys : List X) (i k : ℕ) → i ≤ length xs → 
 all_put xs ys i k inside sized long =
     let whole = same_len_mid i k xs ys sized in
     sym (take_all (i + length ys) (put_mid i k xs ys) (omega (arith, whole, long))) ∙ take-put_mid i k xs ys (i + length ys) refl inside
-
--- what all have of f: the first i, the next and the others
-own_then : (f : List ℕ → Stored → List ℕ) (logins : List Login) (i : ℕ) (login : Login) → i < length logins → login ≡ get_or logins i login
-    → all_of f (attempts logins)
-    ≡ all_of f (take i (attempts logins)) ++ (own f (attempt_of login) ++ all_of f (drop (i + 1) (attempts logins)))
-own_then f logins i login below is =
-    ap (all_of f) (sym (take-append-drop i (attempts logins)))
-    ∙ flat_map-append (own f) (take i (attempts logins)) (drop i (attempts logins))
-    ∙ ap (λ xs. all_of f (take i (attempts logins)) ++ all_of f xs) (from logins i login below is)
-
-pub own_more : (f : List ℕ → Stored → List ℕ) (logins : List Login) (i : ℕ) (login : Login) → i < length logins → login ≡ get_or logins i login
-    → all_of f (take (i + 1) (attempts logins)) ≡ all_of f (take i (attempts logins)) ++ own f (attempt_of login)
-own_more f logins i login below is =
-    let these = attempts logins in
-    let a = attempt_of login in
-    let here = get_or-map attempt_of logins i login ∙ ap attempt_of (sym is) in
-    ap (all_of f) (take_more these i a (rw (length-map logins attempt_of) below) ∙ ap (λ x. take i these ++ x ∷ []) here)
-    ∙ flat_map-append (own f) (take i these) (a ∷ []) ∙ ap (λ x. all_of f (take i these) ++ x) (append-nil (own f a))
-
-pub own_fits : (f : List ℕ → Stored → List ℕ) (logins : List Login) (i : ℕ) (login : Login) → i < length logins → login ≡ get_or logins i login
-    → length (all_of f (take i (attempts logins))) + length (own f (attempt_of login)) ≤ length (all_of f (attempts logins))
-own_fits f logins i login below is =
-    let whole = ap length (own_then f logins i login below is) ∙ length-append (all_of f (take i (attempts logins))) _ in
-    let rest = length-append (own f (attempt_of login)) (all_of f (drop (i + 1) (attempts logins))) in
-    omega (arith, whole, rest)
-
-pub own_at : (f : List ℕ → Stored → List ℕ) (logins : List Login) (i : ℕ) (login : Login) → i < length logins → login ≡ get_or logins i login
-    → take (length (own f (attempt_of login))) (drop (length (all_of f (take i (attempts logins)))) (all_of f (attempts logins)))
-    ≡ own f (attempt_of login)
-own_at f logins i login below is =
-    let own = own f (attempt_of login) in
-    let before = all_of f (take i (attempts logins)) in
-    ap (λ xs. take (length own) (drop (length before) xs)) (own_then f logins i login below is)
-    ∙ ap (take (length own)) (drop-append_seam before _) ∙ take-append_seam own _
-
--- f of the first i together, and of the next
-pub sum_more : (f : Attempt → ℕ) (logins : List Login) (i : ℕ) (login : Login) → i < length logins → login ≡ get_or logins i login
-    → sum_by f (take i (attempts logins)) + f (attempt_of login) ≡ sum_by f (take (i + 1) (attempts logins))
-sum_more f logins i login below is =
-    let these = attempts logins in
-    let a = attempt_of login in
-    let here = get_or-map attempt_of logins i login ∙ ap attempt_of (sym is) in
-    sym (ap (sum_by f) (take_more these i a (rw (length-map logins attempt_of) below) ∙ ap (λ x. take i these ++ x ∷ []) here)
-    ∙ sum_by_push f (take i these) a)
 
 -- the first alone, and then the others
 pub left_alone : (a : Attempt) (rest : List Attempt) (before between after : Workspace) → IsAlone (a ∷ rest) before → IsLeft a.1 before between

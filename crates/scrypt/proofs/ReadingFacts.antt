@@ -17,7 +17,6 @@ use Rattle.scrypt.specs.InBuffers.{are_enough}
 use Rattle.scrypt.specs.Limits.{SufficeFor, are_within, buffers_bytes, limits_for_new, work}
 use Rattle.scrypt.specs.declared.limits.Limits.{Limits}
 use Rattle.scrypt.specs.WithinLimits.{within}
-use Rattle.scrypt.specs.Workspace.{Workspace, hashed_in, verdict_in}
 
 -- what is read in two steps
 
@@ -165,17 +164,3 @@ made_within defaults c password salt n reading is short bytes little =
 pub not_enough : (c : Parameters) (chunks table scratch : List ℕ) → ¬ IsTrue (are_enough c chunks table scratch)
     → are_enough c chunks table scratch ≡ false
 not_enough c chunks table scratch short = false_from_ne_true _ short
-
-pub same_verdict : (w w' : Workspace) → length w.chunks ≡ length w'.chunks → length w.table ≡ length w'.table
-    → length w.scratch ≡ length w'.scratch
-    → (password : List ℕ) (reading : Result Stored Refusal) → verdict_in w password reading ≡ verdict_in w' password reading
-unfolding are_enough
-same_verdict w w' chunks table scratch password (Ok s) = rw (chunks, table, scratch) refl
-same_verdict w w' chunks table scratch password (Err why) = refl
-
-pub same_hashed : (w w' : Workspace) → length w.chunks ≡ length w'.chunks → length w.table ≡ length w'.table
-    → length w.scratch ≡ length w'.scratch
-    → (password : List ℕ) (reading : Result Stored Refusal) → hashed_in w password reading ≡ hashed_in w' password reading
-unfolding are_enough
-same_hashed w w' chunks table scratch password (Ok s) = rw (chunks, table, scratch) refl
-same_hashed w w' chunks table scratch password (Err why) = refl

@@ -95,13 +95,8 @@ impl<'p, 't> Login<'p, 't> {
         ensures counted { AreHashed (own_cost chunks_cost (attempt_of self.now)) cores.old cores.new }
     {
         if let Ok(parts) = self.parts() {
-            derive_chunks(
-                self.password,
-                parts.salt.as_bytes(),
-                &parts.params,
-                chunks,
-                cores,
-            );
+            let salt = parts.salt.as_bytes();
+            derive_chunks(self.password, salt, &parts.params, chunks, cores);
         }
     }
 
@@ -136,14 +131,10 @@ impl<'p, 't> Login<'p, 't> {
             + hashed_on (workspace_of chunks.old table.old scratch.old cores.old) (attempt_of self.now) }
     {
         match self.parts() {
-            Ok(parts) => limited(verify_in_buffers::<W>(
-                self.password,
-                parts,
-                chunks,
-                table,
-                scratch,
-                cores,
-            )),
+            Ok(parts) => {
+                let password = self.password;
+                limited(verify_in_buffers::<W>(password, parts, chunks, table, scratch, cores))
+            }
             Err(error) => Err(error),
         }
     }
@@ -211,16 +202,11 @@ fn verified_in_batch<W: Backend>(
     let Some((params, count)) = shared_params(logins) else {
         return false;
     };
-    let verified = with_prefix(
-        &params,
-        count,
-        chunks,
-        table,
-        scratch,
-        cores,
-        verdicts,
-        |used, verdicts| verify_in_batch::<W>(logins, verdicts, &params, count, used),
-    );
+    let p = &params;
+    let run = |used: &mut ActiveBuffers<'_, Buffer<'_>>, verdicts: &mut [_]| {
+        verify_in_batch::<W>(logins, verdicts, p, count, used)
+    };
+    let verified = with_prefix(p, count, chunks, table, scratch, cores, verdicts, run);
     match verified {
         Some(()) => true,
         None => false,
@@ -307,12 +293,12 @@ fn compare(
     ensures verdicts { map with_limited_refusal verdicts.new ≡ map (λ a. verdict a.0 a.1) (attempts logins.now) }
     ensures counted { AreHashed (all_cost compare_cost (attempts logins.now)) cores.old cores.new }
 {
-    let mut at = 0;
+    let mut rest = mixed;
     for i in 0..logins.len() {
         let login = &logins[i];
-        let end = at + login.chunks_len();
-        verdicts[i] = login.compare(&mixed[at..end], cores);
-        at = end;
+        let (own, others) = rest.split_at(login.chunks_len());
+        verdicts[i] = login.compare(own, cores);
+        rest = others;
     }
 }
 
@@ -320,8 +306,5 @@ fn compare(
 fn limited(verdict: password_hash::Result<()>) -> Result<(), LimitedError>
     ensures { with_limited_refusal result ≡ with_refusal verdict }
 {
-    match verdict {
-        Ok(()) => Ok(()),
-        Err(error) => Err(LimitedError::Hash(error)),
-    }
+    Ok(verdict?)
 }

@@ -1,14 +1,17 @@
-use Rattle.std.proofs.Common.{◌≡◌, length, take}
+use Rattle.std.proofs.Common.{◌≡◌, ◌+◌, ◌++◌, drop, length, take}
 use Rattle.scrypt_kernel.specs.Count.{AreHashed}
+use Rattle.scrypt_kernel.specs.declared.cores.count.CoreCount.{CoreCount}
 use Rattle.scrypt.specs.Logins.{all_cost, all_of, attempts, chunks_cost}
 use Rattle.scrypt.specs.Reading.{chunks_of}
 use Rattle.scrypt.proofs.logins.derive_all_chunks.Given as goal
 
--- the chunks of the first i are written
+-- the chunks of the first i are written, and those of the others follow
 abbrev pub invariant-loop-i : goal.invariant-loop-i
-invariant-loop-i l = record {
-  at : l.at ≡ length (all_of chunks_of (take l.i (attempts l.logins)));
-  long : length l.chunks ≡ length (all_of chunks_of (attempts l.logins));
-  written : take l.at l.chunks ≡ all_of chunks_of (take l.i (attempts l.logins));
-  counted : AreHashed (all_cost chunks_cost (take l.i (attempts l.logins))) l.initial.cores l.cores;
-}
+invariant-loop-i l =
+    let others = drop l.i (attempts l.logins) in
+    record {
+      written : take l.at l.chunks ++ all_of chunks_of others ≡ all_of chunks_of (attempts l.logins);
+      fits : l.at + length (all_of chunks_of others) ≡ length l.chunks;
+      counted : (after : CoreCount) → AreHashed (all_cost chunks_cost others) l.cores after
+          → AreHashed (all_cost chunks_cost (attempts l.logins)) l.initial.cores after;
+    }

@@ -4,14 +4,14 @@ use Rattle.scrypt.specs.Logins.{Attempt, all_cost, attempts}
 use Rattle.scrypt.specs.Reading.{verdict, verify_cost}
 use Rattle.scrypt.specs.WithinLimits.{with_limited_refusal}
 use Rattle.scrypt.specs.Workspace.{workspace_of}
-use Rattle.scrypt.proofs.LoginFacts.{alone, alone_costs}
+use Rattle.scrypt.proofs.LoginFacts.{alone}
 use Rattle.scrypt.proofs.logins.verified_in_batch.Goals as goal
 
 pub returns-in-Some-verified-clause-verdicts : goal.returns-in-Some-verified-clause-verdicts
 returns-in-Some-verified-clause-verdicts g c = λ _.
     let before = workspace_of c.args.chunks.now c.args.table.now c.args.scratch.now c.args.cores.now in
     let batch : map with_limited_refusal c.with_prefix-verified.new.output ≡ map (λ (a : Attempt). verdict a.0 a.1) (attempts c.args.logins.now) = search rules in
-    batch ∙ alone c.in-Some.params (attempts c.args.logins.now) c.in-Some.count before c.in-Some.ensures'.count (search rules)
+    batch ∙ (alone c.in-Some.params (attempts c.args.logins.now) c.in-Some.count before c.in-Some.ensures'.count (search rules)).0
 
 pub returns-in-Some-verified-clause-hashed : goal.returns-in-Some-verified-clause-hashed
 returns-in-Some-verified-clause-hashed g c = λ _.
@@ -19,7 +19,7 @@ returns-in-Some-verified-clause-hashed g c = λ _.
     let batch : c.with_prefix-verified.new.cores.compressions
     ≡ c.args.cores.now.compressions + all_cost verify_cost (attempts c.args.logins.now) = search rules in
     batch ∙ ap (λ n. c.args.cores.now.compressions + n)
-    (alone_costs c.in-Some.params (attempts c.args.logins.now) c.in-Some.count before c.in-Some.ensures'.count (search rules))
+    (alone c.in-Some.params (attempts c.args.logins.now) c.in-Some.count before c.in-Some.ensures'.count (search rules)).1
 
 pub returns-in-Some-verified-clause-left : goal.returns-in-Some-verified-clause-left
 returns-in-Some-verified-clause-left g c = λ _.

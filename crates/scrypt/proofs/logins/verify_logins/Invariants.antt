@@ -1,21 +1,21 @@
-use Rattle.std.proofs.Common.{◌≡◌, ◌+◌, drop, length, map, take}
+use Rattle.std.proofs.Common.{◌≡◌, ◌+◌, ◌++◌, drop, length, map, take}
 use Rattle.std.specs.List.{sum_by}
 use Rattle.scrypt.specs.Logins.{AreLeft, attempts, hashed_on, verdict_on}
 use Rattle.scrypt.specs.WithinLimits.{with_limited_refusal}
 use Rattle.scrypt.specs.Workspace.{Workspace, workspace_of}
+use Rattle.scrypt.proofs.LoginFacts.{AreAsLong}
 use Rattle.scrypt.proofs.logins.verify_logins.Given as goal
 
--- the first i are verified alone
+-- the first i are verified separately, and the others still have to be
 abbrev pub invariant-loop-i : goal.invariant-loop-i
 invariant-loop-i g l =
     let before = workspace_of l.initial.chunks l.initial.table l.initial.scratch l.initial.cores in
     let now = workspace_of l.chunks l.table l.scratch l.cores in
+    let others = drop l.i (attempts l.logins) in
     record {
-      chunks : length l.chunks ≡ length before.chunks;
-      table : length l.table ≡ length before.table;
-      scratch : length l.scratch ≡ length before.scratch;
+      lens : AreAsLong now before;
       long : length l.verdicts ≡ length l.logins;
-      verified : map with_limited_refusal (take l.i l.verdicts) ≡ map (verdict_on before) (take l.i (attempts l.logins));
-      hashed : l.cores.compressions ≡ before.cores.compressions + sum_by (hashed_on before) (take l.i (attempts l.logins));
-      left : (after : Workspace) → AreLeft (drop l.i (attempts l.logins)) now after → AreLeft (attempts l.logins) before after;
+      verified : map with_limited_refusal (take l.i l.verdicts) ++ map (verdict_on before) others ≡ map (verdict_on before) (attempts l.logins);
+      hashed : l.cores.compressions + sum_by (hashed_on before) others ≡ before.cores.compressions + sum_by (hashed_on before) (attempts l.logins);
+      left : (after : Workspace) → AreLeft others now after → AreLeft (attempts l.logins) before after;
     }
