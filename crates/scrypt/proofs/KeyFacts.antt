@@ -1,5 +1,4 @@
-use Rattle.std.proofs.Common.{◌≡◌, ℕ, zero, suc, ◌<◌, ◌≤◌, ◌+◌, ◌*◌, List, ◌++◌, length, take, drop, slice_index}
-use Rattle.std.proofs.Common.{refl, sym, ap, ap₂, ◌∙◌, arith, add-zero, zero-add, append_assoc}
+use Rattle.std.proofs.Common.{◌≡◌, ℕ, zero, suc, ◌<◌, ◌≤◌, ◌+◌, ◌*◌, List, ◌++◌, length, take, drop, slice_index, refl, sym, ap, ap₂, ◌∙◌, arith, add-zero, zero-add, append_assoc}
 use Rattle.std.specs.List.{flat_map, range_with_len}
 use Rattle.std.proofs.lemmas.List.{drop-drop}
 use Rattle.std.proofs.lemmas.Slice.{drop-put_mid, take-put_mid}
@@ -57,17 +56,22 @@ part_at s i x =
     let none : 0 * s ≡ 0 = omega arith in
     ap (λ n. take s (drop n (drop (i * s) x))) none
 
+-- a chunk in a slice that has n of them
+pub chunk_of_slice : {b : List ℕ} {log_n r i : ℕ} (a m n k : ℕ) (x : List ℕ) → a ≡ i * (128 * r) → m ≡ n * (128 * r) → k < n
+    → AreMixed b log_n r i x → part (128 * r) (take m (drop a x)) k ≡ part (128 * r) b (i + k)
+chunk_of_slice {b} {log_n} {r} {i} a m n k x at size below before =
+    let s : ℕ = 128 * r in
+    let place : i * s + k * s ≡ (i + k) * s = omega arith in
+    rw (at, size) (part-take s k (n * s) (drop (i * s) x) (parts_apart s k n below) ∙ ap (λ z. part s z k) before.rest
+    ∙ ap (take s) (drop-drop (k * s) (i * s) b ∙ ap (λ a. drop a b) place))
+
 -- n chunks from i on, of which each becomes its scryptROMix
 pub mixed_group : (b x ys : List ℕ) (log_n r i n : ℕ) → length ys ≡ n * (128 * r)
     → ((k : ℕ) → k < n → part (128 * r) ys k ≡ bytes_of (ro_mix (words_of (part (128 * r) (take (n * (128 * r)) (drop (i * (128 * r)) x)) k)) log_n))
     → AreMixed b log_n r i x → ys ≡ flat_map (mixed_chunk b log_n r) (range_with_len i n)
 mixed_group b x ys log_n r i n long each before =
-    let s : ℕ = 128 * r in
-    parts_from (mixed_chunk b log_n r) s i n ys long (λ k h.
-    let place : i * s + k * s ≡ (i + k) * s = omega arith in
-    let chunk = part-take s k (n * s) (drop (i * s) x) (parts_apart s k n h) ∙ ap (λ z. part s z k) before.rest
-    ∙ ap (take s) (drop-drop (k * s) (i * s) b ∙ ap (λ a. drop a b) place) in
-    each k h ∙ ap (λ z. bytes_of (ro_mix (words_of z) log_n)) chunk)
+    parts_from (mixed_chunk b log_n r) (128 * r) i n ys long (λ k below. each k below
+    ∙ ap (λ z. bytes_of (ro_mix (words_of z) log_n)) (chunk_of_slice (i * (128 * r)) (n * (128 * r)) n k x refl refl below before))
 
 pub length-mixed_chunk : (b : List ℕ) (log_n r i : ℕ) → 0 < r → i * (128 * r) + 128 * r ≤ length b
     → length (mixed_chunk b log_n r i) ≡ 128 * r

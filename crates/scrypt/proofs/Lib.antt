@@ -14,14 +14,8 @@ pub mod StandardFacts
 pub mod ReadingFacts
 -- Facts on several logins, whose keys are derived at once.
 pub mod LoginFacts
--- Facts on two keys that are compared piece by piece.
-pub mod ComparingFacts
--- Facts on parameters as PHC pairs.
-pub mod PhcParamsFacts
--- Facts on parameters as they are read from PHC pairs.
-pub mod PhcReadingFacts
--- Facts on PHC hashes of scrypt.
-pub mod PhcHashFacts
+-- Facts on PHC hashes of scrypt, and on their parameters as pairs.
+pub mod PhcFacts
 -- Facts on five-letter numbers and on the parameters with which a field begins.
 pub mod McfParamsFacts
 -- Facts on `$7$` hashes: what the parts of a text are read as, and the text of a hash.

@@ -1,31 +1,12 @@
 -- Facts on a derivation in steps.
-use Rattle.std.proofs.Common.{◌≡◌, ℕ, ◌<◌, ◌≤◌, ◌+◌, ◌-◌, ◌*◌, ◌%◌, ◌^◌, min, List, length, take, drop, sym, ap, ◌∙◌, take_all, arith, suc, zero}
-use Rattle.std.proofs.lemmas.List.{drop-drop}
+use Rattle.std.proofs.Common.{◌≡◌, ℕ, ◌<◌, ◌≤◌, ◌+◌, ◌-◌, ◌*◌, ◌%◌, ◌^◌, min, List, length, sym, ap, ◌∙◌, take_all, arith, suc, zero}
 use Rattle.std.proofs.lemmas.Nat.{mul-le, one_shl, pow_pos, pow-add}
 use Rattle.std.proofs.Math.Nat.{mul-le-mul_left, mul-le-mul_right, pow-le-pow_right}
-use Rattle.std.specs.List.{flat_map, range_with_len}
-use Rattle.scrypt_kernel.specs.Words.{bytes_of, part, words_of}
-use Rattle.scrypt_kernel.specs.RoMix.{ro_mix}
 use Rattle.scrypt_kernel.specs.Steps.{all_mixes}
-use Rattle.scrypt_kernel.proofs.PartFacts.{part-take, parts_apart, parts_from}
-use Rattle.scrypt.specs.Key.{mixed_chunk, mixed_chunks}
+use Rattle.scrypt.specs.Key.{mixed_chunks}
 use Rattle.scrypt.specs.Cost.{cost, table_words}
 use Rattle.scrypt.specs.Stepping.{AreMixed}
-
--- a chunk in a slice that has n of them
-pub chunk_of_slice : {b : List ℕ} {log_n r i : ℕ} (a m n k : ℕ) (x : List ℕ) → a ≡ i * (128 * r) → m ≡ n * (128 * r) → k < n
-    → AreMixed b log_n r i x → part (128 * r) (take m (drop a x)) k ≡ part (128 * r) b (i + k)
-chunk_of_slice {b} {log_n} {r} {i} a m n k x at size below before =
-    let s : ℕ = 128 * r in
-    let place : i * s + k * s ≡ (i + k) * s = omega arith in
-    rw (at, size) (part-take s k (n * s) (drop (i * s) x) (parts_apart s k n below) ∙ ap (λ z. part s z k) before.rest
-    ∙ ap (take s) (drop-drop (k * s) (i * s) b ∙ ap (λ a. drop a b) place))
-
--- n chunks, mixed
-pub chunks_mixed : (b ys : List ℕ) (log_n r i n : ℕ) → length ys ≡ n * (128 * r)
-    → ((k : ℕ) → k < n → part (128 * r) ys k ≡ bytes_of (ro_mix (words_of (part (128 * r) b (i + k))) log_n))
-    → ys ≡ flat_map (mixed_chunk b log_n r) (range_with_len i n)
-chunks_mixed b ys log_n r i n long mixed = parts_from (mixed_chunk b log_n r) (128 * r) i n ys long mixed
+use Rattle.scrypt.proofs.AcceptedFacts.{small_factor}
 
 -- all chunks, mixed
 pub all_chunks_mixed : (b x : List ℕ) (log_n r i p : ℕ) → i ≡ p → length x ≡ p * (128 * r) → AreMixed b log_n r i x → x ≡ mixed_chunks b log_n r p
@@ -84,10 +65,6 @@ times_so_far i j c order =
 pub all_mixes_cost : (log_n r p i n m : ℕ) → i ≡ p → m ≡ 0 → (i * all_mixes log_n + n * m) * (2 * r) ≡ cost log_n r p
 all_mixes_cost log_n r p i n m all none = rw (all, none) (omega arith)
 
-few_chunks : (r p : ℕ) → 0 < r → r * p < 2 ^ 30 → p < 2 ^ 30
-few_chunks zero p some product = absurd (omega (arith, some))
-few_chunks (suc r) p some product = omega (arith, product)
-
 -- the chunks that are mixed, as the code counts their mixes
 pub mixes_of_chunks : (i n k r p : ℕ) → i + n ≤ p → 0 < r → r * p < 2 ^ 30 → k ≤ 56
     → (i * 2 ^ (k + 1) ≤ 2 ^ 87) × (i * 2 ^ (k + 1) % 2 ^ 128 ≡ i * all_mixes k)
@@ -95,7 +72,7 @@ mixes_of_chunks i n k r p inside some product small =
     let below : k + 1 ≤ 57 = omega (arith, small) in
     let rows : 2 ^ (k + 1) ≤ 2 ^ 57 = pow-le-pow_right (omega arith) below in
     let double = pow-add 2 k 1 in
-    let few : i ≤ 2 ^ 30 = omega (arith, inside, few_chunks r p some product) in
+    let few : i ≤ 2 ^ 30 = omega (arith, inside, small_factor p r some (omega (arith, product))) in
     let chunks : i * 2 ^ (k + 1) ≤ 2 ^ 30 * 2 ^ 57 = mul-le i (2 ^ (k + 1)) (2 ^ 30) (2 ^ 57) few rows in
     let bounded : i * 2 ^ (k + 1) ≤ 2 ^ 87 = omega (arith, chunks) in
     let same : 2 ^ (k + 1) ≡ all_mixes k = omega (arith, double) in

@@ -15,7 +15,7 @@ use Rattle.scrypt.specs.Accepted.{are_accepted, is_stored_len, Parameters}
 use Rattle.scrypt.specs.Reading.{◌and_then◌, IsOfText, NamesNoPassword, Stored, mapped}
 use Rattle.scrypt.specs.StoredHash.{Formatted, McfText, PhcHash, formatted, is_mcf_text, is_stored_text, key_len_or_zero, params_and_len, params_reading, reading, whole}
 use Rattle.scrypt.proofs.McfHashFacts.{is_mcf, mcf_fault, mcf_none, read_seven}
-use Rattle.scrypt.proofs.PhcHashFacts.{made_is_text, made_read, params_fault, params_none}
+use Rattle.scrypt.proofs.PhcFacts.{made_is_text, made_read, params_fault, params_none}
 use Rattle.scrypt.proofs.ReadingFacts.{IsFault, made_stored, mapped_refused, no_password, part_fault, some_fault, then_fault}
 
 or_true : (b : Bool) → (b || true) ≡ true

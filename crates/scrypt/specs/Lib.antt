@@ -27,7 +27,7 @@ pub mod Cost
 pub mod Limits
 -- the messages of errors
 pub mod ErrorText
--- the key of parameters, as a `Kdf` derives it, and the lengths that it rejects
+-- the key of parameters, its cost, and the lengths that a `Kdf` rejects
 pub mod KeyOfParams
 -- the errors of making a hash, in every format
 pub mod Hashing
@@ -37,12 +37,10 @@ pub mod Reading
 pub mod InBuffers
 -- the workspace of one derivation: the verdict in it, and its contents afterwards
 pub mod Workspace
--- parameters read from a PHC string
+-- parameters read from a PHC string or a hash, and written
 pub mod PhcParams
 -- PHC hashes: how they are made and read
 pub mod PhcHash
--- the results of the conversions between parameters and PHC values
-pub mod PhcConversions
 -- five-letter numbers, and the parameters of a `$7$` hash
 pub mod McfParams
 -- `$7$` hashes: how they are read and made

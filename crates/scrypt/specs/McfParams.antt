@@ -1,7 +1,6 @@
 -- Five-letter numbers, and the parameters at the front of the first field of a `$7$` hash of
 -- crypt(5).
-use Rattle.std.specs.Prelude.{ℕ, nat_lt, if◌then◌else◌, List, ◌∷◌, ◌++◌, codes, length, slice_index, take, drop}
-use Rattle.std.specs.Prelude.{Option, None, ok_or, unwrap_or, Result, Err}
+use Rattle.std.specs.Prelude.{ℕ, nat_lt, if◌then◌else◌, List, ◌∷◌, ◌++◌, codes, length, slice_index, take, drop, Option, None, ok_or, unwrap_or, Result, Err}
 use Rattle.password_hash.specs.Crypt64.{letter, letter_value, letters_of, number_of}
 use Rattle.password_hash.specs.Refusal.{Refusal, EncodingInvalid}
 use Rattle.scrypt.specs.Accepted.{Parameters}

@@ -1,10 +1,12 @@
--- Parameters of scrypt, read from the pairs of the PHC string format and written as such pairs.
-use Rattle.std.specs.Prelude.{ℕ, ◌^◌, if◌then◌else◌, List, [], ◌∷◌, codes, decimal, Result, Err, ok_or}
+-- Parameters of scrypt, read from the pairs of the PHC string format or from a hash, and written as
+-- such pairs.
+use Rattle.std.specs.Prelude.{ℕ, ◌^◌, if◌then◌else◌, List, [], ◌∷◌, codes, decimal, length, Option, Some, is_some, option_map, unwrap_or, Result, Err, ok_or}
 use Rattle.std.specs.Str.{bytes_eq}
 use Rattle.password_hash.specs.Decimal.{decimal_below}
-use Rattle.password_hash.specs.Refusal.{Refusal, ParamInvalid, ParamsInvalid}
+use Rattle.password_hash.specs.Refusal.{Refusal, ParamInvalid, ParamsInvalid, Version}
+use Rattle.password_hash.specs.declared.phc.hash.PasswordHash.{PasswordHash}
 use Rattle.scrypt.specs.Accepted.{Parameters}
-use Rattle.scrypt.specs.Reading.{◌and_then◌, checked}
+use Rattle.scrypt.specs.Reading.{◌and_then◌, checked, mapped}
 
 -- The pairs are read in order and replace log_n, r and p, and the first invalid pair gives the
 -- error. `ln` is a decimal of at most 255, `r` and `p` are decimals, and any other name is invalid.
@@ -26,3 +28,14 @@ params_of_pairs pairs = read_pairs 17 8 1 pairs
 -- the pairs that these parameters are written as
 abbrev pub written_pairs : Parameters → List (List ℕ × List ℕ)
 written_pairs c = (codes "ln", decimal c.log_n) ∷ (codes "r", decimal c.r) ∷ (codes "p", decimal c.p) ∷ []
+
+-- the length of a hash's key, or 32 if it has no key
+abbrev pub output_len_of : Option (List ℕ) → ℕ
+output_len_of key = unwrap_or (option_map length key) 32
+
+-- the parameters of a hash with the length of its key, or the error of its version or of its
+-- parameters
+abbrev pub params_with_len : PasswordHash → Result Parameters Refusal
+params_with_len hash =
+    let with_len = λ (c : Parameters). record c { output_len = Some (output_len_of hash.hash) } in
+    if is_some hash.version then Err Version else mapped with_len (params_of_pairs hash.params)

@@ -1,11 +1,11 @@
 -- A derivation in steps: its progress, and the contents of the caller's buffers between two steps.
-use Rattle.std.specs.Prelude.{◌≡◌, ◌≢◌, Bool, true, ℕ, ◌+◌, ◌-◌, ◌*◌, ◌<◌, ◌≤◌, List, take, drop}
+use Rattle.std.specs.Prelude.{◌≡◌, ◌≢◌, Bool, true, ℕ, ◌+◌, ◌-◌, ◌*◌, ◌<◌, ◌≤◌, List, length, take, drop}
 use Rattle.scrypt_kernel.specs.Words.{part, words_of}
 use Rattle.scrypt_kernel.specs.Diagonal.{pivot}
 use Rattle.scrypt_kernel.specs.Pbkdf2.{pbkdf2}
 use Rattle.scrypt_kernel.specs.Steps.{IsMixing, all_mixes}
 use Rattle.scrypt.specs.Accepted.{Parameters}
-use Rattle.scrypt.specs.Cost.{chunks_bytes}
+use Rattle.scrypt.specs.Cost.{chunks_bytes, scratch_words, table_words}
 use Rattle.scrypt.specs.Key.{mixed_chunks}
 use Rattle.scrypt.specs.declared.stepping.Progress.{Progress}
 
@@ -37,6 +37,14 @@ pub record IsWithin (c : Parameters) (at : Progress) : Type 0 where
 pub record AreMixable (most : ℕ) (scalar : Bool) (n : ℕ) : Type 0 where
   pub few : n ≤ most
   pub alone : scalar ≡ true → n ≢ 2
+
+-- a derivation with this progress can go on in this table and this scratch, with a backend that
+-- interleaves at most `most` chunks
+pub record CanGoOn (most : ℕ) (scalar : Bool) (c : Parameters) (at : Progress) (table scratch : List ℕ) : Type 0 where
+  pub within : IsWithin c at
+  pub mixable : AreMixable most scalar at.interleaved
+  pub table_fits : at.interleaved * table_words c.log_n c.r ≤ length table
+  pub scratch_fits : at.interleaved * scratch_words c.r ≤ length scratch
 
 -- B before step 2
 abbrev pub first_b : List ℕ → List ℕ → Parameters → List ℕ

@@ -1,7 +1,6 @@
 -- Stored hashes of either format, by their texts: the format in which a text is read, and the
 -- result.
-use Rattle.std.specs.Prelude.{ℕ, ◌==◌, ◌&&◌, ◌||◌, Bool, if◌then◌else◌, List, length, slice_index}
-use Rattle.std.specs.Prelude.{Option, Some, is_some, ok_or, option_map, unwrap_or, Result}
+use Rattle.std.specs.Prelude.{ℕ, ◌==◌, ◌&&◌, ◌||◌, Bool, if◌then◌else◌, List, length, slice_index, Option, Some, is_some, ok_or, option_map, unwrap_or, Result}
 use Rattle.password_hash.specs.PhcReading.{read_hash}
 use Rattle.password_hash.specs.Refusal.{Refusal, EncodingInvalid}
 use Rattle.password_hash.specs.declared.phc.hash.PasswordHash.{PasswordHash}

@@ -7,6 +7,7 @@ ghost use Rattle.scrypt.specs.Accepted.{is_output_len};
 ghost use Rattle.scrypt.specs.Cost.{chunks_bytes, cost, hash_cost, pbkdf2_cost, scratch_words, table_words, thin_cost, thin_scratch_words};
 ghost use Rattle.scrypt.specs.InBuffers.{are_enough};
 ghost use Rattle.scrypt.specs.Key.{derived_key, mixed_b};
+ghost use Rattle.scrypt.specs.KeyOfParams.{IsDerived, cost_by};
 ghost use Rattle.scrypt.specs.Mixing.{HasTables, IsKept, IsReady};
 ghost use Rattle.scrypt.specs.Workspace.{IsRestKept, workspace_of};
 ghost use Rattle.scrypt.specs.declared.errors.DeriveError.TheVariants.{InvalidOutputLen as BadLength, OutOfMemory};
@@ -98,25 +99,15 @@ pub fn scrypt_with_max_mem<W: Backend>(
     cores: &mut CoreCount,
 ) -> Result<(), DeriveError>
     ensures length { IsErrOf result BadLength ↔ ¬ IsTrue (is_output_len (length output.old)) }
-    ensures value { OnOk result (output.new ≡ derived_key password.now salt.now
-        params.now.log_n params.now.r params.now.p (length output.old)) }
-    ensures counted { OnOk result (AreCounted (cost params.now.log_n params.now.r params.now.p) cores.old cores.new) }
-    ensures hashed { OnOk result (cores.new.compressions ≡ cores.old.compressions
-        + hash_cost (length password.now) (length salt.now) params.now.r params.now.p (length output.old)) }
+    ensures derived { OnOk result (IsDerived params.now password.now salt.now (cost_by params.now) output.old output.new cores.old cores.new) }
     ensures refused { OnErr result (output.new ≡ output.old) }
     ensures uncounted { OnErr result (cores.new ≡ cores.old) }
 {
     if !output_len_ok(output.len()) {
         return Err(DeriveError::InvalidOutputLen);
     }
-    let (width, mut own) = OwnBuffers::allocate_within(alloc, params, max_mem)?;
-    let mut used = ActiveBuffers::new(
-        width,
-        &mut own.chunks,
-        &mut own.table,
-        &mut own.scratch,
-        cores,
-    );
+    let (w, mut own) = OwnBuffers::allocate_within(alloc, params, max_mem)?;
+    let mut used = ActiveBuffers::new(w, &mut own.chunks, &mut own.table, &mut own.scratch, cores);
     derive_in::<Allocated, W>(password, salt, params, 0, &mut used, output);
     Ok(())
 }
@@ -148,15 +139,10 @@ pub fn scrypt_with_buffers(
     requires table { table_words params.now.log_n params.now.r ≤ length table.old }
     requires scratch { scratch_words params.now.r ≤ length scratch.old }
     ensures allowed { IsOk result ↔ IsTrue (is_output_len (length output.old)) }
-    ensures value { OnOk result (output.new ≡ derived_key password.now salt.now
-        params.now.log_n params.now.r params.now.p (length output.old)) }
-    ensures counted { OnOk result (AreCounted (cost params.now.log_n params.now.r params.now.p) cores.old cores.new) }
-    ensures hashed { OnOk result (cores.new.compressions ≡ cores.old.compressions
-        + hash_cost (length password.now) (length salt.now) params.now.r params.now.p (length output.old)) }
+    ensures derived { OnOk result (IsDerived params.now password.now salt.now (cost_by params.now) output.old output.new cores.old cores.new) }
     ensures mixed { OnOk result (chunks.new ≡ mixed_b password.now salt.now params.now.log_n params.now.r params.now.p) }
     ensures refused { OnErr result (output.new ≡ output.old) }
-    ensures buffers { OnErr result ((chunks.new ≡ chunks.old) × (table.new ≡ table.old) × (scratch.new ≡ scratch.old)) }
-    ensures uncounted { OnErr result (cores.new ≡ cores.old) }
+    ensures unchanged { OnErr result (workspace_of chunks.new table.new scratch.new cores.new ≡ workspace_of chunks.old table.old scratch.old cores.old) }
 {
     let derived = scrypt_in_prefix::<Simd>(
         password, salt, params, chunks, table, scratch, output, cores,
@@ -188,33 +174,22 @@ pub fn scrypt_in_prefix<W: Backend>(
     ensures length { IsErrOf result BadLength ↔ ¬ IsTrue (is_output_len (length output.old)) }
     ensures short { IsErrOf result OutOfMemory ↔ (IsTrue (is_output_len (length output.old))
         × ¬ IsTrue (are_enough params.now chunks.old table.old scratch.old)) }
-    ensures value { OnOk result (output.new ≡ derived_key password.now salt.now
-        params.now.log_n params.now.r params.now.p (length output.old)) }
-    ensures counted { OnOk result (AreCounted (cost params.now.log_n params.now.r params.now.p) cores.old cores.new) }
-    ensures hashed { OnOk result (cores.new.compressions ≡ cores.old.compressions
-        + hash_cost (length password.now) (length salt.now) params.now.r params.now.p (length output.old)) }
-    ensures mixed { OnOk result (take (chunks_bytes params.now.r params.now.p) chunks.new
-        ≡ mixed_b password.now salt.now params.now.log_n params.now.r params.now.p) }
+    ensures derived { OnOk result (IsDerived params.now password.now salt.now (cost_by params.now) output.old output.new cores.old cores.new) }
+    ensures mixed { OnOk result (take (chunks_bytes params.now.r params.now.p) chunks.new ≡ mixed_b password.now salt.now params.now.log_n params.now.r params.now.p) }
     ensures rest { OnOk result (IsRestKept params.now
         (workspace_of chunks.old table.old scratch.old cores.old) (workspace_of chunks.new table.new scratch.new cores.new)) }
     ensures refused { OnErr result (output.new ≡ output.old) }
-    ensures unchanged { OnErr result (workspace_of chunks.new table.new scratch.new cores.new
-        ≡ workspace_of chunks.old table.old scratch.old cores.old) }
+    ensures unchanged { OnErr result (workspace_of chunks.new table.new scratch.new cores.new ≡ workspace_of chunks.old table.old scratch.old cores.old) }
 {
     if !output_len_ok(output.len()) {
         return Err(DeriveError::InvalidOutputLen);
     }
     params.expose_invariant();
-    let derived = with_prefix(
-        params,
-        params.p(),
-        chunks,
-        table,
-        scratch,
-        cores,
-        output,
-        |used, output| derive_in::<Buffer<'_>, W>(password, salt, params, 0, used, output),
-    );
+    let derive = |used: &mut ActiveBuffers<'_, Buffer<'_>>, output: &mut [u8]| {
+        derive_in::<Buffer<'_>, W>(password, salt, params, 0, used, output)
+    };
+    let p = params.p();
+    let derived = with_prefix(params, p, chunks, table, scratch, cores, output, derive);
     derived.ok_or(DeriveError::OutOfMemory)
 }
 
@@ -248,16 +223,11 @@ pub fn scrypt_thin(
     requires table { length table.old ≡ table_words (params.now.log_n - s) params.now.r }
     requires scratch { length scratch.old ≡ thin_scratch_words params.now.r }
     ensures allowed { IsOk result ↔ IsTrue (is_output_len (length output.old)) }
-    ensures value { OnOk result (output.new ≡ derived_key password.now salt.now
-        params.now.log_n params.now.r params.now.p (length output.old)) }
-    ensures counted { OnOk result (AreCounted (thin_cost password.now salt.now params.now.log_n params.now.r params.now.p s)
-        cores.old cores.new) }
-    ensures hashed { OnOk result (cores.new.compressions ≡ cores.old.compressions
-        + hash_cost (length password.now) (length salt.now) params.now.r params.now.p (length output.old)) }
+    ensures derived { OnOk result (IsDerived params.now password.now salt.now
+        (thin_cost password.now salt.now params.now.log_n params.now.r params.now.p s) output.old output.new cores.old cores.new) }
     ensures mixed { OnOk result (chunks.new ≡ mixed_b password.now salt.now params.now.log_n params.now.r params.now.p) }
     ensures refused { OnErr result (output.new ≡ output.old) }
-    ensures buffers { OnErr result ((chunks.new ≡ chunks.old) × (table.new ≡ table.old) × (scratch.new ≡ scratch.old)) }
-    ensures uncounted { OnErr result (cores.new ≡ cores.old) }
+    ensures unchanged { OnErr result (workspace_of chunks.new table.new scratch.new cores.new ≡ workspace_of chunks.old table.old scratch.old cores.old) }
 {
     scrypt_thin_with_backend::<Simd>(
         password, salt, params, s, chunks, table, scratch, output, cores,
@@ -282,16 +252,11 @@ pub fn scrypt_thin_with_backend<W: Backend>(
     requires table { length table.old ≡ table_words (params.now.log_n - s) params.now.r }
     requires scratch { length scratch.old ≡ thin_scratch_words params.now.r }
     ensures allowed { IsOk result ↔ IsTrue (is_output_len (length output.old)) }
-    ensures value { OnOk result (output.new ≡ derived_key password.now salt.now
-        params.now.log_n params.now.r params.now.p (length output.old)) }
-    ensures counted { OnOk result (AreCounted (thin_cost password.now salt.now params.now.log_n params.now.r params.now.p s)
-        cores.old cores.new) }
-    ensures hashed { OnOk result (cores.new.compressions ≡ cores.old.compressions
-        + hash_cost (length password.now) (length salt.now) params.now.r params.now.p (length output.old)) }
+    ensures derived { OnOk result (IsDerived params.now password.now salt.now
+        (thin_cost password.now salt.now params.now.log_n params.now.r params.now.p s) output.old output.new cores.old cores.new) }
     ensures mixed { OnOk result (chunks.new ≡ mixed_b password.now salt.now params.now.log_n params.now.r params.now.p) }
     ensures refused { OnErr result (output.new ≡ output.old) }
-    ensures buffers { OnErr result ((chunks.new ≡ chunks.old) × (table.new ≡ table.old) × (scratch.new ≡ scratch.old)) }
-    ensures uncounted { OnErr result (cores.new ≡ cores.old) }
+    ensures unchanged { OnErr result (workspace_of chunks.new table.new scratch.new cores.new ≡ workspace_of chunks.old table.old scratch.old cores.old) }
 {
     if !output_len_ok(output.len()) {
         return Err(InvalidOutputLen);
@@ -316,18 +281,13 @@ pub(crate) fn derive_in<M: TableMemory, W: Backend>(
     requires ready { IsReady M.room params.now.log_n s params.now.r params.now.p used.old }
     requires length { length output.old ≤ max_output_len }
     ensures kept { IsKept M.room used.old used.new }
-    ensures value { output.new ≡ derived_key password.now salt.now
-        params.now.log_n params.now.r params.now.p (length output.old) }
+    ensures derived { IsDerived params.now password.now salt.now
+        (thin_cost password.now salt.now params.now.log_n params.now.r params.now.p s) output.old output.new used.old.cores.now used.new.cores.now }
     ensures mixed { used.new.chunks.now ≡ mixed_b password.now salt.now params.now.log_n params.now.r params.now.p }
-    ensures counted { AreCounted (thin_cost password.now salt.now params.now.log_n params.now.r params.now.p s)
-        used.old.cores.now used.new.cores.now }
-    ensures whole { s ≡ 0 → AreCounted (cost params.now.log_n params.now.r params.now.p) used.old.cores.now used.new.cores.now }
-    ensures hashed { used.new.cores.now.compressions ≡ used.old.cores.now.compressions
-        + hash_cost (length password.now) (length salt.now) params.now.r params.now.p (length output.old) }
+    ensures whole { s ≡ 0 → AreCounted (cost_by params.now) used.old.cores.now used.new.cores.now }
 {
     derive_chunks(password, salt, params, used.chunks, used.cores);
-    let count = params.p() as usize;
-    mix_all::<M, W>(params, s, count, used);
+    mix_all::<M, W>(params, s, params.p() as usize, used);
     // Step 3: DK, with B as salt. B is borrowed mutably, because the prover does not support a
     // second shared borrow besides the borrow of the count.
     let mixed = &mut *used.chunks;

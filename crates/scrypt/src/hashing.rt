@@ -60,15 +60,9 @@ pub(crate) fn key_allocating<W: Backend>(
     ensures memory { IfErr result (λ e. e ≡ OutOfMemory) }
 {
     // A limit of 0 bytes selects one table.
-    let (width, mut own) = OwnBuffers::allocate_within(alloc, params, 0)?;
-    let mut cores = CoreCount::new();
-    let mut used = ActiveBuffers::new(
-        width,
-        &mut own.chunks,
-        &mut own.table,
-        &mut own.scratch,
-        &mut cores,
-    );
+    let (w, mut own) = OwnBuffers::allocate_within(alloc, params, 0)?;
+    let cores = &mut CoreCount::new();
+    let mut used = ActiveBuffers::new(w, &mut own.chunks, &mut own.table, &mut own.scratch, cores);
     Ok(stored_key::<Allocated, W>(password, salt, params, &mut used))
 }
 

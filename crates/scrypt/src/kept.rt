@@ -81,15 +81,14 @@ impl Buffers {
             × (length self.new.table.items ≡ length self.old.table.items)
             × (length self.new.scratch.items ≡ length self.old.scratch.items) }
     {
+        let Buffers {
+            chunks,
+            table,
+            scratch,
+        } = self;
+        let cores = &mut CoreCount::new();
         scrypt_in_prefix::<Simd>(
-            password,
-            salt,
-            params,
-            &mut self.chunks,
-            &mut self.table,
-            &mut self.scratch,
-            output,
-            &mut CoreCount::new(),
+            password, salt, params, chunks, table, scratch, output, cores,
         )
     }
 
@@ -112,14 +111,13 @@ impl Buffers {
         match hash.parts() {
             Ok(parts) => {
                 parts.params.expose_invariant();
-                verify_in_buffers::<Simd>(
-                    password,
-                    parts,
-                    &mut self.chunks,
-                    &mut self.table,
-                    &mut self.scratch,
-                    &mut CoreCount::new(),
-                )
+                let Buffers {
+                    chunks,
+                    table,
+                    scratch,
+                } = self;
+                let cores = &mut CoreCount::new();
+                verify_in_buffers::<Simd>(password, parts, chunks, table, scratch, cores)
             }
             Err(unread) => Err(unread),
         }

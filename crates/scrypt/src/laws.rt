@@ -1,7 +1,6 @@
 //! Laws of the definitions. Each function does nothing at run time: its contract is the law.
 
-ghost use Rattle.std.specs.Prelude.{◌≡◌, ◌≢◌, ◌⊎◌, ◌↔◌, true, false, ℕ, ◌+◌, ◌-◌, ◌*◌, ◌%◌, ◌^◌, ◌<◌, ◌≤◌, List, [], ◌∷◌, ◌++◌, IsTrue};
-ghost use Rattle.std.specs.Prelude.{length, take, Option, Result, Ok, Err, IsSome, Some, All};
+ghost use Rattle.std.specs.Prelude.{◌≡◌, ◌≢◌, ◌⊎◌, ◌↔◌, true, false, ℕ, ◌+◌, ◌-◌, ◌*◌, ◌%◌, ◌^◌, ◌<◌, ◌≤◌, List, [], ◌∷◌, ◌++◌, IsTrue, length, take, Option, Result, Ok, Err, IsSome, Some, All};
 ghost use Rattle.sha2.specs.Sha256.{sha256};
 ghost use Rattle.password_hash.specs.Crypt64.{Crypt64, letter_value, letters_of};
 ghost use Rattle.password_hash.specs.Mcf.{IsMcfText, fields_of};
@@ -56,7 +55,7 @@ pub fn chunks_in_any_order()
 {}
 
 /// Parameters that are written to a PHC string are read back as the same `log_n`, `r` and `p`.
-#[tactic(auto, using(crate::proofs::PhcReadingFacts::written_read))]
+#[tactic(auto, using(crate::proofs::PhcFacts::written_read))]
 pub fn written_parameters_are_read_back()
     ensures read { (c : Parameters) → IsTrue (are_accepted c.log_n c.r c.p) → params_of_pairs (written_pairs c) ≡ Ok (without_len c) }
 {}
@@ -88,7 +87,7 @@ pub fn mcf_texts_are_read()
 /// A hash made from a password with accepted parameters verifies against that password. A PHC hash
 /// does so also after it has been printed and parsed. A `$7$` hash consists of the letters of the
 /// parameters, of the salt and of the key.
-#[tactic(auto, using(crate::proofs::PhcHashFacts::made_hashes, crate::proofs::McfTextFacts::made_text, password_hash::proofs::PhcReadingFacts::one_reading))]
+#[tactic(auto, using(crate::proofs::PhcFacts::made_hashes, crate::proofs::McfTextFacts::made_text, password_hash::proofs::PhcReadingFacts::one_reading))]
 pub fn made_hashes_are_accepted()
     ensures phc { (c : Parameters) (password salt : List ℕ) (hash : PasswordHash) → IsTrue (are_accepted c.log_n c.r c.p)
         → IsMadeHash c password salt hash → verdict password (read_phc hash) ≡ Ok tt }
@@ -129,7 +128,7 @@ pub fn parameters_are_those_of_the_reading()
 /// salt and the key that it was made of, and it is within
 /// [`Limits::for_new`](crate::Limits::for_new), if the bytes and the work of its derivation are
 /// below `2^64` each. A key has the requested length.
-#[tactic(auto, using(crate::proofs::PhcHashFacts::made_hashes, crate::proofs::StoredHashFacts::made_texts, crate::proofs::KeyFacts::lengths, crate::proofs::ReadingFacts::made_within))]
+#[tactic(auto, using(crate::proofs::PhcFacts::made_hashes, crate::proofs::StoredHashFacts::made_texts, crate::proofs::KeyFacts::lengths, crate::proofs::ReadingFacts::made_within))]
 pub fn made_texts_are_accepted()
     ensures phc { (c : Parameters) (password salt : List ℕ) (hash : PasswordHash) → IsTrue (are_accepted c.log_n c.r c.p)
         → IsTrue (is_stored_len c.output_len) → IsSalt salt → IsMadeHash c password salt hash
@@ -179,7 +178,7 @@ pub fn reading_names_no_password()
 {}
 
 /// A hash that was made with the wanted parameters is not weaker than wanted.
-#[tactic(auto, using(crate::proofs::PhcHashFacts::made_hashes))]
+#[tactic(auto, using(crate::proofs::PhcFacts::made_hashes))]
 pub fn rehashing_converges()
     ensures phc { (c : Parameters) (password salt : List ℕ) (hash : PasswordHash) → IsTrue (are_accepted c.log_n c.r c.p)
         → IsMadeHash c password salt hash → weaker c (read_phc hash) ≡ Ok false }

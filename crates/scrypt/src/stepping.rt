@@ -1,21 +1,18 @@
 //! A derivation in steps, in the caller's buffers: between two steps the caller can show the
 //! progress, or abandon the derivation.
 
-ghost use Rattle.std.specs.Prelude.{◌≡◌, ◌≢◌, ◌↔◌, ℕ, ◌+◌, ◌-◌, ◌*◌, ◌^◌, ◌<◌, ◌≤◌, List, length};
-ghost use Rattle.std.specs.Prelude.{min, false, true, IsErrOf, IsTrue, OnErr, OnOk};
+ghost use Rattle.std.specs.Prelude.{◌≡◌, ◌≢◌, ◌↔◌, ℕ, ◌+◌, ◌-◌, ◌*◌, ◌^◌, ◌<◌, ◌≤◌, List, length, min, false, true, IsErrOf, IsTrue, OnErr, OnOk};
 ghost use Rattle.scrypt_kernel.specs.Count.{AreCounted, AreCountedAs, AreHashed};
 ghost use Rattle.scrypt_kernel.specs.Diagonal.{pivot};
 ghost use Rattle.scrypt_kernel.specs.Pbkdf2.{pbkdf2};
 ghost use Rattle.scrypt_kernel.specs.Steps.{IsMixing, all_mixes};
 ghost use Rattle.scrypt_kernel.specs.Words.{part, words_of};
 ghost use Rattle.scrypt.specs.Accepted.{is_output_len};
-ghost use Rattle.scrypt.specs.Cost.{chunks_bytes, cost, hash_cost, pbkdf2_cost, scratch_words};
-ghost use Rattle.scrypt.specs.Cost.{table_words};
+ghost use Rattle.scrypt.specs.Cost.{chunks_bytes, cost, hash_cost, pbkdf2_cost, scratch_words, table_words};
 ghost use Rattle.scrypt.specs.Key.{derived_key};
-ghost use Rattle.scrypt.specs.Stepping.{AreMixable, AreMixed, IsUnderWay, IsWithin, first_b};
-ghost use Rattle.scrypt.specs.Stepping.{lacking, mixes_done, words_from};
-ghost use Rattle.scrypt.specs.declared.stepping.FinishError.TheVariants.{InvalidOutputLen as BadLength};
-ghost use Rattle.scrypt.specs.declared.stepping.FinishError.TheVariants.{Unfinished};
+ghost use Rattle.scrypt.specs.KeyOfParams.{IsDerived, cost_by};
+ghost use Rattle.scrypt.specs.Stepping.{AreMixable, CanGoOn, AreMixed, IsUnderWay, IsWithin, first_b, lacking, mixes_done, words_from};
+ghost use Rattle.scrypt.specs.declared.stepping.FinishError.TheVariants.{InvalidOutputLen as BadLength, Unfinished};
 
 use crate::buffers::interleaved_chunks;
 use crate::derivation::mixing::group_by;
@@ -74,15 +71,9 @@ pub fn begin<W: Backend>(
     requires table { table_words params.now.log_n params.now.r ≤ length table.old }
     requires scratch { scratch_words params.now.r ≤ length scratch.old }
     ensures start { (result.chunks ≡ 0) × (result.mixes ≡ 0) }
-    ensures within { IsWithin params.now result }
-    ensures mixable { AreMixable W.most W.scalar result.interleaved }
-    ensures table { result.interleaved * table_words params.now.log_n params.now.r ≤ length table.old }
-    ensures scratch { result.interleaved * scratch_words params.now.r ≤ length scratch.old }
-    ensures under_way { IsUnderWay password.now salt.now params.now result chunks.new table.new
-        scratch.new }
-    ensures counted { AreHashed (pbkdf2_cost (length password.now) (length salt.now) (chunks_bytes
-        params.now.r params.now.p))
-        cores.old cores.new }
+    ensures going { CanGoOn W.most W.scalar params.now result table.new scratch.new }
+    ensures under_way { IsUnderWay password.now salt.now params.now result chunks.new table.new scratch.new }
+    ensures counted { AreHashed (pbkdf2_cost (length password.now) (length salt.now) (chunks_bytes params.now.r params.now.p)) cores.old cores.new }
 {
     params.expose_invariant();
     derive_chunks(password, salt, params, chunks, cores);
@@ -104,24 +95,14 @@ pub fn step<W: Backend>(
     scratch: &mut [u32],
     cores: &mut CoreCount,
 ) -> Progress
-    requires within { IsWithin params.now at }
-    requires mixable { AreMixable W.most W.scalar at.interleaved }
+    requires going { CanGoOn W.most W.scalar params.now at table.old scratch.old }
     requires chunks { length chunks.old ≡ chunks_bytes params.now.r params.now.p }
-    requires table { at.interleaved * table_words params.now.log_n params.now.r ≤ length table.old }
-    requires scratch { at.interleaved * scratch_words params.now.r ≤ length scratch.old }
-    ensures within { IsWithin params.now result }
-    ensures mixable { AreMixable W.most W.scalar result.interleaved }
-    ensures table { result.interleaved * table_words params.now.log_n params.now.r ≤ length table.old }
-    ensures scratch { result.interleaved * scratch_words params.now.r ≤ length scratch.old }
-    ensures under_way { (password : List ℕ) → (salt : List ℕ)
-        → IsUnderWay password salt params.now at chunks.old table.old scratch.old
+    ensures going { CanGoOn W.most W.scalar params.now result table.new scratch.new }
+    ensures under_way { (password : List ℕ) → (salt : List ℕ) → IsUnderWay password salt params.now at chunks.old table.old scratch.old
         → IsUnderWay password salt params.now result chunks.new table.new scratch.new }
     ensures ended { at.chunks ≡ params.now.p → result ≡ at }
-    ensures exact { mixes_done params.now result
-        ≡ mixes_done params.now at + at.interleaved * min count (lacking params.now at) }
-    ensures counted { AreCountedAs true ((mixes_done params.now result - mixes_done params.now at)
-        * (2 * params.now.r))
-        cores.old cores.new }
+    ensures exact { mixes_done params.now result ≡ mixes_done params.now at + at.interleaved * min count (lacking params.now at) }
+    ensures counted { AreCountedAs true ((mixes_done params.now result - mixes_done params.now at) * (2 * params.now.r)) cores.old cores.new }
 {
     params.expose_invariant();
     if at.chunks == params.p() as usize {
@@ -130,11 +111,7 @@ pub fn step<W: Backend>(
     let n = at.interleaved;
     let mixes = mix_more::<W>(params, n, at.mixes, count, table, scratch, cores);
     if mixes < 2usize << params.log_n() {
-        return Progress {
-            chunks: at.chunks,
-            interleaved: n,
-            mixes,
-        };
+        return Progress { mixes, ..at };
     }
     end_group(params, at.chunks, n, chunks, scratch);
     begin_group::<W>(params, at.chunks + n, chunks, table, scratch)
@@ -144,8 +121,7 @@ pub fn step<W: Backend>(
 /// buffers that are long enough: at most `p` chunks are mixed or in the current group, and fewer
 /// than `2 * N` block mixes are done for the group.
 pub fn is_within<W: Backend>(params: &Params, at: Progress) -> bool
-    ensures exact { IsTrue result ↔ (IsWithin params.now at
-        × AreMixable W.most W.scalar at.interleaved) }
+    ensures exact { IsTrue result ↔ (IsWithin params.now at × AreMixable W.most W.scalar at.interleaved) }
 {
     params.expose_invariant();
     let count = params.p() as usize;
@@ -192,13 +168,10 @@ pub fn finish(
 ) -> Result<(), FinishError>
     requires chunks { length chunks.old ≡ chunks_bytes params.now.r params.now.p }
     ensures unfinished { IsErrOf result Unfinished ↔ ¬ (at.chunks ≡ params.now.p) }
-    ensures length { IsErrOf result BadLength
-        ↔ ((at.chunks ≡ params.now.p) × ¬ IsTrue (is_output_len (length output.old))) }
+    ensures length { IsErrOf result BadLength ↔ ((at.chunks ≡ params.now.p) × ¬ IsTrue (is_output_len (length output.old))) }
     ensures value { OnOk result ((salt : List ℕ) → (table : List ℕ) → (scratch : List ℕ)
-        → IsUnderWay password.now salt params.now at chunks.old table scratch
-        → output.new
-        ≡ derived_key password.now salt params.now.log_n params.now.r params.now.p (length
-        output.old)) }
+        → IsUnderWay password.now salt params.now at chunks.old table scratch → output.new
+        ≡ derived_key password.now salt params.now.log_n params.now.r params.now.p (length output.old)) }
     ensures counted { OnOk result (AreHashed
         (pbkdf2_cost (length password.now) (chunks_bytes params.now.r params.now.p) (length output.old)) cores.old cores.new) }
     ensures kept { chunks.new ≡ chunks.old }
@@ -242,14 +215,8 @@ pub fn scrypt_in_steps<W: Backend, F: FnMut(u128) -> bool>(
     requires chunks { length chunks.old ≡ chunks_bytes params.now.r params.now.p }
     requires table { table_words params.now.log_n params.now.r ≤ length table.old }
     requires scratch { scratch_words params.now.r ≤ length scratch.old }
-    ensures value { OnOk result (output.new ≡ derived_key password.now salt.now
-        params.now.log_n params.now.r params.now.p (length output.old)) }
-    ensures counted { OnOk result (AreCounted (cost params.now.log_n params.now.r params.now.p)
-        cores.old cores.new) }
-    ensures hashed { OnOk result (cores.new.compressions ≡ cores.old.compressions
-        + hash_cost (length password.now) (length salt.now) params.now.r params.now.p (length output.old)) }
-    ensures cancelled { OnErr result ((state : F) × (done : ℕ) × (left : F)
-        × F.step state done false left) }
+    ensures derived { OnOk result (IsDerived params.now password.now salt.now (cost_by params.now) output.old output.new cores.old cores.new) }
+    ensures cancelled { OnErr result ((state : F) × (done : ℕ) × (left : F) × F.step state done false left) }
     ensures refused { OnErr result (output.new ≡ output.old) }
 {
     params.expose_invariant();
@@ -284,11 +251,9 @@ fn mix_more<W: Backend>(
     requires table { n * table_words params.now.log_n params.now.r ≤ length table.old }
     requires scratch { n * scratch_words params.now.r ≤ length scratch.old }
     ensures done { result ≡ min (done + count) (all_mixes params.now.log_n) }
-    ensures mixed { (b : ℕ → List ℕ)
-        → IsMixing pivot n b (32 * params.now.r) params.now.log_n done table.old scratch.old
+    ensures mixed { (b : ℕ → List ℕ) → IsMixing pivot n b (32 * params.now.r) params.now.log_n done table.old scratch.old
         → IsMixing pivot n b (32 * params.now.r) params.now.log_n result table.new scratch.new }
-    ensures counted { AreCountedAs true ((result - done) * (n * (2
-        * params.now.r))) cores.old cores.new }
+    ensures counted { AreCountedAs true ((result - done) * (n * (2 * params.now.r))) cores.old cores.new }
 {
     params.expose_invariant();
     let r = params.r() as usize;
@@ -330,12 +295,8 @@ fn begin_group<W: Backend>(
     requires table { table_words params.now.log_n params.now.r ≤ length table.old }
     requires scratch { scratch_words params.now.r ≤ length scratch.old }
     ensures start { (result.chunks ≡ i) × (result.mixes ≡ 0) }
-    ensures within { IsWithin params.now result }
-    ensures mixable { AreMixable W.most W.scalar result.interleaved }
-    ensures table { result.interleaved * table_words params.now.log_n params.now.r ≤ length table.old }
-    ensures scratch { result.interleaved * scratch_words params.now.r ≤ length scratch.old }
-    ensures under_way { (password : List ℕ) → (salt : List ℕ)
-        → AreMixed (first_b password salt params.now) params.now.log_n params.now.r i chunks.now
+    ensures going { CanGoOn W.most W.scalar params.now result table.new scratch.new }
+    ensures under_way { (password : List ℕ) → (salt : List ℕ) → AreMixed (first_b password salt params.now) params.now.log_n params.now.r i chunks.now
         → IsUnderWay password salt params.now result chunks.now table.new scratch.new }
 {
     params.expose_invariant();
@@ -370,8 +331,7 @@ fn write_first_rows(
     requires inside { i * (128 * params.now.r) + n * (128 * params.now.r) ≤ length chunks.now }
     requires table { n * table_words params.now.log_n params.now.r ≤ length table.old }
     requires scratch { n * scratch_words params.now.r ≤ length scratch.old }
-    ensures begun { (b : List ℕ) → AreMixed b params.now.log_n params.now.r i chunks.now
-        → IsMixing pivot n (words_from b params.now.r i) (32
+    ensures begun { (b : List ℕ) → AreMixed b params.now.log_n params.now.r i chunks.now → IsMixing pivot n (words_from b params.now.r i) (32
         * params.now.r) params.now.log_n 0 table.new scratch.new }
 {
     params.expose_invariant();
@@ -385,10 +345,8 @@ fn end_group(params: &Params, i: usize, n: usize, chunks: &mut [u8], scratch: &m
     requires some { 0 < n }
     requires inside { i * (128 * params.now.r) + n * (128 * params.now.r) ≤ length chunks.old }
     requires scratch { n * scratch_words params.now.r ≤ length scratch.old }
-    ensures mixed { (b : List ℕ) → (table : List ℕ)
-        → AreMixed b params.now.log_n params.now.r i chunks.old
-        → IsMixing pivot n (words_from b params.now.r i) (32 * params.now.r) params.now.log_n
-        (all_mixes params.now.log_n) table scratch.old
+    ensures mixed { (b : List ℕ) → (table : List ℕ) → AreMixed b params.now.log_n params.now.r i chunks.old
+        → IsMixing pivot n (words_from b params.now.r i) (32 * params.now.r) params.now.log_n (all_mixes params.now.log_n) table scratch.old
         → AreMixed b params.now.log_n params.now.r (i + n) chunks.new }
 {
     params.expose_invariant();

@@ -45,15 +45,10 @@ fn is_key_of<M: TableMemory, W: Backend>(
     ensures hashed { used.new.cores.now.compressions ≡ used.old.cores.now.compressions
         + verify_cost password.now (stored parts.now) }
 {
-    derive_chunks(
-        password,
-        parts.salt.as_bytes(),
-        &parts.params,
-        used.chunks,
-        used.cores,
-    );
-    let count = parts.params.p() as usize;
-    mix_all::<M, W>(&parts.params, 0, count, used);
+    let params = &parts.params;
+    let salt = parts.salt.as_bytes();
+    derive_chunks(password, salt, params, used.chunks, used.cores);
+    mix_all::<M, W>(params, 0, params.p() as usize, used);
     // Borrowed mutably for the same reason as in `derive_in`.
     let mixed = &mut *used.chunks;
     let same = is_derived_key(password, mixed, parts, used.cores);
@@ -81,14 +76,8 @@ pub(crate) fn verify_allocating<W: Backend>(
         → cores.new.compressions ≡ cores.old.compressions + verify_cost password.now (stored parts.now) }
 {
     // A limit of 0 bytes selects one table.
-    let (width, mut own) = OwnBuffers::allocate_within(alloc, &parts.params, 0)?;
-    let mut used = ActiveBuffers::new(
-        width,
-        &mut own.chunks,
-        &mut own.table,
-        &mut own.scratch,
-        cores,
-    );
+    let (w, mut own) = OwnBuffers::allocate_within(alloc, &parts.params, 0)?;
+    let mut used = ActiveBuffers::new(w, &mut own.chunks, &mut own.table, &mut own.scratch, cores);
     verdict(is_key_of::<Allocated, W>(password, parts, &mut used))
 }
 
@@ -114,18 +103,10 @@ pub(crate) fn verify_in_buffers<W: Backend>(
 {
     let params = &parts.params;
     params.expose_invariant();
-    let same = with_prefix(
-        params,
-        params.p(),
-        chunks,
-        table,
-        scratch,
-        cores,
-        &mut [],
-        |used, _: &mut [()]| is_key_of::<Buffer<'_>, W>(password, parts, used),
-    );
-    match same {
-        Some(same) => verdict(same),
-        None => Err(Error::OutOfMemory),
-    }
+    let test = |used: &mut ActiveBuffers<'_, Buffer<'_>>, _: &mut [()]| {
+        is_key_of::<Buffer<'_>, W>(password, parts, used)
+    };
+    let p = params.p();
+    let same = with_prefix(params, p, chunks, table, scratch, cores, &mut [], test);
+    verdict(same.ok_or(Error::OutOfMemory)?)
 }

@@ -233,16 +233,11 @@ pub fn hash_with_buffers<W: Backend>(
         return Err(Error::OutOfMemory);
     }
     params.expose_invariant();
-    let made = with_prefix(
-        params,
-        params.p(),
-        chunks,
-        table,
-        scratch,
-        cores,
-        &mut text[..len],
-        |used, text| fill_with_hash::<W>(password, salt, params, text, used),
-    );
+    let fill = |used: &mut ActiveBuffers<'_, Buffer<'_>>, text: &mut [u8]| {
+        fill_with_hash::<W>(password, salt, params, text, used)
+    };
+    let (p, text) = (params.p(), &mut text[..len]);
+    let made = with_prefix(params, p, chunks, table, scratch, cores, text, fill);
     made.ok_or(Error::OutOfMemory)?;
     Ok(len)
 }

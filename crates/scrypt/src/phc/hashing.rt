@@ -10,7 +10,7 @@ ghost use Rattle.password_hash.specs.declared.error.Error.TheVariants.{OutOfMemo
 ghost use Rattle.scrypt.specs.InBuffers.{are_enough};
 ghost use Rattle.scrypt.specs.Workspace.{IsDone, workspace_of};
 
-use crate::buffers::with_prefix;
+use crate::buffers::{ActiveBuffers, with_prefix};
 use crate::hashing::{check_call, key_allocating, stored_key};
 use crate::phc::ALG_ID;
 use crate::phc::params::written;
@@ -140,17 +140,12 @@ pub fn hash_with_buffers<W: Backend>(
         return Err(Error::SaltInvalid);
     };
     params.expose_invariant();
-    let letters = salt.as_bytes();
-    let key = with_prefix(
-        params,
-        params.p(),
-        chunks,
-        table,
-        scratch,
-        cores,
-        &mut [],
-        |used, _: &mut [()]| stored_key::<Buffer<'_>, W>(password, letters, params, used),
-    );
+    let bytes = salt.as_bytes();
+    let derive = |used: &mut ActiveBuffers<'_, Buffer<'_>>, _: &mut [()]| {
+        stored_key::<Buffer<'_>, W>(password, bytes, params, used)
+    };
+    let p = params.p();
+    let key = with_prefix(params, p, chunks, table, scratch, cores, &mut [], derive);
     match key {
         Some(key) => Ok(hash_of(params, salt, key)),
         None => Err(Error::OutOfMemory),

@@ -5,8 +5,7 @@ ghost use Rattle.password_hash.specs.Decimal.{decimal_below};
 ghost use Rattle.password_hash.specs.Refusal.{ParamInvalid};
 ghost use Rattle.password_hash.specs.Value.{value_text};
 ghost use Rattle.scrypt.specs.Accepted.{is_stored_len};
-ghost use Rattle.scrypt.specs.PhcConversions.{output_len_of, params_with_len};
-ghost use Rattle.scrypt.specs.PhcParams.{params_of_pairs, written_pairs};
+ghost use Rattle.scrypt.specs.PhcParams.{output_len_of, params_of_pairs, params_with_len, written_pairs};
 ghost use Rattle.scrypt.specs.Reading.{with_refusal};
 
 use crate::Params;
@@ -53,7 +52,7 @@ impl TryFrom<&ParamsString> for Params {
 }
 
 // Returns the value of `ln`, a decimal of at most 255.
-#[tactic(auto, using(crate::proofs::PhcReadingFacts::numbers))]
+#[tactic(auto, using(crate::proofs::PhcFacts::numbers))]
 fn log_n_of(value: Value<'_>) -> Result<u8>
     ensures { with_refusal result ≡ ok_or (decimal_below 256 (value_text value.entry)) (ParamInvalid (codes "ln")) }
 {
@@ -68,7 +67,7 @@ fn log_n_of(value: Value<'_>) -> Result<u8>
 }
 
 // Returns the value of a parameter, a decimal.
-#[tactic(auto, using(crate::proofs::PhcReadingFacts::numbers))]
+#[tactic(auto, using(crate::proofs::PhcFacts::numbers))]
 fn number_of(value: Value<'_>, name: &'static str) -> Result<u32>
     ensures { with_refusal result ≡ ok_or (decimal_below (2 ^ 32) (value_text value.entry)) (ParamInvalid name.now) }
 {
@@ -134,7 +133,7 @@ impl TryFrom<Params> for ParamsString {
 }
 
 // Writes the parameters of a hash.
-#[tactic(auto, using(crate::proofs::PhcParamsFacts::pairs_of_params))]
+#[tactic(auto, using(crate::proofs::PhcFacts::pairs_of_params))]
 pub(super) fn written(params: &Params) -> ParamsString
     ensures { result ≡ written_pairs params.now }
 {

@@ -2,9 +2,6 @@ use Rattle.std.proofs.Common.{◌-◌, arith, rules}
 use Rattle.scrypt.proofs.CostFacts.{one_table}
 use Rattle.scrypt.proofs.derivation.scrypt_thin_with_backend.Goals as goal
 
-pub returns-clause-value : goal.returns-clause-value
-returns-clause-value g c = c.derive_in.ensures.value
-
 pub derive_in-requires-clause-ready : goal.derive_in-requires-clause-ready
 derive_in-requires-clause-ready g c = record {
   chunks_len = search rules;

@@ -1,4 +1,4 @@
-use Rattle.std.proofs.Common.{◌≡◌, ◌∙◌, ◌∷◌, ◌≤◌, ◌+◌, ◌++◌, ℕ, List, ap, append_assoc, append-nil, arith, drop, length, length-append, refl, rules, sym, take, take_all}
+use Rattle.std.proofs.Common.{◌≡◌, ◌∙◌, ◌∷◌, ◌≤◌, ◌+◌, ◌++◌, List, ap, append_assoc, append-nil, arith, drop, length, length-append, refl, rules, sym, take, take_all}
 use Rattle.std.proofs.lemmas.Slice.{take-put_mid}
 use Rattle.scrypt_kernel.proofs.CountFacts.{hashed_none}
 use Rattle.scrypt.specs.Logins.{Attempt, all_cost, all_of, attempts, chunks_cost, own}

@@ -1,8 +1,9 @@
 use Rattle.std.proofs.Common.{◌≡◌, ◌≤◌, ◌+◌, ◌-◌, ◌*◌, ℕ, length, drop, ap, ◌∙◌, arith}
 use Rattle.std.proofs.lemmas.List.{length-drop, length-take-le}
+use Rattle.scrypt_kernel.proofs.PartFacts.{parts_from}
+use Rattle.scrypt.specs.Key.{mixed_chunk}
 use Rattle.scrypt.specs.Stepping.{words_from}
 use Rattle.scrypt.proofs.KeyFacts.{mixed_more}
-use Rattle.scrypt.proofs.SteppingFacts.{chunks_mixed}
 use Rattle.scrypt.proofs.stepping.end_group.Goals as goal
 
 pub returns : goal.returns
@@ -20,5 +21,5 @@ returns c = record {
       let room : a + m ≤ length x = omega (arith, at, size, c.requires.inside) in
       let long : length c.end_chunks.new.b ≡ m = c.end_chunks.auto.b ∙ length-take-le m (drop a x) (omega (arith, length-drop a x, room)) in
       let value = (rw c.r-r.ensures.value at c.end_chunks.ensures.value) (words_from b params.r i) params.log_n table mixing in
-      mixed_more n a m at size long room (chunks_mixed b c.end_chunks.new.b params.log_n params.r i n (long ∙ size) value) before;
+      mixed_more n a m at size long room (parts_from (mixed_chunk b params.log_n params.r) (128 * params.r) i n c.end_chunks.new.b (long ∙ size) value) before;
 }

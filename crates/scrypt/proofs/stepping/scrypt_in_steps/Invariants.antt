@@ -1,17 +1,13 @@
-use Rattle.std.proofs.Common.{◌*◌, ◌-◌, ◌≤◌, length, true}
+use Rattle.std.proofs.Common.{◌*◌, ◌-◌, true}
 use Rattle.scrypt_kernel.specs.Count.{AreCountedAs}
 use Rattle.scrypt_kernel.specs.Steps.{all_mixes}
-use Rattle.scrypt.specs.Cost.{scratch_words, table_words}
-use Rattle.scrypt.specs.Stepping.{AreMixable, IsUnderWay, IsWithin, mixes_done}
+use Rattle.scrypt.specs.Stepping.{CanGoOn, IsUnderWay, mixes_done}
 use Rattle.scrypt.proofs.stepping.scrypt_in_steps.Given as goal
 
 abbrev pub invariant-steps : goal.invariant-steps
 invariant-steps g l = record {
   callable : goal.F-IsAlwaysCallable g l.go_on;
-  within : IsWithin l.params l.at;
-  mixable : AreMixable g.W.Backend.most g.W.Backend.scalar l.at.interleaved;
-  table : l.at.interleaved * table_words l.params.log_n l.params.r ≤ length l.table;
-  scratch : l.at.interleaved * scratch_words l.params.r ≤ length l.scratch;
+  going : CanGoOn g.W.Backend.most g.W.Backend.scalar l.params l.at l.table l.scratch;
   under_way : IsUnderWay l.password l.salt l.params l.at l.chunks l.table l.scratch;
   counted : AreCountedAs true (mixes_done l.params l.at * (2 * l.params.r)) l.initial.cores l.cores;
 }

@@ -7,7 +7,7 @@ use Rattle.scrypt.proofs.stepping.step.Goals as goal
 pub end_group-requires-clause-inside : goal.end_group-requires-clause-inside
 end_group-requires-clause-inside g c =
     let params = c.args.params.now in
-    chunks_inside c.args.at.chunks c.args.at.interleaved params.p (128 * params.r) _ c.requires.within.chunks c.requires.chunks
+    chunks_inside c.args.at.chunks c.args.at.interleaved params.p (128 * params.r) _ c.requires.going.within.chunks c.requires.chunks
 
 pub returns-clause-under_way : goal.returns-clause-under_way
 returns-clause-under_way g c password salt at =
@@ -25,13 +25,13 @@ returns-then-mixes-log_n-clause-exact g c =
     omega (
       arith,
       more_mixes c.args.at.interleaved c.args.at.mixes c.args.count (all_mixes params.log_n) c.mix_more-mixes.result
-          c.requires.within.mixes c.mix_more-mixes.ensures.done,
+          c.requires.going.within.mixes c.mix_more-mixes.ensures.done,
     )
 
 pub returns-then-mixes-log_n-clause-counted : goal.returns-then-mixes-log_n-clause-counted
 returns-then-mixes-log_n-clause-counted g c =
     let params = c.args.params.now in
-    let some : c.mix_more-mixes.result - c.args.at.mixes ≡ min c.args.count (lacking params c.args.at) = omega (arith, c.mix_more-mixes.ensures.done, c.requires.within.mixes) in
+    let some : c.mix_more-mixes.result - c.args.at.mixes ≡ min c.args.count (lacking params c.args.at) = omega (arith, c.mix_more-mixes.ensures.done, c.requires.going.within.mixes) in
     rw (cores_of_step (mixes_done params c.args.at) (mixes_done params (record c.args.at { mixes = c.mix_more-mixes.result })) c.args.at.interleaved _ _ (2 * params.r)
     (returns-then-mixes-log_n-clause-exact g c) some) at c.mix_more-mixes.ensures.counted
 
@@ -44,12 +44,12 @@ returns-clause-exact g c =
     (omega (
       arith,
       rw all at (more_mixes c.args.at.interleaved c.args.at.mixes c.args.count (all_mixes params.log_n) c.mix_more-mixes.result
-          c.requires.within.mixes c.mix_more-mixes.ensures.done),
+          c.requires.going.within.mixes c.mix_more-mixes.ensures.done),
     ))
 
 pub returns-clause-counted : goal.returns-clause-counted
 returns-clause-counted g c =
     let params = c.args.params.now in
-    let some : c.mix_more-mixes.result - c.args.at.mixes ≡ min c.args.count (lacking params c.args.at) = omega (arith, c.mix_more-mixes.ensures.done, c.requires.within.mixes) in
+    let some : c.mix_more-mixes.result - c.args.at.mixes ≡ min c.args.count (lacking params c.args.at) = omega (arith, c.mix_more-mixes.ensures.done, c.requires.going.within.mixes) in
     rw (cores_of_step (mixes_done params c.args.at) (mixes_done params c.begin_group.result) c.args.at.interleaved _ _ (2 * params.r)
     (returns-clause-exact g c) some) at c.mix_more-mixes.ensures.counted

@@ -1,7 +1,8 @@
 use Rattle.std.proofs.Common.{◌≡◌, ◌+◌, ◌-◌, ◌*◌, ℕ, refl, ap, arith}
 use Rattle.scrypt_kernel.specs.Words.{words_of}
 use Rattle.scrypt_kernel.proofs.StepFacts.{mixing_as}
-use Rattle.scrypt.proofs.SteppingFacts.{chunk_of_slice, first_rows_fit}
+use Rattle.scrypt.proofs.KeyFacts.{chunk_of_slice}
+use Rattle.scrypt.proofs.SteppingFacts.{first_rows_fit}
 use Rattle.scrypt.proofs.stepping.write_first_rows.Goals as goal
 
 pub begin_chunks-requires-clause-room : goal.begin_chunks-requires-clause-room

@@ -10,7 +10,7 @@ returns-clause-exact g c = c.is_derived_key-same.ensures.exact (search rules)
 pub returns-clause-spent : goal.returns-clause-spent
 returns-clause-spent g c = record {
   kept = search rules;
-  counted = counted_between c.derive_chunks.ensures.counted (rw c.p-count.ensures.value at (c.mix_all.ensures.whole refl))
+  counted = counted_between c.derive_chunks.ensures.counted (rw c.p.ensures.value at (c.mix_all.ensures.whole refl))
       c.is_derived_key-same.ensures.counted;
   chunks = search rules;
   scratch = search rules;
@@ -20,4 +20,4 @@ pub returns-clause-hashed : goal.returns-clause-hashed
 returns-clause-hashed g c =
     let params = c.args.parts.now.params in
     let long : length c.mix_all.new.used.chunks.now ≡ chunks_bytes params.r params.p = search rules in
-    rw (long, c.as_bytes.ensures) at (hashed_around c.derive_chunks.ensures.counted c.mix_all.ensures.counted c.is_derived_key-same.ensures.counted)
+    rw (long, c.as_bytes-salt.ensures) at (hashed_around c.derive_chunks.ensures.counted c.mix_all.ensures.counted c.is_derived_key-same.ensures.counted)

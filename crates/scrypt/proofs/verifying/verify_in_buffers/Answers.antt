@@ -3,9 +3,9 @@ use Rattle.std.specs.Prelude.{IsTrue}
 use Rattle.scrypt.specs.InBuffers.{are_enough}
 use Rattle.scrypt.proofs.verifying.verify_in_buffers.Goals as goal
 
-pub returns-in-Some-clause-left : goal.returns-in-Some-clause-left
-returns-in-Some-clause-left g c =
+pub returns-clause-left : goal.returns-clause-left
+returns-clause-left g c =
     let done = c.with_prefix-same.ensures.done (λ used shown made after left ready ran. search rules) (search rules) in
     let enough : IsTrue (are_enough c.args.parts.now.params c.args.chunks.now c.args.table.now c.args.scratch.now) =
-    rw c.p.ensures.value at (c.with_prefix-same.ensures.exact.0 (search rules)) in
+    rw c.p-p.ensures.value at (c.with_prefix-same.ensures.exact.0 (search rules)) in
     rw enough (search (rules, done))

@@ -1,5 +1,5 @@
 use Rattle.std.proofs.Common.{arith, refl}
-use Rattle.scrypt.proofs.PhcReadingFacts.{larger, number_is}
+use Rattle.scrypt.proofs.PhcFacts.{larger, number_is}
 use Rattle.scrypt.proofs.phc.params.log_n_of.Goals as goal
 
 pub returns-in-Err : goal.returns-in-Err

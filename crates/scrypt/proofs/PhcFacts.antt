@@ -1,0 +1,138 @@
+use Rattle.std.proofs.Common.{◌≡◌, ℕ, ◌^◌, ◌<◌, ◌≤◌, List, [], ◌∷◌, refl, rules, arith, Ok, Some, None, ◌≢◌, false, true, length, codes, sym, ◌∙◌, lit<, length-append, lit≤}
+use Rattle.std.specs.Prelude.{IfErr, Option, decimal, ok_or, IsTrue}
+use Rattle.std.proofs.lemmas.Bool.Decides.{nat_tests}
+use Rattle.password_hash.specs.Decimal.{decimal_below}
+use Rattle.password_hash.proofs.DecimalFacts.{decimal_exact, IsValue-decimal}
+use Rattle.scrypt.specs.Accepted.{are_accepted, Parameters, without_len, is_stored_len}
+use Rattle.scrypt.proofs.AcceptedFacts.{checked_is, small_params, key_len_stored}
+use Rattle.scrypt.proofs.ReadingFacts.{IsFault, checked_fault, faults, made_right, made_stored, made_strong, no_password}
+use Rattle.scrypt.specs.PhcParams.{params_of_pairs, read_pairs, written_pairs}
+use Rattle.std.specs.Str.{bytes_eq}
+use Rattle.std.proofs.lemmas.Bool.{false≢true}
+use Rattle.std.proofs.lemmas.Fmt.{length-decimal-le}
+use Rattle.std.proofs.lemmas.List.Elements.{All-from_recursion, All-nil}
+use Rattle.std.proofs.lemmas.List.Kept.{AllPairs-cons}
+use Rattle.std.proofs.lemmas.Slice.Eq.{bytes_eq-Decides}
+use Rattle.password_hash.specs.PhcReading.{is_identifier}
+use Rattle.password_hash.specs.Pairs.{ArePairs, IsPair}
+use Rattle.password_hash.proofs.ParamsFacts.{ArePairs-front}
+use Rattle.password_hash.proofs.PhcReadingFacts.{identifier_decided}
+use Rattle.password_hash.specs.Phc.{IsHashText, IsSalt, hash_text}
+use Rattle.password_hash.specs.declared.phc.hash.PasswordHash.{PasswordHash}
+use Rattle.scrypt.specs.PhcHash.{IsMadeHash, phc_params, read_phc}
+use Rattle.scrypt.specs.Hashing.{key_len_or_default}
+use Rattle.scrypt.specs.Reading.{NamesNoPassword}
+use Rattle.scrypt.proofs.KeyFacts.{key_by-are_bytes, length-key_by}
+
+-- the number of a value
+
+pub smaller : (limit : ℕ) (text : List ℕ) (n : ℕ) → decimal_below (2 ^ 32) text ≡ Some n → n < limit → decimal_below limit text ≡ Some n
+unfolding decimal_below
+smaller limit text n is small = grind (arith, nat_tests)
+
+pub larger : (limit : ℕ) (text : List ℕ) (n : ℕ) → decimal_below (2 ^ 32) text ≡ Some n → limit ≤ n → decimal_below limit text ≡ None
+unfolding decimal_below
+larger limit text n is large = grind (arith, nat_tests)
+
+pub neither : (limit : ℕ) (text : List ℕ) → limit ≤ 2 ^ 32 → decimal_below (2 ^ 32) text ≡ None → decimal_below limit text ≡ None
+unfolding decimal_below
+neither limit text fits none = grind (arith, nat_tests)
+
+pub number_is : {E : Type 0} (found : Option ℕ) (why : E) (n : ℕ) → Ok n ≡ ok_or found why → found ≡ Some n
+number_is None why n is = absurd cc
+number_is (Some m) why n is = cc
+
+pub ruleset numbers = (smaller, larger, neither)
+
+-- parameters that were written are read
+pub written_read : (c : Parameters) → IsTrue (are_accepted c.log_n c.r c.p) → params_of_pairs (written_pairs c) ≡ Ok (without_len c)
+unfolding read_pairs
+written_read c fits =
+    let small = small_params c.log_n c.r c.p fits in
+    let ln = smaller 256 _ c.log_n ((decimal_exact (decimal c.log_n) c.log_n).1 (omega (arith, small.0), refl)) (omega (arith, small.0)) in
+    let r = (decimal_exact (decimal c.r) c.r).1 (omega (arith, small.1), refl) in
+    let p = (decimal_exact (decimal c.p) c.p).1 (omega (arith, small.2), refl) in
+    rw (ln, r, p) (checked_is c.log_n c.r c.p fits)
+
+pub pairs_fault : (log_n r p : ℕ) (pairs : List (List ℕ × List ℕ)) → IfErr (read_pairs log_n r p pairs) IsFault
+unfolding read_pairs
+pairs_fault log_n r p [] = checked_fault log_n r p
+pairs_fault log_n r p (pair ∷ pairs) =
+    let after = λ (log_n r p : ℕ). pairs_fault log_n r p pairs in search (rules, faults, after)
+
+differ : (name other : List ℕ) → bytes_eq name other ≡ false → name ≢ other
+differ name other apart same = false≢true (sym apart ∙ (bytes_eq-Decides name other).1 same)
+
+is_pair : (name : List ℕ) (n : ℕ) → is_identifier name ≡ true → bytes_eq name (codes "v") ≡ false → n < 2 ^ 32 → IsPair (name, decimal n)
+is_pair name n letters apart small =
+    record { name = (identifier_decided name).0 letters; no_version = differ name _ apart; value = IsValue-decimal n small }
+
+short : (n : ℕ) → n < 2 ^ 32 → length (decimal n) ≤ 10
+short n small = length-decimal-le 10 n (lit< tt) (omega (arith, small)) (omega (arith, small))
+
+abbrev Differ : List ℕ × List ℕ → List ℕ × List ℕ → Type 0
+Differ first second = first.0 ≢ second.0
+
+pub three_pairs : (m n k : ℕ) → m < 2 ^ 32 → n < 2 ^ 32 → k < 2 ^ 32
+    → ArePairs ((codes "ln", decimal m) ∷ (codes "r", decimal n) ∷ (codes "p", decimal k) ∷ [])
+three_pairs m n k small_m small_n small_k =
+    let ln : List ℕ × List ℕ = (codes "ln", decimal m) in
+    let r : List ℕ × List ℕ = (codes "r", decimal n) in
+    let p : List ℕ × List ℕ = (codes "p", decimal k) in
+    record {
+      each = All-from_recursion IsPair (ln ∷ r ∷ p ∷ []) (
+        is_pair (codes "ln") m refl refl small_m,
+        (is_pair (codes "r") n refl refl small_n, (is_pair (codes "p") k refl refl small_k, tt)),
+      );
+      once = AllPairs-cons Differ ln (r ∷ p ∷ []) (All-from_recursion (Differ ln) (r ∷ p ∷ [])
+          (differ (codes "ln") (codes "r") refl, (differ (codes "ln") (codes "p") refl, tt)))
+          (AllPairs-cons Differ r (p ∷ []) (All-from_recursion (Differ r) (p ∷ []) (differ (codes "r") (codes "p") refl, tt))
+          (AllPairs-cons Differ p [] (All-nil (Differ p)) (λ i j d before inside. absurd (omega arith))));
+      short = simp length-append (omega (arith, short m small_m, short n small_n, short k small_k));
+    }
+
+pub two_pairs : (m n : ℕ) → m < 2 ^ 32 → n < 2 ^ 32 → ArePairs ((codes "ln", decimal m) ∷ (codes "r", decimal n) ∷ [])
+two_pairs m n small_m small_n = ArePairs-front (_ ∷ _ ∷ []) _ (three_pairs m n 0 small_m small_n (lit< tt))
+
+pub one_pair : (m : ℕ) → m < 2 ^ 32 → ArePairs ((codes "ln", decimal m) ∷ [])
+one_pair m small = ArePairs-front (_ ∷ []) _ (three_pairs m 0 0 small (lit< tt) (lit< tt))
+
+pub ruleset pairs_of_params = (one_pair, three_pairs, two_pairs)
+
+pub params_fault : (hash : PasswordHash) → IfErr (phc_params hash) IsFault
+unfolding phc_params
+params_fault hash = search (rules, faults, pairs_fault)
+
+pub params_none : (hash : PasswordHash) → NamesNoPassword (phc_params hash)
+params_none hash = no_password (phc_params hash) (params_fault hash)
+
+-- a made hash is read as it was made
+pub made_read : (c : Parameters) (password salt : List ℕ) (hash : PasswordHash) → IsTrue (are_accepted c.log_n c.r c.p)
+    → IsMadeHash c password salt hash
+    → read_phc hash ≡ Ok (made_stored c password salt)
+unfolding phc_params
+made_read c password salt hash fits made =
+    rw (made.algorithm, made.version, made.params, written_read c fits, made.salt_is, made.key_is) refl
+
+-- a made hash has a text
+pub made_is_text : (c : Parameters) (password salt : List ℕ) (hash : PasswordHash) → IsTrue (are_accepted c.log_n c.r c.p)
+    → IsTrue (is_stored_len c.output_len) → IsSalt salt → IsMadeHash c password salt hash → IsHashText (hash_text hash) hash
+made_is_text c password salt hash fits len salted made =
+    let small = small_params c.log_n c.r c.p fits in
+    let stored = key_len_stored c.output_len len in
+    let long = length-key_by c password salt (key_len_or_default c) in
+    record {
+      whole = refl;
+      algorithm = rw made.algorithm (record { some = lit≤ tt; short = lit≤ tt; letters = refl });
+      version = rw made.version tt;
+      params = rw made.params (three_pairs c.log_n c.r c.p (omega (arith, small.0)) (omega (arith, small.1)) (omega (arith, small.2)));
+      salt = rw made.salt_is salted;
+      key = rw made.key_is (record {
+        are_bytes = key_by-are_bytes c password salt (key_len_or_default c);
+        enough = omega (arith, long, stored.0);
+        fits = omega (arith, long, stored.1);
+      });
+      key_after_salt = rw (made.key_is, made.salt_is) refl;
+    }
+
+pub ruleset made_hashes = (made_is_text, made_read, made_right, made_strong)
