@@ -2,14 +2,10 @@ use Rattle.scrypt.specs.Accepted.{are_accepted, is_output_len, is_stored_len, Pa
 use Rattle.password_hash.specs.Refusal.{ParamsInvalid}
 use Rattle.scrypt.specs.Reading.{checked}
 use Rattle.scrypt_kernel.specs.Pbkdf2.{max_output_len}
-use Rattle.std.specs.Prelude.{Bool, Option, Some, None, Result, Ok, Err, if◌then◌else◌, nat_eq, nat_le, unwrap_or, IsTrue}
-use Rattle.std.specs.Bool.{Decides}
 use Rattle.std.specs.Option.{option_eq}
 use Rattle.std.proofs.lemmas.Bool.{false_from_ne_true}
 use Rattle.std.proofs.lemmas.Bool.Decides.{Decides-and, Decides-eqb, Decides-like, Decides-ltb, nat_tests}
-use Rattle.std.proofs.Common.{refl, ap, ◌≡◌, ℕ, ◌-◌, ◌*◌, ◌^◌, ◌<◌, ◌≤◌, arith, lit≤, true, false}
-use Rattle.std.proofs.Math.Nat.{lt_of_not-le, mul-le-mul_right, mul_assoc}
-use Rattle.std.proofs.Math.Pow.{pow_mono}
+use Rattle.std.proofs.Common.{refl, ap, ◌≡◌, ℕ, ◌-◌, ◌*◌, ◌^◌, ◌<◌, ◌≤◌, arith, lit≤, true, false, Bool, Option, Some, None, Result, Ok, Err, if◌then◌else◌, nat_eq, nat_le, unwrap_or, IsTrue, Decides, lt_of_not-le, mul-le-mul_right, mul_assoc, pow_mono}
 use Rattle.std.proofs.lemmas.Nat.{mul-le}
 
 -- no accepted log_n is above 56
@@ -23,23 +19,20 @@ small_log_n log_n r some fits =
 pub refuted : {P : Type 0} (test : Bool) → Decides test P → ¬ P → test ≡ false
 refuted test decided none = false_from_ne_true test (λ is. none (decided.0 is))
 
-pub ok_if : {A E : Type 0} (test : Bool) (made : Result A E) (e : E) {x : A} → (if test then made else Err e) ≡ Ok x
-    → (test ≡ true) × (made ≡ Ok x)
+pub ok_if : {A E : Type 0} (test : Bool) (made : Result A E) (e : E) {x : A} → (if test then made else Err e) ≡ Ok x → (test ≡ true) × (made ≡ Ok x)
 ok_if true made e is = (refl, is)
 ok_if false made e is = absurd cc
 
 -- what the tests of numbers and lengths say
 
-pub accepted_decided : (log_n r p : ℕ)
-    → Decides (are_accepted log_n r p) ((0 < r) × (0 < p) × (128 * r * 2 ^ log_n < 2 ^ 64) × (r * p < 2 ^ 30))
+pub accepted_decided : (log_n r p : ℕ) → Decides (are_accepted log_n r p) ((0 < r) × (0 < p) × (128 * r * 2 ^ log_n < 2 ^ 64) × (r * p < 2 ^ 30))
 unfolding are_accepted
 accepted_decided log_n r p =
     Decides-like _ (λ h. (h.0.0, h.0.1, h.1.0, h.1.1)) (λ h. ((h.0, h.1), (h.2, h.3)))
     (Decides-and _ _ (Decides-and _ _ (Decides-ltb 0 r) (Decides-ltb 0 p))
     (Decides-and _ _ (Decides-ltb (128 * r * 2 ^ log_n) (2 ^ 64)) (Decides-ltb (r * p) (2 ^ 30))))
 
-pub bounds : (log_n r p : ℕ) → IsTrue (are_accepted log_n r p)
-    → (0 < r) × (0 < p) × (128 * r * 2 ^ log_n < 2 ^ 64) × (r * p < 2 ^ 30)
+pub bounds : (log_n r p : ℕ) → IsTrue (are_accepted log_n r p) → (0 < r) × (0 < p) × (128 * r * 2 ^ log_n < 2 ^ 64) × (r * p < 2 ^ 30)
 bounds log_n r p accepted = (accepted_decided log_n r p).0 accepted
 
 pub leb_decided : (m n : ℕ) → Decides (nat_le m n) (m ≤ n)

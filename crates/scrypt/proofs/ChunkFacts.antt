@@ -1,7 +1,5 @@
-use Rattle.std.proofs.Common.{◌≡◌, ◌≢◌, ℕ, ◌<◌, ◌≤◌, ◌+◌, ◌*◌, List, [], ◌∷◌, ◌++◌, length, take, drop, nat_eq, cond, refl, sym, ap, ◌∙◌, arith, inl, inr, zero-add}
-use Rattle.std.specs.List.{All, count_by}
+use Rattle.std.proofs.Common.{◌≡◌, ◌≢◌, ℕ, ◌<◌, ◌≤◌, ◌+◌, ◌*◌, List, [], ◌∷◌, ◌++◌, length, take, drop, nat_eq, cond, refl, sym, ap, ◌∙◌, arith, inl, inr, zero-add, All, count_by, drop-drop}
 use Rattle.std.proofs.lemmas.Bool.{cases_Bool, eqb-true, eqb-false}
-use Rattle.std.proofs.lemmas.List.{drop-drop}
 use Rattle.std.proofs.lemmas.List.Elements.{All-head, All-tail}
 use Rattle.std.proofs.lemmas.List.Sums.{sum_by-cons}
 use borrow.Rule.Slice.PartMut.{put_mid, same_len_mid}
@@ -47,8 +45,7 @@ record IsDone (log_n r p k : ℕ) (b order : List ℕ) : Type 0 where
   none : count_by (nat_eq k) order ≡ 0 → part (128 * r) (mixed_in_order log_n r b order) k ≡ part (128 * r) b k
   once : count_by (nat_eq k) order ≡ 1 → part (128 * r) (mixed_in_order log_n r b order) k ≡ mixed_chunk b log_n r k
 
-done_in_order : (log_n r p k : ℕ) → 0 < r → (order b : List ℕ) → length b ≡ p * (128 * r) → All (λ i. i < p) order
-    → IsDone log_n r p k b order
+done_in_order : (log_n r p k : ℕ) → 0 < r → (order b : List ℕ) → length b ≡ p * (128 * r) → All (λ i. i < p) order → IsDone log_n r p k b order
 done_in_order log_n r p k some [] b long below = record { long = long; none = λ _. refl; once = λ one. absurd (omega (arith, one)) }
 done_in_order log_n r p k some (i ∷ order) b long below =
     let inside : i < p = All-head (λ i. i < p) i order below in

@@ -1,5 +1,4 @@
-use Rattle.std.specs.Prelude.{IsSome, None, Option}
-use Rattle.std.proofs.Common.{◌≡◌, ℕ, List, refl}
+use Rattle.std.proofs.Common.{◌≡◌, ℕ, List, refl, IsSome, None, Option}
 use Rattle.password_hash.specs.Refusal.{Refusal, refusal}
 use Rattle.password_hash.specs.declared.error.Error.{Error}
 use Rattle.scrypt.specs.Hashing.{HashingIsRefused, IsCallRefused, IsNamedOrNone, by_algorithm, by_memory, by_salt, by_version, of_algorithm, of_version}
@@ -33,8 +32,7 @@ refused_once (by_memory named none fits) (by_memory named' none' fits') = refl
 
 -- what hashing without these two arguments refuses, it refuses with them too if they are allowed
 pub refused_alike : {name : List ℕ} {SaltFits : Type 0} {alg_id : Option (List ℕ)} {version : Option ℕ} {why : Refusal}
-    → IsNamedOrNone name alg_id → version ≡ None → HashingIsRefused name SaltFits None None why
-    → HashingIsRefused name SaltFits alg_id version why
+    → IsNamedOrNone name alg_id → version ≡ None → HashingIsRefused name SaltFits None None why → HashingIsRefused name SaltFits alg_id version why
 refused_alike named none (by_algorithm other) = absurd (other cc)
 refused_alike named none (by_version named' some) = absurd (versioned some refl)
 refused_alike named none (by_salt named' none' unfit) = by_salt named none unfit

@@ -1,6 +1,5 @@
-use Rattle.std.proofs.Common.{◌≡◌, ℕ, zero, suc, ◌<◌, ◌≤◌, ◌+◌, ◌*◌, List, ◌++◌, length, take, drop, slice_index, refl, sym, ap, ap₂, ◌∙◌, arith, add-zero, zero-add, append_assoc}
+use Rattle.std.proofs.Common.{◌≡◌, ℕ, zero, suc, ◌<◌, ◌≤◌, ◌+◌, ◌*◌, List, ◌++◌, length, take, drop, slice_index, refl, sym, ap, ap₂, ◌∙◌, arith, add-zero, zero-add, append_assoc, drop-drop}
 use Rattle.std.specs.List.{flat_map, range_with_len}
-use Rattle.std.proofs.lemmas.List.{drop-drop}
 use Rattle.std.proofs.lemmas.Slice.{drop-put_mid, take-put_mid}
 use Rattle.std.proofs.lemmas.List.FromFn.{length-map-range_with_len, take-map-range_with_len}
 use borrow.Rule.Slice.PartMut.{put_mid}
@@ -73,8 +72,7 @@ mixed_group b x ys log_n r i n long each before =
     parts_from (mixed_chunk b log_n r) (128 * r) i n ys long (λ k below. each k below
     ∙ ap (λ z. bytes_of (ro_mix (words_of z) log_n)) (chunk_of_slice (i * (128 * r)) (n * (128 * r)) n k x refl refl below before))
 
-pub length-mixed_chunk : (b : List ℕ) (log_n r i : ℕ) → 0 < r → i * (128 * r) + 128 * r ≤ length b
-    → length (mixed_chunk b log_n r i) ≡ 128 * r
+pub length-mixed_chunk : (b : List ℕ) (log_n r i : ℕ) → 0 < r → i * (128 * r) + 128 * r ≤ length b → length (mixed_chunk b log_n r i) ≡ 128 * r
 length-mixed_chunk b log_n r i some room =
     let long : length (part (128 * r) b i) ≡ 128 * r = length-part (128 * r) i b room in
     let x : List ℕ = words_of (part (128 * r) b i) in
@@ -91,8 +89,7 @@ both_mixed b w log_n r p q some long =
     (made_alike _ _ 0 0 p (λ i below. ap mixed (part_append_front s (0 + i) b w (omega (arith, parts_apart s i p below, long)))))
     (made_alike _ _ p 0 q (λ i below. rw zero-add (ap mixed (part_after s p i b w long))))
 
-pub length-mixed_chunks : (b : List ℕ) (log_n r p : ℕ) → 0 < r → length b ≡ p * (128 * r)
-    → length (mixed_chunks b log_n r p) ≡ p * (128 * r)
+pub length-mixed_chunks : (b : List ℕ) (log_n r p : ℕ) → 0 < r → length b ≡ p * (128 * r) → length (mixed_chunks b log_n r p) ≡ p * (128 * r)
 length-mixed_chunks b log_n r p some long = length-parts (mixed_chunk b log_n r) (128 * r) 0 p (λ i below.
     length-mixed_chunk b log_n r (0 + i) some (omega (arith, parts_apart (128 * r) i p below, long)))
 

@@ -1,7 +1,4 @@
-use Rattle.std.proofs.Common.{◌≡◌, ◌≢◌, false, ℕ, List, [], ◌∷◌, ◌++◌, length, drop, Some, None, Ok, Err, refl, rules, ap, ap₂, ◌∙◌, append_assoc, lit<}
-use Rattle.std.specs.Prelude.{IfErr, Option, codes, if◌then◌else◌, ok_or, IsTrue}
-use Rattle.std.specs.Str.{bytes_eq}
-use Rattle.std.proofs.lemmas.List.{append-nil}
+use Rattle.std.proofs.Common.{◌≡◌, ◌≢◌, false, ℕ, List, [], ◌∷◌, ◌++◌, length, drop, Some, None, Ok, Err, refl, rules, ap, ap₂, ◌∙◌, append_assoc, lit<, IfErr, Option, codes, if◌then◌else◌, ok_or, IsTrue, bytes_eq, append-nil}
 use Rattle.std.proofs.lemmas.Slice.Eq.{bytes_eq-Decides}
 use Rattle.password_hash.specs.Crypt64.{Crypt64, IsCrypt64, crypt64_of, decoded}
 use Rattle.password_hash.specs.Mcf.{IsMcfText}
@@ -20,13 +17,11 @@ use Rattle.password_hash.proofs.GroupFacts.{decoded_is, encoded_is, not_decoded}
 
 -- what a text of some fields is read as
 
-pub read_seven : {text id : List ℕ} {fields : List (List ℕ)} → IsMcfText text id fields → id ≡ mcf_id
-    → read_mcf text ≡ read_fields fields
+pub read_seven : {text id : List ℕ} {fields : List (List ℕ)} → IsMcfText text id fields → id ≡ mcf_id → read_mcf text ≡ read_fields fields
 unfolding read_mcf
 read_seven {text} {id} {fields} is seven = rw (parts_of-IsMcfText text id fields is, (bytes_eq-Decides id mcf_id).1 seven) refl
 
-pub read_other : {text id : List ℕ} {fields : List (List ℕ)} → IsMcfText text id fields → id ≢ mcf_id
-    → read_mcf text ≡ Err Algorithm
+pub read_other : {text id : List ℕ} {fields : List (List ℕ)} → IsMcfText text id fields → id ≢ mcf_id → read_mcf text ≡ Err Algorithm
 unfolding read_mcf
 read_other {text} {id} {fields} is other =
     rw (parts_of-IsMcfText text id fields is, refuted _ (bytes_eq-Decides id mcf_id) other) refl

@@ -1,9 +1,6 @@
-use Rattle.std.proofs.Common.{◌≡◌, ℕ, ◌-◌, ◌/◌, ◌%◌, ◌^◌, ◌<◌, ◌≤◌, List, [], ◌∷◌, ◌++◌, length, take, drop, Some, None, unwrap_or, refl, rules, sym, ap, ◌∙◌, arith, inl, inr, append_assoc, length-append, length-drop}
-use Rattle.std.specs.List.{slice_get}
+use Rattle.std.proofs.Common.{◌≡◌, ℕ, ◌-◌, ◌/◌, ◌%◌, ◌^◌, ◌<◌, ◌≤◌, List, [], ◌∷◌, ◌++◌, length, take, drop, Some, None, unwrap_or, refl, rules, sym, ap, ◌∙◌, arith, inl, inr, append_assoc, length-append, length-drop, slice_get, All, Err, IfErr, IsSome, Ok, Option, Result, nat_lt, ok_or, slice_index, IsTrue, append-nil, take_all, take-append-drop, length-take-le, drop-drop}
 use Rattle.std.proofs.Math.Seq.{take-append_seam}
 use Rattle.std.proofs.lemmas.Bool.{le-ltb, cases_lt, lt-ltb}
-use Rattle.std.specs.Prelude.{All, Err, IfErr, IsSome, Ok, Option, Result, nat_lt, ok_or, slice_index, IsTrue}
-use Rattle.std.proofs.lemmas.List.{append-nil, take_all, take-append-drop, length-take-le, drop-drop}
 use Rattle.std.proofs.lemmas.List.Elements.{All-head, All-tail}
 use Rattle.password_hash.specs.Crypt64.{letter, letter_value, letters_of, number_of, with_digit}
 use Rattle.password_hash.proofs.Crypt64Facts.{length-letters_of, letters_of-number_of, number_of-letters_of, letter-of_value}
@@ -126,8 +123,7 @@ made_of log_n (Some r) (Some p) c is =
     rw (← made.1) (made.0, refl, refl, refl, refl)
 
 -- what a field encodes are accepted parameters without a length
-pub field_accepted : (field : List ℕ) (c : Parameters) → field_params field ≡ Ok c
-    → IsTrue (are_accepted c.log_n c.r c.p) × (c.output_len ≡ None)
+pub field_accepted : (field : List ℕ) (c : Parameters) → field_params field ≡ Ok c → IsTrue (are_accepted c.log_n c.r c.p) × (c.output_len ≡ None)
 unfolding field_params
 field_accepted field c says =
     let made = made_of _ _ _ c (ok_if (nat_lt (slice_index field 0) 128) _ EncodingInvalid says).1 in

@@ -1,7 +1,4 @@
-use Rattle.std.proofs.Common.{◌≡◌, ◌≢◌, ℕ, ◌^◌, ◌%◌, ◌<◌, ◌≤◌, List, [], ◌∷◌, ◌++◌, length, drop, Option, Some, Ok, true, ◌∙◌, refl, sym, ap, ap₂, subst, arith, lit<, append_assoc, length-append}
-use Rattle.std.specs.Prelude.{All, Result, codes, nat_lt, IsTrue}
-use Rattle.std.proofs.lemmas.Bool.{lt-ltb}
-use Rattle.std.specs.Str.{IsAscii}
+use Rattle.std.proofs.Common.{◌≡◌, ◌≢◌, ℕ, ◌^◌, ◌%◌, ◌<◌, ◌≤◌, List, [], ◌∷◌, ◌++◌, length, drop, Option, Some, Ok, true, ◌∙◌, refl, sym, ap, ap₂, subst, arith, lit<, append_assoc, length-append, All, Result, codes, nat_lt, IsTrue, lt-ltb, IsAscii}
 use Rattle.std.proofs.lemmas.Str.{IsUtf8-from_ascii}
 use Rattle.std.proofs.lemmas.Str.Ascii.{IsAscii-from_all}
 use Rattle.std.proofs.lemmas.List.{append-nil, drop_all, drop_at}
@@ -125,8 +122,7 @@ made_text c password salt good fits =
       key_len = (output_len_decided (length key)).1 (omega (arith, long, stored.0), omega (arith, long, stored.1));
     })
 
-pub length-made_text : (c : Parameters) (password salt : List ℕ)
-    → length (mcf_text (made_hash c password salt)) ≡ made_text_len c (length salt)
+pub length-made_text : (c : Parameters) (password salt : List ℕ) → length (mcf_text (made_hash c password salt)) ≡ made_text_len c (length salt)
 length-made_text c password salt =
     let letters = crypt64_of salt in
     let key = made_key c password salt in

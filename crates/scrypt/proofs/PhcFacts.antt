@@ -1,5 +1,4 @@
-use Rattle.std.proofs.Common.{◌≡◌, ℕ, ◌^◌, ◌<◌, ◌≤◌, List, [], ◌∷◌, refl, rules, arith, Ok, Some, None, ◌≢◌, false, true, length, codes, sym, ◌∙◌, lit<, length-append, lit≤}
-use Rattle.std.specs.Prelude.{IfErr, Option, decimal, ok_or, IsTrue}
+use Rattle.std.proofs.Common.{◌≡◌, ℕ, ◌^◌, ◌<◌, ◌≤◌, List, [], ◌∷◌, refl, rules, arith, Ok, Some, None, ◌≢◌, false, true, length, codes, sym, ◌∙◌, lit<, length-append, lit≤, IfErr, Option, decimal, ok_or, IsTrue, bytes_eq}
 use Rattle.std.proofs.lemmas.Bool.Decides.{nat_tests}
 use Rattle.password_hash.specs.Decimal.{decimal_below}
 use Rattle.password_hash.proofs.DecimalFacts.{decimal_exact, IsValue-decimal}
@@ -7,7 +6,6 @@ use Rattle.scrypt.specs.Accepted.{are_accepted, Parameters, without_len, is_stor
 use Rattle.scrypt.proofs.AcceptedFacts.{checked_is, small_params, key_len_stored}
 use Rattle.scrypt.proofs.ReadingFacts.{IsFault, checked_fault, faults, made_right, made_stored, made_strong, no_password}
 use Rattle.scrypt.specs.PhcParams.{params_of_pairs, read_pairs, written_pairs}
-use Rattle.std.specs.Str.{bytes_eq}
 use Rattle.std.proofs.lemmas.Bool.{false≢true}
 use Rattle.std.proofs.lemmas.Fmt.{length-decimal-le}
 use Rattle.std.proofs.lemmas.List.Elements.{All-from_recursion, All-nil}
@@ -108,8 +106,7 @@ params_none hash = no_password (phc_params hash) (params_fault hash)
 
 -- a made hash is read as it was made
 pub made_read : (c : Parameters) (password salt : List ℕ) (hash : PasswordHash) → IsTrue (are_accepted c.log_n c.r c.p)
-    → IsMadeHash c password salt hash
-    → read_phc hash ≡ Ok (made_stored c password salt)
+    → IsMadeHash c password salt hash → read_phc hash ≡ Ok (made_stored c password salt)
 unfolding phc_params
 made_read c password salt hash fits made =
     rw (made.algorithm, made.version, made.params, written_read c fits, made.salt_is, made.key_is) refl

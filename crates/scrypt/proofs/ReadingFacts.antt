@@ -1,6 +1,5 @@
-use Rattle.std.proofs.Common.{◌≡◌, ◌↔◌, ◌≢◌, ◌⊎◌, ◌∙◌, ℕ, ◌<◌, ◌≤◌, ◌-◌, ◌^◌, List, length, Ok, Err, inl, inr, true, false, refl, sym, ap, arith}
+use Rattle.std.proofs.Common.{◌≡◌, ◌↔◌, ◌≢◌, ◌⊎◌, ◌∙◌, ℕ, ◌<◌, ◌≤◌, ◌-◌, ◌^◌, List, length, Ok, Err, inl, inr, true, false, refl, sym, ap, arith, Decides}
 use Rattle.std.specs.Prelude.{Bool, IfErr, IsOk, None, Option, Result, Some, if◌then◌else◌, max, min, ok_or, ⊤, IsTrue}
-use Rattle.std.specs.Bool.{Decides}
 use Rattle.std.proofs.lemmas.Bool.Decides.{Decides-and, same_from_decides}
 use Rattle.std.proofs.lemmas.Slice.Eq.{bytes_eq-Decides}
 use Rattle.password_hash.specs.Refusal.{Refusal, KeyTooShort, OutOfMemory, PasswordInvalid, TooCostly}
@@ -27,8 +26,7 @@ both_read (Err why) rest is = absurd cc
 
 -- the errors of reading
 
-pub mapped_refused : {A B : Type 0} (f : A → B) (reading : Result A Refusal) (why : Refusal) → mapped f reading ≡ Err why
-    → reading ≡ Err why
+pub mapped_refused : {A B : Type 0} (f : A → B) (reading : Result A Refusal) (why : Refusal) → mapped f reading ≡ Err why → reading ≡ Err why
 mapped_refused f (Ok x) why is = absurd cc
 mapped_refused f (Err other) why is = let same : other ≡ why = cc in ap Err same
 
@@ -68,8 +66,7 @@ pub no_password : {A : Type 0} (reading : Result A Refusal) → IfErr reading Is
 no_password reading fault = (λ is. rw is at fault, (λ is. rw is at fault, λ bytes work is. rw is at fault, λ key_len is. rw is at fault))
 
 -- the password is right exactly if the stored key is its key
-pub right_decided : (password : List ℕ) (s : Stored)
-    → Decides (is_right password s) (s.key ≡ key_by s.params password s.salt (length s.key))
+pub right_decided : (password : List ℕ) (s : Stored) → Decides (is_right password s) (s.key ≡ key_by s.params password s.salt (length s.key))
 unfolding is_right
 right_decided password s = bytes_eq-Decides s.key (key_by s.params password s.salt (length s.key))
 

@@ -1,5 +1,4 @@
-use Rattle.std.proofs.Common.{◌≡◌, List, ℕ, [], ◌∷◌, Bool, true, false, Ok, Err, refl, sym, ap, arith, lit<}
-use Rattle.std.specs.Prelude.{◌||◌, IfErr, Option, Some, None, Result, codes, is_some, length, ok_or, IsTrue}
+use Rattle.std.proofs.Common.{◌≡◌, List, ℕ, [], ◌∷◌, Bool, true, false, Ok, Err, refl, sym, ap, arith, lit<, ◌||◌, IfErr, Option, Some, None, Result, codes, is_some, length, ok_or, IsTrue}
 use Rattle.std.proofs.lemmas.Bool.{false≢true}
 use Rattle.std.proofs.lemmas.Bool.Decides.{nat_tests}
 use Rattle.password_hash.proofs.McfFacts.{IsMcfText-from_parts}
@@ -43,8 +42,7 @@ seven_is_mcf text seven = IsMcfText-from_parts text mcf_id (fields_of text) (at 
 pub seven_read : (text : List ℕ) → is_mcf_text text ≡ true → read_mcf text ≡ read_fields (fields_of text)
 seven_read text seven = read_seven (seven_is_mcf text seven) refl
 
-pub no_reading : (text : List ℕ) → is_stored_text text ≡ false
-    → (reading text ≡ Err EncodingInvalid) × (params_reading text ≡ Err EncodingInvalid)
+pub no_reading : (text : List ℕ) → is_stored_text text ≡ false → (reading text ≡ Err EncodingInvalid) × (params_reading text ≡ Err EncodingInvalid)
 unfolding is_stored_text reading params_reading
 no_reading text none = at (formatted text) none
   where
@@ -121,8 +119,7 @@ mcf_is_seven {fields = []} is = rw is.written refl
 mcf_is_seven {fields = field ∷ fields} is = rw is.written (or_true _)
 
 -- the text of a PHC hash of scrypt is read as a PHC string
-pub scrypt_is_phc : {text : List ℕ} {hash : PasswordHash} → IsHashText text hash → hash.algorithm ≡ codes "scrypt"
-    → is_mcf_text text ≡ false
+pub scrypt_is_phc : {text : List ℕ} {hash : PasswordHash} → IsHashText text hash → hash.algorithm ≡ codes "scrypt" → is_mcf_text text ≡ false
 unfolding is_mcf_text
 scrypt_is_phc is named = rw (is.whole, named) refl
 

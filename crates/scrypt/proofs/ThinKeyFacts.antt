@@ -1,5 +1,4 @@
-use Rattle.std.proofs.Common.{◌≡◌, ◌≤◌, ℕ, zero, suc, ◌+◌, ◌-◌, ◌*◌, ◌/◌, ◌%◌, ◌^◌, List, refl, ap, ◌∙◌, arith}
-use Rattle.std.proofs.lemmas.Nat.{pow_pos}
+use Rattle.std.proofs.Common.{◌≡◌, ◌≤◌, ℕ, zero, suc, ◌+◌, ◌-◌, ◌*◌, ◌/◌, ◌%◌, ◌^◌, List, refl, ap, ◌∙◌, arith, pow_pos}
 use Rattle.scrypt_kernel.specs.Words.{bytes_of, part, words_of, xor_words}
 use Rattle.scrypt_kernel.specs.Pbkdf2.{pbkdf2}
 use Rattle.scrypt_kernel.specs.BlockMix.{block_mix}
@@ -24,8 +23,7 @@ thin_walk_is b log_n s (suc k) =
     ap next (thin_walk_is b log_n s k) ∙ ap (λ z. block_mix (xor_words x z)) (recomputed_row_is b s (integerify x % 2 ^ log_n))
 
 -- the key is the same
-pub thin_key_is : (password salt : List ℕ) (log_n r p s n : ℕ)
-    → thin_key password salt log_n r p s n ≡ derived_key password salt log_n r p n
+pub thin_key_is : (password salt : List ℕ) (log_n r p s n : ℕ) → thin_key password salt log_n r p s n ≡ derived_key password salt log_n r p n
 unfolding thin_key derived_key ro_mix
 thin_key_is password salt log_n r p s n =
     let b = pbkdf2 password salt (p * (128 * r)) in

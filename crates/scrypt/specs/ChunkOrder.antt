@@ -1,6 +1,5 @@
 -- The chunks of B mixed one after another, in any order.
-use Rattle.std.specs.Prelude.{◌≡◌, ℕ, ◌+◌, ◌*◌, ◌<◌, List, [], ◌∷◌, ◌++◌, take, drop, nat_eq}
-use Rattle.std.specs.List.{All, count_by}
+use Rattle.std.specs.Prelude.{◌≡◌, ℕ, ◌+◌, ◌*◌, ◌<◌, List, [], ◌∷◌, ◌++◌, take, drop, nat_eq, All, count_by}
 use Rattle.scrypt.specs.Key.{mixed_chunk}
 
 -- the list names each of n chunks once, and no others

@@ -24,7 +24,5 @@ pub data HashingIsRefused (name : List ℕ) (SaltFits : Type 0) (alg_id : Option
     : Refusal → Type 0 where
   by_algorithm : ¬ IsNamedOrNone name alg_id → HashingIsRefused name SaltFits alg_id version Algorithm
   by_version : IsNamedOrNone name alg_id → IsSome version → HashingIsRefused name SaltFits alg_id version Version
-  by_salt : IsNamedOrNone name alg_id → version ≡ None → ¬ SaltFits
-      → HashingIsRefused name SaltFits alg_id version SaltInvalid
-  by_memory : IsNamedOrNone name alg_id → version ≡ None → SaltFits
-      → HashingIsRefused name SaltFits alg_id version OutOfMemory
+  by_salt : IsNamedOrNone name alg_id → version ≡ None → ¬ SaltFits → HashingIsRefused name SaltFits alg_id version SaltInvalid
+  by_memory : IsNamedOrNone name alg_id → version ≡ None → SaltFits → HashingIsRefused name SaltFits alg_id version OutOfMemory

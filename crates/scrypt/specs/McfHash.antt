@@ -1,6 +1,5 @@
 -- `$7$` hashes of crypt(5): how they are read and made.
-use Rattle.std.specs.Prelude.{◌≡◌, ℕ, ◌+◌, ◌<◌, List, [], ◌∷◌, ◌++◌, All, length, drop, codes, if◌then◌else◌, IsTrue, Option, None, ok_or, Result, Ok, Err, ⊤}
-use Rattle.std.specs.Str.{bytes_eq}
+use Rattle.std.specs.Prelude.{◌≡◌, ℕ, ◌+◌, ◌<◌, List, [], ◌∷◌, ◌++◌, All, length, drop, codes, if◌then◌else◌, IsTrue, Option, None, ok_or, Result, Ok, Err, ⊤, bytes_eq}
 use Rattle.password_hash.specs.Crypt64.{crypt64_of, decoded, encoded_len}
 use Rattle.password_hash.specs.Mcf.{IsField}
 use Rattle.password_hash.specs.Parts.{dollar, parts_of}

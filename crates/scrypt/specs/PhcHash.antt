@@ -1,6 +1,5 @@
 -- Hashes of scrypt in the PHC string format: how they are made and read.
-use Rattle.std.specs.Prelude.{◌≡◌, ℕ, ◌≤◌, List, length, codes, if◌then◌else◌, Option, None, Some, is_some, not, ok_or, Result, Ok, Err}
-use Rattle.std.specs.Str.{bytes_eq}
+use Rattle.std.specs.Prelude.{◌≡◌, ℕ, ◌≤◌, List, length, codes, if◌then◌else◌, Option, None, Some, is_some, not, ok_or, Result, Ok, Err, bytes_eq}
 use Rattle.password_hash.specs.Phc.{hash_text}
 use Rattle.password_hash.specs.Refusal.{Refusal, Algorithm, PasswordInvalid, Version}
 use Rattle.password_hash.specs.declared.phc.hash.PasswordHash.{PasswordHash}

@@ -1,7 +1,6 @@
 -- Parameters of scrypt, read from the pairs of the PHC string format or from a hash, and written as
 -- such pairs.
-use Rattle.std.specs.Prelude.{ℕ, ◌^◌, if◌then◌else◌, List, [], ◌∷◌, codes, decimal, length, Option, Some, is_some, option_map, unwrap_or, Result, Err, ok_or}
-use Rattle.std.specs.Str.{bytes_eq}
+use Rattle.std.specs.Prelude.{ℕ, ◌^◌, if◌then◌else◌, List, [], ◌∷◌, codes, decimal, length, Option, Some, is_some, option_map, unwrap_or, Result, Err, ok_or, bytes_eq}
 use Rattle.password_hash.specs.Decimal.{decimal_below}
 use Rattle.password_hash.specs.Refusal.{Refusal, ParamInvalid, ParamsInvalid, Version}
 use Rattle.password_hash.specs.declared.phc.hash.PasswordHash.{PasswordHash}

@@ -1,7 +1,6 @@
 -- The result of reading a stored hash, in either format, and what is computed from it.
-use Rattle.std.specs.Prelude.{◌≡◌, ◌≢◌, ◌⊎◌, ℕ, Bool, true, false, nat_lt, ◌||◌, if◌then◌else◌, List, length, None, Result, Ok, Err, IsOk, ⊤}
+use Rattle.std.specs.Prelude.{◌≡◌, ◌≢◌, ◌⊎◌, ℕ, Bool, true, false, nat_lt, ◌||◌, if◌then◌else◌, List, length, None, Result, Ok, Err, IsOk, ⊤, bytes_eq}
 use Rattle.std.specs.Result.{result_map_both}
-use Rattle.std.specs.Str.{bytes_eq}
 use Rattle.password_hash.specs.Refusal.{Refusal, KeyTooShort, OutOfMemory, ParamsInvalid, PasswordInvalid, TooCostly}
 pub use Rattle.password_hash.specs.Refusal.{with_refusal}
 use Rattle.scrypt.specs.Accepted.{Parameters, are_accepted}

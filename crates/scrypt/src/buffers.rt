@@ -120,8 +120,7 @@ pub(crate) fn interleaved_chunks(
     scratch: usize,
 ) -> usize
     ensures exact { result ≡ interleaved_chunks params.now.log_n params.now.r count table scratch }
-    ensures some { (0 < result) ↔ ((0 < count)
-        × (table_words params.now.log_n params.now.r ≤ table) × (scratch_words params.now.r ≤ scratch)) }
+    ensures some { (0 < result) ↔ ((0 < count) × (table_words params.now.log_n params.now.r ≤ table) × (scratch_words params.now.r ≤ scratch)) }
     ensures memory { 0 < result → HasTables params.now.log_n 0 params.now.r result table scratch }
 {
     let one = BufferLens::of(params);
@@ -213,14 +212,12 @@ pub(crate) fn with_prefix<V, T, F: FnOnce(&mut ActiveBuffers<'_, Buffer<'_>>, &m
         → IsKept buffer_room used.now after.now }
     ensures exact { IsSome result ↔ IsTrue (are_enough (record params.now { p = count }) chunks.old table.old scratch.old) }
     ensures made { IfSome result (λ made. (used : _) × (shown : _) × (after : _) × (left : _)
-        × IsReady buffer_room params.now.log_n 0 params.now.r count used.now
-        × IsAtFront (record params.now { p = count }) used.now after.now
+        × IsReady buffer_room params.now.log_n 0 params.now.r count used.now × IsAtFront (record params.now { p = count }) used.now after.now
         (workspace_of chunks.old table.old scratch.old cores.old) (workspace_of chunks.new table.new scratch.new cores.new)
         × (shown.now ≡ output.old) × (left.now ≡ output.new) × F.post derive used shown made after left) }
     ensures done { ((used : _) (shown : _) (made : T) (after : _) (left : _)
         → IsReady buffer_room params.now.log_n 0 params.now.r count used.now → F.post derive used shown made after left
-        → IsSpent buffer_room (record params.now { p = count }) used.now after.now)
-        → IsSome result → IsDone (record params.now { p = count })
+        → IsSpent buffer_room (record params.now { p = count }) used.now after.now) → IsSome result → IsDone (record params.now { p = count })
         (workspace_of chunks.old table.old scratch.old cores.old) (workspace_of chunks.new table.new scratch.new cores.new) }
     ensures unchanged { result ≡ None → (output.new ≡ output.old)
         × (workspace_of chunks.new table.new scratch.new cores.new ≡ workspace_of chunks.old table.old scratch.old cores.old) }

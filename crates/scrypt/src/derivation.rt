@@ -50,8 +50,7 @@ pub fn scrypt(
     output: &mut [u8],
 ) -> Result<(), DeriveError>
     ensures length { IsErrOf result BadLength ↔ ¬ IsTrue (is_output_len (length output.old)) }
-    ensures value { OnOk result (output.new ≡ derived_key password.now salt.now
-        params.now.log_n params.now.r params.now.p (length output.old)) }
+    ensures value { OnOk result (output.new ≡ derived_key password.now salt.now params.now.log_n params.now.r params.now.p (length output.old)) }
     ensures refused { OnErr result (output.new ≡ output.old) }
 {
     let mut cores = CoreCount::new();
@@ -71,8 +70,7 @@ pub fn scrypt_counted(
     cores: &mut CoreCount,
 ) -> Result<(), DeriveError>
     ensures length { IsErrOf result BadLength ↔ ¬ IsTrue (is_output_len (length output.old)) }
-    ensures value { OnOk result (output.new ≡ derived_key password.now salt.now
-        params.now.log_n params.now.r params.now.p (length output.old)) }
+    ensures value { OnOk result (output.new ≡ derived_key password.now salt.now params.now.log_n params.now.r params.now.p (length output.old)) }
     ensures counted { OnOk result (AreCounted (cost params.now.log_n params.now.r params.now.p) cores.old cores.new) }
     ensures hashed { OnOk result (cores.new.compressions ≡ cores.old.compressions
         + hash_cost (length password.now) (length salt.now) params.now.r params.now.p (length output.old)) }
@@ -305,8 +303,7 @@ pub(crate) fn derive_chunks(
 )
     requires chunks { length chunks.old ≡ chunks_bytes params.now.r params.now.p }
     ensures value { chunks.new ≡ pbkdf2 password.now salt.now (chunks_bytes params.now.r params.now.p) }
-    ensures counted { AreHashed (pbkdf2_cost (length password.now) (length salt.now) (chunks_bytes params.now.r params.now.p))
-        cores.old cores.new }
+    ensures counted { AreHashed (pbkdf2_cost (length password.now) (length salt.now) (chunks_bytes params.now.r params.now.p)) cores.old cores.new }
 {
     params.expose_invariant();
     pbkdf2_counted(password, salt, chunks, cores);

@@ -47,8 +47,7 @@ impl Buffers {
     /// Allocates buffers that are long enough for every derivation within these limits: for the
     /// default limits 16 MiB of chunks, 257 MiB of table and 32 MiB of scratch.
     pub fn for_limits(alloc: Global, limits: &Limits) -> Result<Buffers, AllocError>
-        ensures enough { IfOk result (λ own.
-            SufficeFor limits.now own.chunks.items own.table.items own.scratch.items) }
+        ensures enough { IfOk result (λ own. SufficeFor limits.now own.chunks.items own.table.items own.scratch.items) }
     {
         let words = limits.max_mem / 4;
         let lens = BufferLens {
@@ -74,11 +73,9 @@ impl Buffers {
         ensures length { IsErrOf result BadLength ↔ ¬ IsTrue (is_output_len (length output.old)) }
         ensures short { IsErrOf result OutOfMemory ↔ (IsTrue (is_output_len (length output.old))
             × ¬ IsTrue (are_enough params.now self.old.chunks.items self.old.table.items self.old.scratch.items)) }
-        ensures value { OnOk result (output.new
-            ≡ key_by params.now password.now salt.now (length output.old)) }
+        ensures value { OnOk result (output.new ≡ key_by params.now password.now salt.now (length output.old)) }
         ensures refused { OnErr result (output.new ≡ output.old) }
-        ensures lens { (length self.new.chunks.items ≡ length self.old.chunks.items)
-            × (length self.new.table.items ≡ length self.old.table.items)
+        ensures lens { (length self.new.chunks.items ≡ length self.old.chunks.items) × (length self.new.table.items ≡ length self.old.table.items)
             × (length self.new.scratch.items ≡ length self.old.scratch.items) }
     {
         let Buffers {
@@ -101,11 +98,9 @@ impl Buffers {
     pub fn verify(&mut self, hash: &StoredHash<'_>, password: &[u8]) -> password_hash::Result<()>
         ensures verdict { with_refusal result
             ≡ verdict_in (buffers self.old.chunks.items self.old.table.items self.old.scratch.items) password.now (reading hash.now) }
-        ensures within { (limits : Limits)
-            → SufficeFor limits self.old.chunks.items self.old.table.items self.old.scratch.items
+        ensures within { (limits : Limits) → SufficeFor limits self.old.chunks.items self.old.table.items self.old.scratch.items
             → IsOk (within limits (reading hash.now)) → with_refusal result ≡ verdict password.now (reading hash.now) }
-        ensures lens { (length self.new.chunks.items ≡ length self.old.chunks.items)
-            × (length self.new.table.items ≡ length self.old.table.items)
+        ensures lens { (length self.new.chunks.items ≡ length self.old.chunks.items) × (length self.new.table.items ≡ length self.old.table.items)
             × (length self.new.scratch.items ≡ length self.old.scratch.items) }
     {
         match hash.parts() {

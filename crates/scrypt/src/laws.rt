@@ -63,17 +63,13 @@ pub fn written_parameters_are_read_back()
 /// A PHC string, an MCF string, a `$7$` hash and a text of crypt Base64 each have at most one
 /// reading, and each reading has at most one text.
 pub fn texts_have_one_reading()
-    ensures phc_reading { (text : List ℕ) (one other : PasswordHash) → IsHashText text one → IsHashText text other
-        → one ≡ other }
-    ensures phc_text { (hash : PasswordHash) (one other : List ℕ) → IsHashText one hash → IsHashText other hash
-        → one ≡ other }
+    ensures phc_reading { (text : List ℕ) (one other : PasswordHash) → IsHashText text one → IsHashText text other → one ≡ other }
+    ensures phc_text { (hash : PasswordHash) (one other : List ℕ) → IsHashText one hash → IsHashText other hash → one ≡ other }
     ensures modular_reading { (text one other : List ℕ) (fields more : List (List ℕ)) → IsMcfText text one fields
         → IsMcfText text other more → (one ≡ other) × (fields ≡ more) }
-    ensures modular_text { (id one other : List ℕ) (fields : List (List ℕ)) → IsMcfText one id fields
-        → IsMcfText other id fields → one ≡ other }
+    ensures modular_text { (id one other : List ℕ) (fields : List (List ℕ)) → IsMcfText one id fields → IsMcfText other id fields → one ≡ other }
     ensures mcf_text { (one other : List ℕ) (s : Stored) → read_mcf one ≡ Ok s → read_mcf other ≡ Ok s → one ≡ other }
-    ensures crypt64_reading { (letters one other : List ℕ) → Crypt64 one letters → Crypt64 other letters
-        → one ≡ other }
+    ensures crypt64_reading { (letters one other : List ℕ) → Crypt64 one letters → Crypt64 other letters → one ≡ other }
     ensures crypt64_text { (bytes one other : List ℕ) → Crypt64 bytes one → Crypt64 bytes other → one ≡ other }
 {}
 
@@ -92,13 +88,11 @@ pub fn made_hashes_are_accepted()
     ensures phc { (c : Parameters) (password salt : List ℕ) (hash : PasswordHash) → IsTrue (are_accepted c.log_n c.r c.p)
         → IsMadeHash c password salt hash → verdict password (read_phc hash) ≡ Ok tt }
     ensures phc_printed { (c : Parameters) (password salt : List ℕ) (hash : PasswordHash) → IsTrue (are_accepted c.log_n c.r c.p)
-        → IsTrue (is_stored_len c.output_len) → IsSalt salt → IsMadeHash c password salt hash
-        → IsHashText (hash_text hash) hash }
+        → IsTrue (is_stored_len c.output_len) → IsSalt salt → IsMadeHash c password salt hash → IsHashText (hash_text hash) hash }
     ensures phc_read_back { (c : Parameters) (password salt : List ℕ) (hash again : PasswordHash) → IsTrue (are_accepted c.log_n c.r c.p)
         → IsTrue (is_stored_len c.output_len) → IsSalt salt → IsMadeHash c password salt hash
         → IsHashText (hash_text hash) again → verdict password (read_phc again) ≡ Ok tt }
-    ensures mcf { (c : Parameters) (password salt text : List ℕ) → IsMadeMcf c password salt text
-        → verdict password (read_mcf text) ≡ Ok tt }
+    ensures mcf { (c : Parameters) (password salt text : List ℕ) → IsMadeMcf c password salt text → verdict password (read_mcf text) ≡ Ok tt }
     ensures mcf_written { (c : Parameters) (password salt : List ℕ) → IsTrue (are_accepted c.log_n c.r c.p)
         → IsTrue (is_stored_len c.output_len) → IsMadeMcf c password salt (mcf_text (made_hash c password salt)) }
 {}
@@ -107,8 +101,7 @@ pub fn made_hashes_are_accepted()
 /// this hash. The reading of any other text is `EncodingInvalid`.
 pub fn texts_are_read_in_their_format()
     ensures mcf { (text : List ℕ) → is_mcf_text text ≡ true → reading text ≡ read_fields (fields_of text) }
-    ensures phc { (text : List ℕ) (hash : PasswordHash) → is_mcf_text text ≡ false → IsHashText text hash
-        → reading text ≡ read_phc hash }
+    ensures phc { (text : List ℕ) (hash : PasswordHash) → is_mcf_text text ≡ false → IsHashText text hash → reading text ≡ read_phc hash }
     ensures other { (text : List ℕ) → is_mcf_text text ≡ false → ((hash : PasswordHash) → ¬ IsHashText text hash)
         → reading text ≡ Err EncodingInvalid }
     ensures stored { (text : List ℕ) → is_stored_text text ≡ false
@@ -162,8 +155,7 @@ pub fn verdicts_compare_keys()
     ensures right { (password : List ℕ) (reading : Result Stored Refusal) → (verdict password reading ≡ Ok tt)
         ↔ ((s : Stored) × (reading ≡ Ok s) × (s.key ≡ key_by s.params password s.salt (length s.key))) }
     ensures wrong { (password : List ℕ) (reading : Result Stored Refusal) → verdict password reading ≡ Err PasswordInvalid
-        → ((s : Stored) × (reading ≡ Ok s) × (s.key ≢ key_by s.params password s.salt (length s.key)))
-        ⊎ (reading ≡ Err PasswordInvalid) }
+        → ((s : Stored) × (reading ≡ Ok s) × (s.key ≢ key_by s.params password s.salt (length s.key))) ⊎ (reading ≡ Err PasswordInvalid) }
 {}
 
 /// Reading a `$7$` hash, or the parameters of a PHC hash or of a stored hash, never gives
@@ -182,8 +174,7 @@ pub fn reading_names_no_password()
 pub fn rehashing_converges()
     ensures phc { (c : Parameters) (password salt : List ℕ) (hash : PasswordHash) → IsTrue (are_accepted c.log_n c.r c.p)
         → IsMadeHash c password salt hash → weaker c (read_phc hash) ≡ Ok false }
-    ensures mcf { (c : Parameters) (password salt text : List ℕ) → IsMadeMcf c password salt text
-        → weaker c (read_mcf text) ≡ Ok false }
+    ensures mcf { (c : Parameters) (password salt text : List ℕ) → IsMadeMcf c password salt text → weaker c (read_mcf text) ≡ Ok false }
 {}
 
 /// Numbers below 2^30 and their five letters determine each other, any five letters encode a
@@ -193,8 +184,7 @@ pub fn five_letters_are_inverse()
     ensures read_back { (number : ℕ) → number < 2 ^ 30 → five_letter_number (letters_of 5 number) ≡ Some number }
     ensures written_back { (letters : List ℕ) (number : ℕ) → length letters ≡ 5 → five_letter_number letters ≡ Some number
         → (letters_of 5 number ≡ letters) × (number < 2 ^ 30) }
-    ensures said { (letters : List ℕ) → length letters ≡ 5 → All (λ byte. IsSome (letter_value byte)) letters
-        → IsSome (five_letter_number letters) }
+    ensures said { (letters : List ℕ) → length letters ≡ 5 → All (λ byte. IsSome (letter_value byte)) letters → IsSome (five_letter_number letters) }
     ensures accepted { (log_n r p : ℕ) → IsTrue (are_accepted log_n r p) → (r < 2 ^ 30) × (p < 2 ^ 30) }
 {}
 
@@ -203,15 +193,13 @@ pub fn five_letters_are_inverse()
 #[tactic(auto, using(crate::proofs::McfTextFacts::params_letters_once))]
 pub fn letters_of_parameters_are_injective()
     ensures injective { (log_n r p other_log_n other_r other_p : ℕ) → IsTrue (are_accepted log_n r p) → IsTrue (are_accepted other_log_n other_r other_p)
-        → (params_letters log_n r p ≡ params_letters other_log_n other_r other_p)
-        ↔ ((log_n ≡ other_log_n) × (r ≡ other_r) × (p ≡ other_p)) }
+        → (params_letters log_n r p ≡ params_letters other_log_n other_r other_p) ↔ ((log_n ≡ other_log_n) × (r ≡ other_r) × (p ≡ other_p)) }
 {}
 
 /// A table that keeps one row in `2^s` gives the same key, for every `s`.
 #[tactic(auto, using(crate::proofs::ThinKeyFacts::thin_key_is))]
 pub fn thin_key_is_the_key()
-    ensures same { (password salt : List ℕ) (log_n r p s n : ℕ)
-        → thin_key password salt log_n r p s n ≡ derived_key password salt log_n r p n }
+    ensures same { (password salt : List ℕ) (log_n r p s n : ℕ) → thin_key password salt log_n r p s n ≡ derived_key password salt log_n r p n }
 {}
 
 /// With a table that keeps one row in `2^s`, the `N` steps of the walk together recompute at most
@@ -247,11 +235,9 @@ pub fn diagonal_order_undone()
 /// block mix is one by the standard's core, and each core has at most one.
 #[tactic(auto, using(scrypt_kernel::proofs::BlockMixFacts::block_mix_by_core))]
 pub fn block_mix_in_diagonal_order()
-    ensures mixed { (b : List ℕ) → 0 < length b → length b % 32 ≡ 0
-        → IsBlockMixBy diagonal_core (diagonal_order b) (diagonal_order (block_mix b)) }
+    ensures mixed { (b : List ℕ) → 0 < length b → length b % 32 ≡ 0 → IsBlockMixBy diagonal_core (diagonal_order b) (diagonal_order (block_mix b)) }
     ensures standard { (b : List ℕ) → 0 < length b → length b % 32 ≡ 0 → IsBlockMixBy salsa20_8 b (block_mix b) }
-    ensures once { (f : List ℕ → List ℕ) (b out other : List ℕ) → length b % 32 ≡ 0
-        → IsBlockMixBy f b out → IsBlockMixBy f b other → out ≡ other }
+    ensures once { (f : List ℕ → List ℕ) (b out other : List ℕ) → length b % 32 ≡ 0 → IsBlockMixBy f b out → IsBlockMixBy f b other → out ≡ other }
 {}
 
 /// The parameters of a hasher are accepted, and so is their length of a stored key.
@@ -267,8 +253,7 @@ pub fn hashers_are_accepted(hasher: &crate::Scrypt)
 /// parameters, lengths, buffers and limits. With this law a caller shows them by arithmetic, also
 /// for numeric literals.
 pub fn conditions_are_inequalities()
-    ensures accepted { (log_n r p : ℕ) → IsTrue (are_accepted log_n r p)
-        ↔ ((0 < r) × (0 < p) × (128 * r * 2 ^ log_n < 2 ^ 64) × (r * p < 2 ^ 30)) }
+    ensures accepted { (log_n r p : ℕ) → IsTrue (are_accepted log_n r p) ↔ ((0 < r) × (0 < p) × (128 * r * 2 ^ log_n < 2 ^ 64) × (r * p < 2 ^ 30)) }
     ensures output { (n : ℕ) → IsTrue (is_output_len n) ↔ ((1 ≤ n) × (n ≤ max_output_len)) }
     ensures stored { (n : ℕ) → IsTrue (is_stored_len (Some n)) ↔ ((10 ≤ n) × (n ≤ 64)) }
     ensures enough { (c : Parameters) (chunks table scratch : List ℕ) → IsTrue (are_enough c chunks table scratch)

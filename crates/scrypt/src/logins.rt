@@ -1,7 +1,6 @@
 // Verifying several passwords in one workspace, in one batch if possible.
 
-ghost use Rattle.std.specs.Prelude.{◌≡◌, ℕ, ◌∷◌, List, ◌+◌, ◌*◌, ◌<◌, length, map, IfSome, IsTrue, None, Some, true, false};
-ghost use Rattle.std.specs.List.{sum_by};
+ghost use Rattle.std.specs.Prelude.{◌≡◌, ℕ, ◌∷◌, List, ◌+◌, ◌*◌, ◌<◌, length, map, IfSome, IsTrue, None, Some, true, false, sum_by};
 ghost use Rattle.scrypt.specs.Logins.{AreLeft, Attempt, IsAlone, all_cost, all_of, attempt_of, attempts, chunks_cost, compare_cost, count_of, hashed_on, own, own_cost, params_of, reading_of, shared, verdict_on};
 ghost use Rattle.scrypt.specs.Mixing.{IsReady, IsSpent};
 ghost use Rattle.scrypt.specs.Reading.{chunks_of, mapped, mixed_of, verdict, verify_cost, with_refusal};
@@ -60,8 +59,7 @@ impl<'p, 't> Login<'p, 't> {
     // the hash is an error.
     #[tactic(auto, unfolding(crate::specs::Logins::with_more))]
     fn count_with(&self, params: &Params, count: u32) -> Option<u32>
-        ensures { (others : List Attempt) → count_of params.now others ≡ Some count
-            → result ≡ count_of params.now (attempt_of self.now ∷ others) }
+        ensures { (others : List Attempt) → count_of params.now others ≡ Some count → result ≡ count_of params.now (attempt_of self.now ∷ others) }
     {
         let Some(own) = self.params() else {
             return Some(count);
@@ -196,8 +194,7 @@ fn verified_in_batch<W: Backend>(
         + sum_by (hashed_on (workspace_of chunks.old table.old scratch.old cores.old)) (attempts logins.now) }
     ensures alone { result ≡ false → IsAlone (attempts logins.now) (workspace_of chunks.old table.old scratch.old cores.old) }
     ensures kept { result ≡ false → verdicts.new ≡ verdicts.old }
-    ensures unchanged { result ≡ false → (chunks.new ≡ chunks.old) × (table.new ≡ table.old) × (scratch.new ≡ scratch.old)
-        × (cores.new ≡ cores.old) }
+    ensures unchanged { result ≡ false → (chunks.new ≡ chunks.old) × (table.new ≡ table.old) × (scratch.new ≡ scratch.old) × (cores.new ≡ cores.old) }
 {
     let Some((params, count)) = shared_params(logins) else {
         return false;

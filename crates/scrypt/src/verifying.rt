@@ -42,8 +42,7 @@ fn is_key_of<M: TableMemory, W: Backend>(
     requires ready { IsReady M.room parts.now.params.log_n 0 parts.now.params.r parts.now.params.p used.old }
     ensures exact { result ≡ is_right password.now (stored parts.now) }
     ensures spent { IsSpent M.room parts.now.params used.old used.new }
-    ensures hashed { used.new.cores.now.compressions ≡ used.old.cores.now.compressions
-        + verify_cost password.now (stored parts.now) }
+    ensures hashed { used.new.cores.now.compressions ≡ used.old.cores.now.compressions + verify_cost password.now (stored parts.now) }
 {
     let params = &parts.params;
     let salt = parts.salt.as_bytes();
@@ -72,8 +71,7 @@ pub(crate) fn verify_allocating<W: Backend>(
     ensures memory { IsErrOf result OutOfMemory → cores.new ≡ cores.old }
     ensures counted { (¬ IsErrOf result OutOfMemory)
         → AreCounted (cost parts.now.params.log_n parts.now.params.r parts.now.params.p) cores.old cores.new }
-    ensures hashed { (¬ IsErrOf result OutOfMemory)
-        → cores.new.compressions ≡ cores.old.compressions + verify_cost password.now (stored parts.now) }
+    ensures hashed { (¬ IsErrOf result OutOfMemory) → cores.new.compressions ≡ cores.old.compressions + verify_cost password.now (stored parts.now) }
 {
     // A limit of 0 bytes selects one table.
     let (w, mut own) = OwnBuffers::allocate_within(alloc, &parts.params, 0)?;

@@ -1,7 +1,6 @@
 // Making `$7$` hashes.
 
-ghost use Rattle.std.specs.Prelude.{◌≡◌, ◌↔◌, ◌+◌, ◌<◌, ◌≤◌, ℕ, List, None, length, IfOk, IfErr, take, IsErrOf, IsOk, OnErr, OnOk, IsTrue};
-ghost use Rattle.std.specs.Str.{IsAscii};
+ghost use Rattle.std.specs.Prelude.{◌≡◌, ◌↔◌, ◌+◌, ◌<◌, ◌≤◌, ℕ, List, None, length, IfOk, IfErr, take, IsErrOf, IsOk, OnErr, OnOk, IsTrue, IsAscii};
 ghost use Rattle.password_hash.specs.Crypt64.{crypt64_of, encoded_len};
 ghost use Rattle.password_hash.specs.Mcf.{IsMcf};
 ghost use Rattle.password_hash.specs.declared.error.Error.TheVariants.{OutOfMemory};
@@ -149,8 +148,7 @@ fn params_letters(params: &Params) -> [u8; PARAMS_LEN]
 fn write_text(out: &mut [u8], params: &Params, salt: &[u8], key: &Output)
     requires len { length out.old ≡ made_text_len params.now (length salt.now) }
     requires key_len { length key.now ≡ key_len_or_default params.now }
-    ensures made { (password : List ℕ)
-        → key.now ≡ made_key params.now password salt.now → IsMadeHash params.now password salt.now out.new }
+    ensures made { (password : List ℕ) → key.now ≡ made_key params.now password salt.now → IsMadeHash params.now password salt.now out.new }
     ensures ascii { IsAscii out.new }
     ensures modular { IsMcf out.new }
 {

@@ -19,8 +19,7 @@ impl<'a> StoredHash<'a> {
     ///
     /// Returns the errors of [`StoredHash::verify`] before it allocates.
     pub fn salt(&self) -> Result<&[u8]>
-        ensures value { mapped (λ salt. salt.now) (with_refusal result)
-            ≡ mapped (λ s. s.salt) (reading self.now) }
+        ensures value { mapped (λ salt. salt.now) (with_refusal result) ≡ mapped (λ s. s.salt) (reading self.now) }
     {
         match self.parts() {
             Ok(parts) => Ok(parts.salt.as_bytes()),
@@ -39,12 +38,9 @@ impl<'a> StoredHash<'a> {
         cores: &mut CoreCount,
     ) -> Result<()>
         requires ended { IfOk (reading self.now) (λ s. at.chunks ≡ s.params.p) }
-        requires chunks { IfOk (reading self.now) (λ s. length chunks.old
-            ≡ chunks_bytes s.params.r s.params.p) }
-        ensures verdict { (table : List ℕ) → (scratch : List ℕ)
-            → IfOk (reading self.now) (λ s. IsUnderWay password.now s.salt s.params at chunks.old
-            table scratch)
-            → with_refusal result ≡ verdict password.now (reading self.now) }
+        requires chunks { IfOk (reading self.now) (λ s. length chunks.old ≡ chunks_bytes s.params.r s.params.p) }
+        ensures verdict { (table : List ℕ) → (scratch : List ℕ) → IfOk (reading self.now) (λ s. IsUnderWay password.now s.salt s.params at chunks.old
+            table scratch) → with_refusal result ≡ verdict password.now (reading self.now) }
         ensures counted { IfOk (reading self.now) (λ s. AreHashed (pbkdf2_cost (length password.now)
             (chunks_bytes s.params.r s.params.p) (length s.key)) cores.old cores.new) }
         ensures kept { chunks.new ≡ chunks.old }

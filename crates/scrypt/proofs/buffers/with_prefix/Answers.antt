@@ -1,5 +1,4 @@
-use Rattle.std.proofs.Common.{refl, rules}
-use Rattle.std.proofs.lemmas.List.{take_at}
+use Rattle.std.proofs.Common.{refl, rules, take_at}
 use Rattle.std.proofs.lemmas.Slice.{drop-append-drop}
 use Rattle.scrypt_kernel.specs.Memory.{buffer_room}
 use Rattle.scrypt.specs.Mixing.{IsReady}

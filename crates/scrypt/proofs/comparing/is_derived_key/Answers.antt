@@ -1,5 +1,4 @@
-use Rattle.std.proofs.Common.{◌≡◌, ◌≤◌, ◌-◌, ◌*◌, ◌/◌, ◌+◌, ℕ, List, min, arith, length, refl, replicate, rules, take, take_all, ◌↔◌, ◌&&◌, Bool, true, ◌++◌, drop, ◌∙◌, sym, ap, ap₂}
-use Rattle.std.proofs.lemmas.List.{length-take-le, drop_at, take_at}
+use Rattle.std.proofs.Common.{◌≡◌, ◌≤◌, ◌-◌, ◌*◌, ◌/◌, ◌+◌, ℕ, List, min, arith, length, refl, replicate, rules, take, take_all, ◌↔◌, ◌&&◌, Bool, true, ◌++◌, drop, ◌∙◌, sym, ap, ap₂, length-take-le, drop_at, take_at, take-add}
 use Rattle.std.proofs.lemmas.List.FromFn.{length-map-range_with_len}
 use Rattle.scrypt_kernel.specs.Pbkdf2.{pbkdf2_byte, pbkdf2_from, pbkdf2}
 use Rattle.scrypt_kernel.specs.Pbkdf2Cost.{end_cost}
@@ -10,7 +9,6 @@ use Rattle.scrypt.specs.StoredKey.{key_bytes}
 use Rattle.scrypt.specs.StoredParts.{stored}
 use Rattle.scrypt.proofs.ReadingFacts.{told_right}
 use Rattle.scrypt.proofs.comparing.is_derived_key.Goals as goal
-use Rattle.std.proofs.Math.Seq.{take-add}
 use Rattle.std.proofs.lemmas.Bool.{and_from, and_parts}
 use Rattle.scrypt_kernel.proofs.Pbkdf2Facts.{length-pbkdf2, pbkdf2-append}
 

@@ -1,5 +1,4 @@
-use Rattle.std.proofs.Common.{◌∙◌, ap, arith, drop, length, length-append, rules, sym, take}
-use Rattle.std.proofs.lemmas.List.{drop_at, take_at}
+use Rattle.std.proofs.Common.{◌∙◌, ap, arith, drop, length, length-append, rules, sym, take, drop_at, take_at}
 use Rattle.scrypt_kernel.proofs.CountFacts.{hashed_none}
 use Rattle.scrypt.specs.Logins.{all_cost, all_of, attempt_of, compare_cost}
 use Rattle.scrypt.specs.Reading.{mixed_of, verdict}

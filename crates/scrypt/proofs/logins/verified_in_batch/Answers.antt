@@ -1,5 +1,4 @@
-use Rattle.std.proofs.Common.{◌≡◌, ◌∙◌, ◌+◌, ap, rules}
-use Rattle.std.specs.Prelude.{map}
+use Rattle.std.proofs.Common.{◌≡◌, ◌∙◌, ◌+◌, ap, rules, map}
 use Rattle.scrypt.specs.Logins.{Attempt, all_cost, attempts}
 use Rattle.scrypt.specs.Reading.{verdict, verify_cost}
 use Rattle.scrypt.specs.WithinLimits.{with_limited_refusal}

@@ -1,5 +1,4 @@
-use Rattle.std.proofs.Common.{◌≡◌, ◌+◌, ◌++◌, drop, length, map, take}
-use Rattle.std.specs.List.{sum_by}
+use Rattle.std.proofs.Common.{◌≡◌, ◌+◌, ◌++◌, drop, length, map, take, sum_by}
 use Rattle.scrypt.specs.Logins.{AreLeft, attempts, hashed_on, verdict_on}
 use Rattle.scrypt.specs.WithinLimits.{with_limited_refusal}
 use Rattle.scrypt.specs.Workspace.{Workspace, workspace_of}

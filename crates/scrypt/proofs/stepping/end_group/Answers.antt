@@ -1,5 +1,4 @@
-use Rattle.std.proofs.Common.{◌≡◌, ◌≤◌, ◌+◌, ◌-◌, ◌*◌, ℕ, length, drop, ap, ◌∙◌, arith}
-use Rattle.std.proofs.lemmas.List.{length-drop, length-take-le}
+use Rattle.std.proofs.Common.{◌≡◌, ◌≤◌, ◌+◌, ◌-◌, ◌*◌, ℕ, length, drop, ap, ◌∙◌, arith, length-drop, length-take-le}
 use Rattle.scrypt_kernel.proofs.PartFacts.{parts_from}
 use Rattle.scrypt.specs.Key.{mixed_chunk}
 use Rattle.scrypt.specs.Stepping.{words_from}

@@ -1,5 +1,4 @@
-use Rattle.std.proofs.Common.{rules}
-use Rattle.std.specs.Prelude.{IsTrue}
+use Rattle.std.proofs.Common.{rules, IsTrue}
 use Rattle.scrypt.specs.InBuffers.{are_enough}
 use Rattle.scrypt.proofs.verifying.verify_in_buffers.Goals as goal
 

@@ -1,6 +1,5 @@
-use Rattle.std.proofs.Common.{◌≡◌, ◌<◌, ◌≤◌, ◌+◌, ◌-◌, ◌*◌, arith, rules}
+use Rattle.std.proofs.Common.{◌≡◌, ◌<◌, ◌≤◌, ◌+◌, ◌-◌, ◌*◌, arith, rules, mul-le-mul_right}
 use Rattle.std.proofs.lemmas.Grind.{common_steps}
-use Rattle.std.proofs.Math.Nat.{mul-le-mul_right}
 use Rattle.scrypt_kernel.proofs.CountFacts.{counted_both}
 use Rattle.scrypt.specs.Cost.{scratch_words, table_words}
 use Rattle.scrypt.proofs.CostFacts.{more_chunks, whole_table_cost}

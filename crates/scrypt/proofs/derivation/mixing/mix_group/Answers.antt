@@ -1,5 +1,4 @@
-use Rattle.std.proofs.Common.{◌≡◌, ◌≤◌, ◌+◌, ◌-◌, ◌*◌, ℕ, length, drop, ap, ◌∙◌, arith}
-use Rattle.std.proofs.lemmas.List.{length-drop, length-take-le}
+use Rattle.std.proofs.Common.{◌≡◌, ◌≤◌, ◌+◌, ◌-◌, ◌*◌, ℕ, length, drop, ap, ◌∙◌, arith, length-drop, length-take-le}
 use Rattle.scrypt_kernel.proofs.PartFacts.{part-take, parts_apart}
 use Rattle.scrypt.proofs.KeyFacts.{mixed_group, mixed_more, part_at}
 use Rattle.scrypt.proofs.derivation.mixing.mix_group.Goals as goal
