@@ -4,12 +4,11 @@ use Rattle.std.proofs.lemmas.Nat.{le-div, mul-le}
 use Rattle.scrypt_kernel.specs.Pbkdf2Cost.{end_cost}
 use Rattle.std.proofs.lemmas.Bool.Decides.{nat_tests}
 use Rattle.scrypt_kernel.specs.Words.{part, words_of}
-use Rattle.scrypt_kernel.specs.Table.{thin_ro_mix_cost}
 use Rattle.scrypt_kernel.proofs.WalkFacts.{extra_rows-whole, whole_cost}
 use Rattle.scrypt.specs.Accepted.{Parameters}
 use Rattle.scrypt.specs.Limits.{are_within, work}
 use Rattle.scrypt.specs.declared.limits.Limits.{Limits}
-use Rattle.scrypt.specs.Cost.{chunks_bytes, cost, extra_rows_of_chunks, hash_cost, lengths_cost, scratch_words, table_words, thin_chunks_cost}
+use Rattle.scrypt.specs.Cost.{chunks_bytes, cost, extra_rows_of_chunks, hash_cost, lengths_cost, scratch_words, table_words, thin_chunks_cost, thin_ro_mix_cost}
 use Rattle.scrypt.specs.Workspace.{interleaved_chunks}
 
 none_of_chunks : (b : List ℕ) (log_n r i : ℕ) → extra_rows_of_chunks b log_n 0 r i ≡ 0

@@ -1,4 +1,4 @@
-use Rattle.std.proofs.Common.{◌≡◌, ℕ, zero, suc, ◌<◌, ◌≤◌, ◌+◌, ◌*◌, List, ◌++◌, length, take, drop, slice_index, refl, sym, ap, ap₂, ◌∙◌, arith, add-zero, zero-add, append_assoc, drop-drop}
+use Rattle.std.proofs.Common.{◌≡◌, ℕ, zero, suc, ◌<◌, ◌≤◌, ◌+◌, ◌*◌, List, ◌++◌, length, take, drop, slice_index, refl, sym, ap, ap₂, ◌∙◌, arith, add-zero, zero-add, append_assoc, drop-drop, ◌-◌, length-drop, length-take-le}
 use Rattle.std.specs.List.{flat_map, range_with_len}
 use Rattle.std.proofs.lemmas.Slice.{drop-put_mid, take-put_mid}
 use Rattle.std.proofs.lemmas.List.FromFn.{length-map-range_with_len, take-map-range_with_len}
@@ -35,19 +35,22 @@ made_alike f g a b (suc n) same =
     let other : b + 1 + i ≡ b + suc i = omega arith in
     rw (place, other) (same (suc i) (omega arith))))
 
--- m more chunks, mixed in place as a slice of n bytes from a on
-pub mixed_more : {b x ys : List ℕ} {log_n r i : ℕ} (m a n : ℕ) → a ≡ i * (128 * r) → n ≡ m * (128 * r)
-    → length ys ≡ n → a + n ≤ length x → ys ≡ flat_map (mixed_chunk b log_n r) (range_with_len i m)
-    → AreMixed b log_n r i x → AreMixed b log_n r (i + m) (put_mid a n x ys)
-mixed_more {b} {x} {ys} {log_n} {r} {i} m a n at size full room made before =
-    let end : (i + m) * (128 * r) ≡ a + n = omega arith in
-    let there = rw (← at) at before.done in
-    let rest = rw (← at) at before.rest in
+-- n more chunks, mixed in place as the slice that the code takes
+pub mixed_slice : {b x ys : List ℕ} {log_n r i : ℕ} (n : ℕ) → i * (128 * r) + n * (128 * r) ≤ length x
+    → length ys ≡ length (take (i * (128 * r) + n * (128 * r) - i * (128 * r)) (drop (i * (128 * r)) x))
+    → (length ys ≡ n * (128 * r) → ys ≡ flat_map (mixed_chunk b log_n r) (range_with_len i n)) → AreMixed b log_n r i x
+    → AreMixed b log_n r (i + n) (put_mid (i * (128 * r)) (i * (128 * r) + n * (128 * r) - i * (128 * r)) x ys)
+mixed_slice {b} {x} {ys} {log_n} {r} {i} n room long made before =
+    let a : ℕ = i * (128 * r) in
+    let m : ℕ = a + n * (128 * r) - a in
+    let size : m ≡ n * (128 * r) = omega arith in
+    let full = long ∙ length-take-le m (drop a x) (omega (arith, length-drop a x, room)) in
+    let end : (i + n) * (128 * r) ≡ a + m = omega arith in
     record {
-      done = ap (λ k. take k (put_mid a n x ys)) end ∙ take-put_mid a n x ys (a + n) (omega arith) (omega arith)
-          ∙ ap₂ (λ y z. y ++ z) there made ∙ sym (made_append (mixed_chunk b log_n r) 0 i i m (zero-add i));
-      rest = rw end (drop-put_mid a n x ys (a + n) (omega arith) (omega arith) full
-          ∙ sym (drop-drop n a x) ∙ ap (drop n) rest ∙ drop-drop n a b);
+      done = ap (λ k. take k (put_mid a m x ys)) end ∙ take-put_mid a m x ys (a + m) (omega (arith, full)) (omega (arith, size, room))
+          ∙ ap₂ (λ y z. y ++ z) before.done (made (full ∙ size)) ∙ sym (made_append (mixed_chunk b log_n r) 0 i i n (zero-add i));
+      rest = rw end (drop-put_mid a m x ys (a + m) (omega arith) (omega (arith, size, room)) full
+          ∙ sym (drop-drop m a x) ∙ ap (drop m) before.rest ∙ drop-drop m a b);
     }
 
 pub part_at : (s i : ℕ) (x : List ℕ) → part s (drop (i * s) x) 0 ≡ part s x i

@@ -6,17 +6,16 @@ use Rattle.std.proofs.lemmas.Slice.{take-put_mid}
 use borrow.Rule.Slice.PartMut.{mid_of, put_mid, same_len_mid}
 use Rattle.std.proofs.lemmas.Option.{cond_some}
 use Rattle.std.proofs.lemmas.Bool.Decides.{Decides-and, Decides-eqb, Decides-ltb}
-use Rattle.scrypt_kernel.specs.Count.{AreHashed}
 use Rattle.scrypt_kernel.specs.declared.cores.count.CoreCount.{CoreCount}
 use Rattle.scrypt_kernel.proofs.CountFacts.{hashed_both}
 use Rattle.scrypt_kernel.proofs.Pbkdf2Facts.{length-pbkdf2}
 use Rattle.password_hash.specs.Refusal.{Refusal}
 use Rattle.scrypt.specs.Accepted.{Parameters}
-use Rattle.scrypt.specs.Cost.{chunks_bytes}
-use Rattle.scrypt.specs.InBuffers.{are_enough}
+use Rattle.scrypt.specs.Cost.{AreHashed, chunks_bytes}
 use Rattle.scrypt.specs.Key.{mixed_chunks}
 use Rattle.scrypt.specs.Logins.{Attempt, AreLeft, IsAlone, all_cost, all_of, attempt_of, attempts, chunks_cost, compare_cost, count_of, hashed_on, own_cost, shared, verdict_on, with_more}
 use Rattle.scrypt.specs.Reading.{Stored, chunks_of, mixed_of, verdict, verify_cost}
+use Rattle.scrypt.specs.InBuffers.{are_enough}
 use Rattle.scrypt.specs.Workspace.{IsDone, IsLeft, Workspace}
 use Rattle.scrypt.specs.declared.logins.Login.{Login}
 use Rattle.scrypt.proofs.KeyFacts.{both_mixed, length-mixed_chunks}

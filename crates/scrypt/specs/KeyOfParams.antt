@@ -3,9 +3,8 @@ use Rattle.std.specs.Prelude.{◌≡◌, ℕ, ◌+◌, List, IsTrue, length}
 use Rattle.password_hash.specs.declared.kdf.Error.{Error}
 use Rattle.password_hash.specs.declared.kdf.Error.TheVariants.{OutOfMemory, Refused}
 use Rattle.scrypt.specs.Accepted.{is_output_len, Parameters}
-use Rattle.scrypt_kernel.specs.Count.{AreCounted}
 use Rattle.scrypt_kernel.specs.declared.cores.count.CoreCount.{CoreCount}
-use Rattle.scrypt.specs.Cost.{cost, hash_cost}
+use Rattle.scrypt.specs.Cost.{AreCounted, cost, hash_cost}
 use Rattle.scrypt.specs.Key.{derived_key}
 
 -- the key that these parameters derive; the length of a stored key in them is ignored

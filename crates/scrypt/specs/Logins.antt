@@ -6,8 +6,7 @@ use Rattle.scrypt.specs.Reading.{◌and_then◌, Stored}
 use Rattle.scrypt.specs.Cost.{chunks_bytes, pbkdf2_cost}
 use Rattle.scrypt.specs.StoredHash.{reading}
 use Rattle.scrypt.specs.WithinLimits.{with_limited_refusal}
-use Rattle.scrypt.specs.InBuffers.{are_enough}
-use Rattle.scrypt.specs.Workspace.{Workspace, IsDone, IsLeft, hashed_in, verdict_in}
+use Rattle.scrypt.specs.Workspace.{IsDone, IsLeft, Workspace, are_enough, hashed_in, verdict_in}
 use Rattle.scrypt.specs.declared.logins.Login.{Login}
 
 -- a password, and the reading of the hash that it is verified against

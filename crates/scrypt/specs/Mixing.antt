@@ -1,8 +1,7 @@
 -- Private: the groups of chunks of B that are interleaved, and the memory for them.
 use Rattle.std.specs.Prelude.{◌≡◌, Bool, ℕ, ◌+◌, ◌-◌, ◌*◌, ◌<◌, ◌≤◌, ◌&&◌, nat_eq, nat_lt, min, if◌then◌else◌, List, length, replicate, take}
-use Rattle.scrypt_kernel.specs.Count.{AreCounted}
 use Rattle.scrypt.specs.Accepted.{Parameters}
-use Rattle.scrypt.specs.Cost.{chunks_bytes, cost, scratch_words, table_words, thin_scratch_words}
+use Rattle.scrypt.specs.Cost.{AreCounted, chunks_bytes, cost, scratch_words, table_words, thin_scratch_words}
 use Rattle.scrypt.specs.Workspace.{IsRestKept, Workspace, interleaved_chunks}
 use Rattle.scrypt.specs.declared.buffers.ActiveBuffers.{ActiveBuffers}
 

@@ -2,11 +2,10 @@
 -- afterwards.
 use Rattle.std.specs.Prelude.{◌≡◌, ℕ, ◌*◌, ◌/◌, min, if◌then◌else◌, List, length, drop, MatchBool, Result, Ok, Err, ⊤}
 use Rattle.password_hash.specs.Refusal.{Refusal, OutOfMemory}
-use Rattle.scrypt_kernel.specs.Count.{AreCounted}
 use Rattle.scrypt_kernel.specs.declared.cores.count.CoreCount.{CoreCount}
 use Rattle.scrypt.specs.Accepted.{Parameters}
-use Rattle.scrypt.specs.Cost.{chunks_bytes, cost, scratch_words, table_words}
-use Rattle.scrypt.specs.InBuffers.{IsWiped, are_enough}
+use Rattle.scrypt.specs.Cost.{AreCounted, chunks_bytes, cost, scratch_words, table_words}
+pub use Rattle.scrypt.specs.InBuffers.{IsWiped, are_enough}
 use Rattle.scrypt.specs.Reading.{◌and_then◌, Stored, verdict, verify_cost}
 
 -- the caller's buffers, and the count of cores

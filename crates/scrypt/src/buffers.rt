@@ -4,10 +4,9 @@
 ghost use Rattle.std.specs.Prelude.{◌≡◌, ◌⊎◌, ◌↔◌, ◌+◌, ◌-◌, ◌*◌, ◌<◌, ◌≤◌, length, IfOk, IfSome, IsSome, IsTrue, None};
 ghost use Rattle.scrypt_kernel.specs.Memory.{allocated_room, buffer_room};
 ghost use Rattle.scrypt.specs.Cost.{chunks_bytes, scratch_words, table_words, thin_scratch_words};
-ghost use Rattle.scrypt.specs.InBuffers.{are_enough};
 ghost use Rattle.scrypt.specs.Limits.{tables_within};
 ghost use Rattle.scrypt.specs.Mixing.{HasTables, IsAtFront, IsKept, IsReady, IsSpent, IsWidth};
-ghost use Rattle.scrypt.specs.Workspace.{IsDone, interleaved_chunks, workspace_of};
+ghost use Rattle.scrypt.specs.Workspace.{IsDone, are_enough, interleaved_chunks, workspace_of};
 
 use crate::{CoreCount, Params};
 use scrypt_kernel::memory::{Allocated, Buffer};

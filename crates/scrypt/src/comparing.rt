@@ -2,8 +2,7 @@
 // either.
 
 ghost use Rattle.std.specs.Prelude.{◌≡◌, length};
-ghost use Rattle.scrypt_kernel.specs.Count.{AreHashed};
-ghost use Rattle.scrypt.specs.Cost.{pbkdf2_cost};
+ghost use Rattle.scrypt.specs.Cost.{AreHashed, pbkdf2_cost};
 ghost use Rattle.scrypt.specs.Reading.{is_right, mixed_of};
 ghost use Rattle.scrypt.specs.StoredParts.{stored};
 

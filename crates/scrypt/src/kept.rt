@@ -2,13 +2,12 @@
 
 ghost use Rattle.std.specs.Prelude.{◌≡◌, ◌↔◌, length, replicate, IfOk, IsErrOf, IsOk, IsTrue, OnErr, OnOk};
 ghost use Rattle.scrypt.specs.Accepted.{is_output_len};
-ghost use Rattle.scrypt.specs.InBuffers.{are_enough};
 ghost use Rattle.scrypt.specs.KeyOfParams.{key_by};
 ghost use Rattle.scrypt.specs.Limits.{SufficeFor};
 ghost use Rattle.scrypt.specs.Reading.{verdict, with_refusal};
 ghost use Rattle.scrypt.specs.StoredHash.{reading};
 ghost use Rattle.scrypt.specs.WithinLimits.{within};
-ghost use Rattle.scrypt.specs.Workspace.{buffers, verdict_in};
+ghost use Rattle.scrypt.specs.Workspace.{are_enough, buffers, verdict_in};
 ghost use Rattle.scrypt.specs.declared.errors.DeriveError.TheVariants.{InvalidOutputLen as BadLength, OutOfMemory};
 ghost use Rattle.scrypt.specs.declared.limits.Limits.{Limits};
 

@@ -2,13 +2,12 @@
 //! progress, or abandon the derivation.
 
 ghost use Rattle.std.specs.Prelude.{◌≡◌, ◌≢◌, ◌↔◌, ℕ, ◌+◌, ◌-◌, ◌*◌, ◌^◌, ◌<◌, ◌≤◌, List, length, min, false, true, IsErrOf, IsTrue, OnErr, OnOk};
-ghost use Rattle.scrypt_kernel.specs.Count.{AreCounted, AreCountedAs, AreHashed};
 ghost use Rattle.scrypt_kernel.specs.Diagonal.{pivot};
 ghost use Rattle.scrypt_kernel.specs.Pbkdf2.{pbkdf2};
 ghost use Rattle.scrypt_kernel.specs.Steps.{IsMixing, all_mixes};
 ghost use Rattle.scrypt_kernel.specs.Words.{part, words_of};
 ghost use Rattle.scrypt.specs.Accepted.{is_output_len};
-ghost use Rattle.scrypt.specs.Cost.{chunks_bytes, cost, hash_cost, pbkdf2_cost, scratch_words, table_words};
+ghost use Rattle.scrypt.specs.Cost.{AreCounted, AreCountedAs, AreHashed, chunks_bytes, cost, hash_cost, pbkdf2_cost, scratch_words, table_words};
 ghost use Rattle.scrypt.specs.Key.{derived_key};
 ghost use Rattle.scrypt.specs.KeyOfParams.{IsDerived, cost_by};
 ghost use Rattle.scrypt.specs.Stepping.{AreMixable, CanGoOn, AreMixed, IsUnderWay, IsWithin, first_b, lacking, mixes_done, words_from};

@@ -3,8 +3,7 @@
 ghost use Rattle.std.specs.Prelude.{◌≡◌, ◌⊎◌, ◌↔◌, ◌+◌, Err, IfErr, IfOk, IsErrOf, IsOk, IsTrue, None, Ok, OnErr};
 ghost use Rattle.password_hash.specs.Refusal.{refusal};
 ghost use Rattle.password_hash.specs.declared.error.Error.TheVariants.{EncodingInvalid, OutOfMemory};
-ghost use Rattle.scrypt_kernel.specs.Count.{AreCounted};
-ghost use Rattle.scrypt.specs.Cost.{cost};
+ghost use Rattle.scrypt.specs.Cost.{AreCounted, cost};
 ghost use Rattle.scrypt.specs.Reading.{◌and_then◌, IsVerdict, let_in, mapped, verdict, verify_cost, weaker, with_refusal};
 ghost use Rattle.scrypt.specs.StoredHash.{formatted, is_mcf_text, is_stored_text, key_len_or_zero, params_reading, reading};
 ghost use Rattle.scrypt.specs.StoredParts.{IsReadAs, stored};

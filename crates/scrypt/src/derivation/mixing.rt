@@ -1,10 +1,8 @@
 // Step 2 of a derivation (RFC 7914, section 6): each chunk becomes its scryptROMix.
 
 ghost use Rattle.std.specs.Prelude.{◌≡◌, ◌≢◌, ℕ, List, ◌+◌, ◌*◌, ◌<◌, ◌≤◌, length, true};
-ghost use Rattle.scrypt_kernel.specs.Count.{AreCountedAs};
-ghost use Rattle.scrypt_kernel.specs.Table.{thin_ro_mix_cost};
 ghost use Rattle.scrypt_kernel.specs.Words.{part, words_of};
-ghost use Rattle.scrypt.specs.Cost.{chunks_bytes, cost, thin_chunks_cost};
+ghost use Rattle.scrypt.specs.Cost.{AreCountedAs, chunks_bytes, cost, thin_chunks_cost, thin_ro_mix_cost};
 ghost use Rattle.scrypt.specs.Key.{mixed_chunks};
 ghost use Rattle.scrypt.specs.Stepping.{AreMixed};
 ghost use Rattle.scrypt.specs.Mixing.{HasTables, IsKept, IsReady, group_by, next_group};

@@ -7,8 +7,7 @@ ghost use Rattle.scrypt.specs.KeyOfParams.{key_by};
 ghost use Rattle.scrypt.specs.PhcHash.{HashIsRefused, IsMadeHash, IsScryptOrNone, IsSaltLen};
 ghost use Rattle.password_hash.specs.Refusal.{refusal};
 ghost use Rattle.password_hash.specs.declared.error.Error.TheVariants.{OutOfMemory, SaltInvalid};
-ghost use Rattle.scrypt.specs.InBuffers.{are_enough};
-ghost use Rattle.scrypt.specs.Workspace.{IsDone, workspace_of};
+ghost use Rattle.scrypt.specs.Workspace.{IsDone, are_enough, workspace_of};
 
 use crate::buffers::{ActiveBuffers, with_prefix};
 use crate::hashing::{check_call, key_allocating, stored_key};

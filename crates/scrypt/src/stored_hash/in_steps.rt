@@ -1,8 +1,7 @@
 // Verifying in steps.
 
 ghost use Rattle.std.specs.Prelude.{◌≡◌, ℕ, List, length, IfOk, OnErr};
-ghost use Rattle.scrypt_kernel.specs.Count.{AreHashed};
-ghost use Rattle.scrypt.specs.Cost.{chunks_bytes, pbkdf2_cost};
+ghost use Rattle.scrypt.specs.Cost.{AreHashed, chunks_bytes, pbkdf2_cost};
 ghost use Rattle.scrypt.specs.Reading.{mapped, verdict, with_refusal};
 ghost use Rattle.scrypt.specs.StoredHash.{reading};
 ghost use Rattle.scrypt.specs.Stepping.{IsUnderWay};

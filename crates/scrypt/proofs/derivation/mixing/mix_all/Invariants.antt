@@ -1,6 +1,5 @@
 use Rattle.std.proofs.Common.{◌≤◌, ◌-◌, true}
-use Rattle.scrypt_kernel.specs.Count.{AreCountedAs}
-use Rattle.scrypt.specs.Cost.{thin_chunks_cost}
+use Rattle.scrypt.specs.Cost.{AreCountedAs, thin_chunks_cost}
 use Rattle.scrypt.specs.Mixing.{IsKept}
 use Rattle.scrypt.specs.Stepping.{AreMixed}
 use Rattle.scrypt.proofs.derivation.mixing.mix_all.Given as goal
