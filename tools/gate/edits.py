@@ -7,9 +7,9 @@ lines `old: TEXT` and `new: TEXT`. A line `file: PATH` within an edit holds for 
 edit. Each old text occurs once in its file, or, after a line `after: TEXT`, whose text occurs once,
 is the first occurrence after that. A new text of several lines has a line `new: TEXT` for each. A
 mutant can also answer goals of its function that it makes false, by lines `answer: ANSWER`, perhaps
-after `unfolding: NAME`, and `use: NAMES`; `arith`, `refl` and `rules` of std need no such line. A
-mutant that only tests kill can name all tests that fail by it, by lines `test: TEXT`, each a part
-of their names.
+after `unfolding: NAME`, and `use: NAMES`; the names of `USUAL` need no such line. A mutant
+that only tests kill can name all tests that fail by it, by lines `test: TEXT`, each a part of their
+names.
 """
 
 import contextlib
@@ -25,8 +25,12 @@ from pathlib import Path
 GATE, MORE, BY_TESTS, NOT_COMPILED = PARTS = ["the gate", "more", "refused by tests", "must not compile"]
 FILE = "mutants.txt"
 WORDS = {"file", "after", "old", "new", "answer", "unfolding", "use", "test"}
-# The lists that tactics usually take, which answers use without saying so.
-USUAL = ("arith", "refl", "rules")
+# The lists and lemmas that tactics usually take, by their modules.
+USUAL = {
+    "Common": ("arith", "refl", "rules"),
+    "lemmas.Bool.Decides": ("nat_tests",),
+    "lemmas.Grind": ("common_steps",),
+}
 
 
 class BadEdit(Exception):
@@ -82,7 +86,8 @@ class Edit:
                 given[goal] = f"pub {goal} : goal.{goal}\n{unfolding}{rest}\n"
                 unfolding = ""
         said = set(re.findall(r"\w+", " ".join(given.values())))
-        return given, uses + [f"Rattle.std.proofs.Common.{{{word}}}" for word in USUAL if word in said]
+        usual = [f"{module}.{{{word}}}" for module, words in USUAL.items() for word in words if word in said]
+        return given, uses + [f"Rattle.std.proofs.{use}" for use in usual]
 
     def tests(self):
         """The tests that fail by it, if it names them: a part of each name."""

@@ -141,8 +141,6 @@ pub made_length : (c : Parameters) (password salt text : List ℕ) → IsTrue (a
 made_length c password salt text good fits made =
     ap length (text_of made ∙ sym (text_of (made_text c password salt good fits))) ∙ length-made_text c password salt
 
-pub ruleset made_lengths = (made_length)
-
 -- a text that was written whole
 
 -- the parts of a hash with this key
@@ -178,5 +176,3 @@ filled letters room new is full =
     is ∙ ap (λ rest. letters ++ rest) (drop_all (length letters) room (omega arith)) ∙ append-nil letters
 
 pub ruleset ascii_texts = (IsUtf8-from_ascii)
-
-pub ruleset key_fills = (length-key_by)

@@ -1,7 +1,7 @@
 // The workspace of a derivation: the lengths of its buffers ([`BufferLens`]), the caller's buffers,
 // allocated ones ([`OwnBuffers`]), and the part of either that is used ([`ActiveBuffers`]).
 
-ghost use Rattle.std.specs.Prelude.{◌≡◌, ◌⊎◌, ◌↔◌, ◌+◌, ◌-◌, ◌*◌, ◌<◌, ◌≤◌, length, IfOk, IfSome, IsSome, IsTrue, None};
+ghost use Rattle.std.specs.Prelude.{◌≡◌, ◌⊎◌, ◌↔◌, ◌+◌, ◌-◌, ◌*◌, ◌<◌, ◌≤◌, length, IfOk, IfSome, IsSome, IsTrue, None, replicate};
 ghost use Rattle.scrypt_kernel.specs.Memory.{allocated_room, buffer_room};
 ghost use Rattle.scrypt.specs.Cost.{chunks_bytes, scratch_words, table_words, thin_scratch_words};
 ghost use Rattle.scrypt.specs.Limits.{tables_within};
@@ -252,9 +252,7 @@ impl OwnBuffers {
         let table = Allocated::new(Vec::with_capacity(alloc, lens.table)?);
         let scratch = vec![in alloc; 0u32; lens.scratch]?;
         // All three are allocated: now the chunks are written.
-        let Ok(()) = chunks.resize_with(lens.chunks, || 0u8) else {
-            unreachable!();
-        };
+        chunks.resize_with(lens.chunks, || 0u8).unwrap();
         Ok(OwnBuffers {
             chunks,
             table,
@@ -288,4 +286,18 @@ impl OwnBuffers {
         }
         Ok((1, OwnBuffers::allocate(alloc, &BufferLens::of(params))?))
     }
+}
+
+/// Writes zeros to the buffers of a derivation.
+///
+/// They may hold a padded password, the derived key, and blocks that suffice to test passwords
+/// without the cost of scrypt.
+pub fn wipe(chunks: &mut [u8], table: &mut [u32], scratch: &mut [u32])
+    ensures chunks { chunks.new ≡ replicate (length chunks.old) 0 }
+    ensures table { table.new ≡ replicate (length table.old) 0 }
+    ensures scratch { scratch.new ≡ replicate (length scratch.old) 0 }
+{
+    chunks.fill(0);
+    table.fill(0);
+    scratch.fill(0);
 }

@@ -92,8 +92,7 @@ pub enum LimitedError {
     Hash(password_hash::Error),
     /// The hash can be read, and its parameters exceed the limit on memory or the limit on work.
     TooCostly {
-        /// The size of the three buffers in bytes, as [`Limits::max_mem`](crate::Limits) limits
-        /// it.
+        /// The size of the three buffers in bytes, as [`Limits::max_mem`](crate::Limits) limits it.
         bytes: u128,
         /// The work, as [`Params::work`](crate::Params::work) returns it.
         work: u128,

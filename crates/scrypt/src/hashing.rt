@@ -1,7 +1,7 @@
 // Hashing, in every format, with any source of memory.
 
-ghost use Rattle.std.specs.Prelude.{◌≡◌, ◌↔◌, ◌+◌, None, length, replicate, IfErr, IfOk, IsTrue, OnOk, option_map};
-ghost use Rattle.scrypt.specs.Cost.{AreCounted, chunks_bytes, cost, hash_cost};
+ghost use Rattle.std.specs.Prelude.{◌≡◌, ◌↔◌, ◌+◌, None, length, IfErr, IfOk, IsTrue, OnOk, option_map};
+ghost use Rattle.scrypt.specs.Cost.{hash_cost};
 ghost use Rattle.scrypt.specs.Hashing.{IsCallRefused, IsNamedOrNone, key_len_or_default};
 ghost use Rattle.scrypt.specs.KeyOfParams.{key_by};
 ghost use Rattle.scrypt.specs.Mixing.{IsReady, IsSpent};

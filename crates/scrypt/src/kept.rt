@@ -77,11 +77,7 @@ impl Buffers {
         ensures lens { (length self.new.chunks.items ≡ length self.old.chunks.items) × (length self.new.table.items ≡ length self.old.table.items)
             × (length self.new.scratch.items ≡ length self.old.scratch.items) }
     {
-        let Buffers {
-            chunks,
-            table,
-            scratch,
-        } = self;
+        let (chunks, table, scratch) = (&mut self.chunks, &mut self.table, &mut self.scratch);
         let cores = &mut CoreCount::new();
         scrypt_in_prefix::<Simd>(
             password, salt, params, chunks, table, scratch, output, cores,
@@ -105,12 +101,9 @@ impl Buffers {
         match hash.parts() {
             Ok(parts) => {
                 parts.params.expose_invariant();
-                let Buffers {
-                    chunks,
-                    table,
-                    scratch,
-                } = self;
+                let chunks = &mut self.chunks;
                 let cores = &mut CoreCount::new();
+                let (table, scratch) = (&mut self.table, &mut self.scratch);
                 verify_in_buffers::<Simd>(password, parts, chunks, table, scratch, cores)
             }
             Err(unread) => Err(unread),

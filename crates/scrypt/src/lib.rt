@@ -36,11 +36,10 @@ mod stored_hash;
 mod stored_parts;
 mod texts;
 mod verifying;
-mod wiping;
 
 pub use algorithm::Scrypt;
 pub use backends::{Backend, Scalar, Simd, SimdPairs};
-pub use buffers::BufferLens;
+pub use buffers::{BufferLens, wipe};
 pub use derivation::{
     output_len_ok, scrypt, scrypt_counted, scrypt_in_prefix, scrypt_thin, scrypt_thin_with_backend,
     scrypt_with_buffers, scrypt_with_max_mem,
@@ -59,4 +58,3 @@ pub use stepping::{
 };
 pub use stored_hash::StoredHash;
 pub use texts::hash_text;
-pub use wiping::wipe;

@@ -1,12 +1,12 @@
 // Verifying several passwords in one workspace, in one batch if possible.
 
-ghost use Rattle.std.specs.Prelude.{◌≡◌, ℕ, ◌∷◌, List, ◌+◌, ◌*◌, ◌<◌, length, map, IfSome, IsTrue, None, Some, true, false, sum_by};
+ghost use Rattle.std.specs.Prelude.{◌≡◌, ◌∷◌, List, ◌+◌, ◌*◌, ◌<◌, length, map, IfSome, IsTrue, None, Some, true, false, sum_by};
 ghost use Rattle.scrypt.specs.Logins.{AreLeft, Attempt, IsAlone, all_cost, all_of, attempt_of, attempts, chunks_cost, compare_cost, count_of, hashed_on, own, own_cost, params_of, reading_of, shared, verdict_on};
 ghost use Rattle.scrypt.specs.Mixing.{IsReady, IsSpent};
 ghost use Rattle.scrypt.specs.Reading.{chunks_of, mapped, mixed_of, verdict, verify_cost, with_refusal};
 ghost use Rattle.scrypt.specs.StoredParts.{stored};
 ghost use Rattle.scrypt.specs.WithinLimits.{with_limited_refusal};
-ghost use Rattle.scrypt.specs.Workspace.{IsLeft, verdict_in, workspace_of};
+ghost use Rattle.scrypt.specs.Workspace.{IsLeft, workspace_of};
 ghost use Rattle.scrypt_kernel.specs.Count.{AreHashed};
 ghost use Rattle.scrypt_kernel.specs.Memory.{buffer_room};
 

@@ -1,6 +1,5 @@
 // Finding stored hashes that are weaker than wanted.
 
-ghost use Rattle.std.specs.Prelude.{◌≡◌};
 ghost use Rattle.password_hash.specs.McfViews.{borrowed_text};
 ghost use Rattle.scrypt.specs.McfHash.{read_mcf};
 ghost use Rattle.scrypt.specs.PhcHash.{read_phc};

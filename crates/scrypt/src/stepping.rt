@@ -1,23 +1,22 @@
 //! A derivation in steps, in the caller's buffers: between two steps the caller can show the
 //! progress, or abandon the derivation.
 
-ghost use Rattle.std.specs.Prelude.{◌≡◌, ◌≢◌, ◌↔◌, ℕ, ◌+◌, ◌-◌, ◌*◌, ◌^◌, ◌<◌, ◌≤◌, List, length, min, false, true, IsErrOf, IsTrue, OnErr, OnOk};
+ghost use Rattle.std.specs.Prelude.{◌≡◌, ◌↔◌, ℕ, ◌+◌, ◌-◌, ◌*◌, ◌<◌, ◌≤◌, List, length, min, false, true, IsErrOf, IsTrue, OnErr, OnOk};
 ghost use Rattle.scrypt_kernel.specs.Diagonal.{pivot};
 ghost use Rattle.scrypt_kernel.specs.Pbkdf2.{pbkdf2};
 ghost use Rattle.scrypt_kernel.specs.Steps.{IsMixing, all_mixes};
-ghost use Rattle.scrypt_kernel.specs.Words.{part, words_of};
 ghost use Rattle.scrypt.specs.Accepted.{is_output_len};
-ghost use Rattle.scrypt.specs.Cost.{AreCounted, AreCountedAs, AreHashed, chunks_bytes, cost, hash_cost, pbkdf2_cost, scratch_words, table_words};
+ghost use Rattle.scrypt.specs.Cost.{AreCountedAs, AreHashed, chunks_bytes, pbkdf2_cost, scratch_words, table_words};
 ghost use Rattle.scrypt.specs.Key.{derived_key};
 ghost use Rattle.scrypt.specs.KeyOfParams.{IsDerived, cost_by};
 ghost use Rattle.scrypt.specs.Stepping.{AreMixable, CanGoOn, AreMixed, IsUnderWay, IsWithin, first_b, lacking, mixes_done, words_from};
 ghost use Rattle.scrypt.specs.declared.stepping.FinishError.TheVariants.{InvalidOutputLen as BadLength, Unfinished};
 
 use crate::buffers::interleaved_chunks;
-use crate::derivation::mixing::group_by;
+use crate::derivation::mixing::{Four, Three, group_by};
 use crate::derivation::{derive_chunks, output_len_ok};
 use crate::{Backend, CoreCount, Params};
-use scrypt_kernel::order::diagonal::{Both, Diagonal, Scalars};
+use scrypt_kernel::order::diagonal::{Diagonal, Scalars};
 use scrypt_kernel::pbkdf2::pbkdf2_counted;
 use scrypt_kernel::steps::{begin_chunks, end_chunks, step_chunks};
 use std::simd::{u32x4, u32x8};
@@ -259,6 +258,7 @@ fn mix_more<W: Backend>(
     let log_n = params.log_n();
     // A backend's results are constants, so that the compiler leaves out the groups that it never
     // mixes.
+    let most = W::max_interleave();
     match n {
         1 if W::is_scalar() => {
             step_chunks::<Diagonal<Scalars>>(r, table, scratch, log_n, done, count, cores)
@@ -267,16 +267,8 @@ fn mix_more<W: Backend>(
         2 if !W::is_scalar() => {
             step_chunks::<Diagonal<u32x8>>(r, table, scratch, log_n, done, count, cores)
         }
-        3 if W::max_interleave() > 2 => {
-            step_chunks::<Diagonal<Both<u32x8, u32x4>>>(
-                r, table, scratch, log_n, done, count, cores,
-            )
-        }
-        4 if W::max_interleave() > 3 => {
-            step_chunks::<Diagonal<Both<u32x8, u32x8>>>(
-                r, table, scratch, log_n, done, count, cores,
-            )
-        }
+        3 if most > 2 => step_chunks::<Three>(r, table, scratch, log_n, done, count, cores),
+        4 if most > 3 => step_chunks::<Four>(r, table, scratch, log_n, done, count, cores),
         _ => unreachable!(),
     }
 }

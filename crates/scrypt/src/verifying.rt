@@ -1,9 +1,9 @@
 // Verifying, in every format, with any source of memory.
 
-ghost use Rattle.std.specs.Prelude.{◌≡◌, ◌+◌, length, replicate, if◌then◌else◌, Err, IsErrOf, Ok};
+ghost use Rattle.std.specs.Prelude.{◌≡◌, ◌+◌, if◌then◌else◌, Err, IsErrOf, Ok};
 ghost use Rattle.password_hash.specs.Refusal.{PasswordInvalid};
 ghost use Rattle.password_hash.specs.declared.error.Error.TheVariants.{OutOfMemory};
-ghost use Rattle.scrypt.specs.Cost.{AreCounted, chunks_bytes, cost};
+ghost use Rattle.scrypt.specs.Cost.{AreCounted, cost};
 ghost use Rattle.scrypt.specs.Mixing.{IsReady, IsSpent};
 ghost use Rattle.scrypt.specs.Reading.{IsVerdict, is_right, verify_cost, with_refusal};
 ghost use Rattle.scrypt.specs.StoredParts.{stored};

@@ -2,7 +2,7 @@
 
 ghost use Rattle.std.specs.Prelude.{◌≡◌, ◌≢◌, ℕ, List, ◌+◌, ◌*◌, ◌<◌, ◌≤◌, length, true};
 ghost use Rattle.scrypt_kernel.specs.Words.{part, words_of};
-ghost use Rattle.scrypt.specs.Cost.{AreCountedAs, chunks_bytes, cost, thin_chunks_cost, thin_ro_mix_cost};
+ghost use Rattle.scrypt.specs.Cost.{AreCountedAs, cost, thin_chunks_cost, thin_ro_mix_cost};
 ghost use Rattle.scrypt.specs.Key.{mixed_chunks};
 ghost use Rattle.scrypt.specs.Stepping.{AreMixed};
 ghost use Rattle.scrypt.specs.Mixing.{HasTables, IsKept, IsReady, group_by, next_group};
@@ -14,6 +14,12 @@ use scrypt_kernel::order::OrderedBlocks;
 use scrypt_kernel::order::diagonal::{Both, Diagonal, Scalars};
 use scrypt_kernel::romix;
 use std::simd::{u32x4, u32x8};
+
+/// The words of three interleaved blocks.
+pub(crate) type Three = Diagonal<Both<u32x8, u32x4>>;
+
+/// The words of four interleaved blocks.
+pub(crate) type Four = Diagonal<Both<u32x8, u32x8>>;
 
 /// Replaces each of `count` chunks by its scryptROMix, interleaving at most `used.width` of them,
 /// by the backend `W`. The chunks belong to one derivation or to several, all with the `N` and the
@@ -101,12 +107,8 @@ fn mix_interleaved<M: TableMemory, W: Backend>(
         1 if W::is_scalar() => mix_group::<Diagonal<Scalars>, M>(params, s, n, i, used),
         1 => mix_group::<Diagonal<u32x4>, M>(params, s, n, i, used),
         2 if !W::is_scalar() => mix_group::<Diagonal<u32x8>, M>(params, s, n, i, used),
-        3 if W::max_interleave() > 2 => {
-            mix_group::<Diagonal<Both<u32x8, u32x4>>, M>(params, s, n, i, used);
-        }
-        4 if W::max_interleave() > 3 => {
-            mix_group::<Diagonal<Both<u32x8, u32x8>>, M>(params, s, n, i, used);
-        }
+        3 if W::max_interleave() > 2 => mix_group::<Three, M>(params, s, n, i, used),
+        4 if W::max_interleave() > 3 => mix_group::<Four, M>(params, s, n, i, used),
         _ => unreachable!(),
     }
 }

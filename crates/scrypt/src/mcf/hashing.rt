@@ -80,7 +80,7 @@ impl CustomizedPasswordHasher<PasswordHash> for Scrypt {
 /// Hashes `password` as [`Scrypt`] does with these parameters, by the backend `W`.
 ///
 /// Returns `OutOfMemory` if an allocation fails.
-#[tactic(auto, using(crate::proofs::McfTextFacts::key_fills))]
+#[tactic(auto, using(crate::proofs::KeyFacts::lengths))]
 pub fn hash<W: Backend>(
     alloc: Global,
     password: &[u8],
@@ -102,7 +102,7 @@ pub fn hash<W: Backend>(
 
 // Derives the key of a hash. The letters of the salt are the salt of the derivation: they are in
 // `text` until it is written.
-#[tactic(auto, using(crate::proofs::McfTextFacts::key_fills))]
+#[tactic(auto, using(crate::proofs::KeyFacts::lengths))]
 fn key_by_letters<W: Backend>(
     alloc: Global,
     password: &[u8],
@@ -120,7 +120,7 @@ fn key_by_letters<W: Backend>(
 }
 
 /// Returns the length in bytes of the text that hashing with these parameters and this salt makes.
-#[tactic(auto, using(crate::proofs::McfTextFacts::made_lengths))]
+#[tactic(auto, using(crate::proofs::McfTextFacts::made_length))]
 pub fn hash_len(params: &Params, salt: &[u8]) -> usize
     ensures value { result ≡ made_text_len params.now (length salt.now) }
     ensures made { (password : List ℕ) → (text : List ℕ) × IsMadeHash params.now password salt.now text × (length text ≡ result) }
@@ -133,6 +133,7 @@ pub fn hash_len(params: &Params, salt: &[u8]) -> usize
 }
 
 // Returns `$7$` and the eleven letters of the parameters.
+#[tactic(auto, unfolding(password_hash::specs::Crypt64::letters_of))]
 fn params_letters(params: &Params) -> [u8; PARAMS_LEN]
     ensures { result ≡ params_text params.now }
 {
@@ -180,13 +181,7 @@ fn hash_of_text(text: Vec<u8>) -> PasswordHash
     requires modular { IsMcf text.items }
     ensures { result ≡ text.items }
 {
-    let Ok(text) = String::from_utf8(text) else {
-        unreachable!();
-    };
-    let Ok(hash) = PasswordHash::from_string(text) else {
-        unreachable!();
-    };
-    hash
+    PasswordHash::from_string(String::from_utf8(text).unwrap()).unwrap()
 }
 
 /// Hashes `password` as `Scrypt::hash_password_with_params` does, in the caller's buffers. Writes
@@ -241,7 +236,7 @@ pub fn hash_with_buffers<W: Backend>(
 }
 
 // Hashes a password. The text fills `text`.
-#[tactic(auto, using(crate::proofs::McfTextFacts::key_fills))]
+#[tactic(auto, using(crate::proofs::KeyFacts::lengths))]
 fn fill_with_hash<W: Backend>(
     password: &[u8],
     salt: &[u8],

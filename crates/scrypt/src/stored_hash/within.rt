@@ -3,7 +3,7 @@
 ghost use Rattle.std.specs.Prelude.{◌≡◌, Err, IfErr, IfOk};
 ghost use Rattle.password_hash.specs.Refusal.{TooCostly};
 ghost use Rattle.scrypt.specs.Limits.{buffers_bytes, work};
-ghost use Rattle.scrypt.specs.Reading.{mapped, with_refusal};
+ghost use Rattle.scrypt.specs.Reading.{mapped};
 ghost use Rattle.scrypt.specs.StoredHash.{reading};
 ghost use Rattle.scrypt.specs.WithinLimits.{limited_refusal, with_limited_refusal, within};
 

@@ -1,6 +1,5 @@
 use Rattle.std.proofs.Common.{◌≡◌, ◌++◌, drop, length, map, take}
 use Rattle.scrypt_kernel.specs.Count.{AreHashed}
-use Rattle.scrypt_kernel.specs.declared.cores.count.CoreCount.{CoreCount}
 use Rattle.scrypt.specs.Logins.{Attempt, all_cost, all_of, attempts, compare_cost}
 use Rattle.scrypt.specs.Reading.{mixed_of, verdict}
 use Rattle.scrypt.specs.WithinLimits.{with_limited_refusal}
@@ -15,6 +14,6 @@ invariant-loop-i l =
       long : length l.verdicts ≡ length l.logins;
       compared : map with_limited_refusal (take l.i l.verdicts) ++ map (λ (a : Attempt). verdict a.0 a.1) others
           ≡ map (λ (a : Attempt). verdict a.0 a.1) (attempts l.logins);
-      counted : (after : CoreCount) → AreHashed (all_cost compare_cost others) l.cores after
+      counted : (after : _) → AreHashed (all_cost compare_cost others) l.cores after
           → AreHashed (all_cost compare_cost (attempts l.logins)) l.initial.cores after;
     }

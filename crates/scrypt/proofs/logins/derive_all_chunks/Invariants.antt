@@ -1,6 +1,5 @@
 use Rattle.std.proofs.Common.{◌≡◌, ◌+◌, ◌++◌, drop, length, take}
 use Rattle.scrypt_kernel.specs.Count.{AreHashed}
-use Rattle.scrypt_kernel.specs.declared.cores.count.CoreCount.{CoreCount}
 use Rattle.scrypt.specs.Logins.{all_cost, all_of, attempts, chunks_cost}
 use Rattle.scrypt.specs.Reading.{chunks_of}
 use Rattle.scrypt.proofs.logins.derive_all_chunks.Given as goal
@@ -12,6 +11,6 @@ invariant-loop-i l =
     record {
       written : take l.at l.chunks ++ all_of chunks_of others ≡ all_of chunks_of (attempts l.logins);
       fits : l.at + length (all_of chunks_of others) ≡ length l.chunks;
-      counted : (after : CoreCount) → AreHashed (all_cost chunks_cost others) l.cores after
+      counted : (after : _) → AreHashed (all_cost chunks_cost others) l.cores after
           → AreHashed (all_cost chunks_cost (attempts l.logins)) l.initial.cores after;
     }

@@ -3,7 +3,3 @@ use Rattle.scrypt.proofs.algorithm.ScryptKdf.derive_key.Goals as goal
 
 pub returns-in-Ok-clause-ok : goal.returns-in-Ok-clause-ok
 returns-in-Ok-clause-ok c = (search rules, rw (← c.self.view_is, c.scrypt.auto.output) c.in-Ok.ensures.value)
-
--- the search finds this too: it is here so that a body that refuses other lengths is refused by this goal
-pub returns-in-Err-OutOfMemory-clause-err : goal.returns-in-Err-OutOfMemory-clause-err
-returns-in-Err-OutOfMemory-clause-err c = search rules

@@ -1,4 +1,4 @@
-use Rattle.std.proofs.Common.{◌<◌, ◌*◌, ◌%◌, ◌^◌, arith, refl, rules}
+use Rattle.std.proofs.Common.{◌<◌, ◌*◌, ◌%◌, ◌^◌, arith, rules}
 use Rattle.std.proofs.lemmas.Nat.{one_shl}
 use Rattle.scrypt.proofs.AcceptedFacts.{small_log_n, small_rows}
 use Rattle.scrypt.proofs.buffers.BufferLens.with_rows.Goals as goal
@@ -12,9 +12,3 @@ overflow_mul-result-3 c =
     let shifted = one_shl log_rows 64 (omega (arith, log_n_small, c.requires.fewer)) in
     let product : 1 * 2 ^ log_rows % 2 ^ 64 * (32 * r) < 2 ^ 64 = rw shifted (omega (arith, small)) in
     search rules
-
--- the search finds this too: it is here so that a body with a shorter table is refused by this goal
-pub returns-clause-table : goal.returns-clause-table
-returns-clause-table c =
-    let log_n_small = small_log_n c.args.params.now.log_n c.r.result c.r.ensures.some c.r.ensures.table in
-    rw (one_shl c.args.log_rows 64 (omega (arith, log_n_small, c.requires.fewer)), c.r.ensures.value) refl

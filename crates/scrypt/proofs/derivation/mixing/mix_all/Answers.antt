@@ -1,5 +1,4 @@
 use Rattle.std.proofs.Common.{◌≡◌, ◌<◌, ◌≤◌, ◌+◌, ◌-◌, ◌*◌, arith, rules, mul-le-mul_right}
-use Rattle.std.proofs.lemmas.Grind.{common_steps}
 use Rattle.scrypt_kernel.proofs.CountFacts.{counted_both}
 use Rattle.scrypt.specs.Cost.{scratch_words, table_words}
 use Rattle.scrypt.proofs.CostFacts.{more_chunks, whole_table_cost}
@@ -36,18 +35,6 @@ groups-preserved g c =
       kept = search rules;
       counted = counted_both _ before.counted (rw before.mixed.rest at c.mix_interleaved.ensures.counted) (more_chunks _ _ _ _ _ _ alone);
     }
-
--- the search finds this and the next too: they are here so that a body that leaves a chunk out is
--- refused by them
-pub returns-clause-value : goal.returns-clause-value
-returns-clause-value g c =
-    let all : c.groups.i ≡ c.args.count = omega arith in
-    grind (arith, common_steps, rw all at c.groups.invariant.mixed)
-
-pub returns-clause-counted : goal.returns-clause-counted
-returns-clause-counted g c =
-    let all : c.groups.i ≡ c.args.count = omega arith in
-    rw all at c.groups.invariant.counted
 
 pub returns-clause-whole : goal.returns-clause-whole
 returns-clause-whole g c none =

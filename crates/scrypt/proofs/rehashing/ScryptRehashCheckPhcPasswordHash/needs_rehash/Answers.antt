@@ -1,6 +1,0 @@
-use Rattle.std.proofs.Common.{rules}
-use Rattle.scrypt.proofs.rehashing.ScryptRehashCheckPhcPasswordHash.needs_rehash.Goals as goal
-
--- the search finds this too: it is here so that a body that compares products is refused by this goal
-pub returns-in-Ok : goal.returns-in-Ok
-returns-in-Ok c = search rules
