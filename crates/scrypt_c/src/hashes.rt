@@ -42,8 +42,7 @@ pub extern "C" fn scrypt_hash_phc(
     text: &mut [u8],
     text_len: &mut usize,
 ) -> i32
-    ensures made { result ≡ OK → IsWrittenTo (IsMadeText (wanted log_n r p key_len) password.now salt.now)
-        text.old text.new text_len.new }
+    ensures made { result ≡ OK → IsWrittenTo (IsMadeText (wanted log_n r p key_len) password.now salt.now) text.old text.new text_len.new }
     ensures params { (result ≡ INVALID_PARAMS) ↔ (¬ AreHashParams log_n r p key_len) }
     ensures salt { (result ≡ SALT_INVALID) ↔ (AreHashParams log_n r p key_len × ¬ IsSaltLen (length salt.now)) }
     ensures size { result ≡ BUFFER_SIZE → IsTooLong (IsMadeText (wanted log_n r p key_len) password.now salt.now) text.old text_len.new }
@@ -80,8 +79,7 @@ pub extern "C" fn scrypt_hash_mcf(
     text: &mut [u8],
     text_len: &mut usize,
 ) -> i32
-    ensures made { result ≡ OK → IsWrittenTo (IsMadeMcf (wanted log_n r p key_len) password.now salt.now)
-        text.old text.new text_len.new }
+    ensures made { result ≡ OK → IsWrittenTo (IsMadeMcf (wanted log_n r p key_len) password.now salt.now) text.old text.new text_len.new }
     ensures params { (result ≡ INVALID_PARAMS) ↔ (¬ AreHashParams log_n r p key_len) }
     ensures size { result ≡ BUFFER_SIZE → IsTooLong (IsMadeMcf (wanted log_n r p key_len) password.now salt.now) text.old text_len.new }
     ensures status { (result ≡ OK) ⊎ (result ≡ INVALID_PARAMS) ⊎ (result ≡ OUT_OF_MEMORY) ⊎ (result ≡ BUFFER_SIZE) }

@@ -49,8 +49,7 @@ pub extern "C" fn scrypt_hash_phc_with_buffers(
     table: &mut [u32],
     scratch: &mut [u32],
 ) -> i32
-    ensures made { result ≡ OK → IsWrittenTo (IsMadeText (wanted log_n r p key_len) password.now salt.now)
-        text.old text.new text_len.new }
+    ensures made { result ≡ OK → IsWrittenTo (IsMadeText (wanted log_n r p key_len) password.now salt.now) text.old text.new text_len.new }
     ensures params { (result ≡ INVALID_PARAMS) ↔ (¬ AreHashParams log_n r p key_len) }
     ensures salt { (result ≡ SALT_INVALID) ↔ (AreHashParams log_n r p key_len × ¬ IsSaltLen (length salt.now)) }
     ensures buffers { result ≡ OK → IsTrue (are_enough (wanted log_n r p key_len) chunks.old table.old scratch.old) }
@@ -99,8 +98,7 @@ pub extern "C" fn scrypt_hash_mcf_with_buffers(
     table: &mut [u32],
     scratch: &mut [u32],
 ) -> i32
-    ensures made { result ≡ OK → IsWrittenTo (IsMadeMcf (wanted log_n r p key_len) password.now salt.now)
-        text.old text.new text_len.new }
+    ensures made { result ≡ OK → IsWrittenTo (IsMadeMcf (wanted log_n r p key_len) password.now salt.now) text.old text.new text_len.new }
     ensures params { (result ≡ INVALID_PARAMS) ↔ (¬ AreHashParams log_n r p key_len) }
     ensures buffers { result ≡ OK → IsTrue (are_enough (wanted log_n r p key_len) chunks.old table.old scratch.old) }
     ensures size { result ≡ BUFFER_SIZE → IsTooShort (IsMadeMcf (wanted log_n r p key_len) password.now salt.now)
