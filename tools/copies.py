@@ -40,8 +40,8 @@ def copy_crate(name, to, backend, left_out=()):
 
 
 def leave_out(crate, function):
-    """Removes a function that C can call, with its doc comment and its answers."""
-    text = re.compile(rf'(?:///.*\n)*#\[.*\n(?:pub )?extern "C" fn {function}\b(?:.*\n)*?\}}\n')
+    """Removes a function, with its comment and its answers."""
+    text = re.compile(rf'(?://.*\n)*(?:#\[.*\n)?(?:pub )?(?:extern "C" )?fn {function}\b(?:.*\n)*?\}}\n')
     found = [path for path in crate.glob("src/**/*.rt") if text.search(path.read_text("utf-8"))]
     if len(found) != 1:
         sys.exit(f"{function}: {len(found)} functions of that name")

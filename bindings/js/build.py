@@ -37,9 +37,10 @@ VECTORS = "-msimd128"
 
 
 def other_calls():
-    """The calls of the crate that the package doesn't make."""
+    """The calls of the crate that the package doesn't make, and the functions for them that allocate."""
     texts = [path.read_text("utf-8") for path in Path("crates/scrypt_c/src").glob("**/*.rt")]
-    return sorted({name for text in texts for name in re.findall(r'extern "C" fn (\w+)', text)} - CALLS)
+    named = r'(?:extern "C" fn (?=\w)|\bfn (?=\w+\(\s*alloc: Global))(\w+)'
+    return sorted({name for text in texts for name in re.findall(named, text)} - CALLS)
 
 
 def prove(room, kept):

@@ -143,7 +143,7 @@ pub extern "C" fn scrypt_verify(alloc: Global, password: &[u8], text: &[u8]) -> 
     ensures status { IsVerifyStatus password.now (bytes_reading text.now) result }
 {
     match stored_hash(text) {
-        Ok(hash) => verify(alloc, password, &hash),
+        Ok(hash) => verify_allocating(alloc, password, &hash),
         Err(error) => status_of(error),
     }
 }
@@ -168,7 +168,7 @@ pub extern "C" fn scrypt_verify_limited(
     ensures status { IsVerifyStatus password.now (limited_reading max_mem max_work min_key_len text.now) result }
 {
     match limited_hash(text, max_mem, max_work, min_key_len) {
-        Ok(hash) => verify(alloc, password, &hash),
+        Ok(hash) => verify_allocating(alloc, password, &hash),
         Err(error) => limited_status_of(error),
     }
 }
@@ -196,7 +196,7 @@ pub extern "C" fn scrypt_needs_rehash(text: &[u8], log_n: u8, r: u32, p: u32, ke
 }
 
 // Verifies a password against a hash that was read.
-fn verify(alloc: Global, password: &[u8], hash: &StoredHash<'_>) -> i32
+fn verify_allocating(alloc: Global, password: &[u8], hash: &StoredHash<'_>) -> i32
     ensures { IsVerifyStatus password.now (reading hash.now) result }
 {
     match hash.verify_counted::<Target>(alloc, password, &mut CoreCount::new()) {
