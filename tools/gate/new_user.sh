@@ -1,6 +1,7 @@
 #!/bin/sh
-# Does what docs/API.md tells a new user of the crates: its commands, in an empty repository. `rt check`
-# then proves the crate that they make. The crates that it uses have to be proved.
+# Does what docs/API.md tells a new user of the crates: its commands, in an empty repository. Then it
+# proves the crate that they make, as `rt check` does, over the libraries that the gate has proved:
+# `rt check` itself takes only libraries that `make run` has built, and would prove them again.
 set -eu
 unset CDPATH
 top=$(cd "$(dirname "$0")/../.." && pwd)
@@ -9,6 +10,9 @@ trap 'rm -rf "$room"' EXIT
 cd "$room"
 sed -n '/^    touch crates.txt/,/^    END$/s/^    //p' "$top/docs/API.md" | sed "s|SCRYPT|$top|g" > start.sh
 sh -eu start.sh > start.log 2>&1 || { cat start.log; exit 1; }
+export PROVED_LIBRARIES="${PROVED_LIBRARIES:-$top/crates}" PYTHONPATH="$top"
+check=$(python3 -B -c 'from tools import prover_command; print(*prover_command.of("check", "app"))')
 cd crates/app
-rt check > check.log 2>&1 || { cat check.log; exit 1; }
+# shellcheck disable=SC2086 # words without blanks
+$check > check.log 2>&1 || { cat check.log; exit 1; }
 grep '^logic=proved' check.log
