@@ -126,12 +126,15 @@ static void check_call(const char *name, int status) {
   forget();
 }
 
-/* N in place of log_n is rejected, even if its last 8 bits are a log_n. */
-static void n_in_place_of_log_n(uint32_t n) {
-  given.log_n = made.steps->log_n = ended.log_n = n;
+/* Parameters that are not accepted: N in place of log_n, even if its last 8 bits are a log_n, and an
+ * r * p of 2^30. */
+static void rejected(uint32_t log_n, uint32_t r, uint32_t p) {
+  given.log_n = made.steps->log_n = ended.log_n = log_n;
+  given.r = made.steps->r = ended.r = r;
+  given.p = made.steps->p = ended.p = p;
 #define CALL(name, arguments)                                                              \
   if (strstr(#arguments, "given.log_n") != NULL || strncmp(#name, "scrypt_key_", 11) == 0) \
-    check(name arguments == SCRYPT_INVALID_PARAMS, #name ", N in place of log_n");
+    check(name arguments == SCRYPT_INVALID_PARAMS, #name ", parameters that are not accepted");
 #include "each_call.h"
 #undef CALL
 }
@@ -159,7 +162,8 @@ static void *arguments(void *text) {
   check_call("scrypt_params_cost, of two tables", scrypt_params_cost(PARAMS, 9984, 1152, made.cost));
   check_call("scrypt_default_limits, of short keys",
              scrypt_default_limits(PARAMS, 10, made.max_mem, made.max_work, made.min_key_len));
-  for (i = 0; i < sizeof NUMBERS / sizeof *NUMBERS; i++) n_in_place_of_log_n(NUMBERS[i]);
+  for (i = 0; i < sizeof NUMBERS / sizeof *NUMBERS; i++) rejected(NUMBERS[i], 2, 3);
+  rejected(4, 1 << 15, 1 << 15);
   scrypt_hasher_free(given.hasher);
   free_arguments();
   return NULL;
