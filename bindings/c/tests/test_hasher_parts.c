@@ -326,6 +326,18 @@ static void memory(void) {
   memory_there = SIZE_MAX;
 }
 
+/* The slots share all tables of the hasher: the last slots have one more. */
+static void shares(void) {
+  static const struct {
+    size_t tables, slots, widths[3];
+  } SHARES[] = {{3, 3, {1, 1, 1}}, {7, 3, {2, 2, 3}}, {8, 3, {2, 3, 3}}, {20, 2, {4, 4}}};
+  for (size_t i = 0; i < sizeof SHARES / sizeof *SHARES; i++) {
+    const scrypt_options with = {.max_tables = SHARES[i].tables};
+    for (size_t slot = 0; slot < SHARES[i].slots; slot++)
+      IS(width_of_slot(&with, SHARES[i].slots, slot), SHARES[i].widths[slot]);
+  }
+}
+
 static void calibrated(void) {
   uint32_t log_n = 0, r = 0, p = 0;
   IS(scrypt_calibrate(0.02, (size_t)64 << 20, NULL, &r, &p), SCRYPT_NULL_POINTER);
@@ -351,6 +363,7 @@ int main(void) {
   RUN(windows);
   RUN(many_waits);
   RUN(memory);
+  RUN(shares);
   RUN(calibrated);
   return failed;
 }
