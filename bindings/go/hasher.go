@@ -40,7 +40,8 @@ type Options struct {
 	Processors int
 
 	// The limits on Params.Memory and Params.Work, above which a hash returns ErrTooCostly: by
-	// default the constants of the same names, or the cost of new hashes if that is more.
+	// default DefaultMaxMem, or 7/8 of the memory if that is less, and DefaultMaxWork, or the cost
+	// of new hashes if that is more.
 	MaxMem, MaxWork uint64
 }
 

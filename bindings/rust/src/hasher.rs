@@ -35,8 +35,8 @@ pub struct Options {
     /// How long a call waits for a slot before it returns `Timeout`, rounded up to milliseconds.
     /// The time of the derivation does not count. `None`, the default, means no timeout.
     pub timeout: Option<Duration>,
-    /// The limits above which a hash is rejected: by default [`Limits::DEFAULT`], or the cost of
-    /// new hashes if that is more.
+    /// The limits above which a hash is rejected: by default [`Limits::DEFAULT`], with 7/8 of the
+    /// memory if that is less, or the cost of new hashes if that is more.
     pub limits: Option<Limits>,
 }
 
