@@ -105,8 +105,10 @@ pub(crate) fn take_turn<O: OrderedBlocks, I: Input>(
     requires output { length output.old ≡ O.count * len }
     requires row { IsRowLen len }
     requires inside { i < len / 32 }
-    ensures mixed { (k : ℕ) → k < O.count → AfterTurns O.pivot O.inverse_pivot (I.words input.now k) i (O.held x k) (part len output.old k)
-        → AfterTurns O.pivot O.inverse_pivot (I.words input.now k) (i + 1) (O.held result k) (part len output.new k) }
+    ensures mixed { (k : ℕ) → k < O.count
+        → AfterTurns O.pivot O.inverse_pivot (I.words input.now k) i (O.held x k) (part len output.old k)
+        → AfterTurns O.pivot O.inverse_pivot (I.words input.now k) (i
+        + 1) (O.held result k) (part len output.new k) }
     ensures counted { AreCountedAs O.simd (O.count * 2) cores.old cores.new }
 {
     let r = len / 32;

@@ -129,7 +129,8 @@ pub(crate) fn mix_next<O: OrderedBlocks>(
     requires chunks { row_len ≡ O.count * len }
     requires last { end ≡ (i + 1) * (O.count * len) }
     requires room { end + row_len ≤ length memory.old }
-    ensures words { AddsRow (mixed_in O.pivot O.inverse_pivot 1) O.count len i (take end memory.old) (take (end + row_len) memory.new) }
+    ensures words { AddsRow (mixed_in O.pivot O.inverse_pivot 1) O.count len i
+        (take end memory.old) (take (end + row_len) memory.new) }
     ensures len { length memory.new ≡ length memory.old }
     ensures counted { AreCountedAs O.simd (O.count * (2 * (len / 32))) cores.old cores.new }
 {

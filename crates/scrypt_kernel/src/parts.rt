@@ -17,7 +17,8 @@ impl<'a> Parts<'a> {
     /// Takes the parts of `words` that begin at these indices.
     #[inline(always)]
     pub(crate) fn new(words: &'a [u32], len: usize, starts: [usize; 4]) -> Parts<'a>
-        ensures all { (n : ℕ) → n ≤ 4 → ((k : ℕ) → k < n → slice_index starts k + len ≤ length words.now) → AreParts n result }
+        ensures all { (n : ℕ) → n ≤ 4 → ((k : ℕ) → k < n → slice_index starts k + len ≤ length words.now)
+            → AreParts n result }
         ensures len { result.len ≡ len }
         ensures parts { (k : ℕ) → part_of result k ≡ take len (drop (slice_index starts k) words.now) }
     {

@@ -25,7 +25,8 @@ pub fn pbkdf2_one(password: &[u8], salt: &[u8], out: &mut [u8])
 pub fn pbkdf2_counted(password: &[u8], salt: &[u8], out: &mut [u8], cores: &mut CoreCount)
     requires length { length out.old ≤ max_output_len }
     ensures value { out.new ≡ pbkdf2 password.now salt.now (length out.old) }
-    ensures counted { AreHashed (pbkdf2_cost (length password.now) (length salt.now) (length out.old)) cores.old cores.new }
+    ensures counted { AreHashed
+        (pbkdf2_cost (length password.now) (length salt.now) (length out.old)) cores.old cores.new }
 {
     Blocks::new(password, salt, cores).write(0, out, cores);
 }

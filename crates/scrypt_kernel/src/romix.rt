@@ -79,13 +79,15 @@ fn fill_and_walk<O: OrderedBlocks, M: TableMemory>(
     s: u8,
     cores: &mut CoreCount,
 )
-    requires lens { AreWalkLens O.count len log_n s (length x.old) (length next.old) (length spare.old) (2 ^ (log_n - s) * (O.count * len)) }
+    requires lens { AreWalkLens O.count len log_n s
+        (length x.old) (length next.old) (length spare.old) (2 ^ (log_n - s) * (O.count * len)) }
     requires room { 2 ^ (log_n - s) * (O.count * len) ≤ M.room rows.old }
     ensures value { (k : ℕ) → k < O.count
         → part len x.new k ≡ permuted O.pivot (ro_mix (permuted O.inverse_pivot (part len x.old k)) log_n) }
     ensures room { M.room rows.old ≤ M.room rows.new }
-    ensures counted { AreCountedAs O.simd
-        (O.count * thin_ro_mix_cost (permuted O.inverse_pivot (part len x.old 0)) log_n s (len / 32)) cores.old cores.new }
+    ensures counted { AreCountedAs O.simd (O.count
+        * thin_ro_mix_cost (permuted O.inverse_pivot
+        (part len x.old 0)) log_n s (len / 32)) cores.old cores.new }
 {
     // Step 2: for i = 0 to N - 1 do V[i] = X, X = scryptBlockMix (X).
     fill::<O, M>(rows, x, next, len, log_n, s, cores);

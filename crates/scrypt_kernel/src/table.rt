@@ -27,7 +27,9 @@ pub(crate) fn fill<O: OrderedBlocks, M: TableMemory>(
     s: u8,
     cores: &mut CoreCount,
 )
-    requires lens { (spare_len : ℕ) × AreWalkLens O.count len log_n s (length x.old) (length next.old) spare_len (2 ^ (log_n - s) * (O.count * len)) }
+    requires lens { (spare_len : ℕ)
+        × AreWalkLens O.count len log_n s (length x.old) (length next.old) spare_len (2 ^ (log_n - s)
+        * (O.count * len)) }
     requires room { 2 ^ (log_n - s) * (O.count * len) ≤ M.room rows.old }
     ensures room { M.room rows.old ≤ M.room rows.new }
     ensures filled { IsFilled O.pivot O.inverse_pivot O.count len log_n s x.old (M.words rows.new) x.new }
@@ -67,7 +69,8 @@ fn append_next<O: OrderedBlocks, M: TableMemory>(
     requires small { s ≤ 56 }
     requires last { length (M.words rows.old) ≡ (m + 1) * (O.count * len) }
     requires room { (m + 2) * (O.count * len) ≤ M.room rows.old }
-    ensures words { AddsRow (mixed_in O.pivot O.inverse_pivot (2 ^ s)) O.count len m (M.words rows.old) (M.words rows.new) }
+    ensures words { AddsRow
+        (mixed_in O.pivot O.inverse_pivot (2 ^ s)) O.count len m (M.words rows.old) (M.words rows.new) }
     ensures room { M.room rows.old ≤ M.room rows.new }
     ensures counted { AreCountedAs O.simd (2 ^ s * (O.count * (2 * (len / 32)))) cores.old cores.new }
 {
@@ -103,7 +106,8 @@ pub(crate) fn recompute<O: OrderedBlocks>(
     requires chunks { length kept.now ≡ O.count * len }
     requires same { length x.old ≡ length kept.now }
     requires scratch { length next.old ≡ length kept.now }
-    ensures value { (k : ℕ) → k < O.count → part len x.new k ≡ mixed_in O.pivot O.inverse_pivot n (part len kept.now k) }
+    ensures value { (k : ℕ) → k < O.count
+        → part len x.new k ≡ mixed_in O.pivot O.inverse_pivot n (part len kept.now k) }
     ensures counted { AreCountedAs O.simd (n * (O.count * (2 * (len / 32)))) cores.old cores.new }
 {
     if n % 2 == 0 {
@@ -126,7 +130,8 @@ fn mix_row<O: OrderedBlocks>(x: &[u32], next: &mut [u32], len: usize, cores: &mu
     requires row { IsRowLen len }
     requires chunks { length x.now ≡ O.count * len }
     requires same { length next.old ≡ length x.now }
-    ensures value { (k : ℕ) → k < O.count → part len next.new k ≡ mixed_in O.pivot O.inverse_pivot 1 (part len x.now k) }
+    ensures value { (k : ℕ) → k < O.count
+        → part len next.new k ≡ mixed_in O.pivot O.inverse_pivot 1 (part len x.now k) }
     ensures counted { AreCountedAs O.simd (O.count * (2 * (len / 32))) cores.old cores.new }
 {
     mix::<O, Parts<'_>>(&Parts::of(x, len, O::count()), next, len, cores);

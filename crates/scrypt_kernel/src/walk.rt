@@ -98,8 +98,10 @@ fn mix_recomputed<O: OrderedBlocks>(
     requires kept { length kept.now ≡ length x.now }
     requires output { length next.old ≡ length x.now }
     requires room { length x.now ≤ length spare.old }
-    ensures value { (k : ℕ) → k < O.count → part len next.new k
-        ≡ mix_of O.pivot O.inverse_pivot (part len x.now k) (mixed_in O.pivot O.inverse_pivot missing (part len kept.now k)) }
+    ensures value { (k : ℕ) → k < O.count
+        → part len next.new k
+        ≡ mix_of O.pivot O.inverse_pivot (part len x.now k) (mixed_in O.pivot O.inverse_pivot missing
+        (part len kept.now k)) }
     ensures counted { AreCountedAs O.simd ((missing + 1) * (O.count * (2 * (len / 32)))) cores.old cores.new }
 {
     let row = &mut spare[..x.len()];
@@ -122,7 +124,8 @@ fn take_rows<O: OrderedBlocks>(
     log_n: u8,
     s: u8,
 ) -> [usize; 4]
-    requires lens { (spare_len : ℕ) × AreWalkLens O.count len log_n s (length x.now) (length next.old) spare_len (length v.now) }
+    requires lens { (spare_len : ℕ)
+        × AreWalkLens O.count len log_n s (length x.now) (length next.old) spare_len (length v.now) }
     ensures starts { (k : ℕ) → k < O.count → slice_index result k
         ≡ place O.count (integerify (permuted O.inverse_pivot (part len x.now k)) % 2 ^ log_n / 2 ^ s) k * len }
 {

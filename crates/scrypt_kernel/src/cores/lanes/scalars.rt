@@ -39,7 +39,8 @@ impl Scalars {
     // The same lanes, all of them in scalar words.
     #[inline]
     fn in_words(self) -> Scalars
-        ensures { result.a ∷ result.b ∷ result.c ∷ result.d ∷ [] ≡ xor_words (self.a ∷ self.b ∷ self.c ∷ self.d ∷ []) self.row }
+        ensures { result.a ∷ result.b ∷ result.c ∷ result.d ∷ []
+            ≡ xor_words (self.a ∷ self.b ∷ self.c ∷ self.d ∷ []) self.row }
     {
         let row = self.row.to_array();
         Scalars::of(
