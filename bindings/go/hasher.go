@@ -295,7 +295,7 @@ func (h *Hasher) run(ctx context.Context, password []byte,
 	case <-done:
 		leave()
 		of.refused.Add(1)
-		return ctx.Err()
+		return endOf(ctx)
 	default:
 	}
 	ended := make(chan status, 1)
@@ -315,8 +315,17 @@ func (h *Hasher) run(ctx context.Context, password []byte,
 		return failed(got)
 	case <-done:
 		of.refused.Add(1)
-		return ctx.Err()
+		return endOf(ctx)
 	}
+}
+
+// endOf returns the error of a context that is done. It is never nil, which would be a verdict, even
+// if a type of the caller has its own Done and the Err of another context.
+func endOf(ctx context.Context) error {
+	if err := ctx.Err(); err != nil {
+		return err
+	}
+	return context.Canceled
 }
 
 // left returns the timeout of a call in C, in milliseconds; a negative one means no timeout.

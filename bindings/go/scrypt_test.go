@@ -304,6 +304,24 @@ func TestRun(t *testing.T) {
 	check(t, hasher.run(ctx, nil, func([]byte, milliseconds) status { return 18 }) == context.DeadlineExceeded, "TIMEOUT")
 }
 
+// merged has its own Done, and the Err of another context, as code that merges two contexts may.
+type merged struct {
+	context.Context
+	done chan struct{}
+}
+
+func (it merged) Done() <-chan struct{} { return it.done }
+
+// A context that is done without an error, against its contract, ends a call with an error.
+func TestDoneWithoutError(t *testing.T) {
+	hasher, done := newHasher(t, small), make(chan struct{})
+	time.AfterFunc(10*time.Millisecond, func() { close(done) })
+	for _, why := range []string{"deriving", "before it derives"} {
+		err := hasher.Verify(merged{ctx, done}, costly, nil)
+		check(t, err == context.Canceled, why, err)
+	}
+}
+
 // Stats counts calls that wait, derive and fail. Close ends the calls that wait.
 func TestStats(t *testing.T) {
 	hasher := newHasher(t, Options{Params{LogN: 4}, false, 0, 1, 0, math.MaxUint64, math.MaxUint64})
