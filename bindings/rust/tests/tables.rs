@@ -1,11 +1,11 @@
 //! The verifications of bindings/cases.tsv, and hashes of other programs: those of
-//! bindings/stored.tsv and of simple-scrypt. A release's crate does not have the tables.
+//! bindings/stored.tsv and of simple-scrypt. A release's crate lacks these tables and this file.
 
 use scrypt_c::migration::{from_simple_scrypt, stored_text};
 use scrypt_c::{params_of, Error, Hasher, Params};
 
 fn rows(path: &str) -> Vec<Vec<String>> {
-    let table = std::fs::read_to_string(path).unwrap_or_default();
+    let table = std::fs::read_to_string(path).expect(path);
     table.lines().skip(1).map(|line| line.split('\t').map(String::from).collect()).collect()
 }
 
