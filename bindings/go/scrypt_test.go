@@ -41,17 +41,17 @@ func check(t *testing.T, isRight bool, values ...any) {
 	}
 }
 
-// wait returns when something is right; the limit on all tests ends it otherwise.
+// wait returns when isRight returns true; otherwise the timeout of the tests ends it.
 func wait(isRight func() bool) {
 	for !isRight() {
 		time.Sleep(time.Millisecond)
 	}
 }
 
-// fault returns the error of a call, which returns no other value then.
+// fault returns the error of a call, which must not return another value with it.
 func fault(value any, err error) error {
 	if err != nil && !reflect.ValueOf(value).IsZero() {
-		return fmt.Errorf("%v beside %v", value, err)
+		return fmt.Errorf("%v with the error %v", value, err)
 	}
 	return err
 }
@@ -132,8 +132,8 @@ func TestHashes(t *testing.T) {
 	}
 }
 
-// Each default is replaced by its value; new hashes may exceed the default limits. As many
-// goroutines can wait in C as form two batches for each processor, but not too many of them.
+// Each default is replaced by its value; new hashes may exceed the default limits. The goroutines
+// in C form two batches for each processor, and are no more than mostInside.
 func TestOptions(t *testing.T) {
 	usual, large := newHasher(t, Options{}).Options(), newHasher(t, Options{Params: Params{LogN: 19, P: 2}}).Options()
 	tables, processors := usual.MaxTables, usual.Processors
@@ -154,7 +154,7 @@ func TestOptions(t *testing.T) {
 
 // Arguments that are rejected, and words of the errors. C's types would truncate some of these
 // numbers to accepted ones.
-func TestRefused(t *testing.T) {
+func TestRejectedArguments(t *testing.T) {
 	const stored, most = "1024$8$1$73656173616c74$703969a2643cb636f2e6", uint64(math.MaxUint64)
 	hasher, closed, zero, secret := newHasher(t, small), newHasher(t, small), new(Hasher), make([]byte, 65)
 	check(t, closed.Close() == nil && closed.Close() == nil && zero.Close() == nil && zero.Options() == Options{} && zero.Stats() == Stats{})
@@ -232,8 +232,8 @@ func TestKeysInSteps(t *testing.T) {
 	}
 }
 
-// A derivation that takes seconds ends with its context; a measurement keeps its target.
-func TestTimes(t *testing.T) {
+// KeyContext returns when its context is done; Calibrate finds parameters below its target.
+func TestKeyContextAndCalibrate(t *testing.T) {
 	ctx, cancel := context.WithTimeout(ctx, 100*time.Millisecond)
 	defer cancel()
 	end, _ := ctx.Deadline()
@@ -252,7 +252,7 @@ func busy(t *testing.T, hasher *Hasher) {
 
 // A call returns when its context is done: outside of C, waiting in C, and deriving. Then it keeps
 // its Hasher alive until its derivation ends.
-func TestEndsOfContexts(t *testing.T) {
+func TestContexts(t *testing.T) {
 	const soon, late = 10 * time.Millisecond, time.Hour
 	goroutines := runtime.NumGoroutine()
 	for why, it := range map[string]struct {
@@ -263,7 +263,7 @@ func TestEndsOfContexts(t *testing.T) {
 	}{
 		"not at all":                    {false, false, noHash, late, late, ErrMismatch},
 		"before the call":               {false, false, costly, -1, late, context.DeadlineExceeded},
-		"of a hash that is refused":     {true, false, strings.Replace(costly, "17", "30", 1), soon, late, ErrTooCostly},
+		"a hash that is rejected":       {true, false, strings.Replace(costly, "17", "30", 1), soon, late, ErrTooCostly},
 		"outside of C":                  {true, false, noHash, late, soon, context.Canceled},
 		"waiting in C":                  {false, true, noHash, late, soon, context.Canceled},
 		"waiting in C until a deadline": {false, true, noHash, soon, late, context.DeadlineExceeded},

@@ -40,11 +40,11 @@ int munmap(void *at, size_t len) {
 static uint8_t key[32];
 static char text[SCRYPT_PHC_CAPACITY];
 
-/* Of one table; or more than there is, of one that no system has. */
+/* The size of a table, or SIZE_MAX for one that no system has memory for. */
 static size_t table_bytes(uint32_t log_n) { return log_n < 50 ? (size_t)128 * R << log_n : SIZE_MAX; }
 
-/* A call whose tables are refused returns this status after it has asked for so many, and leaves
- * its outputs. */
+/* A call whose allocation of tables fails has requested this number of tables, returns this status,
+ * and leaves its outputs unchanged. */
 #define REFUSES(why, log_n, tables, wanted, call)                                          \
   do {                                                                                     \
     memset(key, 7, sizeof key), text[0] = '!';                                             \
@@ -63,11 +63,11 @@ static void tables_of_keys(size_t that_pay) {
     const char *why;
     uint32_t log_n, p;
     size_t tables;
-  } KEYS[] = {{"tables of 32 KiB are mixed faster alone", 5, 4, 1},
-              {"tables of 64 KiB are not", 6, 4, 4},
+  } KEYS[] = {{"tables of 32 KiB: interleaving is not faster", 5, 4, 1},
+              {"tables of 64 KiB: interleaving is faster", 6, 4, 4},
               {"p of 1", 14, 1, 1},
-              {"as many as p", 14, 3, 3},
-              {"at most four", 14, 9, 4},
+              {"no more tables than p", 14, 3, 3},
+              {"no more than four", 14, 9, 4},
               {"128 MiB", 15, 4, 4},
               {"129 MiB with the chunks", 15, 1016, 4},
               {"above 129 MiB with the chunks", 15, 1017, 3},
@@ -94,7 +94,7 @@ static void tables_of_limited_keys(size_t that_pay) {
     size_t max_mem, tables;
   } BOUNDS[] = {{"one less than one table needs", CHUNKS + EACH - 1, 0}, {"one table", CHUNKS + EACH, 1},
                 {"one less than two need", CHUNKS + 2 * EACH - 1, 1},    {"two tables", CHUNKS + 2 * EACH, 2},
-                {"three tables", CHUNKS + 4 * EACH - 1, 3},              {"no bound", SIZE_MAX, 4}};
+                {"three tables", CHUNKS + 4 * EACH - 1, 3},              {"no limit", SIZE_MAX, 4}};
   size_t i;
   for (i = 0; i < sizeof BOUNDS / sizeof BOUNDS[0]; i++)
     REFUSES(BOUNDS[i].why, 14, fewer(BOUNDS[i].tables, that_pay),
@@ -113,7 +113,7 @@ static void one_table_of_hashes(void) {
   REFUSES("hash_password", 17, 1, SCRYPT_OUT_OF_MEMORY, scrypt_hash_password("password", 8, text, sizeof text));
 }
 
-/* What is rejected asks for no table. */
+/* A call that is rejected requests no table. */
 static void no_table(void) {
   REFUSES("a key of no bytes", 14, 0, SCRYPT_INVALID_OUTPUT_LEN, scrypt_key(SECRETS, 14, R, 4, key, 0));
   REFUSES("too much work for a key", 14, 0, SCRYPT_TOO_COSTLY,
@@ -139,13 +139,13 @@ static long touched_kib(void) {
   return getrusage(RUSAGE_SELF, &usage) == 0 ? usage.ru_maxrss : 0;
 }
 
-/* Chunks of 2 GiB, which are granted, are not touched before the table, which is refused. */
+/* Chunks of 2 GiB, which are allocated, are not written if the allocation of the table fails. */
 static void little_is_touched(void) {
   const long before = touched_kib();
   min_refused = table_bytes(25);
   check(scrypt_key(SECRETS, 25, R, 1 << 21, key, sizeof key) == SCRYPT_OUT_OF_MEMORY, "a table of 32 GiB");
   min_refused = SIZE_MAX;
-  check(touched_kib() - before < 4096, "memory is touched before all is allocated");
+  check(touched_kib() - before < 4096, "memory is written before all is allocated");
 }
 
 /* A table that the system fails to unmap is overwritten: only its start, its length and a mark are

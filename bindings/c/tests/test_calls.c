@@ -84,7 +84,7 @@ static void batches(uint32_t p, size_t tables, char texts[2][SCRYPT_PHC_CAPACITY
         wanted[i] = STATUSES[kind % 3];
       }
       check(scrypt_verify_batch_with_buffers(logins, count, statuses, BUFFERS_OF(in)) == SCRYPT_OK, "a batch");
-      check(memcmp(statuses, wanted, sizeof wanted) == 0, "each status is that of the one alone");
+      check(memcmp(statuses, wanted, sizeof wanted) == 0, "each status is that of a separate call");
       free_buffers(in);
     }
 }
@@ -109,7 +109,7 @@ static void several_tables_are_used(size_t tables) {
   size_t row, changed = 0;
   check(scrypt_key_with_buffers(INPUTS, 12, key, sizeof key, BUFFERS_OF(in)) == SCRYPT_OK, "a key in several tables");
   for (row = 0; row < tables * 64; row++) changed += !is_all(FILL, in.table + 32 * row, 128);
-  check(changed == (tables == 2 ? USED_OF_TWO : tables) * 64, "as many rows are used as there is room for");
+  check(changed == (tables == 2 ? USED_OF_TWO : tables) * 64, "the rows of all tables are used");
   free_buffers(in);
 }
 
@@ -130,9 +130,10 @@ static void capacities(void) {
     check(write_hash(i, text, sizeof text) == SCRYPT_OK, "a hash");
     len = strlen(text);
     memset(text, '!', sizeof text);
-    check(write_hash(i, text, len) == SCRYPT_BUFFER_SIZE && text[0] == '!', "no room for the NUL");
+    check(write_hash(i, text, len) == SCRYPT_BUFFER_SIZE && text[0] == '!', "no capacity for the NUL");
     check(write_hash(i, NULL, 0) == SCRYPT_BUFFER_SIZE, "no capacity");
-    check(write_hash(i, text, len + 1) == SCRYPT_OK && strlen(text) == len && text[len + 1] == '!', "just room");
+    check(write_hash(i, text, len + 1) == SCRYPT_OK && strlen(text) == len && text[len + 1] == '!',
+          "the exact capacity");
   }
 }
 
@@ -202,12 +203,12 @@ static void words_of_statuses(void) {
   int status, other;
   for (status = SCRYPT_OK; has_words(status); status++)
     for (other = SCRYPT_OK; other < status; other++)
-      check(strcmp(scrypt_strerror(status), scrypt_strerror(other)) != 0, "words of its own");
-  check(status > SCRYPT_STOPPED, "the words of a status");
+      check(strcmp(scrypt_strerror(status), scrypt_strerror(other)) != 0, "each status has its own message");
+  check(status > SCRYPT_STOPPED, "a message for each status");
   for (status = -1; status < 99; status++) {
     const int is_of_text = status >= SCRYPT_ALGORITHM && status <= SCRYPT_VERSION && status != SCRYPT_SALT_INVALID;
     check((scrypt_status_name(status) != NULL) == has_words(status), "a name for each status");
-    check(scrypt_status_is_invalid_hash(status) == is_of_text, "what a text is refused by");
+    check(scrypt_status_is_invalid_hash(status) == is_of_text, "whether a status means an invalid hash");
   }
   check(strcmp(scrypt_status_name(SCRYPT_SALT_INVALID), "SCRYPT_SALT_INVALID") == 0, "its name");
 }

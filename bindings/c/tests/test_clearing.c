@@ -144,7 +144,7 @@ static void all_calls(uint32_t p, size_t max_tables) {
     check_call(name, CALLS[i].call, wanted_of(CALLS[i].call), p == 1 && max_tables == 1);
   }
   check_call("a wrong password", verify_wrong, SCRYPT_MISMATCH, 0);
-  check_call("a text without room", no_room, SCRYPT_BUFFER_SIZE, 0);
+  check_call("a text that does not fit", no_room, SCRYPT_BUFFER_SIZE, 0);
   scrypt_hasher_free(given.hasher);
   free_arguments();
 }

@@ -1,6 +1,6 @@
 /* The hasher in threads: order, batches, windows, timeouts, failed allocations, and signals.
- * test_queue.c is a model checker of its decisions, test_hasher_parts.c has its options, errors and
- * numbers, and test_hasher_load.c what happens at any time: closing and forks too. */
+ * test_queue.c is a model checker of its decisions, test_hasher_parts.c tests its options, errors
+ * and numbers, and test_hasher_load.c calls, forks and closing at random times. */
 #include "test_hasher.h"
 
 /* The derivation of a call: keys, and verifications with these parameters. */
@@ -118,7 +118,7 @@ static void end(const char *wanted_batches) {
   scrypt_hasher_free(hasher);
 }
 
-/* ---- Batches: all calls come while the first ones derive ---- */
+/* ---- Batches: all calls arrive while the first ones derive ---- */
 
 static const struct {
   const char *why;
@@ -126,15 +126,15 @@ static const struct {
   enum kind calls[11];
   const char *batches;
 } BATCHES[] = {
-    {"first come, first served", 1, 1, 4, {A, B, A, KEYS, A, P2, A}, "0 1 2 3 4 5 6"},
-    {"two pass what is not compatible", 1, 2, 4, {A, B, A, B, A, A, B, A, A}, "0 13 24 57 6 8"},
-    {"four", 1, 4, 4, {A, A, A, A, A, A, A, B, B}, "0 1234 56 78"},
-    {"a processor on which three pay", 1, 4, 3, {A, A, A, A, A, A, A}, "0 123 456"},
-    {"with p of 2, two in four tables", 1, 4, 4, {P2, P2, P2, P2, P2}, "0 12 34"},
-    {"with p of 4 and of 16, alone in four", 1, 4, 4, {P4, P4, P16, P16}, "0 1 2 3"},
-    {"a cheap one doesn't join a costly one", 1, 4, 4, {P16, A, P16, A}, "0 13 2"},
-    {"N * r * p is not enough", 1, 4, 4, {A, P2, R16, B, R16, A}, "0 1 24 3 5"},
-    {"a key is alone, and compatible calls pass it", 1, 2, 4, {A, A, KEYS, KEYS, A}, "0 14 2 3"},
+    {"FIFO order", 1, 1, 4, {A, B, A, KEYS, A, P2, A}, "0 1 2 3 4 5 6"},
+    {"batches of two overtake incompatible calls", 1, 2, 4, {A, B, A, B, A, A, B, A, A}, "0 13 24 57 6 8"},
+    {"batches of four", 1, 4, 4, {A, A, A, A, A, A, A, B, B}, "0 1234 56 78"},
+    {"a processor that interleaves up to three chunks", 1, 4, 3, {A, A, A, A, A, A, A}, "0 123 456"},
+    {"with p of 2, batches of two in four tables", 1, 4, 4, {P2, P2, P2, P2, P2}, "0 12 34"},
+    {"with p of 4 and of 16, no batches in four tables", 1, 4, 4, {P4, P4, P16, P16}, "0 1 2 3"},
+    {"p of 1 doesn't join p of 16", 1, 4, 4, {P16, A, P16, A}, "0 13 2"},
+    {"the same N * r * p with other parameters", 1, 4, 4, {A, P2, R16, B, R16, A}, "0 1 24 3 5"},
+    {"a key is in no batch, and compatible calls overtake it", 1, 2, 4, {A, A, KEYS, KEYS, A}, "0 14 2 3"},
     {"more processors than tables", 64, 2, 4, {A, A, A}, "0 1 2"},
 };
 
@@ -160,12 +160,12 @@ static void in_batches(void) {
 }
 
 static void in_a_window(void) {
-  begin("compatible calls that come in the window of a leader join it", 1, 4);
+  begin("compatible calls that arrive in the window of a leader join its batch", 1, 4);
   let_windows_last(1);
   start_all((enum kind[]){SLOW, SLOW, KEYS, A, SLOW, NONE});
   let_windows_last(0);
   end("014~ 2 3");
-  begin("after those that waited before, and as many as have room", 1, 4);
+  begin("after the calls that waited before, and up to the maximum", 1, 4);
   start_all((enum kind[]){SLOW, SLOW, SLOW, NONE});
   let_windows_last(1);
   end_first();
@@ -175,32 +175,32 @@ static void in_a_window(void) {
   begin("a full batch has no window", 1, 2);
   start_all((enum kind[]){SLOW, SLOW, SLOW, NONE});
   end("0~ 12");
-  begin("nor a slot with one table", 1, 1);
+  begin("a slot with one table has no window", 1, 1);
   start_all((enum kind[]){SLOW, SLOW, SLOW2, NONE});
   end("0 1 2");
-  begin("nor while a slot is free", 2, 4);
+  begin("no window while a slot is free", 2, 4);
   start_all((enum kind[]){SLOW, SLOW, SLOW, NONE});
   end_first();
   end("0 1~ 2~");
   expect(READ(windows_ahead) > 0, "no window lasts");
 }
 
-/* ---- Other ends of a wait ---- */
+/* ---- Timeouts, failed allocations, signals ---- */
 
 static void timeouts(void) {
-  begin("a wait ends in time, and joins nobody", 1, 4);
+  begin("a call that timed out is in no batch", 1, 4);
   start(A);
   all[start_within(A, 200)].wanted = SCRYPT_TIMEOUT;
   start(A);
   until(READ(over) == 1);
   end_first();
   end("0 2");
-  begin("a wait ends behind one that goes on", 1, 1);
+  begin("calls time out behind a call that still waits", 1, 1);
   start_all((enum kind[]){A, B, NONE});
   for (int i = 0; i < 3; i++) all[start_within(A, 200)].wanted = SCRYPT_TIMEOUT;
   until(READ(over) == 3);
   end("0 1");
-  begin("there is no timeout for who leads or follows", 1, 2);
+  begin("calls that lead or follow do not time out", 1, 2);
   start_within(A, 200);
   start(A);
   start_within(A, 200);
@@ -227,7 +227,7 @@ static void memory_refused(void) {
   start_all((enum kind[]){P2, P2, P2, NONE});
   for (int i = 0; i < 2; i++) end_first();
   end("0 1 2");
-  begin("memory for one table of another size: an error of that call alone", 1, 1);
+  begin("no memory for a larger table: only that call fails", 1, 1);
   start(A);
   WRITE(max_mapped, hasher->cost.bytes + HUGE_PAGE);
   start_all((enum kind[]){B, A, A, NONE});
@@ -241,7 +241,7 @@ static void nothing(int number) { (void)number; }
 static void signals(void) {
   const struct sigaction action = {.sa_handler = nothing};
   sigaction(SIGUSR1, &action, NULL);
-  begin("a signal ends no wait", 1, 2);
+  begin("a signal doesn't end a wait", 1, 2);
   start_all((enum kind[]){A, A, A, NONE});
   for (int i = 0; i < 3; i++) pthread_kill(all[i].id, SIGUSR1);
   settle();

@@ -20,7 +20,7 @@ static void check_child(scrypt_hasher *hasher) {
   make_text(text, "right", 4, 8, 1);
   IS(verify(hasher, text, "right", 5000), hasher->is_closed ? SCRYPT_CLOSED : SCRYPT_OK);
   IS(verify(hasher, text, "wrong", 5000), hasher->is_closed ? SCRYPT_CLOSED : SCRYPT_MISMATCH);
-  expect(look_at(hasher).is_idle, "something of the parent is left");
+  expect(look_at(hasher).is_idle, "the child has calls or memory of the parent");
   scrypt_hasher_close(hasher);
   IS(READ(mapped), 0);
   _exit(failed);
@@ -39,7 +39,7 @@ static void fork_here(scrypt_hasher *hasher, const char *what) {
 
 static char texts[3][SCRYPT_PHC_CAPACITY];
 
-/* Each call has the verdict that it has without the others, or no verdict. */
+/* Each call returns the verdict of a separate call, or an error. */
 static int running;
 static void *verify_until_closed(void *hasher) {
   unsigned seed = (unsigned)(uintptr_t)&seed >> 12;
@@ -92,7 +92,7 @@ static void *verify_one(void *hasher) {
   return NULL;
 }
 
-/* Whatever its calls were doing when it was closed. TSan and ASan see a use after it. */
+/* A hasher can be freed after its calls have returned. TSan and ASan detect a later use. */
 static void freed_when_they_returned(void) {
   pthread_t all[5];
   for (int round = 0; round < 200; round++) {

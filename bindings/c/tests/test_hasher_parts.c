@@ -8,21 +8,21 @@ static const struct {
   int status;
 } OPTIONS[] = {
     {"N = 1", OF(0, 1, 1, 0, 0, 0, 0, 0, 0), SCRYPT_OK},
-    {"log_n alone, before the salt", OF(4, 0, 0, 0, 0, 65, 0, 0, 0), SCRYPT_INVALID_PARAMS},
+    {"only log_n, and then the salt", OF(4, 0, 0, 0, 0, 65, 0, 0, 0), SCRYPT_INVALID_PARAMS},
     {"N in place of log_n", OF(16384, 8, 1, 0, 0, 0, 0, 0, 0), SCRYPT_INVALID_PARAMS},
     {"a key of 9 bytes", OF(4, 8, 1, 0, 9, 65, 0, 0, 0), SCRYPT_INVALID_PARAMS},
-    {"a key of 65", OF(4, 8, 1, 0, 65, 0, 0, 0, 0), SCRYPT_INVALID_PARAMS},
-    {"a key that is too short", OF(4, 8, 1, 0, 20, 0, 0, 0, 21), SCRYPT_INVALID_PARAMS},
-    {"or just long enough", OF(4, 8, 1, 0, 20, 0, 0, 0, 20), SCRYPT_OK},
-    {"a salt of 65, before memory", OF(4, 8, 1, 0, 0, 65, 1, 0, 0), SCRYPT_SALT_INVALID},
+    {"a key of 65 bytes", OF(4, 8, 1, 0, 65, 0, 0, 0, 0), SCRYPT_INVALID_PARAMS},
+    {"a key below the minimum length", OF(4, 8, 1, 0, 20, 0, 0, 0, 21), SCRYPT_INVALID_PARAMS},
+    {"a key of the minimum length", OF(4, 8, 1, 0, 20, 0, 0, 0, 20), SCRYPT_OK},
+    {"a salt of 65 bytes, and then the memory", OF(4, 8, 1, 0, 0, 65, 1, 0, 0), SCRYPT_SALT_INVALID},
     {"too few bytes", OF(14, 8, 1, 0, 0, 0, 1 << 20, 0, 0), SCRYPT_TOO_COSTLY},
     {"too little work", OF(14, 8, 1, 0, 0, 0, 0, 1 << 10, 0), SCRYPT_TOO_COSTLY},
-    {"above the default limits, which follow", OF(20, 8, 4, 0, 0, 0, 0, 0, 0), SCRYPT_OK},
+    {"above the default limits, which are raised", OF(20, 8, 4, 0, 0, 0, 0, 0, 0), SCRYPT_OK},
     {"a size of another version", {.size = 1, .key_len = 9}, SCRYPT_OPTIONS_SIZE},
     {"more slots than any machine has",
      {sizeof(scrypt_options), 4, 8, 1, 0, 0, 0, 0, 0, 0, SIZE_MAX, SIZE_MAX}, SCRYPT_OK}};
 
-/* Without memory for a hasher, what is wrong with its options is found first. */
+/* Errors of the options are found before the hasher is allocated. */
 static void options(void) {
   for (size_t i = 0; i < sizeof OPTIONS / sizeof OPTIONS[0]; i++) {
     for (is_malloc_refused = 0; is_malloc_refused < 2; is_malloc_refused++) {
@@ -156,7 +156,7 @@ static void calls(void) {
   scrypt_hasher_free(of_mcf);
 }
 
-/* The number of letters of a drawn salt, which is another for the next hash. */
+/* The number of letters of a random salt, which differs in the next hash. */
 static size_t letters_of_salt(scrypt_hasher *hasher) {
   char text[SCRYPT_PHC_CAPACITY], other[SCRYPT_PHC_CAPACITY];
   IS(scrypt_hasher_hash(hasher, "a", 1, NULL, 0, text, sizeof text, -1), SCRYPT_OK);
@@ -194,8 +194,8 @@ static void decoy(void) {
   }
 }
 
-/* A call in a batch of one takes no further tables, which would be kept. */
-static void room_for_one(void) {
+/* A batch of one call maps only the tables of that call: a hasher keeps what it maps. */
+static void memory_of_one_call(void) {
   scrypt_hasher *hasher = new_hasher(1, 4, 4);
   struct arena *arena = &hasher->queue->slots[0].arena;
   scrypt_cost cost = hasher->cost;
@@ -222,7 +222,7 @@ static int generation(scrypt_hasher *hasher, const char *text, int more) {
   if (child > 0) return waitpid(child, &status, 0) == child && status == 0;
   mapped = 0;
 #if defined __x86_64__ && !defined __SANITIZE_THREAD__
-  /* Elsewhere an emulator takes no such advice, and this sanitizer maps there itself. */
+  /* Elsewhere an emulator ignores the advice, and the sanitizer maps memory there itself. */
   expect(madvise(of_parent, LARGEST_PAGE, MADV_NORMAL) != 0 && errno == ENOMEM, "of the parent");
 #else
   (void)of_parent;
@@ -246,7 +246,7 @@ static void generations(void) {
 }
 #endif
 
-/* A part of the derivation, up to a millisecond; no window if it is below 50 microseconds. */
+/* 1/256 of the derivation, and no more than 1 ms; no window if it is below 50 microseconds. */
 static void windows(void) {
   static const struct {
     uint8_t log_n;
@@ -261,7 +261,7 @@ static void windows(void) {
   }
 }
 
-/* Waits that end in a mixed order take linear time. */
+/* Waits that end in any order take linear time together. */
 static void many_waits(void) {
   enum { N = 80000 };
   static const int STATUSES[] = {SCRYPT_OK, SCRYPT_MISMATCH, SCRYPT_OK, SCRYPT_MISMATCH};
@@ -296,21 +296,21 @@ static void many_waits(void) {
   free(all);
 }
 
-/* The maximum number of tables of a hasher, which its options show. */
+/* The default max_tables and max_mem by the memory of the machine. */
 static void memory(void) {
   static const size_t GIB = (size_t)1 << 30;
   const struct {
     const char *why;
     size_t memory, max_mem, processors, max_tables, default_most;
   } MEMORY[] = {{"two for each processor", SIZE_MAX, 1 << 14, 64, 128},
-                {"or for each of 8192", SIZE_MAX, 1 << 14, SIZE_MAX / 2 + 1, 1 << 14},
-                {"three of the default, and the rest of the process", GIB, 0, 64, 3,
+                {"two for each of 8192 processors", SIZE_MAX, 1 << 14, SIZE_MAX / 2 + 1, 1 << 14},
+                {"three tables of the default max_mem in 7/8 of the memory", GIB, 0, 64, 3,
                  SCRYPT_DEFAULT_MAX_MEM},
-                {"or six", GIB, 129 << 20, 64, 6},
-                {"a default of 7/8 of the memory", GIB / 4, 0, 64, 1, 7 * (GIB / 32)},
-                {"but not less than a new hash needs", GIB / 16, 0, 64, 1, 134220800},
-                {"six of new hashes, as nobody has room for the largest", GIB, SIZE_MAX, 64, 6},
-                {"one at least", 1000, 0, 64, 1}};
+                {"six tables of 129 MiB", GIB, 129 << 20, 64, 6},
+                {"max_mem is 7/8 of the memory by default", GIB / 4, 0, 64, 1, 7 * (GIB / 32)},
+                {"max_mem is no less than a new hash needs", GIB / 16, 0, 64, 1, 134220800},
+                {"six tables of new hashes, because none of max_mem fits", GIB, SIZE_MAX, 64, 6},
+                {"at least one table", 1000, 0, 64, 1}};
   for (size_t i = 0; i < sizeof MEMORY / sizeof MEMORY[0]; i++) {
     scrypt_options with = {.size = sizeof with, .processors = MEMORY[i].processors};
     scrypt_hasher *hasher;
@@ -356,7 +356,7 @@ int main(void) {
   RUN(refused_keys);
   RUN(calls);
   RUN(decoy);
-  RUN(room_for_one);
+  RUN(memory_of_one_call);
 #if HAS_FORKS
   RUN(generations);
 #endif

@@ -1,4 +1,4 @@
-/* The registers that a call keeps on Windows: xmm6 to xmm15, rbx, rbp, rdi, rsi and r12 to r15. */
+/* The registers that a call preserves on Windows: xmm6 to xmm15, rbx, rbp, rdi, rsi, r12 to r15. */
 #include "check.h"
 #include "scrypt_c.h"
 
@@ -68,7 +68,7 @@ __asm__(
     ".seh_endproc\n");
 
 static int changes_two(void) {
-  __asm__ volatile("pxor %xmm6, %xmm6\n xor %edi, %edi"); /* without the compiler's knowing */
+  __asm__ volatile("pxor %xmm6, %xmm6\n xor %edi, %edi"); /* not declared to the compiler */
   return SCRYPT_OK;
 }
 
@@ -76,7 +76,7 @@ int main(void) {
   hasher = scrypt_hasher_new(NULL, NULL);
   check(changed_by(changes_two) == 2, "a change is found");
   check(changed_by(key) == 0, "scrypt_key");
-  check(changed_by(large_key) == 0, "scrypt_key, in a block of its own");
+  check(changed_by(large_key) == 0, "scrypt_key, in a separate mapping");
   check(changed_by(hash) == 0, "scrypt_hash_phc");
   check(changed_by(verify) == 0, "scrypt_verify");
   check(changed_by(by_hasher) == 0, "scrypt_hasher_verify");

@@ -127,8 +127,9 @@ static void check_calls(void) {
     const struct call *it = &now.calls[i];
     int had = i < before.entered ? (int)before.calls[i].state : ABSENT, has = (int)it->state;
     struct batch *batch = &now.batches[has == LEADING ? it->slot - now.of.queue.slots : 0];
-    check(has == now.wanted[i], "another state");
-    check(has == DONE ? it->status == now.statuses[i] : it->status != SCRYPT_OK, "a status");
+    check(has == now.wanted[i], "a state that differs from the model");
+    check(has == DONE ? it->status == now.statuses[i] : it->status != SCRYPT_OK,
+          "a status that differs from the model");
     check(had == has || had == ABSENT || has == FOLLOWING || signaled[i], "a lost wake-up");
     if (has == LEADING && batch->count == 0) batch->calls[batch->count++] = &now.calls[i];
     check(has != LEADING || batch->calls[0] == it, "two calls lead a slot");
@@ -142,7 +143,7 @@ static void check_queue(void) {
   for (int i = 0; i < now.entered; i++) {
     deriving += now.wanted[i] == LEADING || now.wanted[i] == FOLLOWING;
     if (now.wanted[i] != WAITING) continue;
-    check(it == &now.calls[i] && it->previous == last, "another order");
+    check(it == &now.calls[i] && it->previous == last, "an order that differs from the model");
     if (failed) return;
     last = it, it = it->next, waiting++;
   }
@@ -153,7 +154,7 @@ static void check_queue(void) {
   }
   check(it == NULL && queue->last == last && queue->stats.waiting == waiting, "the queue's end");
   check(in_batches == deriving && queue->stats.deriving == deriving, "calls that derive");
-  check(waiting == 0 || (taken == SLOTS && !now.hasher.is_closed), "a call waits for nobody");
+  check(waiting == 0 || (taken == SLOTS && !now.hasher.is_closed), "a call waits for nothing");
 }
 
 /* ---- All runs ---- */
@@ -196,7 +197,7 @@ static void explore(void) {
     now = here;
   }
   ends += !happened;
-  for (int i = 0; i < CALLS && !happened; i++) check(now.wanted[i] == DONE, "no end of a call");
+  for (int i = 0; i < CALLS && !happened; i++) check(now.wanted[i] == DONE, "an endless call");
 }
 
 int main(void) {

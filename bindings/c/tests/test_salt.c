@@ -11,8 +11,8 @@ static void drawn(void) {
   uint8_t one[18] = {0}, other[18] = {0}, none = 7;
   check(scrypt_generate_salt(one + 1, 16) == SCRYPT_OK && scrypt_generate_salt(other + 1, 16) == SCRYPT_OK, "drawn");
   check(memcmp(one + 1, other + 1, 16) != 0, "two salts differ");
-  check(one[0] == 0 && one[17] == 0, "the bytes beside the salt");
-  check(scrypt_generate_salt(&none, 0) == SCRYPT_OK && none == 7, "no byte");
+  check(one[0] == 0 && one[17] == 0, "the bytes before and after the salt");
+  check(scrypt_generate_salt(&none, 0) == SCRYPT_OK && none == 7, "a salt of no bytes");
 }
 
 /* More than the system gives in one call that a signal may interrupt. */

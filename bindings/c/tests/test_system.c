@@ -73,7 +73,8 @@ static void sleeps(void) {
   check(now_ns() - begun < SECOND, "a sleep ends in time");
   check(pthread_create(&thread, NULL, sleep_for_long, NULL) == 0, "a thread");
   end = now_ns() + 50 * MS;
-  while (now_ns() < end) condition_wait(&woken, &lock, end); /* until it sleeps; who is cancelled sleeps on */
+  /* Until it sleeps. Cancelling does not wake it. */
+  while (now_ns() < end) condition_wait(&woken, &lock, end);
   (void)pthread_cancel(thread);
   end = now_ns() + 50 * MS;
   while (now_ns() < end) condition_wait(&woken, &lock, end);
@@ -82,7 +83,7 @@ static void sleeps(void) {
   condition_signal(&woken);
   mutex_unlock(&lock);
   (void)pthread_join(thread, NULL);
-  check(went_on, "who is woken goes on");
+  check(went_on, "a woken thread continues");
 }
 
 /* ---- Memory ---- */
@@ -119,10 +120,10 @@ static void memory(void) {
     memset(mapped[i], 7, LEN);
   }
   while_mapped();
-  for (i = 0; i < 4; i++) check(are_all(mapped[i], LEN, 7), "what was written");
+  for (i = 0; i < 4; i++) check(are_all(mapped[i], LEN, 7), "written bytes");
   for (i = 0; i < 4; i++) check(unmap(mapped[i], LEN), "unmapped");
-  check(!unmap(mapped[0] + 1, LEN), "what the system refuses to take");
-  check(map_zeros(SIZE_MAX / 2) == NULL, "more than there is");
+  check(!unmap(mapped[0] + 1, LEN), "an address that is no mapping");
+  check(map_zeros(SIZE_MAX / 2) == NULL, "more than the address space");
 }
 
 int main(void) {

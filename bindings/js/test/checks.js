@@ -60,7 +60,7 @@ const REFUSED = [
 // Above the default limits, but fast.
 const COSTLY = `$scrypt$ln=4,r=8,p=11000$AAAAAAAA$${'A'.repeat(43)}`;
 
-// The code of a refused hash, or the answer.
+// The code of a RefusedHashError, or the result.
 const outcome = (call) => call.catch((error) => error instanceof RefusedHashError && error.code);
 
 /** The checks of each kind of calls: in workers, on a module, and in steps. */
@@ -100,7 +100,7 @@ const OF_EACH = {
       equal(await outcome(api.needsRehash(text)), status, text.slice(0, 60));
     }
   },
-  'a new hash, and none': async (api) => {
+  'a new hash, and no hash': async (api) => {
     const text = await api.hash('pässword 🔑');
     equal(/^\$scrypt\$ln=17,r=8,p=1\$[A-Za-z0-9+/]{22}\$[A-Za-z0-9+/]{43}$/.test(text), true, text);
     equal(await api.verify(utf8('pässword 🔑'), utf8(text)), true);
@@ -130,7 +130,7 @@ const OF_EACH = {
     equal(await api.verify('', short, { dkLen: 10 }), true, 'as short as new ones');
     equal(await api.verify('', short, { minKeyLength: 10 }), true, 'long enough');
   },
-  // A stranger can put a property there, which must not lift a limit.
+  // Properties that an attacker added there must not lift a limit.
   'properties of Object.prototype': async (api) => {
     const [text, short] = [await api.hash('', OF), await api.hash('', { ...OF, dkLen: 10 })];
     const lifted = { maxmem: Infinity, maxwork: Infinity, minKeyLength: 0, format: 'mcf', N: 4, p: 11000 };
@@ -143,7 +143,7 @@ const OF_EACH = {
       });
     }
   },
-  'refused calls': async (api) => {
+  'rejected calls': async (api) => {
     for (const [code, name, ...given] of REFUSED) {
       const words = given.map((it) => String(Object(it) === it ? Object.entries(it) : it));
       await refused(code, () => api[name](...given), '', `${name}(${words.join('; ')})`);
@@ -155,7 +155,7 @@ const OF_EACH = {
 
 /** The checks of calls that have steps. */
 const OF_STEPS = {
-  'progress, and leaving': async (api) => {
+  'progress and abort': async (api) => {
     const text = `$scrypt$ln=15,r=8,p=1$AAAAAAAA$${'A'.repeat(43)}`;
     const costs = { N: 2 ** 15, r: 8, p: 1 };
     for (const call of [
@@ -197,7 +197,7 @@ const OF_MODULE = {
       it.isWiped();
     }
   },
-  'a call that the engine ends drops its instance': async (module) => {
+  'a call that the engine aborts drops its instance': async (module) => {
     const ends = () => { throw new RangeError('the end of the stack'); };
     const { own } = await opened(module, { scrypt_hash_params: ends });
     await refused('OUT_OF_MEMORY', () => own.params('$7$'));

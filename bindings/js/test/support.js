@@ -23,7 +23,7 @@ export async function refused(code, work, reason = '', what = `${work}`) {
   equal(message.includes(reason) && !message.includes('secret'), true, `${what}: ${message}`);
 }
 
-/** Runs work with another value of a property, which a page or Node has. */
+/** Runs work while a property of an object has another value. */
 export async function instead(object, name, value, work) {
   const own = Object.getOwnPropertyDescriptor(object, name);
   Object.defineProperty(object, name, { value, configurable: true, writable: true });
@@ -60,8 +60,8 @@ export async function opened(module, others = {}) {
   return it;
 }
 
-/** The calls on a module, or those in steps, after each of which its memory is wiped. A clock gives
- * each step a different time, so that the next one has another size. */
+/** The calls on a module, or those in steps; after each it tests that the memory is wiped. A fake
+ * clock gives each step a different time, so that the sizes of steps vary. */
 export async function wiping(module, isInSteps) {
   const { own, isWiped } = await opened(module);
   let ms = 0;

@@ -1,4 +1,4 @@
-// The checks of calls in workers, of the ways in which they end, and of loading.
+// The checks of calls in workers, of their errors and aborts, and of loading.
 import { hash, isSupported, load, needsRehash, params, scrypt, verify } from '../index.js';
 import { compile } from '../load.js';
 import { OF, equal, hex, instead, refused, utf8 } from './support.js';
@@ -8,8 +8,8 @@ const fails = async () => { throw new Error('not here'); };
 const [KEY, OTHER] = [Uint8Array.of(1), Uint8Array.of(2)];
 let copies = 0; // of workers.js, each without workers
 
-/** A check with fake workers, which start if `starts` returns true. It gets a call, the workers, two
- * functions that wait until a worker has a call, of which the second answers it, and configure. */
+/** A check with fake workers, which start if `starts` returns true. It gets a call, the workers, a
+ * function that waits until a worker has a call, one that also answers that call, and configure. */
 const withWorkers = (check, starts = () => true) => async () => {
   const made = [];
   class Acting {
@@ -17,7 +17,8 @@ const withWorkers = (check, starts = () => true) => async () => {
 
     constructor() {
       const does = starts(made.push(this));
-      setTimeout(() => (does ? this.says({ isReady: true }) : this.onerror({ message: 'no room' })));
+      const message = 'no memory';
+      setTimeout(() => (does ? this.says({ isReady: true }) : this.onerror({ message })));
     }
     postMessage(message) { this.isBusy = this.sent.push(message); }
     says(data) { this.isBusy = false; this.onmessage({ data }); }
@@ -37,7 +38,7 @@ const withWorkers = (check, starts = () => true) => async () => {
 };
 
 const endings = {
-  'an abort ends no other': withWorkers(async (call, made, busy, answer) => {
+  'an abort ends no other call': withWorkers(async (call, made, busy, answer) => {
     const [abort, reports] = [new AbortController(), []];
     const options = { signal: abort.signal, onProgress: (fraction) => reports.push(fraction) };
     const aborted = refused('AbortError', () => call(options));
@@ -47,7 +48,7 @@ const endings = {
     worker.says({ progress: 0.2 });
     equal(reports.join(), '0.1', 'no progress after the abort');
     await aborted;
-    equal(worker.sent[1].isAborted, true, 'what the worker is told');
+    equal(worker.sent[1].isAborted, true, 'the message to the worker');
     worker.says({ value: KEY }); // its answer was in transit
     await busy();
     abort.abort();
@@ -66,7 +67,7 @@ const endings = {
     await answer(OTHER);
     equal((await Promise.all(calls)).join(), '1,2', 'both answers');
   }),
-  'a worker that fails in the midst of a call': withWorkers(async (call, made, busy, answer) => {
+  'a worker that fails during a call': withWorkers(async (call, made, busy, answer) => {
     const refusal = refused('WORKER_FAILED', () => call(), 'no more');
     const [worker, next] = [await busy(), call()];
     worker.onerror({ message: 'no more' });
@@ -80,14 +81,14 @@ const endings = {
     equal(await last, KEY, 'the last call');
     equal(made.map((it) => it.isEnded).join(), 'true,true,', 'ended');
   }),
-  'calls wait for a worker that did start': withWorkers(async (call, made, busy, answer, configure) => {
+  'calls wait for the one worker that starts': withWorkers(async (call, made, busy, answer, configure) => {
     configure({ maxWorkers: 3 });
     const calls = [call(), call(), call()];
     for (let i = 0; i < 3; i++) await answer(KEY);
     equal((await Promise.all(calls)).join(), '1,1,1');
   }, (count) => count === 1),
   'no worker starts': withWorkers(async (call) => {
-    await Promise.all(Array.from({ length: 9 }, () => refused('WORKER_FAILED', call, 'no room')));
+    await Promise.all(Array.from({ length: 9 }, () => refused('WORKER_FAILED', call, 'no memory')));
   }, () => false),
   'more calls than workers': withWorkers(async (call, made, busy, answer, configure) => {
     configure({ maxQueue: 3 });
@@ -109,7 +110,7 @@ const endings = {
     await refused('INVALID_LIMIT', () => configure({ maxWorkers: 0 }));
     await refused('INVALID_LIMIT', () => configure({ maxQueue: NaN }));
   }),
-  'as many workers as fit': async () => {
+  'the default number of workers': async () => {
     const os = { availableParallelism: () => 8, totalmem: () => 2 ** 40 };
     for (const [mib, wanted] of [[0, 4], [187, 1], [512, 1], [700, 2], [1024, 3], [2048, 4]]) {
       const process = { constrainedMemory: () => mib * 2 ** 20, getBuiltinModule: () => os };
@@ -125,7 +126,7 @@ const calls = {
     const of = { N: 2 ** 20, r: 8, p: 1, dkLen: 8 };
     equal(hex(await scrypt('pleaseletmein', 'SodiumChloride', of)), '2101cb9b6a511aae');
   },
-  'many at once, of bytes that change after the calls': async () => {
+  'concurrent calls, whose bytes change later': async () => {
     const given = [utf8('password'), utf8(await hash('password', OF))];
     const answers = Array.from({ length: 40 }, () => verify(...given));
     answers.push(needsRehash(given[1], OF), params(given[1]).then(({ N }) => N));
@@ -133,7 +134,7 @@ const calls = {
     equal((await Promise.all(answers)).join(), `${'true,'.repeat(40)}false,2`);
   },
   // Runs worker.js in this thread.
-  'a worker wipes what it was given': async () => {
+  'a worker wipes its arguments': async () => {
     const posted = [];
     const post = (...message) => posted.push(message);
     await instead(globalThis, 'WorkerGlobalScope', class {}, () =>
@@ -167,12 +168,12 @@ const sources = {
     equal(await compile(), other, 'the module, after sources that cannot be loaded');
     equal(await verify('', await hash('', OF)), true, 'in a worker');
   },
-  'a file that is there again': async () => {
+  'a file that becomes available': async () => {
     const { compile: compileAgain } = await import('../load.js?again');
     await instead(WebAssembly, 'compile', fails, () => refused('LOAD_FAILED', compileAgain));
     equal(await compileAgain() instanceof WebAssembly.Module, true, 'a module');
   },
-  'where no bytes are compiled, and no workers start': async () => {
+  'an engine that compiles no bytes and starts no workers': async () => {
     const module = await compile();
     await instead(WebAssembly, 'compile', fails, () => instead(globalThis, 'Worker', undefined, () =>
       instead(globalThis, 'process', undefined, async () => {
@@ -183,7 +184,7 @@ const sources = {
         await refused('WORKER_FAILED', () => call('hash', ['', OF], {}), reason);
       })));
   },
-  'an engine without vectors': async () => {
+  'an engine without SIMD': async () => {
     equal(isSupported(), true);
     await instead(WebAssembly, 'validate', () => false, async () => {
       equal(isSupported(), false);

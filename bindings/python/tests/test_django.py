@@ -64,8 +64,8 @@ class Hashers(unittest.TestCase):
             self.assertFalse(hashers.check_password("letmein", text))
         self.assertFalse(hashers.check_password("lètmein", stored[:-80]))
 
-    def test_an_old_hash_is_replaced(self):
-        """At a login Django replaces a weaker hash, and one of another hasher or of an old hash."""
+    def test_weaker_hashes_are_replaced(self):
+        """At a login Django replaces a weaker hash, a hash of another hasher, and a wrapped hash."""
         weak = "scrypt_c" + scrypt_c.PasswordHasher(log_n=5).hash("lètmein")
         theirs = ScryptPasswordHasher().encode("lètmein", "seasalt", 1024)
         pbkdf2 = hashers.PBKDF2PasswordHasher().encode("lètmein", 22 * "s", 1000)
@@ -76,10 +76,10 @@ class Hashers(unittest.TestCase):
             self.assertTrue(hashers.check_password("lètmein", old, setter=new.append))
             self.assertEqual(new, is_replaced * ["lètmein"], old)
         most = OverPBKDF2().wrap(f"pbkdf2_sha256$1500000${22 * 's'}${43 * 'A'}=")
-        self.assertLessEqual(len(most), 128, "Django's column, of the most iterations yet")
+        self.assertLessEqual(len(most), 128, "Django's column, with the most iterations so far")
 
-    def test_weak_hashes(self):
-        """decode returns the salt of encode, which is hashed over an old hash; a short one is weak."""
+    def test_salts_and_weak_hashes(self):
+        """decode returns the salt that encode was given; a hash with a short salt is weak."""
         for it, encoded, salt, is_weak in [
             (Small(), Small().encode("pw", "sea$" + 18 * "s"), "sea$" + 18 * "s", False),
             (Small(), f"scrypt_c$7$46..../....seasalt${43 * '.'}", "seasalt", True),
@@ -92,7 +92,7 @@ class Hashers(unittest.TestCase):
             self.assertTrue(it.safe_summary(encoded)["salt"].startswith(salt[:6]), encoded)
             self.assertEqual(it.must_update(encoded), is_weak, encoded)
 
-    def test_refused_hashes(self):
+    def test_rejected_hashes(self):
         """check_password raises, whichever hasher is preferred: a broken database is not a wrong
         password. With FalseIfRefused it returns False, logs one line, and stores no new hash."""
         of_all = {it.algorithm: or_false(it, work_factor=64) for it in (Small, ScryptPasswordHasher)}
@@ -109,7 +109,7 @@ class Hashers(unittest.TestCase):
                     self.assertEqual((found, new, len(log.output)), (False, [], 1), stored)
                     self.assertNotIn("AAAA", log.output[0], "the key")
 
-    def test_the_time_of_a_refused_hash(self):
+    def test_time_of_a_rejected_hash(self):
         """It is the time of a wrong password, so that it does not reveal whose hash is rejected."""
         ours = or_false(Small, hasher=scrypt_c.PasswordHasher(log_n=14))
         for it in (ours, or_false(ScryptPasswordHasher, work_factor=1 << 14)):
@@ -121,8 +121,8 @@ class Hashers(unittest.TestCase):
                 times.append(time.thread_time() - begun)
             self.assertTrue(0.5 < times[1] / times[0] < 2, times)
 
-    def test_errors(self):
-        """Other errors are raised too, and none has the password. The limits are exact."""
+    def test_other_errors(self):
+        """Other errors are raised too, and none contains the password. The limits are exact."""
         ours, of = or_false(Small, hasher=scrypt_c.PasswordHasher(log_n=6)), scrypt_c.Params(10, 8, 2)
         theirs = or_false(ScryptPasswordHasher, work_factor=64)
         for it in (theirs, ours):

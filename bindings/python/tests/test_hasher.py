@@ -124,9 +124,9 @@ class Hashes(unittest.TestCase):
             self.assertTrue(PasswordHasher(6, 3, 5, max_mem=memory, max_work=work).verify(text, "pw"))
         for less in ({"max_mem": of.memory - 1}, {"max_work": of.work - 1}):
             self.assertRaises(TooCostlyError, PasswordHasher(4, **less).verify, text, "pw")
-        self.assertTrue(PasswordHasher(log_n=19), "more than the default limits, and asked for")
+        self.assertTrue(PasswordHasher(log_n=19), "new hashes above the default limits")
 
-    def test_updates(self):
+    def test_verify_and_update(self):
         """As in passlib, there is a new hash if the old hash is weak and the password matches."""
         weak, hasher = SMALL.hash("pw"), PasswordHasher(log_n=5)
         self.assertEqual(hasher.verify_and_update(hasher.hash("pw"), "pw"), (True, None))
@@ -136,7 +136,7 @@ class Hashes(unittest.TestCase):
         self.assertEqual((verified, params_of(new)), (hasher.verify(new, "pw"), hasher.params))
         self.assertRaises(scrypt_c.RefusedHashError, hasher.verify_and_update, "$7$", "pw")
 
-    def test_no_hash(self):
+    def test_user_without_hash(self):
         """For a user who does not exist: the time and the error of a wrong password."""
         hasher, times = PasswordHasher(log_n=14), {}
         text = hasher.hash("pw")
@@ -146,7 +146,7 @@ class Hashes(unittest.TestCase):
             times[stored] = time.thread_time() - begun
         self.assertTrue(0.5 < times[None] / times[text] < 2, times)
 
-    def test_copies(self):
+    def test_pickle_and_copy(self):
         """A copy has each argument, and stays open when the original is closed."""
         for options in [
             {"log_n": 4, "r": 3, "p": 2, "key_len": 33, "salt_len": 40, "mcf": True},
@@ -159,7 +159,7 @@ class Hashes(unittest.TestCase):
                 self.assertEqual(*((repr(it), it.options, it._timeout) for it in (of, hasher)))
                 self.assertTrue(of.verify(of.hash("pw"), "pw"))
 
-    def test_refused(self):
+    def test_rejected_arguments(self):
         for error, words, call, arguments in REFUSED:
             for named in arguments:
                 with self.assertRaises(error, msg=named) as caught:

@@ -1,4 +1,4 @@
-"""scrypt: the keys of hashlib, memory, interrupts; and calibrate.
+"""scrypt: keys equal to hashlib's, memory, interrupts; and calibrate.
 
 STEPS is the number of random keys."""
 
@@ -29,7 +29,7 @@ def growth(call):
 
 
 class Keys(unittest.TestCase):
-    def test_as_hashlib(self):
+    def test_keys_equal_hashlib(self):
         """Also in steps of random lengths. The minimum maxmem is the same as in hashlib."""
         step = library.key_step
         for _ in range(int(os.environ.get("STEPS", 100))):
@@ -49,8 +49,8 @@ class Keys(unittest.TestCase):
         most = {"maxmem": B64 + 1, "max_work": B64 + 1}
         self.assertEqual(key(password=bytearray(b"pw"), salt=memoryview(b"salt"), **most), key())
 
-    def test_maxmem_is_kept(self):
-        """As many tables are used as fit in maxmem, and all are freed."""
+    def test_maxmem_is_not_exceeded(self):
+        """The tables that fit in maxmem are used, and all are freed."""
         one = Params(15, 8, 4).memory
         two = 2 * one - 128 * 8 * 4  # there is one buffer of chunks
         for progress in (None, lambda _: None):
@@ -70,7 +70,7 @@ class Keys(unittest.TestCase):
             key(n=1 << 20, progress=lambda done: 1 // (done < 0.1))
 
     def test_calibrate(self):
-        """The memory is the table's; in little time it is less than is allowed."""
+        """log_n is the largest whose table fits, and a smaller one if the time is short."""
         for seconds, max_mem, log_n in [(60, 16 << 20, 14), (60, (16 << 20) - 1, 13), (1e9, 1 << 20, 10)]:
             params = calibrate(seconds, max_mem)
             self.assertEqual((params.log_n, params.r), (log_n, 8))

@@ -36,7 +36,7 @@ class Library(unittest.TestCase):
         self.assertRegex(run.stdout, words)
         self.assertEqual(run.returncode, code, run.stdout)
 
-    def test_places(self):
+    def test_library_path(self):
         for place in (FOLDER, FILE):
             self.runs(0, f"^{FILE}\n$", "-c", PLACE, place=place)
         for place in ("/nowhere", "/"):
@@ -44,14 +44,14 @@ class Library(unittest.TestCase):
         for place, found in [(FOLDER, f"{FOLDER}/scrypt_c.dll"), ("", "scrypt_c.dll")]:
             self.runs(0, f"^{found} True\n$", "-c", ON_WINDOWS, FILE, place=place)
 
-    def test_names(self):
+    def test_exported_names(self):
         """The package has the names that it exports, its version, and the types for annotations."""
         self.assertEqual([it for it in scrypt_c.__all__ if not hasattr(scrypt_c, it)], [])
         self.assertEqual(typing.get_args(scrypt_c.Password), (str, *typing.get_args(scrypt_c.Bytes)))
         version = (pathlib.Path(__file__).parents[3] / "VERSION").read_text("ascii")
         self.assertEqual(scrypt_c.__version__, version.strip())
 
-    def test_command(self):
+    def test_module_command(self):
         """`python -m scrypt_c` prints a hash, its cost and the time to verify it, or an error."""
         measured = "7680 bytes\na hash: .scrypt.ln=4,r=3,p=2.{51}\n.+ ms for a verification, of 2\n$"
         for arguments, code, words in [

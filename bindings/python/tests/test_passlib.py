@@ -16,7 +16,7 @@ TEXT = scrypt.using(**SMALL).hash("pw")
 
 
 class Handler(unittest.TestCase):
-    def test_texts_of_passlib(self):
+    def test_hashes_of_passlib(self):
         theirs, ours = passlib.hash.scrypt.using(**SMALL), scrypt.using(**SMALL)
         for one, other in [(theirs, ours), (ours, theirs)]:
             text = one.hash("grün")
@@ -28,11 +28,11 @@ class Handler(unittest.TestCase):
     def test_weak_hashes_need_an_update(self):
         for options, is_weak, why in [
             ({}, True, "fewer than the recommended rounds"),
-            ({"default_rounds": 6}, False, "as many as new hashes"),
+            ({"default_rounds": 6}, False, "the rounds of new hashes"),
             ({"default_rounds": 7}, True, "fewer than new hashes"),
-            ({"default_rounds": 7, "min_rounds": 6}, False, "as few as is allowed"),
-            ({"rounds": 5}, True, "more than is allowed"),
-            ({"default_rounds": 7, "vary_rounds": 1}, False, "as new hashes may be"),
+            ({"default_rounds": 7, "min_rounds": 6}, False, "the minimum that is allowed"),
+            ({"rounds": 5}, True, "more than allowed"),
+            ({"default_rounds": 7, "vary_rounds": 1}, False, "new hashes may have fewer too"),
         ]:
             with warnings.catch_warnings():
                 warnings.simplefilter("ignore")  # of vary_rounds, which passlib discourages
@@ -41,9 +41,9 @@ class Handler(unittest.TestCase):
         verified, new = CryptContext(schemes=[scrypt]).verify_and_update("pw", TEXT)
         self.assertTrue(verified and new.startswith("$scrypt$ln=17,") and not scrypt.needs_update(new))
 
-    def test_refused(self):
+    def test_rejected_hashes(self):
         """Numbers are rejected, not truncated; a key has 32 bytes, as passlib requires. The limits
-        are exact, and no error has the password."""
+        are exact, and no error contains the password."""
         refuse_a_lone_surrogate(self, scrypt.using(**SMALL).hash, lambda it: scrypt.verify(it, TEXT))
         for error, costs, key_len in [
             (scrypt_c.TooCostlyError, "ln=1,r=1,p=2000000", 43),

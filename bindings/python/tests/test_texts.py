@@ -23,7 +23,7 @@ HASHES = [
     (from_libscrypt, "pw", "$s1$0a0801$c2Vhc2FsdA==$", B64),
     (from_crypt, "password", "$7$66..../....a$b$", "CGyY/8u9Q9D5eanoScbBcdq6lOSvHl8LkXgfxQONWH/"),
 ]
-# What is replaced, and by what, so that the hash is rejected.
+# Parts of a hash and their replacements, after which it is rejected.
 DAMAGES = [
     ("1024", "1000"), ("1024", "1_024"), ("1024", "+1024"), ("scrypt", "bcrypt"), ("$8$", "$0$"),
     ("ln=10", "ln=64"), ("ln=10", f"ln={4000 * '9'}"), ("ln=10,r=8", "r=8,ln=10"), ("$7$", "$6$"),
@@ -46,7 +46,7 @@ def outcome(call, *arguments):
 
 
 class Texts(unittest.TestCase):
-    def test_verifications(self):
+    def test_cases(self):
         hasher = PasswordHasher()
         for status, password, text in rows("cases.tsv"):
             text = text.replace("\\0", "\0")
@@ -61,12 +61,12 @@ class Texts(unittest.TestCase):
             for reads in (hasher.check_needs_rehash, params_of):
                 self.assertEqual(outcome(reads, text)[0], status if unread else "OK", text)
 
-    def test_converted(self):
+    def test_converted_hashes(self):
         for convert, password, costs, key in HASHES:
             self.assertTrue(PasswordHasher(log_n=4).verify(convert(costs + key), password), costs)
 
-    def test_refused(self):
-        """A key that is cut, that has a letter outside its alphabet or too many, or a number."""
+    def test_damaged_hashes(self):
+        """A truncated key, a letter outside the alphabet or too many letters, or a wrong number."""
         for convert, _, costs, key in HASHES:
             wrong = [key + it for it in ("$", "AA", "..")] + [key[:-1] + "z"] * (costs[1] == "7")
             for at in range(len(key)):
@@ -75,7 +75,7 @@ class Texts(unittest.TestCase):
             for stored in [costs + it for it in wrong] + changed:
                 self.assertRaises(ValueError, convert, stored)
 
-    def test_stored(self):
+    def test_stored_text(self):
         """A log_n in place of N is rejected, with a hint. A hash may have a small N."""
         for salt, key, *numbers, wanted in rows("stored.tsv"):
             try:

@@ -1,4 +1,4 @@
-"""A hasher in threads: signals, statistics, and its end. The queue has tests in C."""
+"""A hasher in threads: signals, statistics, and freeing it. The queue has tests in C."""
 
 import contextlib
 import math
@@ -19,7 +19,7 @@ TEXT = f"$scrypt$ln=4,r=8,p=1{KEY}AA"
 
 @contextlib.contextmanager
 def busy(hasher):
-    """Another thread has the only slot of this hasher, for some 0.8 seconds."""
+    """Another thread has the only slot of this hasher for about 0.8 seconds."""
     with ThreadPoolExecutor(1) as threads:
         running = threads.submit(hasher.verify, f"$scrypt$ln=17,r=8,p=4{KEY}AA", "pw")
         while hasher.stats().deriving == 0 and not running.done():
@@ -65,8 +65,8 @@ gc.collect()
 
 
 class Threads(unittest.TestCase):
-    def test_waits(self):
-        """A call that waits ends at its timeout; an exception of a signal handler replaces its
+    def test_timeouts_signals_and_stats(self):
+        """A call that waits returns at its timeout; an exception of a signal handler replaces its
         result. stats counts calls that wait, that derive, and that have failed."""
         hasher = PasswordHasher(log_n=4, max_tables=1, timeout=0.2)
         before = signal.signal(signal.SIGALRM, signal.default_int_handler)
@@ -84,22 +84,22 @@ class Threads(unittest.TestCase):
             self.assertTrue(0.15 < time.monotonic() - begun < 0.6)
         self.assertEqual(hasher.stats(), (0, 0, 2))
 
-    def test_milliseconds(self):
+    def test_timeout_in_milliseconds(self):
         """A timeout is rounded up to milliseconds, and limited to the maximum of threading."""
         longest = math.ceil(1000 * threading.TIMEOUT_MAX)
         for timeout, wanted in [(0, 0), (0.1201, 121), (None, longest), (1e300, longest)]:
             self.assertEqual(PasswordHasher(4, timeout=timeout)._run(lambda _, ms: ms), wanted)
 
-    def test_memory(self):
-        """Memory is freed when a hasher is closed, and with the hasher."""
+    def test_memory_is_freed(self):
+        """A hasher frees its memory when it is closed or deleted."""
         for end in (lambda: hashers[0].close(), lambda: hashers.clear()):
             hashers = [PasswordHasher(log_n=16)]
             _, kept = growth(lambda: hashers[0].hash("pw"))
             _, freed = growth(end)
             self.assertTrue(60 << 20 < kept < (4 << 20) - freed, (kept, freed))
 
-    def test_ends(self):
-        """Of a program with daemon threads, and of a cycle, where a hasher is freed last."""
+    def test_exit_and_garbage(self):
+        """A program with daemon threads exits; in a cycle of garbage a hasher is freed last."""
         for program in 3 * [DAEMONS] + [FINALIZERS]:
             run = subprocess.run([sys.executable, "-c", program], capture_output=True, timeout=60)
             self.assertEqual((run.stderr, run.returncode), (b"", 0))

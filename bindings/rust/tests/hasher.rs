@@ -89,7 +89,7 @@ fn limits() {
         }
     }
     let params = Params::new(19, 8, 1).unwrap();
-    assert!(hasher(params, None).is_ok(), "above the default, and asked for");
+    assert!(hasher(params, None).is_ok(), "new hashes above the default limits");
     let words = |text: &str| Hasher::default().verify(text, "").unwrap_err().to_string();
     let wanted = "log_n=19, r=8, p=1 need 536873984 bytes and a work of 16778240, \
         with max_mem=269484032 and max_work=16781312";
@@ -114,7 +114,7 @@ fn clones() {
     clone.clone().close();
     assert_eq!(clone.verify(&text, "pw"), Err(Error::Closed));
     assert_eq!(clone.key("pw", b"", &mut [0]), Err(Error::Closed));
-    assert_eq!(clone.verify("", "pw"), Err(Error::EncodingInvalid), "by its text alone");
+    assert_eq!(clone.verify("", "pw"), Err(Error::EncodingInvalid), "the text is checked first");
     assert_eq!((clone.needs_rehash(&text), other.verify(&text, "pw")), (Ok(false), Ok(())));
 }
 
@@ -138,7 +138,7 @@ fn timeouts() {
             let begun = Instant::now();
             let status = hasher.key("pw", b"", &mut [0]);
             if min_ms == u128::MAX {
-                assert_eq!(status, Ok(()), "its turn came");
+                assert_eq!(status, Ok(()), "it got the slot");
             } else {
                 assert_eq!(status, Err(Error::Timeout));
                 let (late, now) = (begun.elapsed().as_millis() >= min_ms, hasher.stats());

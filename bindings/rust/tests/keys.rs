@@ -4,9 +4,9 @@ use scrypt_c::*;
 use std::ops::ControlFlow;
 use std::time::{Duration, Instant};
 
-/// An error leaves the output.
+/// An error leaves the output unchanged.
 #[test]
-fn refused_keys() {
+fn rejected_keys() {
     let params = [4, 56].map(|log_n| Params::new(log_n, 1, 1).unwrap()); // the last: 2^63 bytes
     let mut key = [7; 4];
     assert_eq!(scrypt(b"", b"", &params[0], &mut []), Err(DeriveError::InvalidOutputLen));
@@ -20,7 +20,7 @@ fn refused_keys() {
 
 /// A derivation that takes seconds is cancelled between two steps, also by a panic.
 #[test]
-fn left_between_steps() {
+fn cancelled_between_steps() {
     let (mut key, begun) = ([0; 32], Instant::now());
     let params = Params::new(20, 8, 1).unwrap();
     let progress = |_| match begun.elapsed() < Duration::from_millis(100) {
@@ -33,7 +33,7 @@ fn left_between_steps() {
     assert!(begun.elapsed() < Duration::from_secs(2) && std::panic::catch_unwind(panics).is_err());
 }
 
-/// The library has the bounds; here no number is cut.
+/// The library checks the limits; no number is truncated before.
 #[test]
 fn params() {
     let params = Params::new(17, 8, 1).unwrap();
@@ -53,7 +53,7 @@ fn params() {
 }
 
 #[test]
-fn salts_are_drawn() {
+fn random_salts() {
     let mut salts = [[0; 16]; 2];
     salts.iter_mut().for_each(|salt| generate_salt(salt).unwrap());
     assert!(salts[0] != salts[1] && salts[0] != [0; 16], "{salts:?}");

@@ -8,7 +8,7 @@ use scrypt_c::password_hash_0_4::{
 use scrypt_c::{Hasher, Params, Scrypt, ALG_ID};
 
 #[test]
-fn made() {
+fn hashes() {
     let salt = SaltString::b64_encode(b"16 random bytes.").unwrap();
     let usual = Scrypt.hash_password(b"pw", &salt).unwrap().to_string();
     assert_eq!(Hasher::default().needs_rehash(&usual), Ok(false), "{usual}");
@@ -27,7 +27,7 @@ fn made() {
 }
 
 #[test]
-fn refused() {
+fn rejected_hashes() {
     for front in [
         "$argon2$ln=4,r=8,p=1",
         "$scrypt$v=1$ln=4,r=8,p=1",
