@@ -1,8 +1,12 @@
-/* The registers that a call preserves on Windows: xmm6 to xmm15, rbx, rbp, rdi, rsi, r12 to r15. */
+/* The registers that a call preserves on Windows: xmm6 to xmm15, rbx, rbp, rdi, rsi, r12 to r15.
+ * And the number of tables that scrypt_key uses there; test_blocks.c has it on other systems. */
 #include "check.h"
 #include "scrypt_c.h"
 
 #include <string.h>
+#include <windows.h>
+
+#include <psapi.h>
 
 static const char TEXT[] = "$scrypt$ln=4,r=8,p=1$c2FsdHNhbHQ$AAAAAAAAAAAAAAAAAAAAAA";
 static scrypt_hasher *hasher;
@@ -72,7 +76,21 @@ static int changes_two(void) {
   return SCRYPT_OK;
 }
 
+static size_t most_touched(void) {
+  PROCESS_MEMORY_COUNTERS of = {0};
+  return GetProcessMemoryInfo(GetCurrentProcess(), &of, sizeof of) ? of.PeakWorkingSetSize : 0;
+}
+
+/* Tables of 32 MiB, of a key that may have four: the largest that this process derives. */
+static size_t tables(void) {
+  const size_t before = most_touched();
+  uint8_t of[64];
+  check(scrypt_key("pw", 2, "salt", 4, 15, 8, 4, of, sizeof of) == SCRYPT_OK, "a key of four chunks");
+  return (most_touched() - before + (16 << 20)) / (32 << 20);
+}
+
 int main(void) {
+  check(tables() == (strstr(scrypt_version(), "x86-64-v2") != NULL ? 3 : 4), "the tables of scrypt_key");
   hasher = scrypt_hasher_new(NULL, NULL);
   check(changed_by(changes_two) == 2, "a change is found");
   check(changed_by(key) == 0, "scrypt_key");
