@@ -214,7 +214,7 @@ export interface Scrypt {
   needsRehash(text: Bytes, options?: PartialParams): boolean;
   params(text: Bytes): ReadParams;
   /**
-   * The number of bytes of memory of the module, all zero between calls, except for 688 bytes of
+   * The number of bytes of memory of the module, all zero between calls, except for less than 1 KiB of
    * constants. They are freed with this object, and after a call that the engine ended.
    */
   readonly memory: number;

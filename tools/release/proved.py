@@ -23,8 +23,8 @@ UNPROVED = "There is no verdict here: `make dist UNPROVED=1` packed what was bui
 GATE = """\
 The gate proved each crate in this commit's own clone. The library for C is proved once for both levels of
 x86-64, and the module for JavaScript and the copies for other processors begin with its proofs of what they
-have in common, so their lines have `incremental=trusted`. What is for Windows has the verdicts of the
-library for C: it is compiled from what the kit gave its compiler for that."""
+have in common, so their lines have `incremental=trusted`. The libraries for Windows have the verdicts of
+the library for C: they are compiled from the input of the kit's compiler for that library."""
 
 
 def output(*command):
