@@ -24,7 +24,7 @@ struct arena {
  * mapping, so the arena itself must be in memory that is zeroed in the child. */
 size_t arena_reserve(struct arena *arena, const scrypt_cost *one, size_t max);
 
-/* Buffers for `logins` with the same needs, in `tables` reserved tables. */
+/* Buffers for `logins` derivations with the same cost, in `tables` reserved tables. */
 struct buffers arena_buffers(const struct arena *arena, const scrypt_cost *one, size_t tables,
                              size_t logins);
 

@@ -118,17 +118,16 @@ enum scrypt_status {
 /* ---- Keys ---- */
 
 /* Writes the scrypt key of password and salt, output_len bytes long, to output. With p of 2 or
- * more, up to four chunks are interleaved, in up to four tables, if all buffers need no more than
- * 129 MiB together; if that allocation fails, one table is used.
+ * more, and tables of 64 KiB or more, up to four chunks are interleaved, each in its own table, as
+ * far as all buffers fit into 129 MiB together; if that allocation fails, one table is used.
  * SCRYPT_NULL_POINTER, SCRYPT_INVALID_PARAMS, SCRYPT_INVALID_OUTPUT_LEN, SCRYPT_OUT_OF_MEMORY. */
 SCRYPT_NODISCARD
 int scrypt_key(const void *password, size_t password_len, const void *salt, size_t salt_len, uint32_t log_n, uint32_t r,
                uint32_t p, uint8_t *output, size_t output_len);
 
 /* The same, within limits: SCRYPT_TOO_COSTLY if the buffers with one table need more than
- * max_mem bytes together, or if the work, 4 * (2^log_n + 32) * r * p, exceeds max_work. With p
- * of 2 or more, up to four chunks are interleaved, if all buffers need no more than max_mem
- * bytes together.
+ * max_mem bytes together, or if the work, 4 * (2^log_n + 32) * r * p, exceeds max_work. The chunks
+ * are interleaved as far as all buffers fit into max_mem bytes together.
  * SCRYPT_NULL_POINTER, SCRYPT_INVALID_PARAMS, SCRYPT_TOO_COSTLY, SCRYPT_INVALID_OUTPUT_LEN,
  * SCRYPT_OUT_OF_MEMORY. */
 SCRYPT_NODISCARD

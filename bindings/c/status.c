@@ -24,10 +24,10 @@ static const struct {
     ROW(KEY_TOO_SHORT, "the key in the hash is shorter than is allowed"),
     ROW(NULL_POINTER, "a pointer that may not be NULL is NULL"),
     ROW(CLOSED, "the hasher is closed"),
-    ROW(TIMEOUT, "the hasher did not begin with it in time"),
+    ROW(TIMEOUT, "the call got no slot of the hasher before its timeout"),
     ROW(OPTIONS_SIZE, "the size in the options of a hasher is not sizeof (scrypt_options)"),
-    ROW(UNFINISHED, "the derivation in steps is not at its end"),
-    ROW(INVALID_PROGRESS, "a derivation with these parameters cannot have come so far"),
+    ROW(UNFINISHED, "not all chunks of the derivation in steps are mixed"),
+    ROW(INVALID_PROGRESS, "no derivation with these parameters has this progress"),
     ROW(STOPPED, "the derivation was stopped"),
 };
 #undef ROW

@@ -1,6 +1,6 @@
 import { decrypt, encrypt, paramsOf } from './scrypt_file.js';
 
-const DEFAULT_MAX_MEM = 2 ** 28; // of a file: the page has three copies of it in memory
+const MAX_FILE_LEN = 2 ** 28; // of a file: the page has three copies of it in memory
 const form = document.forms[0];
 const { file, password, again, memory, go, cancel } = form.elements;
 const [fieldset, drop, progress, output] = ['fieldset', '#drop', 'progress', 'output'].map((it) =>
@@ -20,7 +20,7 @@ async function choose([given]) {
   const current = { name: given.name };
   chosen = current;
   try {
-    if (given.size > DEFAULT_MAX_MEM) throw new Error(`This file has more than ${inMiB(DEFAULT_MAX_MEM)}.`);
+    if (given.size > MAX_FILE_LEN) throw new Error(`This file has more than ${inMiB(MAX_FILE_LEN)}.`);
     const bytes = new Uint8Array(await given.arrayBuffer());
     const params = await paramsOf(bytes);
     if (chosen !== current) return; // another file has been chosen

@@ -71,7 +71,7 @@ def of_this_repository(path):
     def allocating(password, text, *_):
         return library.scrypt_verify(password, len(password), text, len(text)) == 0
 
-    def max_tables(count):
+    def in_a_batch(count):
         def verified(password, text, params, _key):
             logins = (ours.Login * count)(*[(password, len(password), text, len(text))] * count)
             statuses = (ctypes.c_int * count)(*[-1] * count)
@@ -79,7 +79,7 @@ def of_this_repository(path):
             return done == 0 and list(statuses) == [0] * count
         return timed(verified, count)
 
-    return {IN_MEMORY: timed(in_memory), ALLOCATING: timed(allocating), TWO: max_tables(2), FOUR: max_tables(4)}
+    return {IN_MEMORY: timed(in_memory), ALLOCATING: timed(allocating), TWO: in_a_batch(2), FOUR: in_a_batch(4)}
 
 
 def deriving(implementation):

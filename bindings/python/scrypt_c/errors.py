@@ -44,14 +44,14 @@ class InvalidParamsError(ScryptError, ValueError):
 
 
 class InvalidSaltError(ScryptError, ValueError):
-    """The salt does not have 1 to 64 bytes, as a PHC hash cost."""
+    """The salt of a PHC hash does not have 1 to 64 bytes."""
 
 
 class InvalidOutputLenError(ScryptError, ValueError):
     """The key is empty, or longer than scrypt allows."""
 
 
-# C has one message for this status and another.
+# C has one message for SCRYPT_MISMATCH and SCRYPT_NEEDS_REHASH, which are the same number.
 WORDS = {declared.MISMATCH: "the password does not match the hash"}
 
 # The exceptions of the statuses that a call of this package can return, except the statuses of an
