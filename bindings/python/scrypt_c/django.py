@@ -55,8 +55,7 @@ class FalseIfRefused:
             return super().verify(password, encoded)  # type: ignore[misc]
         except RefusedHashError as error:
             LOG.error("a stored hash is refused: %s", error)
-        self.encode(password, self.salt())  # type: ignore[attr-defined]
-        return False
+        return self.verify_no_hash(password)  # type: ignore[attr-defined]
 
     def must_update(self, encoded: str) -> bool:
         try:
@@ -116,6 +115,11 @@ class ScryptPasswordHasher(BasePasswordHasher):
             raise _invalid(str(error)) from None
         return constant_time_compare(encoded, made)
 
+    def verify_no_hash(self, password: str) -> bool:
+        """Returns False after the time of a wrong password, as for a name that doesn't exist."""
+        self.encode(password, self.salt())
+        return False
+
     def must_update(self, encoded: str) -> bool:
         it = self.decode(encoded)
         costs = "work_factor", "block_size", "parallelism"
@@ -173,6 +177,11 @@ class PHCPasswordHasher(BasePasswordHasher):
             return self.hasher.verify(self._text(encoded), password)
         except VerifyMismatchError:
             return False
+
+    def verify_no_hash(self, password: str) -> bool:
+        """Returns False after the time of a wrong password, as for a name that doesn't exist. Under
+        load a new hash would take longer, because only verifications are derived in batches."""
+        return self.hasher.verify_and_update(None, password)[0]
 
     def must_update(self, encoded: str) -> bool:
         """Returns whether a login should replace the hash: it is weaker than new hashes, or its

@@ -121,6 +121,16 @@ class Hashers(unittest.TestCase):
                 times.append(time.thread_time() - begun)
             self.assertTrue(0.5 < times[1] / times[0] < 2, times)
 
+    def test_no_hash(self):
+        """It is verified, and so in a batch, in which a new hash cannot be."""
+        hasher = mock.Mock(wraps=scrypt_c.PasswordHasher(log_n=6))
+        ours = or_false(Small, hasher=hasher)
+        with self.assertLogs("scrypt_c.django"):
+            self.assertIs(ours.verify("pw", DAMAGED[0]), False)
+        self.assertIs(ours.verify_no_hash("pw"), False)
+        self.assertEqual([name for name, *_ in hasher.method_calls], ["verify", *["verify_and_update"] * 2])
+        self.assertIs(or_false(ScryptPasswordHasher, work_factor=64).verify_no_hash("pw"), False)
+
     def test_other_errors(self):
         """Other errors are raised too, and none contains the password. The limits are exact."""
         ours, of = or_false(Small, hasher=scrypt_c.PasswordHasher(log_n=6)), scrypt_c.Params(10, 8, 2)

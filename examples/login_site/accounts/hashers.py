@@ -18,6 +18,10 @@ class Scrypt(FalseIfRefused, PHCPasswordHasher):
         self.check_load()
         return super().verify(password, encoded)
 
+    def verify_no_hash(self, password):
+        self.check_load()
+        return super().verify_no_hash(password)
+
     def check_load(self):
         stats = self.hasher.stats()
         if stats.waiting + stats.deriving >= MAX_LOG_INS:

@@ -14,6 +14,7 @@ PASSWORD_HASHERS = [
     "accounts.hashers.Scrypt",  # makes all new hashes
     "django.contrib.auth.hashers.PBKDF2PasswordHasher",  # its hashes are replaced at log-in
 ]
+AUTHENTICATION_BACKENDS = ["accounts.backend.Backend"]
 AUTH_PASSWORD_VALIDATORS = [
     {"NAME": f"django.contrib.auth.password_validation.{name}Validator"}
     for name in ("UserAttributeSimilarity", "MinimumLength", "CommonPassword", "NumericPassword")
