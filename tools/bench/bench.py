@@ -80,7 +80,7 @@ def main():
     print(tables.head(["(log_n, r, p)", "", *(it.name for it in implementations)]))
     for params in args.params.split(":"):
         made = times(implementations, params, args.runs).values()
-        for name, figure in (("least", min), ("median", statistics.median)):
+        for name, figure in (("minimum", min), ("median", statistics.median)):
             cells = tables.relative([figure(it) if it else None for it in made], tables.cores(params))
             print(tables.line([tables.label(params), name, *cells]), flush=True)
 

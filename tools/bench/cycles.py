@@ -60,7 +60,7 @@ def main(library, *processors):
         found[kind, chunks].append([cycles(llvm_mca, texts, it) / (2 * chunks) for it in processors])
     for (kind, chunks), rows in sorted(found.items(), key=lambda it: (it[0][1], it[0][0])):
         each = (f"{name} {min(its):.0f} to {max(its):.0f}" for name, its in zip(processors, zip(*rows)))
-        print(f"{kind}, {chunks:g} at once, cycles for a core: {', '.join(each)}")
+        print(f"{kind}, {chunks:g} interleaved, cycles for a core: {', '.join(each)}")
 
 
 main(*sys.argv[1:])

@@ -28,7 +28,7 @@ async function plainKey(N, r, p, dkLen) {
   return new Uint8Array(await pbkdf2(key, chunks.buffer, dkLen));
 }
 
-/** Rows of the name, log_n, r, p, and the least nanoseconds of a core; `others` derive keys of the same password and salt. */
+/** Rows of the name, log_n, r, p, and the minimum nanoseconds of a core; `others` derive keys of the same password and salt. */
 export async function measure(others = () => ({})) {
   const own = await load();
   const kinds = {

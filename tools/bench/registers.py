@@ -23,9 +23,9 @@ BUILT = Path(__file__).parents[2] / "build" / "lib"
 
 # The limits of a loop by the number of its chunks: the vector instructions, and the vector
 # instructions with an operand on the stack. They are a little above the measured numbers: for
-# x86-64-v3 up to 404 and 0, 440 and 0, 852 and 12, 890 and 22; for x86-64-v2, whose instructions
-# overwrite an operand and whose vectors have four words, up to 528 and 0, 1082 and 24, 1688 and 78,
-# 2410 and 355; for three and four on arm64, which has 32 registers of four words, up to 1126 and 0,
+# x86-64-v3 up to 404 and 0, 440 and 0, 853 and 14, 891 and 16; for x86-64-v2, whose instructions
+# overwrite an operand and whose vectors have four words, up to 528 and 0, 1082 and 24, 1681 and 80,
+# 2392 and 361; for three and four on arm64, which has 32 registers of four words, up to 1126 and 0,
 # 1557 and 38. Blocks of three or four chunks that go through memory take 32 more, or on x86-64-v2 48
 # and 64. On arm64 two chunks are not interleaved: one chunk is in scalar registers, and its rows are
 # in vectors. The 16 words of a block and the words that its core computes from them don't fit into 31
@@ -109,14 +109,14 @@ def check(library):
     """Prints the loops of cores of a library, and returns the number of errors."""
     found = sorted((loop for code in sections(library) for loop in loops_of_cores(code)), key=lambda it: it[:4])
     for level, chunks, vectors, on_stack, error in found:
-        loop = f"{level}, {chunks:g} at once: {vectors} vector instructions, {on_stack} on the stack" if chunks else "cores"
+        loop = f"{level}, {chunks:g} interleaved: {vectors} vector instructions, {on_stack} on the stack" if chunks else "cores"
         print(f"{library}: {loop}{': ' + error if error else ''}")
     # Chunks that are mixed otherwise, such as by scalar code, have no loop here.
     loops = {(loop[0], loop[1]) for loop in found if loop[1]}
     levels = sorted({level for level, _ in loops})
     missing = [(level, it) for level in levels for it in LIMITS[level] if (level, it) not in loops]
     for level, chunks in missing:
-        print(f"{library}: {level}, {chunks} at once: no loop")
+        print(f"{library}: {level}, {chunks} interleaved: no loop")
     if not loops:
         print(f"{library}: no loop of cores")
     return sum(loop[-1] is not None for loop in found) + len(missing) + (not loops)

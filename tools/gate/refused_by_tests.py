@@ -66,7 +66,7 @@ def failed_cases(crate):
         return None
     tried = ["-m", "tools.tests.program", program, "all"], ["tools/bench/registers.py", program]
     ran, looked = (subprocess.run([sys.executable, "-B", *words], **how).stdout for words in tried)
-    return re.findall(r"^(.*?): .*, and not ", ran, re.M) + re.findall(r"(\S+, \d at once): no loop$", looked, re.M)
+    return re.findall(r"^(.*?): .*, and not ", ran, re.M) + re.findall(r"(\S+, \d interleaved): no loop$", looked, re.M)
 
 
 def verdict(edit, failed):

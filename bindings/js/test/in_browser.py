@@ -18,7 +18,7 @@ POLICY = "default-src 'none'; script-src 'self' 'wasm-unsafe-eval'; worker-src '
 
 
 class Handler(http.server.SimpleHTTPRequestHandler):
-    """Serves the repository, and takes what a page posts."""
+    """Serves the repository, and receives what a page posts."""
 
     said = queue.Queue()
     log_message = lambda *_: None
@@ -34,7 +34,7 @@ class Handler(http.server.SimpleHTTPRequestHandler):
 
 
 def posted(page, command):
-    """What a page of the repository posts, which the command opens, or else Chromium."""
+    """Opens a page of the repository by the command, or in Chromium, and returns what it posts."""
     server = http.server.ThreadingHTTPServer(("127.0.0.1", 0), functools.partial(Handler, directory=TOP))
     threading.Thread(target=server.serve_forever, daemon=True).start()
     with tempfile.TemporaryDirectory(ignore_cleanup_errors=True) as profile:

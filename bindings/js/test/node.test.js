@@ -36,7 +36,7 @@ test('the texts of bindings/stored.tsv', () => {
   }
 });
 
-// Programs of the command line, with a flag that no file may have; they end by themselves.
+// Programs on the command line, with a flag that a file must not have. They exit by themselves.
 function prints(program) {
   const text = program.replaceAll("'scrypt-proved'", `'${at('bindings/js/index.js')}'`);
   const { stdout, status } = spawnSync(process.execPath, ['--input-type=module', '-e', text]);
