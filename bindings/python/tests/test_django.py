@@ -128,7 +128,8 @@ class Hashers(unittest.TestCase):
         with self.assertLogs("scrypt_c.django"):
             self.assertIs(ours.verify("pw", DAMAGED[0]), False)
         self.assertIs(ours.verify_no_hash("pw"), False)
-        self.assertEqual([name for name, *_ in hasher.method_calls], ["verify", *["verify_and_update"] * 2])
+        calls = [name for name, *_ in hasher.method_calls]
+        self.assertEqual(calls, ["verify", "verify_and_update", "verify_and_update"])
         self.assertIs(or_false(ScryptPasswordHasher, work_factor=64).verify_no_hash("pw"), False)
 
     def test_other_errors(self):

@@ -49,7 +49,8 @@ class ClientTest(TestCase):
     def test_failures_look_alike(self):
         def failure(name="ann"):
             begun = time.process_time()  # which other programs don't change
-            with mock.patch("scrypt_c.PasswordHasher.hash", side_effect=AssertionError("in no batch")):
+            unbatched = AssertionError("a new hash is derived in no batch")
+            with mock.patch("scrypt_c.PasswordHasher.hash", side_effect=unbatched):
                 page = self.log_in("wrong", name).content.decode()
             return re.sub('name="(csrf|username).*?>', "", page), time.process_time() - begun
 
