@@ -2,8 +2,8 @@
 """Differential test of keys against Python's hashlib. The tests of Go and Rust print STEPS keys: a
 line is KEY, the password, the salt and the key in hexadecimal after a dot, and N, r and p.
 
-usage: STEPS=10000 go test -run InSteps -v . | python3 compare_keys.py
-       STEPS=10000 cargo test in_steps -- --nocapture | python3 compare_keys.py
+usage, in bindings/go:    STEPS=10000 go test -run InSteps -v . | python3 ../compare_keys.py
+       in bindings/rust:  STEPS=10000 cargo test in_steps -- --nocapture | python3 ../compare_keys.py
 """
 
 import hashlib
