@@ -76,7 +76,11 @@ def open_scrypt(file, password, **limits):
 
 def open_ethereum(file, password, **limits):
     """The private key in a file of Ethereum's Web3 secret storage, version 3."""
-    match json.loads(file):
+    try:
+        stored = json.loads(file)
+    except RecursionError:  # of a file of a hundred thousand brackets
+        stored = None
+    match stored:
         case {"version": 3, "crypto": {
             "kdf": "scrypt",
             "kdfparams": {"n": int(n), "r": int(r), "p": int(p), "salt": str(salt)},

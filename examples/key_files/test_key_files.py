@@ -66,6 +66,7 @@ class KeyFilesTest(unittest.TestCase):
             self.refuses(message, open_scrypt, costly, PASSWORD)
 
     def test_damaged_files(self):
+        self.refuses("not a file of Ethereum", open_ethereum, 100_000 * "[", PASSWORD)
         with mock.patch("key_files.scrypt", functools.cache(key_files.scrypt)):
             age = base64.b64decode(b"".join(VECTORS[0][1].splitlines()[1:-1]))
             payload = len(age) - len(CONTENT) - 16
