@@ -35,11 +35,11 @@ HASH_FILES = [
 # Names of missing files, how they are printed, and the reason for the row.
 NAMES = [
     ("a\nusage: b", "a\\nusage: b", "a newline: the fault is one line"),
-    ("\x1b[2J\x07", "\\u{1b}[2J\\u{7}", "what a terminal obeys"),
+    ("\x1b[2J\x07", "\\u{1b}[2J\\u{7}", "control sequences of a terminal"),
     ("\u009b31m", "\\u{9b}31m", "the same in one character"),
-    ("\u202egnp", "\\u{202e}gnp", "what turns the line round"),
-    ("\\n", "\\\\n", "a backslash is two"),
-    ("schlüssel 塩", "schlüssel 塩", "letters stay"),
+    ("\u202egnp", "\\u{202e}gnp", "a right-to-left override"),
+    ("\\n", "\\\\n", "a backslash is escaped"),
+    ("schlüssel 塩", "schlüssel 塩", "letters are not escaped"),
 ]
 
 
@@ -57,4 +57,4 @@ def hash_files(program):
         for name, printed, reason in NAMES:
             fault = f"{room}/{printed}: No such file or directory (os error 2)\n"
             yield f"the name {printed!r} ({reason})", run([program, f"--hash-file={room}/{name}", "verify"]), (4, "", fault)
-        yield "--help with a file is no command, and reads none", run([program, f"--hash-file={room}", "--help"])[0], 2
+        yield "--help after --hash-file is a usage error, and reads no file", run([program, f"--hash-file={room}", "--help"])[0], 2

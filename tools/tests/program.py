@@ -73,13 +73,13 @@ ANSWERS = [
     ("key 4 1 1 33 ", "", 0, FIRST_KEY[:66], "a byte of a second block of PBKDF2"),
     ("key 0 1 1 32 ", "", 0, reference.scrypt(b"", b"", 0, 1, 1, 32).hex(), "N = 1"),
     ("key 4 3 2 33 0a0bFF", "password", 0, "16b7ca20bc71b047b152bb150c62dd9e14d23f698eeaade5d0ed74a8e355acd2da",
-     "each parameter is another, and a salt has digits of either case"),
+     "all parameters differ, and the salt has digits of either case"),
     *((f"key 4 1 1 {it} ", "", 0, key_of(b"", b"", it).hex(), "a long key") for it in (4096, 1_000_000)),
     ("key 4 1 1 16 ", "x" * 5000, 0, "19e0dd858b21a85d5233e34f8025c066", "more than one read of the input"),
     ("key 4 1 1 16 ", "pass\nword\n", 0, "704d1995acb73578bcb377b08d0d622c", "newlines belong to the password"),
     ("hash phc 16 8 1 68cd79ef5debdd7b2fc5b8b7d65aabd5", "password", 0, PASSLIB, "passlib's hash"),
     ("hash phc 14 8 1 536f6469756d43686c6f72696465", "pleaseletmein", 0, RFC, "the third key of RFC 7914"),
-    ("hash phc 14 8 1 536f6469756d43686c6f72696465 10", "pleaseletmein", 0, SHORT, "a last word is the key's length"),
+    ("hash phc 14 8 1 536f6469756d43686c6f72696465 10", "pleaseletmein", 0, SHORT, "the last argument is the length of the key"),
     ("hash mcf 4 1 1 ", "", 0, EMPTY, "the empty password and salt"),
     ("hash mcf 4 1 1  64", "", 0, LONG, "a longer key"),
     ("hash mcf 4 1 1  10", "", 0, "$7$2/..../....$rNxJWVHNv/mCN.", "the shortest key"),
@@ -103,9 +103,9 @@ ANSWERS = [
 # Lines that are not commands, by error.
 NO_COMMANDS = {
     "no command": ["", "help", "Key 4 1 1 64 ", "--default-limits", "--max-work=1 help"],
-    "a text about the program is asked for alone": [f"{asked} {it}" for asked in ("-h", "--help", "--version") for it in ("", "x", "key 4 1 1 64 ")],
-    "nor after something": [f"{it} {asked}" for it in ("--raw", "--hash-file=x", "key") for asked in ("-h", "--help", "--version")],
-    "one minus begins no option": ["-", "-help", "-key 4 1 1 64 "],
+    "-h, --help and --version take no other argument": [f"{asked} {it}" for asked in ("-h", "--help", "--version") for it in ("", "x", "key 4 1 1 64 ")],
+    "-h, --help and --version come first": [f"{it} {asked}" for it in ("--raw", "--hash-file=x", "key") for asked in ("-h", "--help", "--version")],
+    "one minus does not begin an option": ["-", "-help", "-key 4 1 1 64 "],
     "too few arguments": ["key 4 1 1 16", "hash phc 4 1 1", "--generate-salt hash phc 4 1", "verify", "rehash phc 4 1 1 32 00"],
     "too many": ["key 4 1 1 16 00 x", "hash phc 4 1 1 00 32 x", f"verify {EMPTY} x", f"rehash phc 4 1 1 32 00 {EMPTY} x"],
     "no format": ["hash md5 4 1 1 00", "hash PHC 4 1 1 00", f"rehash 4 1 1 32 00 {EMPTY}", f"verify phc {EMPTY_PHC}"],
@@ -119,7 +119,7 @@ NUMBER_PLACES = ["key {} 1 1 64 ", "key 4 {} 1 64 ", "key 4 1 {} 64 ", "key 4 1 
                  "hash mcf 4 1 {} ", "hash mcf 4 1 1  {}", "rehash mcf {} 1 1 32  " + EMPTY, "rehash mcf 4 {} 1 32  " + EMPTY,
                  "rehash phc 4 1 {} 32 00 " + EMPTY, "rehash mcf 4 1 1 {}  " + EMPTY]
 
-# The maximum of each number. It is read, and then not accepted; one more is a usage error.
+# The maximum of each number, which is read and then not accepted. One more is a usage error.
 GREATEST = list(zip(NUMBER_PLACES, itertools.cycle((255, 2**32 - 1, 2**32 - 1, 2**64 - 1))))
 
 # Parameters that are not accepted.
@@ -131,7 +131,7 @@ FAULTS = [
     *((line, "", 2, USAGE, reason) for reason, lines in NO_COMMANDS.items() for line in lines),
     *((place.format(it), "", 2, USAGE, reason) for place in NUMBER_PLACES for it, reason in NO_NUMBERS.items()),
     *((place.format(greatest + 1), "", 2, USAGE, "a number above its range") for place, greatest in GREATEST),
-    *((place.format(greatest), "", 2, "invalid scrypt parameters", "the greatest number")
+    *((place.format(greatest), "", 2, "invalid scrypt parameters", "the maximum number")
       for place, greatest in GREATEST if place != "key 4 1 1 {} "),
     *((f"key {params} 64 ", "", 2, "invalid scrypt parameters", reason) for params, reason in NOT_ACCEPTED.items()),
     *((f"hash {form} {it}", "", 2, "invalid scrypt parameters", "a stored key has 10 to 64 bytes")
@@ -142,11 +142,11 @@ FAULTS = [
     (f"--max-work=01 verify {EMPTY}", "", 2, USAGE, "a number with a leading zero in an option"),
     (f"--max-work= verify {EMPTY}", "", 2, USAGE, "no number"),
     (f"--max-mem=18446744073709551616 verify {EMPTY}", "", 2, USAGE, "a number of 2^64"),
-    (f"--max-work 192 verify {EMPTY}", "", 2, USAGE, "a number in an argument of its own"),
-    ("--hash-file hash verify", "", 2, NO_FILE, "a file in an argument of its own"),
-    ("--hash-file --help", "", 2, NO_FILE, "what comes after it is not looked at"),
+    (f"--max-work 192 verify {EMPTY}", "", 2, USAGE, "a number in a separate argument"),
+    ("--hash-file hash verify", "", 2, NO_FILE, "a file in a separate argument"),
+    ("--hash-file --help", "", 2, NO_FILE, "later arguments are not read"),
     (f"--default-limits --hash-files verify {EMPTY}", "", 2, USAGE, "an unknown option"),
-    (f"-- verify {EMPTY}", "", 2, USAGE, "options have no end of their own"),
+    (f"-- verify {EMPTY}", "", 2, USAGE, "-- does not end the options"),
     ("key 4 1 1 64 0", "", 2, "salt is not hexadecimal", "half a byte of salt"),
     ("key 4 1 1 64 0g", "", 2, "salt is not hexadecimal", "no digit"),
     ("key 4 0 1 64 0", "", 2, "salt is not hexadecimal", "the salt before the parameters"),
@@ -159,7 +159,7 @@ FAULTS = [
     ("rehash phc 4 1 1 32 00 $", "", 2, "hash refused: EncodingInvalid", "the text of the hash"),
     ("verify --version", "", 2, "hash refused: EncodingInvalid", "a text like an option is a text"),
     ("hash phc 4 1 1 ", "password", 2, "hash refused: SaltInvalid", "a PHC hash has a salt"),
-    ("hash phc 56 1 1 " + "00" * 65, "", 2, "hash refused: SaltInvalid", "one of 65 bytes, before memory"),
+    ("hash phc 56 1 1 " + "00" * 65, "", 2, "hash refused: SaltInvalid", "a salt of 65 bytes, before memory"),
     ("key 56 1 1 32 ", "", 3, "out of memory", "a table of 2^63 bytes"),
     ("hash phc 56 1 1 00", "", 3, "out of memory", "the same for a hash"),
     ("verify $7$s/..../....$r/", "", 3, "out of memory", "the same for a verdict"),
@@ -169,27 +169,27 @@ FAULTS = [
 REHASHES = [
     (f"rehash mcf 4 1 1 64  {EMPTY}", "", 0, LONG, "a longer key is wanted"),
     (f"rehash mcf 4 1 1 32  {EMPTY}", "", 0, "ok", "the hash is as wanted"),
-    (f"rehash phc 4 1 1 32  {EMPTY}", "", 0, "ok", "as wanted, so that neither the other format nor its salt counts"),
+    (f"rehash phc 4 1 1 32  {EMPTY}", "", 0, "ok", "as wanted: the other format and its salt do not matter"),
     (f"rehash phc 4 1 1 64  {EMPTY}", "", 2, "hash refused: SaltInvalid", "a PHC hash takes no empty salt"),
-    (f"rehash phc 4 1 1 64  {EMPTY}", "x", 1, "no", "a wrong password comes before a salt that the new hash refuses"),
+    (f"rehash phc 4 1 1 64  {EMPTY}", "x", 1, "no", "a wrong password comes before a salt that the new hash rejects"),
     (f"rehash mcf 56 1 1 32  {EMPTY}", "x", 1, "no", "and before memory that the new hash needs"),
     (f"rehash phc 14 8 1 32 536f6469756d43686c6f72696465 {SHORT}", "pleaseletmein", 0, RFC,
      "a key of 10 bytes is replaced by one of 32"),
     (f"rehash mcf 5 1 1 32 abcd {HASHLIB}", "password", 0,
      "$7$3/..../....fqA$GSoayDUS/tZpwSg3qA/sOnwx1jjdhVpHN49dfPH6c09", "the new hash has the format that is named"),
-    ("rehash phc 4 1 1 32 00 $argon2id$ln=4$aA", "password", 2, "hash refused: Algorithm", "verifying refuses"),
+    ("rehash phc 4 1 1 32 00 $argon2id$ln=4$aA", "password", 2, "hash refused: Algorithm", "verifying rejects the hash"),
     (f"rehash phc 17 8 1 32 00 {PASSLIB}", "invalid", 1, "no", "a wrong password of a weaker hash"),
 ]
 
 # The arguments, the input, the status, the line, and the reason for the row. EMPTY needs 128 + 2048
 # + 256 bytes, and the work 4 * (16 + 32).
 LIMITS = [
-    (f"--max-mem=2432 verify {EMPTY}", "", 0, "ok", "as much memory as is allowed"),
-    (f"--max-mem=2431 verify {EMPTY}", "", 2, too_costly(2432, 192, max_mem=2431), "a byte more"),
-    (f"--max-work=192 verify {EMPTY}", "", 0, "ok", "as much work as is allowed"),
-    (f"--max-work=191 verify {EMPTY}", "", 2, too_costly(2432, 192, max_work=191), "more work"),
-    (f"--min-key-len=32 verify {EMPTY}", "", 0, "ok", "as short a key as is allowed"),
-    (f"--min-key-len=33 verify {EMPTY}", "", 2, key_too_short(32, 33), "a shorter key"),
+    (f"--max-mem=2432 verify {EMPTY}", "", 0, "ok", "the maximum memory"),
+    (f"--max-mem=2431 verify {EMPTY}", "", 2, too_costly(2432, 192, max_mem=2431), "one byte above the maximum memory"),
+    (f"--max-work=192 verify {EMPTY}", "", 0, "ok", "the maximum work"),
+    (f"--max-work=191 verify {EMPTY}", "", 2, too_costly(2432, 192, max_work=191), "above the maximum work"),
+    (f"--min-key-len=32 verify {EMPTY}", "", 0, "ok", "the minimum key length"),
+    (f"--min-key-len=33 verify {EMPTY}", "", 2, key_too_short(32, 33), "below the minimum key length"),
     (f"--max-mem=2432 --max-work=191 verify {EMPTY}", "", 2, too_costly(2432, 192, 2432, 191), "two options"),
     (f"--max-work=191 --default-limits verify {EMPTY}", "", 0, "ok", "a later option overrides an earlier one"),
     ("--max-work=192 verify $7$2/..../....$r/", "", 2, key_too_short(1, DEFAULT_MIN_KEY_LEN), "the others are the defaults"),
@@ -198,10 +198,10 @@ LIMITS = [
     (f"--default-limits verify $scrypt$ln={ABOVE},r=8,p=1{PASSLIB_SALT_AND_KEY}", "", 2,
      too_costly((1 << 10 + ABOVE) + 3072, 32 * ((1 << ABOVE) + 32)), "more memory than is allowed"),
     (f"--default-limits verify {SHORT}", "", 2, key_too_short(10, DEFAULT_MIN_KEY_LEN), "a key of 10 bytes"),
-    ("--max-work=1 verify $argon2id$ln=4$aA", "", 2, "hash refused: Algorithm", "one that cannot be read comes first"),
+    ("--max-work=1 verify $argon2id$ln=4$aA", "", 2, "hash refused: Algorithm", "an invalid hash comes first"),
     (f"--max-work=191 rehash phc 4 1 1 32 00 {EMPTY}", "", 0, "ok", "rehash may do the work of a new hash"),
     (f"--max-mem=2431 rehash phc 4 1 1 32 00 {EMPTY}", "", 0, "ok", "and take its memory"),
-    (f"--max-work=191 rehash phc 3 1 1 32 00 {EMPTY}", "", 2, too_costly(2432, 192, max_work=191), "which here is less"),
+    (f"--max-work=191 rehash phc 3 1 1 32 00 {EMPTY}", "", 2, too_costly(2432, 192, max_work=191), "a new hash that needs less"),
     (f"--min-key-len=33 rehash phc 4 1 1 32 00 {EMPTY}", "", 2, key_too_short(32, 33), "a shorter key, if a length is named"),
 ]
 
@@ -218,12 +218,12 @@ OPTIONS = [
     ("--recommended hash phc 17 8 1", "", 2, USAGE, "they are not named"),
     *((f"--raw {command}", "", 2, MISFIT[command.split()[0]], "only a key is written raw")
       for command in ("hash phc 4 1 1 00", f"verify {EMPTY}", f"rehash phc 4 1 1 32 00 {EMPTY}")),
-    ("--raw key 4 1 1 0 ", "", 2, "invalid output buffer length", "a raw key that is refused"),
+    ("--raw key 4 1 1 0 ", "", 2, "invalid output buffer length", "a raw key of no bytes"),
     (f"--default-limits --generate-salt --strip-newline rehash phc 4 1 1 32 {EMPTY}", "\n", 0, "ok", "three options"),
     (f"--default-limits rehash phc 14 8 1 32 536f6469756d43686c6f72696465 {SHORT}", "pleaseletmein", 0, RFC,
-     "rehash refuses no short key"),
+     "rehash accepts a short key"),
     (f"--default-limits rehash phc 4 1 1 32 00 $scrypt$ln=17,r=8,p=5{PASSLIB_SALT_AND_KEY}", "", 2,
-     too_costly(134224896, 20976640), "but a costly one"),
+     too_costly(134224896, 20976640), "rehash rejects a costly hash"),
     *((f"--strip-newline verify {EMPTY}", text, status, line, "one newline is cut off")
       for text, status, line in (("", 0, "ok"), ("\n", 0, "ok"), ("\r\n", 0, "ok"), ("\n\n", 1, "no"), ("\r", 1, "no"))),
     ("--strip-newline key 4 1 1 64 ", "\n", 0, FIRST_KEY, "the same for a key"),
@@ -312,7 +312,7 @@ def terminal(program):
     if os.path.exists(f"{program}.o"):
         yield from prompt.cases(program)
     else:
-        print("the object of the program is not beside it, so that it is tried without a terminal")
+        print("there is no object of the program next to it: not tried on a terminal")
 
 
 def main():

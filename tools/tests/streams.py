@@ -19,8 +19,8 @@ ORDERS = [
     ("verify $7$2/..../....$", 4, "input failed", "the fields and the key of a $7$ hash are read after it"),
     ("rehash phc 4 1 1 32  $argon2id", 4, "input failed", "so is the algorithm"),
     ("verify $scrypt", 4, "input failed", "a missing salt is a verdict"),
-    ("hash phc 4 1 1 ", 4, "input failed", "the length of a salt is looked at after it"),
-    ("key 56 1 1 32 ", 4, "input failed", "and memory is asked for after it"),
+    ("hash phc 4 1 1 ", 4, "input failed", "the length of a salt is checked after it"),
+    ("key 56 1 1 32 ", 4, "input failed", "and memory is allocated after it"),
     ("--default-limits verify $7$s/..../....$r/", 4, "input failed", "and the limits"),
 ]
 
@@ -38,7 +38,7 @@ STREAMS = [
 # Each row has a limit on the address space of the run, and the reason for the row.
 REFUSED_TABLE = "verify $7$s/......../$r/"
 MAX_TOUCHED = 64 << 20
-ADDRESSES = [("unlimited", "there is room for the chunks"), (1 << 30, "there is none")]
+ADDRESSES = [("unlimited", "memory for the chunks"), (1 << 30, "no memory for the chunks")]
 
 
 def without_reader(words):
@@ -64,7 +64,7 @@ def writes_of(stream, words):
 
 
 def cut_at(length, stream, words):
-    """The status of a run one of whose outputs is a file of at most `length` bytes, and both outputs."""
+    """Cuts one output of a run off after `length` bytes, and returns its status and both outputs."""
     with tempfile.TemporaryFile() as file:
         # Python ignores the signal of a file that is too large, and so do its child processes:
         # writing fails.
@@ -86,7 +86,7 @@ def cuts(program):
         yield f"the writes of the {'fault' if status else 'answer'} of {line!r}", writes_of(stream, words), [text]
         for length in (0, 1, len(text) - 1):
             wanted = (status or 4, text[:length], "" if status else "output failed\n")
-            yield f"{line!r}, of whose line {length} bytes are taken", cut_at(length, stream, words), wanted
+            yield f"{line!r}, whose line is cut off after {length} bytes", cut_at(length, stream, words), wanted
 
 
 def streams(program):
@@ -96,7 +96,7 @@ def streams(program):
         yield f"{line!r} on streams that work", runs.redirected('"$@"', words)[0], 0
         for shell, fault, reason in STREAMS:
             yield f"{line!r} ({reason})", runs.redirected(shell, words), (4, "", fault)
-        yield f"{line!r} (nobody reads the pipe)", without_reader(words), (4, "output failed\n")
+        yield f"{line!r} (a pipe without a reader)", without_reader(words), (4, "output failed\n")
     for line, status, fault, reason in ORDERS:
         ended = runs.redirected('"$@" < /', [program, *line.split(" ")])
         yield f"{line!r} over an input that fails ({reason})", ended, (status, "", f"{fault}\n")

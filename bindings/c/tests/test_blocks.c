@@ -148,16 +148,16 @@ static void little_is_touched(void) {
   check(touched_kib() - before < 4096, "memory is written before all is allocated");
 }
 
-/* A table that the system fails to unmap is overwritten: only its start, its length and a mark are
- * left. */
+/* A table that the system fails to unmap is overwritten: only the address and the length
+ * before it are left. */
 static void not_unmapped(void) {
   size_t at, left = 0;
   keeps = 1;
   check(scrypt_key(SECRETS, 15, R, 1, key, sizeof key) == SCRYPT_OK, "a key of 32 MiB");
   keeps = 0;
-  check(kept_len >= table_bytes(15) && kept_len <= table_bytes(15) + BESIDE, "what is not unmapped");
+  check(kept_len >= table_bytes(15) && kept_len <= table_bytes(15) + BESIDE, "the length of the mapping");
   for (at = 0; at < kept_len; at++) left += kept[at] != 0;
-  check(left <= 3 * sizeof(size_t), "bytes of a table that is not unmapped");
+  check(left <= 2 * sizeof(size_t), "bytes of a table that is not unmapped");
   check(munmap(kept, kept_len) == 0, "unmapped");
 }
 
