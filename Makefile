@@ -71,6 +71,7 @@ js: kit
 	python3 -m bindings.js.build
 	$(firstword $(wildcard bindings/js/test.sh bindings/js/test/test.sh))
 install:
+	@[ -e build/$(PRESET)/cmake_install.cmake ] || { echo "first run make lib" >&2; exit 1; }
 	@DESTDIR="$(DESTDIR)" cmake --install build/$(PRESET) --prefix "$(prefix)" > build/install.log
 	@echo "installed; programs find the library after ldconfig, or by LD_LIBRARY_PATH=$(prefix)/lib"
 uninstall:
