@@ -6,13 +6,13 @@ import signal
 from tools.tests.runs import run
 from tools.tests.terminal import session
 
-# Which ends as it is removed or as Ctrl-C is typed.
+# The bar until it is removed, or until Ctrl-C is typed.
 BAR = re.compile(rb"(?:\r\[[# ]{40}\] {1,3}\d+ %)+(?:\r {48,}\r|\^C)")
 SHORT, LONG = "key 10 8 1 32 4e61436c", "key 16 8 2 32 4e61436c"
 TYPED, PIPED = '"$@"', 'printf "pass\\n" | "$@"'
 BYTES = 'printf "pass\\n" | { "$@" || echo $?; } | od -An -tx1'
 
-# What the shell runs, the words, whether there is a bar, and the reason.
+# The command of the shell, the arguments, whether there is a bar, and the reason.
 ROWS = [
     (TYPED, LONG, True, "the password is typed"),
     (PIPED, LONG, True, "it is piped"),

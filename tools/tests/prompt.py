@@ -28,26 +28,26 @@ ROWS = [
     (HASH, ["password\n", "passwort\n"], 4, [*TWICE, "The passwords differ."], "two that differ"),
     (HASH, ["password\n", "\x04"], 4, [*TWICE, "input failed"], "no second one"),
     (f"--max-work=192 {VERIFY}", ["password\n"], 0, [*ONCE, "ok"], "after an option"),
-    (VERIFY, ["\n"], 4, [*ONCE, "input failed"], "an empty one, which may be the end of the input"),
-    (VERIFY, ["pass\x7f\x7fssword\n"], 0, [*ONCE, "ok"], "one that was corrected"),
+    (VERIFY, ["\n"], 4, [*ONCE, "input failed"], "an empty one, as at the end of the input"),
+    (VERIFY, ["pass\x7f\x7fssword\n"], 0, [*ONCE, "ok"], "one with corrected letters"),
     (f"rehash phc 4 1 1 32 00 {HASHLIB}", ["password\n"], 0, [*ONCE, "ok"], "a login asks once"),
     (VERIFY, ["\x04"], 4, [*ONCE, "input failed"], "none at all"),
     (VERIFY, ["pass\x03"], -2, ONCE, "Ctrl-C ends it"),
     (HASH, ["password\n", "pass\x03"], -2, TWICE, "Ctrl-C at the second question"),
-    (VERIFY, ["pass\x1a", "password\n"], 0, [*ONCE, *ONCE, "ok"], "after Ctrl-Z it asks again, and not the shell"),
+    (VERIFY, ["pass\x1a", "password\n"], 0, [*ONCE, *ONCE, "ok"], "after Ctrl-Z it asks again"),
     (HASH, ["password\n", "pass\x1a", "password\n"], 0, [*TWICE, TWICE[1], HASHLIB], "Ctrl-Z at the second one"),
     (VERIFY, ["x" * 4094 + "\n"], 1, [*ONCE, "no"], "the longest one"),
-    (VERIFY, ["x" * 4096 + "\n"], 4, [*ONCE, "The password may have been cut.", "input failed"], "one that Linux cuts"),
+    (VERIFY, ["x" * 4096 + "\n"], 4, [*ONCE, "The password may have been cut.", "input failed"], "one that Linux truncates"),
     *((words, [*typed, it], -it, questions, f"signal {it}: echo is on again before it ends the program")
       for it in ENDING for words, typed, questions in [(VERIFY, [], ONCE), (HASH, ["password\n"], TWICE)]),
-    ("verify $8$", [], 2, ["hash refused: EncodingInvalid"], "what is refused without a password asks for none"),
-    ("--version", [], 0, [VERSION], "nor does what needs none"),
-    (f"--raw {KEY}", [], 2, ["--raw does not write to a terminal"], "nor the bytes of a key, which would change the terminal"),
+    ("verify $8$", [], 2, ["hash refused: EncodingInvalid"], "an error before the input: no prompt"),
+    ("--version", [], 0, [VERSION], "a command without a password: no prompt"),
+    (f"--raw {KEY}", [], 2, ["--raw does not write to a terminal"], "raw bytes for a terminal: no prompt"),
 ]
 
 
 def non_blocking(words, parts):
-    """How a run ends whose input is a non-blocking pipe, to which the parts are written after some time."""
+    """How a run ends if its input is a non-blocking pipe, to which the parts are written with pauses."""
     read, write = os.pipe()
     os.set_blocking(read, False)
     ran = subprocess.Popen(words, stdin=read, stdout=subprocess.PIPE, stderr=subprocess.PIPE, text=True)
