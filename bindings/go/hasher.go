@@ -30,8 +30,8 @@ type Options struct {
 	MCF     bool // whether new hashes are $7$ hashes of crypt(3); by default they are PHC strings
 	SaltLen int  // the length of a new hash's salt, 1 to 64 bytes: by default 16
 
-	// The maximum number of tables: by default two for each processor, or as many tables of
-	// MaxMem as fit in the memory of the machine and of its control group.
+	// The maximum number of tables: by default two for each processor, or the number of tables of
+	// MaxMem that fit in 7/8 of the memory, if that is less.
 	MaxTables int
 
 	// The number of slots, that is, of concurrent derivations: by default the number of processors

@@ -51,7 +51,7 @@ export interface HashOptions extends PartialParams {
 export interface VerifyOptions extends PartialParams {
   /**
    * The maximum bytes of memory. Default: enough for a table of 2 ** 28 bytes, or more if the
-   * parameters need more.
+   * parameters need more, but no more than 7/8 of the memory of the machine or the container.
    */
   maxmem?: number | undefined;
   /**
@@ -214,8 +214,8 @@ export interface Scrypt {
   needsRehash(text: Bytes, options?: PartialParams): boolean;
   params(text: Bytes): ReadParams;
   /**
-   * The number of bytes of memory of the module, all zero between calls, except for less than 1 KiB of
-   * constants. They are freed with this object, and after a call that the engine ended.
+   * The number of bytes of memory of the module, all zero between calls, except for less than 1 KiB
+   * of constants. They are freed with this object, and after a call that the engine ended.
    */
   readonly memory: number;
 }

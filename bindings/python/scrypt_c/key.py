@@ -12,7 +12,7 @@ from .errors import InvalidParamsError, TooCostlyError, check
 from .params import NO_LIMIT, Params, accepted, check_costs, cost_of
 from .steps import derived
 
-# The number of Salsa20/8 cores, about 40 ms, from which on a key is derived in steps. A smaller
+# A key of this number of Salsa20/8 cores or more, about 40 ms, is derived in steps. A smaller
 # derivation is faster in one call, which need not map new memory.
 LONG = 3 << 18
 

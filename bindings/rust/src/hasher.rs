@@ -26,8 +26,8 @@ pub struct Options {
     pub format: Format,
     /// The length of the salt of a new hash, 1 to 64 bytes.
     pub salt_len: usize,
-    /// The maximum number of tables. 0, the default, means two for each processor, or as many
-    /// tables of `max_mem` as fit in the memory of the machine and of its control group.
+    /// The maximum number of tables. 0, the default, means two for each processor, or the number of
+    /// tables of `max_mem` that fit in 7/8 of the memory, if that is less.
     pub max_tables: usize,
     /// The number of slots, that is, of concurrent derivations. 0, the default, means the number of
     /// processors that the affinity and the CPU quota of the process allow.
