@@ -38,9 +38,10 @@ HANDWRITTEN = ["crates/scrypt_kernel/proofs/cores/count/CoreCount/of/Proof.antt"
 NEW_COUNTS = {
     "crates/scrypt_kernel/src/hmac.rt": 1,
     "crates/scrypt_kernel/src/pbkdf2.rt": 1,
-    "crates/scrypt/src/derivation.rt": 1,
+    "crates/scrypt/src/buffers/in_steps.rt": 5,
+    "crates/scrypt/src/buffers/owned.rt": 6,
+    "crates/scrypt/src/derivation.rt": 2,
     "crates/scrypt/src/hashing.rt": 1,
-    "crates/scrypt/src/kept.rt": 2,
     "crates/scrypt/src/mcf/verifying.rt": 1,
     "crates/scrypt/src/phc/verifying.rt": 1,
     "crates/scrypt/src/stored_hash.rt": 1,

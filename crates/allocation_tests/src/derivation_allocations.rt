@@ -4,8 +4,7 @@
 use crate::failing_allocations::{CallEnd, failing_allocations};
 use crate::holds;
 use scrypt::{
-    CoreCount, DeriveError, Kdf, Params, Scrypt, Simd, kdf, scrypt, scrypt_counted,
-    scrypt_with_max_mem,
+    CoreCount, DeriveError, Kdf, Params, Scrypt, kdf, scrypt, scrypt_counted, scrypt_with_max_mem,
 };
 use std::alloc::Global;
 use std::test::Fail;
@@ -114,14 +113,13 @@ fn ended(call: Call, alloc: Global, params: &Params) -> CallEnd {
             &mut cores,
         )),
         Call::DeriveKey => end_of_trait(alloc, params, &mut output),
-        Call::InGroups(tables) => end_of(scrypt_with_max_mem::<Simd>(
+        Call::InGroups(tables) => end_of(scrypt_with_max_mem(
             alloc,
             b"",
             b"",
             params,
             tables.min(4) * (2048 + 256) + 512,
             &mut output,
-            &mut cores,
         )),
     };
     match end {

@@ -6,7 +6,7 @@ use crate::verdicts::{is_mcf_verdict, is_phc_verdict};
 use crate::{holds, is};
 use password_hash::mcf::Base64;
 use password_hash::{PasswordHasher, PasswordVerifier, mcf, phc};
-use scrypt::{CoreCount, Kdf, Params, Scrypt, Simd, scrypt, scrypt_with_max_mem};
+use scrypt::{Kdf, Params, Scrypt, scrypt, scrypt_with_max_mem};
 use std::alloc::Global;
 use std::fs;
 use std::test::Fail;
@@ -50,7 +50,7 @@ fn peak_memory(rt: &HostRuntime) -> Result<usize, Fail> {
 #[test]
 fn tables(rt: HostRuntime) -> Result<(), Fail> {
     let (alloc, params) = (rt.alloc(), Params::new(15, 8, 4)?);
-    let (mut key, mut cores) = ([0; 32], CoreCount::new());
+    let mut key = [0; 32];
     let (hasher, before) = (Scrypt::from(params), peak_memory(&rt)?);
     scrypt(alloc, b"", b"", &params, &mut key)?;
     let made: mcf::PasswordHash = hasher.hash_password_with_salt(alloc, b"", b"")?;
@@ -59,7 +59,7 @@ fn tables(rt: HostRuntime) -> Result<(), Fail> {
         "verified",
     )?;
     for &(max_mem, tables, reason) in &TABLES {
-        scrypt_with_max_mem::<Simd>(alloc, b"", b"", &params, max_mem, &mut key, &mut cores)?;
+        scrypt_with_max_mem(alloc, b"", b"", &params, max_mem, &mut key)?;
         let taken = peak_memory(&rt)?.saturating_sub(before);
         holds(
             taken.saturating_add(TABLE / 2048) / (TABLE / 1024) == tables,

@@ -2,7 +2,9 @@
 
 use crate::holds;
 use crate::keys::FIRST;
-use scrypt::{BufferLens, CoreCount, InvalidOutputLen, Params, scrypt_thin, scrypt_with_buffers};
+use scrypt::{
+    BufferLens, Buffers, CoreCount, InvalidOutputLen, Params, scrypt_thin, scrypt_with_buffers,
+};
 use std::test::Fail;
 
 #[test]
@@ -24,6 +26,23 @@ fn keys_in_used_buffers() -> Result<(), Fail> {
         holds(key == FIRST, "both times")?;
     }
     Ok(())
+}
+
+#[test]
+fn keys_in_steps(rt: HostRuntime) -> Result<(), Fail> {
+    let params = Params::new(4, 1, 1)?;
+    let mut own = Buffers::allocate(rt.alloc(), &BufferLens::of(&params))?;
+    let mut key = [0; 64];
+    let in_steps = own.derive_key_in_steps(b"", b"", &params, 5, |_| true, &mut key);
+    holds(
+        in_steps.is_ok() && key == FIRST,
+        "in 7 steps of 5 block mixes",
+    )?;
+    let cancelled = own.derive_key_in_steps(b"a", b"", &params, 5, |done| done < 20, &mut key);
+    holds(
+        cancelled.is_err() && key == FIRST,
+        "cancelled after the second step, with the output unchanged",
+    )
 }
 
 #[test]

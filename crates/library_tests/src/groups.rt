@@ -2,8 +2,8 @@
 
 use crate::holds;
 use scrypt::{
-    Backend, CoreCount, LimitedError, Login, Params, Scalar, Simd, SimdPairs, StoredHash,
-    scrypt_with_max_mem, verify_logins,
+    Backend, BufferLens, Buffers, CoreCount, LimitedError, Login, Params, Scalar, Simd, SimdPairs,
+    StoredHash, scrypt_with_max_mem_counted,
 };
 use std::alloc::{AllocError, Global};
 use std::test::Fail;
@@ -12,13 +12,13 @@ use std::test::Fail;
 // hashlib, and the number of chunks that are interleaved.
 static KEYS: [(u32, u128, &str); 5] = [
     (1, 0x9acfeb5ab60a631cf80523789174c12d, "one chunk"),
-    (2, 0xed83cb4dd2f9d3b27f51ac358ac58092, "two at once"),
-    (3, 0x681203aa00d52909a06faabccfacfa55, "three at once"),
-    (4, 0x8c8b7220048051259a087bb6cabb6e36, "four at once"),
+    (2, 0xed83cb4dd2f9d3b27f51ac358ac58092, "two interleaved"),
+    (3, 0x681203aa00d52909a06faabccfacfa55, "three interleaved"),
+    (4, 0x8c8b7220048051259a087bb6cabb6e36, "four interleaved"),
     (
         5,
         0x886db4ddffb1094c4d8e91a830b6afda,
-        "four at once, and then one",
+        "four interleaved, and then one",
     ),
 ];
 
@@ -36,7 +36,7 @@ fn keys_in_groups(rt: HostRuntime) -> Result<(), Fail> {
 fn keys_with_backend<W: Backend>(alloc: Global) -> Result<(), Fail> {
     for &(p, wanted, reason) in &KEYS {
         let (params, mut key) = (Params::new(4, 2, p)?, [0u8; 16]);
-        scrypt_with_max_mem::<W>(
+        scrypt_with_max_mem_counted::<W>(
             alloc,
             b"pw",
             b"NaCl",
@@ -60,20 +60,14 @@ const MANY: usize = 100_000;
 // The texts of the first login and of the others, and whether the first and the last are verified.
 // Rejecting a text that cannot be read takes no time.
 static LOGINS: [(&str, &str, bool, bool, &str); 3] = [
-    ("", "", false, false, "each is refused alone"),
-    (
-        HASH,
-        "",
-        true,
-        false,
-        "all at once, of which one is derived",
-    ),
+    ("", "", false, false, "each is rejected separately"),
+    (HASH, "", true, false, "one batch, with one derivation"),
     (
         "",
         HASH,
         false,
         true,
-        "the first alone, and the others at once",
+        "the first separately, and the others in a batch",
     ),
 ];
 
@@ -99,19 +93,16 @@ fn is_verified(verdict: Option<&Result<(), LimitedError>>) -> bool {
 
 #[test]
 fn many_logins(rt: HostRuntime) -> Result<(), Fail> {
-    let mut chunks = vec![in rt.alloc(); 0u8; 128 * MANY]?;
-    let (mut table, mut scratch) = ([0u32; 2048], [0u32; 256]);
+    let lens = BufferLens {
+        chunks: 128 * MANY,
+        table: 2048,
+        scratch: 256,
+    };
+    let mut own = Buffers::allocate(rt.alloc(), &lens)?;
     for &(first, others, is_first, is_last, reason) in &LOGINS {
         let logins = logins_of(rt.alloc(), first, others)?;
         let mut verdicts = vec![in rt.alloc(); Ok(()); logins.len()]?;
-        verify_logins::<Simd>(
-            &logins,
-            &mut verdicts,
-            &mut chunks,
-            &mut table,
-            &mut scratch,
-            &mut CoreCount::new(),
-        );
+        own.verify_logins(&logins, &mut verdicts);
         let wanted = (is_first, is_last);
         holds(
             (is_verified(verdicts.first()), is_verified(verdicts.last())) == wanted,

@@ -8,6 +8,9 @@ ghost use Rattle.scrypt.specs.Limits.{tables_within};
 ghost use Rattle.scrypt.specs.Mixing.{HasTables, IsAtFront, IsKept, IsReady, IsSpent, IsWidth};
 ghost use Rattle.scrypt.specs.Workspace.{IsDone, are_enough, interleaved_chunks, workspace_of};
 
+pub(crate) mod in_steps;
+pub(crate) mod owned;
+
 use crate::{CoreCount, Params};
 use scrypt_kernel::memory::{Allocated, Buffer};
 use std::alloc::{AllocError, Global};
@@ -119,7 +122,9 @@ pub(crate) fn interleaved_chunks(
     scratch: usize,
 ) -> usize
     ensures exact { result ≡ interleaved_chunks params.now.log_n params.now.r count table scratch }
-    ensures some { (0 < result) ↔ ((0 < count) × (table_words params.now.log_n params.now.r ≤ table) × (scratch_words params.now.r ≤ scratch)) }
+    ensures some { (0 < result)
+        ↔ ((0 < count) × (table_words params.now.log_n params.now.r ≤ table)
+        × (scratch_words params.now.r ≤ scratch)) }
     ensures memory { 0 < result → HasTables params.now.log_n 0 params.now.r result table scratch }
 {
     let one = BufferLens::of(params);
@@ -141,8 +146,10 @@ fn width_in(
     scratch: &[u32],
 ) -> Option<usize>
     requires some { 0 < count }
-    ensures enough { IsSome result ↔ IsTrue (are_enough (record params.now { p = count }) chunks.now table.now scratch.now) }
-    ensures width { IfSome result (λ w. IsWidth params.now.log_n params.now.r count w chunks.now table.now scratch.now) }
+    ensures enough { IsSome result
+        ↔ IsTrue (are_enough (record params.now { p = count }) chunks.now table.now scratch.now) }
+    ensures width { IfSome result
+        (λ w. IsWidth params.now.log_n params.now.r count w chunks.now table.now scratch.now) }
 {
     let width = interleaved_chunks(params, count as usize, table.len(), scratch.len());
     params.expose_invariant();
@@ -204,22 +211,30 @@ pub(crate) fn with_prefix<V, T, F: FnOnce(&mut ActiveBuffers<'_, Buffer<'_>>, &m
     derive: F,
 ) -> Option<T>
     requires some { 0 < count }
-    requires callable { (used : _) (shown : _) → IsReady buffer_room params.now.log_n 0 params.now.r count used.now
-        → shown.now ≡ output.old → F.pre derive used shown }
+    requires callable { (used : _) (shown : _)
+        → IsReady buffer_room params.now.log_n 0 params.now.r count used.now → shown.now ≡ output.old
+        → F.pre derive used shown }
     requires keeps { (used : _) (shown : _) (made : T) (after : _) (left : _)
-        → IsReady buffer_room params.now.log_n 0 params.now.r count used.now → F.post derive used shown made after left
-        → IsKept buffer_room used.now after.now }
-    ensures exact { IsSome result ↔ IsTrue (are_enough (record params.now { p = count }) chunks.old table.old scratch.old) }
+        → IsReady buffer_room params.now.log_n 0 params.now.r count used.now
+        → F.post derive used shown made after left → IsKept buffer_room used.now after.now }
+    ensures exact { IsSome result
+        ↔ IsTrue (are_enough (record params.now { p = count }) chunks.old table.old scratch.old) }
     ensures made { IfSome result (λ made. (used : _) × (shown : _) × (after : _) × (left : _)
-        × IsReady buffer_room params.now.log_n 0 params.now.r count used.now × IsAtFront (record params.now { p = count }) used.now after.now
-        (workspace_of chunks.old table.old scratch.old cores.old) (workspace_of chunks.new table.new scratch.new cores.new)
-        × (shown.now ≡ output.old) × (left.now ≡ output.new) × F.post derive used shown made after left) }
+        × IsReady buffer_room params.now.log_n 0 params.now.r count used.now
+        × IsAtFront (record params.now { p = count }) used.now after.now
+        (workspace_of chunks.old table.old scratch.old cores.old)
+        (workspace_of chunks.new table.new scratch.new cores.new) × (shown.now ≡ output.old)
+        × (left.now ≡ output.new) × F.post derive used shown made after left) }
     ensures done { ((used : _) (shown : _) (made : T) (after : _) (left : _)
-        → IsReady buffer_room params.now.log_n 0 params.now.r count used.now → F.post derive used shown made after left
-        → IsSpent buffer_room (record params.now { p = count }) used.now after.now) → IsSome result → IsDone (record params.now { p = count })
-        (workspace_of chunks.old table.old scratch.old cores.old) (workspace_of chunks.new table.new scratch.new cores.new) }
-    ensures unchanged { result ≡ None → (output.new ≡ output.old)
-        × (workspace_of chunks.new table.new scratch.new cores.new ≡ workspace_of chunks.old table.old scratch.old cores.old) }
+        → IsReady buffer_room params.now.log_n 0 params.now.r count used.now
+        → F.post derive used shown made after left
+        → IsSpent buffer_room (record params.now { p = count }) used.now after.now) → IsSome result → IsDone
+        (record params.now { p = count }) (workspace_of chunks.old table.old scratch.old cores.old)
+        (workspace_of chunks.new table.new scratch.new cores.new) }
+    ensures unchanged { result ≡ None
+        → (output.new ≡ output.old)
+        × (workspace_of chunks.new table.new scratch.new cores.new
+        ≡ workspace_of chunks.old table.old scratch.old cores.old) }
 {
     let width = width_in(params, count, chunks, table, scratch)?;
     params.expose_invariant();
@@ -272,10 +287,12 @@ impl OwnBuffers {
         ensures memory { IfOk result (λ got. HasTables params.now.log_n 0 params.now.r got.0
             (allocated_room got.1.table) (length got.1.scratch.items)) }
         ensures width { IfOk result (λ got. (got.0 ≡ tables_within max_mem params.now) ⊎ (got.0 ≡ 1)) }
-        ensures table { IfOk result (λ got. allocated_room got.1.table ≡ got.0 * table_words params.now.log_n params.now.r) }
+        ensures table { IfOk result
+            (λ got. allocated_room got.1.table ≡ got.0 * table_words params.now.log_n params.now.r) }
         ensures scratch { IfOk result (λ got. length got.1.scratch.items ≡ got.0 * scratch_words params.now.r) }
-        ensures used { IfOk result (λ got. got.0 ≡ interleaved_chunks params.now.log_n params.now.r params.now.p
-            (allocated_room got.1.table) (length got.1.scratch.items)) }
+        ensures used { IfOk result (λ got. got.0
+            ≡ interleaved_chunks params.now.log_n params.now.r params.now.p (allocated_room got.1.table)
+            (length got.1.scratch.items)) }
     {
         params.expose_invariant();
         let width = BufferLens::tables_within(params, max_mem);

@@ -22,8 +22,10 @@ pub(crate) fn is_derived_key(
     parts: &StoredParts<'_>,
     cores: &mut CoreCount,
 ) -> bool
-    ensures exact { mixed.now ≡ mixed_of password.now (stored parts.now) → result ≡ is_right password.now (stored parts.now) }
-    ensures counted { AreHashed (pbkdf2_cost (length password.now) (length mixed.now) (length (stored parts.now).key)) cores.old cores.new }
+    ensures exact { mixed.now ≡ mixed_of password.now (stored parts.now)
+        → result ≡ is_right password.now (stored parts.now) }
+    ensures counted { AreHashed (pbkdf2_cost
+        (length password.now) (length mixed.now) (length (stored parts.now).key)) cores.old cores.new }
 {
     let len = parts.key_len;
     parts.expose_key_len();

@@ -5,7 +5,7 @@ ghost use Rattle.scrypt_kernel.specs.Pbkdf2.{max_output_len, pbkdf2};
 ghost use Rattle.scrypt.specs.Accepted.{is_output_len};
 ghost use Rattle.scrypt.specs.Cost.{AreCounted, AreHashed, chunks_bytes, cost, hash_cost, pbkdf2_cost, scratch_words, table_words, thin_cost, thin_scratch_words};
 ghost use Rattle.scrypt.specs.Key.{derived_key, mixed_b};
-ghost use Rattle.scrypt.specs.KeyOfParams.{IsDerived, cost_by};
+ghost use Rattle.scrypt.specs.KeyOfParams.{IsDerived, cost_by, key_by};
 ghost use Rattle.scrypt.specs.Mixing.{IsKept, IsReady};
 ghost use Rattle.scrypt.specs.Workspace.{IsRestKept, are_enough, workspace_of};
 ghost use Rattle.scrypt.specs.declared.errors.DeriveError.TheVariants.{InvalidOutputLen as BadLength, OutOfMemory};
@@ -48,7 +48,8 @@ pub fn scrypt(
     output: &mut [u8],
 ) -> Result<(), DeriveError>
     ensures length { IsErrOf result BadLength ↔ ¬ IsTrue (is_output_len (length output.old)) }
-    ensures value { OnOk result (output.new ≡ derived_key password.now salt.now params.now.log_n params.now.r params.now.p (length output.old)) }
+    ensures value { OnOk result (output.new
+        ≡ derived_key password.now salt.now params.now.log_n params.now.r params.now.p (length output.old)) }
     ensures refused { OnErr result (output.new ≡ output.old) }
 {
     let mut cores = CoreCount::new();
@@ -68,7 +69,8 @@ pub fn scrypt_counted(
     cores: &mut CoreCount,
 ) -> Result<(), DeriveError>
     ensures length { IsErrOf result BadLength ↔ ¬ IsTrue (is_output_len (length output.old)) }
-    ensures value { OnOk result (output.new ≡ derived_key password.now salt.now params.now.log_n params.now.r params.now.p (length output.old)) }
+    ensures value { OnOk result (output.new
+        ≡ derived_key password.now salt.now params.now.log_n params.now.r params.now.p (length output.old)) }
     ensures counted { OnOk result (AreCounted (cost params.now.log_n params.now.r params.now.p) cores.old cores.new) }
     ensures hashed { OnOk result (cores.new.compressions ≡ cores.old.compressions
         + hash_cost (length password.now) (length salt.now) params.now.r params.now.p (length output.old)) }
@@ -76,16 +78,34 @@ pub fn scrypt_counted(
     ensures uncounted { OnErr result (cores.new ≡ cores.old) }
 {
     // A limit of 0 bytes selects one table.
-    scrypt_with_max_mem::<Simd>(alloc, password, salt, params, 0, output, cores)
+    scrypt_with_max_mem_counted::<Simd>(alloc, password, salt, params, 0, output, cores)
 }
 
-/// Derives the key as [`scrypt_counted`] does, in buffers that may have `max_mem` bytes
-/// together: it allocates [`BufferLens::tables_within`] tables and interleaves that many chunks. If
-/// this allocation fails, it uses one table.
+/// Derives the key as [`scrypt`] does, in buffers that may have `max_mem` bytes together: it
+/// allocates [`BufferLens::tables_within`] tables and interleaves that many chunks. If this
+/// allocation fails, it uses one table.
 ///
 /// Returns `OutOfMemory` if an allocation for one table fails.
+pub fn scrypt_with_max_mem(
+    alloc: Global,
+    password: &[u8],
+    salt: &[u8],
+    params: &Params,
+    max_mem: usize,
+    output: &mut [u8],
+) -> Result<(), DeriveError>
+    ensures length { IsErrOf result BadLength ↔ ¬ IsTrue (is_output_len (length output.old)) }
+    ensures value { OnOk result (output.new ≡ key_by params.now password.now salt.now (length output.old)) }
+    ensures refused { OnErr result (output.new ≡ output.old) }
+{
+    let cores = &mut CoreCount::new();
+    scrypt_with_max_mem_counted::<Simd>(alloc, password, salt, params, max_mem, output, cores)
+}
+
+/// Derives the key as [`scrypt_with_max_mem`] does, by the backend `W`, and counts as
+/// [`scrypt_counted`] does.
 #[tactic(auto, using(crate::proofs::AcceptedFacts::output_len_bound))]
-pub fn scrypt_with_max_mem<W: Backend>(
+pub fn scrypt_with_max_mem_counted<W: Backend>(
     alloc: Global,
     password: &[u8],
     salt: &[u8],
@@ -95,7 +115,8 @@ pub fn scrypt_with_max_mem<W: Backend>(
     cores: &mut CoreCount,
 ) -> Result<(), DeriveError>
     ensures length { IsErrOf result BadLength ↔ ¬ IsTrue (is_output_len (length output.old)) }
-    ensures derived { OnOk result (IsDerived params.now password.now salt.now (cost_by params.now) output.old output.new cores.old cores.new) }
+    ensures derived { OnOk result (IsDerived params.now password.now salt.now
+        (cost_by params.now) output.old output.new cores.old cores.new) }
     ensures refused { OnErr result (output.new ≡ output.old) }
     ensures uncounted { OnErr result (cores.new ≡ cores.old) }
 {
@@ -135,10 +156,13 @@ pub fn scrypt_with_buffers(
     requires table { table_words params.now.log_n params.now.r ≤ length table.old }
     requires scratch { scratch_words params.now.r ≤ length scratch.old }
     ensures allowed { IsOk result ↔ IsTrue (is_output_len (length output.old)) }
-    ensures derived { OnOk result (IsDerived params.now password.now salt.now (cost_by params.now) output.old output.new cores.old cores.new) }
-    ensures mixed { OnOk result (chunks.new ≡ mixed_b password.now salt.now params.now.log_n params.now.r params.now.p) }
+    ensures derived { OnOk result (IsDerived params.now password.now salt.now
+        (cost_by params.now) output.old output.new cores.old cores.new) }
+    ensures mixed { OnOk result
+        (chunks.new ≡ mixed_b password.now salt.now params.now.log_n params.now.r params.now.p) }
     ensures refused { OnErr result (output.new ≡ output.old) }
-    ensures unchanged { OnErr result (workspace_of chunks.new table.new scratch.new cores.new ≡ workspace_of chunks.old table.old scratch.old cores.old) }
+    ensures unchanged { OnErr result (workspace_of chunks.new table.new scratch.new cores.new
+        ≡ workspace_of chunks.old table.old scratch.old cores.old) }
 {
     let derived = scrypt_in_prefix::<Simd>(
         password, salt, params, chunks, table, scratch, output, cores,
@@ -168,14 +192,19 @@ pub fn scrypt_in_prefix<W: Backend>(
     cores: &mut CoreCount,
 ) -> Result<(), DeriveError>
     ensures length { IsErrOf result BadLength ↔ ¬ IsTrue (is_output_len (length output.old)) }
-    ensures short { IsErrOf result OutOfMemory ↔ (IsTrue (is_output_len (length output.old))
+    ensures short { IsErrOf result OutOfMemory
+        ↔ (IsTrue (is_output_len (length output.old))
         × ¬ IsTrue (are_enough params.now chunks.old table.old scratch.old)) }
-    ensures derived { OnOk result (IsDerived params.now password.now salt.now (cost_by params.now) output.old output.new cores.old cores.new) }
-    ensures mixed { OnOk result (take (chunks_bytes params.now.r params.now.p) chunks.new ≡ mixed_b password.now salt.now params.now.log_n params.now.r params.now.p) }
-    ensures rest { OnOk result (IsRestKept params.now
-        (workspace_of chunks.old table.old scratch.old cores.old) (workspace_of chunks.new table.new scratch.new cores.new)) }
+    ensures derived { OnOk result (IsDerived params.now password.now salt.now
+        (cost_by params.now) output.old output.new cores.old cores.new) }
+    ensures mixed { OnOk result (take (chunks_bytes params.now.r params.now.p) chunks.new
+        ≡ mixed_b password.now salt.now params.now.log_n params.now.r params.now.p) }
+    ensures rest { OnOk result
+        (IsRestKept params.now (workspace_of chunks.old table.old scratch.old cores.old)
+        (workspace_of chunks.new table.new scratch.new cores.new)) }
     ensures refused { OnErr result (output.new ≡ output.old) }
-    ensures unchanged { OnErr result (workspace_of chunks.new table.new scratch.new cores.new ≡ workspace_of chunks.old table.old scratch.old cores.old) }
+    ensures unchanged { OnErr result (workspace_of chunks.new table.new scratch.new cores.new
+        ≡ workspace_of chunks.old table.old scratch.old cores.old) }
 {
     if !output_len_ok(output.len()) {
         return Err(DeriveError::InvalidOutputLen);
@@ -220,10 +249,13 @@ pub fn scrypt_thin(
     requires scratch { length scratch.old ≡ thin_scratch_words params.now.r }
     ensures allowed { IsOk result ↔ IsTrue (is_output_len (length output.old)) }
     ensures derived { OnOk result (IsDerived params.now password.now salt.now
-        (thin_cost password.now salt.now params.now.log_n params.now.r params.now.p s) output.old output.new cores.old cores.new) }
-    ensures mixed { OnOk result (chunks.new ≡ mixed_b password.now salt.now params.now.log_n params.now.r params.now.p) }
+        (thin_cost password.now salt.now params.now.log_n params.now.r params.now.p s)
+        output.old output.new cores.old cores.new) }
+    ensures mixed { OnOk result
+        (chunks.new ≡ mixed_b password.now salt.now params.now.log_n params.now.r params.now.p) }
     ensures refused { OnErr result (output.new ≡ output.old) }
-    ensures unchanged { OnErr result (workspace_of chunks.new table.new scratch.new cores.new ≡ workspace_of chunks.old table.old scratch.old cores.old) }
+    ensures unchanged { OnErr result (workspace_of chunks.new table.new scratch.new cores.new
+        ≡ workspace_of chunks.old table.old scratch.old cores.old) }
 {
     scrypt_thin_with_backend::<Simd>(
         password, salt, params, s, chunks, table, scratch, output, cores,
@@ -249,10 +281,13 @@ pub fn scrypt_thin_with_backend<W: Backend>(
     requires scratch { length scratch.old ≡ thin_scratch_words params.now.r }
     ensures allowed { IsOk result ↔ IsTrue (is_output_len (length output.old)) }
     ensures derived { OnOk result (IsDerived params.now password.now salt.now
-        (thin_cost password.now salt.now params.now.log_n params.now.r params.now.p s) output.old output.new cores.old cores.new) }
-    ensures mixed { OnOk result (chunks.new ≡ mixed_b password.now salt.now params.now.log_n params.now.r params.now.p) }
+        (thin_cost password.now salt.now params.now.log_n params.now.r params.now.p s)
+        output.old output.new cores.old cores.new) }
+    ensures mixed { OnOk result
+        (chunks.new ≡ mixed_b password.now salt.now params.now.log_n params.now.r params.now.p) }
     ensures refused { OnErr result (output.new ≡ output.old) }
-    ensures unchanged { OnErr result (workspace_of chunks.new table.new scratch.new cores.new ≡ workspace_of chunks.old table.old scratch.old cores.old) }
+    ensures unchanged { OnErr result (workspace_of chunks.new table.new scratch.new cores.new
+        ≡ workspace_of chunks.old table.old scratch.old cores.old) }
 {
     if !output_len_ok(output.len()) {
         return Err(InvalidOutputLen);
@@ -278,7 +313,8 @@ pub(crate) fn derive_in<M: TableMemory, W: Backend>(
     requires length { length output.old ≤ max_output_len }
     ensures kept { IsKept M.room used.old used.new }
     ensures derived { IsDerived params.now password.now salt.now
-        (thin_cost password.now salt.now params.now.log_n params.now.r params.now.p s) output.old output.new used.old.cores.now used.new.cores.now }
+        (thin_cost password.now salt.now params.now.log_n params.now.r params.now.p s)
+        output.old output.new used.old.cores.now used.new.cores.now }
     ensures mixed { used.new.chunks.now ≡ mixed_b password.now salt.now params.now.log_n params.now.r params.now.p }
     ensures whole { s ≡ 0 → AreCounted (cost_by params.now) used.old.cores.now used.new.cores.now }
 {
@@ -301,7 +337,8 @@ pub(crate) fn derive_chunks(
 )
     requires chunks { length chunks.old ≡ chunks_bytes params.now.r params.now.p }
     ensures value { chunks.new ≡ pbkdf2 password.now salt.now (chunks_bytes params.now.r params.now.p) }
-    ensures counted { AreHashed (pbkdf2_cost (length password.now) (length salt.now) (chunks_bytes params.now.r params.now.p)) cores.old cores.new }
+    ensures counted { AreHashed (pbkdf2_cost (length password.now)
+        (length salt.now) (chunks_bytes params.now.r params.now.p)) cores.old cores.new }
 {
     params.expose_invariant();
     pbkdf2_counted(password, salt, chunks, cores);

@@ -56,17 +56,21 @@ pub fn chunks_in_any_order()
 /// Parameters that are written to a PHC string are read back as the same `log_n`, `r` and `p`.
 #[tactic(auto, using(crate::proofs::PhcFacts::written_read))]
 pub fn written_parameters_are_read_back()
-    ensures read { (c : Parameters) → IsTrue (are_accepted c.log_n c.r c.p) → params_of_pairs (written_pairs c) ≡ Ok (without_len c) }
+    ensures read { (c : Parameters) → IsTrue (are_accepted c.log_n c.r c.p)
+        → params_of_pairs (written_pairs c) ≡ Ok (without_len c) }
 {}
 
 /// A PHC string, an MCF string, a `$7$` hash and a text of crypt Base64 each have at most one
 /// reading, and each reading has at most one text.
 pub fn texts_have_one_reading()
-    ensures phc_reading { (text : List ℕ) (one other : PasswordHash) → IsHashText text one → IsHashText text other → one ≡ other }
-    ensures phc_text { (hash : PasswordHash) (one other : List ℕ) → IsHashText one hash → IsHashText other hash → one ≡ other }
+    ensures phc_reading { (text : List ℕ) (one other : PasswordHash) → IsHashText text one
+        → IsHashText text other → one ≡ other }
+    ensures phc_text { (hash : PasswordHash) (one other : List ℕ) → IsHashText one hash
+        → IsHashText other hash → one ≡ other }
     ensures modular_reading { (text one other : List ℕ) (fields more : List (List ℕ)) → IsMcfText text one fields
         → IsMcfText text other more → (one ≡ other) × (fields ≡ more) }
-    ensures modular_text { (id one other : List ℕ) (fields : List (List ℕ)) → IsMcfText one id fields → IsMcfText other id fields → one ≡ other }
+    ensures modular_text { (id one other : List ℕ) (fields : List (List ℕ)) → IsMcfText one id fields
+        → IsMcfText other id fields → one ≡ other }
     ensures mcf_text { (one other : List ℕ) (s : Stored) → read_mcf one ≡ Ok s → read_mcf other ≡ Ok s → one ≡ other }
     ensures crypt64_reading { (letters one other : List ℕ) → Crypt64 one letters → Crypt64 other letters → one ≡ other }
     ensures crypt64_text { (bytes one other : List ℕ) → Crypt64 bytes one → Crypt64 bytes other → one ≡ other }
@@ -84,14 +88,18 @@ pub fn mcf_texts_are_read()
 /// parameters, of the salt and of the key.
 #[tactic(auto, using(crate::proofs::PhcFacts::made_hashes, crate::proofs::McfTextFacts::made_text, password_hash::proofs::PhcReadingFacts::one_reading))]
 pub fn made_hashes_are_accepted()
-    ensures phc { (c : Parameters) (password salt : List ℕ) (hash : PasswordHash) → IsTrue (are_accepted c.log_n c.r c.p)
-        → IsMadeHash c password salt hash → verdict password (read_phc hash) ≡ Ok tt }
-    ensures phc_printed { (c : Parameters) (password salt : List ℕ) (hash : PasswordHash) → IsTrue (are_accepted c.log_n c.r c.p)
-        → IsTrue (is_stored_len c.output_len) → IsSalt salt → IsMadeHash c password salt hash → IsHashText (hash_text hash) hash }
-    ensures phc_read_back { (c : Parameters) (password salt : List ℕ) (hash again : PasswordHash) → IsTrue (are_accepted c.log_n c.r c.p)
-        → IsTrue (is_stored_len c.output_len) → IsSalt salt → IsMadeHash c password salt hash
-        → IsHashText (hash_text hash) again → verdict password (read_phc again) ≡ Ok tt }
-    ensures mcf { (c : Parameters) (password salt text : List ℕ) → IsMadeMcf c password salt text → verdict password (read_mcf text) ≡ Ok tt }
+    ensures phc { (c : Parameters) (password salt : List ℕ) (hash : PasswordHash)
+        → IsTrue (are_accepted c.log_n c.r c.p) → IsMadeHash c password salt hash
+        → verdict password (read_phc hash) ≡ Ok tt }
+    ensures phc_printed { (c : Parameters) (password salt : List ℕ) (hash : PasswordHash)
+        → IsTrue (are_accepted c.log_n c.r c.p) → IsTrue (is_stored_len c.output_len) → IsSalt salt
+        → IsMadeHash c password salt hash → IsHashText (hash_text hash) hash }
+    ensures phc_read_back { (c : Parameters) (password salt : List ℕ) (hash again : PasswordHash)
+        → IsTrue (are_accepted c.log_n c.r c.p) → IsTrue (is_stored_len c.output_len) → IsSalt salt
+        → IsMadeHash c password salt hash → IsHashText (hash_text hash) again
+        → verdict password (read_phc again) ≡ Ok tt }
+    ensures mcf { (c : Parameters) (password salt text : List ℕ) → IsMadeMcf c password salt text
+        → verdict password (read_mcf text) ≡ Ok tt }
     ensures mcf_written { (c : Parameters) (password salt : List ℕ) → IsTrue (are_accepted c.log_n c.r c.p)
         → IsTrue (is_stored_len c.output_len) → IsMadeMcf c password salt (mcf_text (made_hash c password salt)) }
 {}
@@ -100,7 +108,8 @@ pub fn made_hashes_are_accepted()
 /// this hash. The reading of any other text is `EncodingInvalid`.
 pub fn texts_are_read_in_their_format()
     ensures mcf { (text : List ℕ) → is_mcf_text text ≡ true → reading text ≡ read_fields (fields_of text) }
-    ensures phc { (text : List ℕ) (hash : PasswordHash) → is_mcf_text text ≡ false → IsHashText text hash → reading text ≡ read_phc hash }
+    ensures phc { (text : List ℕ) (hash : PasswordHash) → is_mcf_text text ≡ false → IsHashText text hash
+        → reading text ≡ read_phc hash }
     ensures other { (text : List ℕ) → is_mcf_text text ≡ false → ((hash : PasswordHash) → ¬ IsHashText text hash)
         → reading text ≡ Err EncodingInvalid }
     ensures stored { (text : List ℕ) → is_stored_text text ≡ false
@@ -111,7 +120,8 @@ pub fn texts_are_read_in_their_format()
 /// error of its parameters is the error of its reading.
 #[tactic(auto, using(crate::proofs::StoredHashFacts::params_of_whole, crate::proofs::StoredHashFacts::params_refused))]
 pub fn parameters_are_those_of_the_reading()
-    ensures whole { (text : List ℕ) (s : Stored) → reading text ≡ Ok s → params_reading text ≡ Ok (s.params, length s.key) }
+    ensures whole { (text : List ℕ) (s : Stored) → reading text ≡ Ok s
+        → params_reading text ≡ Ok (s.params, length s.key) }
     ensures refused { (text : List ℕ) (why : Refusal) → params_reading text ≡ Err why → reading text ≡ Err why }
 {}
 
@@ -122,15 +132,23 @@ pub fn parameters_are_those_of_the_reading()
 /// below `2^64` each. A key has the requested length.
 #[tactic(auto, using(crate::proofs::PhcFacts::made_hashes, crate::proofs::StoredHashFacts::made_texts, crate::proofs::KeyFacts::lengths, crate::proofs::ReadingFacts::made_within))]
 pub fn made_texts_are_accepted()
-    ensures phc { (c : Parameters) (password salt : List ℕ) (hash : PasswordHash) → IsTrue (are_accepted c.log_n c.r c.p)
-        → IsTrue (is_stored_len c.output_len) → IsSalt salt → IsMadeHash c password salt hash
-        → (verdict password (reading (hash_text hash)) ≡ Ok tt) × (weaker c (reading (hash_text hash)) ≡ Ok false) }
-    ensures phc_read { (c : Parameters) (password salt : List ℕ) (hash : PasswordHash) → IsTrue (are_accepted c.log_n c.r c.p)
-        → IsTrue (is_stored_len c.output_len) → IsSalt salt → IsMadeHash c password salt hash
-        → reading (hash_text hash) ≡ Ok (record { params = without_len c; salt = salt; key = key_by c password salt (key_len_or_default c) }) }
-    ensures phc_within { (defaults : Limits) (c : Parameters) (password salt : List ℕ) (hash : PasswordHash) (n : ℕ)
-        → IsTrue (are_accepted c.log_n c.r c.p) → IsTrue (is_stored_len c.output_len) → IsSalt salt → IsMadeHash c password salt hash
-        → n ≤ key_len_or_default c → buffers_bytes c.log_n c.r c.p < 2 ^ 64 → work c.log_n c.r c.p < 2 ^ 64
+    ensures phc { (c : Parameters) (password salt : List ℕ) (hash : PasswordHash)
+        → IsTrue (are_accepted c.log_n c.r c.p) → IsTrue (is_stored_len c.output_len) → IsSalt salt
+        → IsMadeHash c password salt hash
+        → (verdict password (reading (hash_text hash)) ≡ Ok tt)
+        × (weaker c (reading (hash_text hash)) ≡ Ok false) }
+    ensures phc_read { (c : Parameters) (password salt : List ℕ) (hash : PasswordHash)
+        → IsTrue (are_accepted c.log_n c.r c.p) → IsTrue (is_stored_len c.output_len) → IsSalt salt
+        → IsMadeHash c password salt hash
+        → reading (hash_text hash) ≡ Ok (record {
+          params = without_len c;
+          salt = salt;
+          key = key_by c password salt (key_len_or_default c);
+        }) }
+    ensures phc_within { (defaults : Limits) (c : Parameters) (password salt : List ℕ) (hash : PasswordHash)
+        (n : ℕ) → IsTrue (are_accepted c.log_n c.r c.p) → IsTrue (is_stored_len c.output_len) → IsSalt salt
+        → IsMadeHash c password salt hash → n ≤ key_len_or_default c → buffers_bytes c.log_n c.r c.p < 2 ^ 64
+        → work c.log_n c.r c.p < 2 ^ 64
         → within (limits_for_new defaults c n) (reading (hash_text hash)) ≡ reading (hash_text hash) }
     ensures key_len { (c : Parameters) (password salt : List ℕ) (n : ℕ) → length (key_by c password salt n) ≡ n }
     ensures mcf { (c : Parameters) (password salt text : List ℕ) → IsMadeMcf c password salt text
@@ -153,8 +171,10 @@ pub fn hashing_refusals_are_one()
 pub fn verdicts_compare_keys()
     ensures right { (password : List ℕ) (reading : Result Stored Refusal) → (verdict password reading ≡ Ok tt)
         ↔ ((s : Stored) × (reading ≡ Ok s) × (s.key ≡ key_by s.params password s.salt (length s.key))) }
-    ensures wrong { (password : List ℕ) (reading : Result Stored Refusal) → verdict password reading ≡ Err PasswordInvalid
-        → ((s : Stored) × (reading ≡ Ok s) × (s.key ≢ key_by s.params password s.salt (length s.key))) ⊎ (reading ≡ Err PasswordInvalid) }
+    ensures wrong { (password : List ℕ) (reading : Result Stored Refusal)
+        → verdict password reading ≡ Err PasswordInvalid
+        → ((s : Stored) × (reading ≡ Ok s) × (s.key ≢ key_by s.params password s.salt (length s.key)))
+        ⊎ (reading ≡ Err PasswordInvalid) }
 {}
 
 /// Reading a `$7$` hash, or the parameters of a PHC hash or of a stored hash, never gives
@@ -171,9 +191,11 @@ pub fn reading_names_no_password()
 /// A hash that was made with the wanted parameters is not weaker than wanted.
 #[tactic(auto, using(crate::proofs::PhcFacts::made_hashes))]
 pub fn rehashing_converges()
-    ensures phc { (c : Parameters) (password salt : List ℕ) (hash : PasswordHash) → IsTrue (are_accepted c.log_n c.r c.p)
-        → IsMadeHash c password salt hash → weaker c (read_phc hash) ≡ Ok false }
-    ensures mcf { (c : Parameters) (password salt text : List ℕ) → IsMadeMcf c password salt text → weaker c (read_mcf text) ≡ Ok false }
+    ensures phc { (c : Parameters) (password salt : List ℕ) (hash : PasswordHash)
+        → IsTrue (are_accepted c.log_n c.r c.p) → IsMadeHash c password salt hash
+        → weaker c (read_phc hash) ≡ Ok false }
+    ensures mcf { (c : Parameters) (password salt text : List ℕ) → IsMadeMcf c password salt text
+        → weaker c (read_mcf text) ≡ Ok false }
 {}
 
 /// Numbers below 2^30 and their five letters determine each other, any five letters encode a
@@ -181,9 +203,10 @@ pub fn rehashing_converges()
 #[tactic(auto, using(crate::proofs::McfParamsFacts::five_letters_read_back, crate::proofs::McfParamsFacts::five_letters_said))]
 pub fn five_letters_are_inverse()
     ensures read_back { (number : ℕ) → number < 2 ^ 30 → five_letter_number (letters_of 5 number) ≡ Some number }
-    ensures written_back { (letters : List ℕ) (number : ℕ) → length letters ≡ 5 → five_letter_number letters ≡ Some number
-        → (letters_of 5 number ≡ letters) × (number < 2 ^ 30) }
-    ensures said { (letters : List ℕ) → length letters ≡ 5 → All (λ byte. IsSome (letter_value byte)) letters → IsSome (five_letter_number letters) }
+    ensures written_back { (letters : List ℕ) (number : ℕ) → length letters ≡ 5
+        → five_letter_number letters ≡ Some number → (letters_of 5 number ≡ letters) × (number < 2 ^ 30) }
+    ensures said { (letters : List ℕ) → length letters ≡ 5 → All (λ byte. IsSome (letter_value byte)) letters
+        → IsSome (five_letter_number letters) }
     ensures accepted { (log_n r p : ℕ) → IsTrue (are_accepted log_n r p) → (r < 2 ^ 30) × (p < 2 ^ 30) }
 {}
 
@@ -191,14 +214,17 @@ pub fn five_letters_are_inverse()
 /// `r` and `p` are.
 #[tactic(auto, using(crate::proofs::McfTextFacts::params_letters_once))]
 pub fn letters_of_parameters_are_injective()
-    ensures injective { (log_n r p other_log_n other_r other_p : ℕ) → IsTrue (are_accepted log_n r p) → IsTrue (are_accepted other_log_n other_r other_p)
-        → (params_letters log_n r p ≡ params_letters other_log_n other_r other_p) ↔ ((log_n ≡ other_log_n) × (r ≡ other_r) × (p ≡ other_p)) }
+    ensures injective { (log_n r p other_log_n other_r other_p : ℕ) → IsTrue (are_accepted log_n r p)
+        → IsTrue (are_accepted other_log_n other_r other_p)
+        → (params_letters log_n r p ≡ params_letters other_log_n other_r other_p)
+        ↔ ((log_n ≡ other_log_n) × (r ≡ other_r) × (p ≡ other_p)) }
 {}
 
 /// A table that keeps one row in `2^s` gives the same key, for every `s`.
 #[tactic(auto, using(crate::proofs::ThinKeyFacts::thin_key_is))]
 pub fn thin_key_is_the_key()
-    ensures same { (password salt : List ℕ) (log_n r p s n : ℕ) → thin_key password salt log_n r p s n ≡ derived_key password salt log_n r p n }
+    ensures same { (password salt : List ℕ) (log_n r p s n : ℕ)
+        → thin_key password salt log_n r p s n ≡ derived_key password salt log_n r p n }
 {}
 
 /// With a table that keeps one row in `2^s`, the `N` steps of the walk together recompute at most
@@ -214,10 +240,13 @@ pub fn extra_rows_are_bounded()
 /// for all derivations within it.
 #[tactic(auto, using(crate::proofs::CostFacts::both_bounded, crate::proofs::CostFacts::both_within))]
 pub fn work_bounds_both_counts()
-    ensures bounded { (password_len salt_len log_n r p n : ℕ) → cost log_n r p + 9 * hash_cost password_len salt_len r p n
-        ≤ work log_n r p + 9 * lengths_cost password_len salt_len n }
-    ensures within { (limits : Limits) (c : Parameters) (password_len salt_len n : ℕ) → IsTrue (are_within limits c)
-        → cost c.log_n c.r c.p + 9 * hash_cost password_len salt_len c.r c.p n ≤ limits.max_work + 9 * lengths_cost password_len salt_len n }
+    ensures bounded { (password_len salt_len log_n r p n : ℕ)
+        → cost log_n r p + 9 * hash_cost password_len salt_len r p n ≤ work log_n r p
+        + 9 * lengths_cost password_len salt_len n }
+    ensures within { (limits : Limits) (c : Parameters) (password_len salt_len n : ℕ)
+        → IsTrue (are_within limits c)
+        → cost c.log_n c.r c.p + 9 * hash_cost password_len salt_len c.r c.p n ≤ limits.max_work
+        + 9 * lengths_cost password_len salt_len n }
 {}
 
 /// The diagonal order and the standard order are inverse to each other on whole blocks, and so are
@@ -234,9 +263,11 @@ pub fn diagonal_order_undone()
 /// block mix is one by the standard's core, and each core has at most one.
 #[tactic(auto, using(scrypt_kernel::proofs::BlockMixFacts::block_mix_by_core))]
 pub fn block_mix_in_diagonal_order()
-    ensures mixed { (b : List ℕ) → 0 < length b → length b % 32 ≡ 0 → IsBlockMixBy diagonal_core (diagonal_order b) (diagonal_order (block_mix b)) }
+    ensures mixed { (b : List ℕ) → 0 < length b → length b % 32 ≡ 0
+        → IsBlockMixBy diagonal_core (diagonal_order b) (diagonal_order (block_mix b)) }
     ensures standard { (b : List ℕ) → 0 < length b → length b % 32 ≡ 0 → IsBlockMixBy salsa20_8 b (block_mix b) }
-    ensures once { (f : List ℕ → List ℕ) (b out other : List ℕ) → length b % 32 ≡ 0 → IsBlockMixBy f b out → IsBlockMixBy f b other → out ≡ other }
+    ensures once { (f : List ℕ → List ℕ) (b out other : List ℕ) → length b % 32 ≡ 0 → IsBlockMixBy f b out
+        → IsBlockMixBy f b other → out ≡ other }
 {}
 
 /// The parameters of a hasher are accepted, and so is their length of a stored key.
@@ -252,11 +283,15 @@ pub fn hashers_are_accepted(hasher: &crate::Scrypt)
 /// parameters, lengths, buffers and limits. With this law a caller shows them by arithmetic, also
 /// for numeric literals.
 pub fn conditions_are_inequalities()
-    ensures accepted { (log_n r p : ℕ) → IsTrue (are_accepted log_n r p) ↔ ((0 < r) × (0 < p) × (128 * r * 2 ^ log_n < 2 ^ 64) × (r * p < 2 ^ 30)) }
+    ensures accepted { (log_n r p : ℕ)
+        → IsTrue (are_accepted log_n r p)
+        ↔ ((0 < r) × (0 < p) × (128 * r * 2 ^ log_n < 2 ^ 64) × (r * p < 2 ^ 30)) }
     ensures output { (n : ℕ) → IsTrue (is_output_len n) ↔ ((1 ≤ n) × (n ≤ max_output_len)) }
     ensures stored { (n : ℕ) → IsTrue (is_stored_len (Some n)) ↔ ((10 ≤ n) × (n ≤ 64)) }
-    ensures enough { (c : Parameters) (chunks table scratch : List ℕ) → IsTrue (are_enough c chunks table scratch)
-        ↔ ((chunks_bytes c.r c.p ≤ length chunks) × (table_words c.log_n c.r ≤ length table) × (scratch_words c.r ≤ length scratch)) }
+    ensures enough { (c : Parameters) (chunks table scratch : List ℕ)
+        → IsTrue (are_enough c chunks table scratch)
+        ↔ ((chunks_bytes c.r c.p ≤ length chunks) × (table_words c.log_n c.r ≤ length table)
+        × (scratch_words c.r ≤ length scratch)) }
     ensures within { (limits : Limits) (c : Parameters) → IsTrue (are_within limits c)
         ↔ ((buffers_bytes c.log_n c.r c.p ≤ limits.max_mem) × (work c.log_n c.r c.p ≤ limits.max_work)) }
 {}

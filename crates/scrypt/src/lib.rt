@@ -23,7 +23,6 @@ mod comparing;
 mod derivation;
 pub mod errors;
 mod hashing;
-mod kept;
 pub mod laws;
 mod limits;
 mod logins;
@@ -39,13 +38,13 @@ mod verifying;
 
 pub use algorithm::Scrypt;
 pub use backends::{Backend, Scalar, Simd, SimdPairs};
+pub use buffers::owned::Buffers;
 pub use buffers::{BufferLens, wipe};
 pub use derivation::{
     output_len_ok, scrypt, scrypt_counted, scrypt_in_prefix, scrypt_thin, scrypt_thin_with_backend,
-    scrypt_with_buffers, scrypt_with_max_mem,
+    scrypt_with_buffers, scrypt_with_max_mem, scrypt_with_max_mem_counted,
 };
 pub use errors::{DeriveError, InvalidOutputLen, InvalidParams, LimitedError};
-pub use kept::Buffers;
 pub use limits::Limits;
 pub use logins::{Login, verify_logins};
 pub use params::Params;

@@ -59,7 +59,8 @@ impl<'p, 't> Login<'p, 't> {
     // the hash is an error.
     #[tactic(auto, unfolding(crate::specs::Logins::with_more))]
     fn count_with(&self, params: &Params, count: u32) -> Option<u32>
-        ensures { (others : List Attempt) → count_of params.now others ≡ Some count → result ≡ count_of params.now (attempt_of self.now ∷ others) }
+        ensures { (others : List Attempt) → count_of params.now others ≡ Some count
+            → result ≡ count_of params.now (attempt_of self.now ∷ others) }
     {
         let Some(own) = self.params() else {
             return Some(count);
@@ -122,9 +123,10 @@ impl<'p, 't> Login<'p, 't> {
         scratch: &mut [u32],
         cores: &mut CoreCount,
     ) -> Result<(), LimitedError>
-        ensures verdict { with_limited_refusal result ≡ verdict_on (workspace_of chunks.old table.old scratch.old cores.old) (attempt_of self.now) }
-        ensures left { IsLeft (reading_of self.now)
-            (workspace_of chunks.old table.old scratch.old cores.old) (workspace_of chunks.new table.new scratch.new cores.new) }
+        ensures verdict { with_limited_refusal result
+            ≡ verdict_on (workspace_of chunks.old table.old scratch.old cores.old) (attempt_of self.now) }
+        ensures left { IsLeft (reading_of self.now) (workspace_of chunks.old table.old scratch.old cores.old)
+            (workspace_of chunks.new table.new scratch.new cores.new) }
         ensures hashed { cores.new.compressions ≡ cores.old.compressions
             + hashed_on (workspace_of chunks.old table.old scratch.old cores.old) (attempt_of self.now) }
     {
@@ -161,8 +163,8 @@ pub fn verify_logins<W: Backend>(
     requires len { length verdicts.old ≡ length logins.now }
     ensures verdicts { map with_limited_refusal verdicts.new
         ≡ map (verdict_on (workspace_of chunks.old table.old scratch.old cores.old)) (attempts logins.now) }
-    ensures left { AreLeft (attempts logins.now)
-        (workspace_of chunks.old table.old scratch.old cores.old) (workspace_of chunks.new table.new scratch.new cores.new) }
+    ensures left { AreLeft (attempts logins.now) (workspace_of chunks.old table.old scratch.old cores.old)
+        (workspace_of chunks.new table.new scratch.new cores.new) }
     ensures hashed { cores.new.compressions ≡ cores.old.compressions
         + sum_by (hashed_on (workspace_of chunks.old table.old scratch.old cores.old)) (attempts logins.now) }
 {
@@ -188,13 +190,17 @@ fn verified_in_batch<W: Backend>(
     requires len { length verdicts.old ≡ length logins.now }
     ensures verdicts { IsTrue result → map with_limited_refusal verdicts.new
         ≡ map (verdict_on (workspace_of chunks.old table.old scratch.old cores.old)) (attempts logins.now) }
-    ensures left { IsTrue result → AreLeft (attempts logins.now)
-        (workspace_of chunks.old table.old scratch.old cores.old) (workspace_of chunks.new table.new scratch.new cores.new) }
+    ensures left { IsTrue result
+        → AreLeft (attempts logins.now) (workspace_of chunks.old table.old scratch.old cores.old)
+        (workspace_of chunks.new table.new scratch.new cores.new) }
     ensures hashed { IsTrue result → cores.new.compressions ≡ cores.old.compressions
         + sum_by (hashed_on (workspace_of chunks.old table.old scratch.old cores.old)) (attempts logins.now) }
-    ensures alone { result ≡ false → IsAlone (attempts logins.now) (workspace_of chunks.old table.old scratch.old cores.old) }
+    ensures alone { result ≡ false
+        → IsAlone (attempts logins.now) (workspace_of chunks.old table.old scratch.old cores.old) }
     ensures kept { result ≡ false → verdicts.new ≡ verdicts.old }
-    ensures unchanged { result ≡ false → (chunks.new ≡ chunks.old) × (table.new ≡ table.old) × (scratch.new ≡ scratch.old) × (cores.new ≡ cores.old) }
+    ensures unchanged { result ≡ false
+        → (chunks.new ≡ chunks.old) × (table.new ≡ table.old) × (scratch.new ≡ scratch.old)
+        × (cores.new ≡ cores.old) }
 {
     let Some((params, count)) = shared_params(logins) else {
         return false;
@@ -251,7 +257,8 @@ fn verify_in_batch<W: Backend>(
     requires ready { IsReady buffer_room params.now.log_n 0 params.now.r count used.old }
     ensures verdicts { map with_limited_refusal verdicts.new ≡ map (λ a. verdict a.0 a.1) (attempts logins.now) }
     ensures spent { IsSpent buffer_room (record params.now { p = count }) used.old used.new }
-    ensures hashed { used.new.cores.now.compressions ≡ used.old.cores.now.compressions + all_cost verify_cost (attempts logins.now) }
+    ensures hashed { used.new.cores.now.compressions
+        ≡ used.old.cores.now.compressions + all_cost verify_cost (attempts logins.now) }
 {
     params.expose_invariant();
     derive_all_chunks(logins, used.chunks, used.cores);

@@ -71,7 +71,8 @@ pub fn begin<W: Backend>(
     ensures start { (result.chunks ≡ 0) × (result.mixes ≡ 0) }
     ensures going { CanGoOn W.most W.scalar params.now result table.new scratch.new }
     ensures under_way { IsUnderWay password.now salt.now params.now result chunks.new table.new scratch.new }
-    ensures counted { AreHashed (pbkdf2_cost (length password.now) (length salt.now) (chunks_bytes params.now.r params.now.p)) cores.old cores.new }
+    ensures counted { AreHashed (pbkdf2_cost (length password.now)
+        (length salt.now) (chunks_bytes params.now.r params.now.p)) cores.old cores.new }
 {
     params.expose_invariant();
     derive_chunks(password, salt, params, chunks, cores);
@@ -96,11 +97,14 @@ pub fn step<W: Backend>(
     requires going { CanGoOn W.most W.scalar params.now at table.old scratch.old }
     requires chunks { length chunks.old ≡ chunks_bytes params.now.r params.now.p }
     ensures going { CanGoOn W.most W.scalar params.now result table.new scratch.new }
-    ensures under_way { (password : List ℕ) → (salt : List ℕ) → IsUnderWay password salt params.now at chunks.old table.old scratch.old
+    ensures under_way { (password : List ℕ) → (salt : List ℕ)
+        → IsUnderWay password salt params.now at chunks.old table.old scratch.old
         → IsUnderWay password salt params.now result chunks.new table.new scratch.new }
     ensures ended { at.chunks ≡ params.now.p → result ≡ at }
-    ensures exact { mixes_done params.now result ≡ mixes_done params.now at + at.interleaved * min count (lacking params.now at) }
-    ensures counted { AreCountedAs true ((mixes_done params.now result - mixes_done params.now at) * (2 * params.now.r)) cores.old cores.new }
+    ensures exact { mixes_done params.now result
+        ≡ mixes_done params.now at + at.interleaved * min count (lacking params.now at) }
+    ensures counted { AreCountedAs true
+        ((mixes_done params.now result - mixes_done params.now at) * (2 * params.now.r)) cores.old cores.new }
 {
     params.expose_invariant();
     if at.chunks == params.p() as usize {
@@ -166,12 +170,13 @@ pub fn finish(
 ) -> Result<(), FinishError>
     requires chunks { length chunks.old ≡ chunks_bytes params.now.r params.now.p }
     ensures unfinished { IsErrOf result Unfinished ↔ ¬ (at.chunks ≡ params.now.p) }
-    ensures length { IsErrOf result BadLength ↔ ((at.chunks ≡ params.now.p) × ¬ IsTrue (is_output_len (length output.old))) }
+    ensures length { IsErrOf result BadLength
+        ↔ ((at.chunks ≡ params.now.p) × ¬ IsTrue (is_output_len (length output.old))) }
     ensures value { OnOk result ((salt : List ℕ) → (table : List ℕ) → (scratch : List ℕ)
         → IsUnderWay password.now salt params.now at chunks.old table scratch → output.new
         ≡ derived_key password.now salt params.now.log_n params.now.r params.now.p (length output.old)) }
-    ensures counted { OnOk result (AreHashed
-        (pbkdf2_cost (length password.now) (chunks_bytes params.now.r params.now.p) (length output.old)) cores.old cores.new) }
+    ensures counted { OnOk result (AreHashed (pbkdf2_cost (length password.now)
+        (chunks_bytes params.now.r params.now.p) (length output.old)) cores.old cores.new) }
     ensures kept { chunks.new ≡ chunks.old }
     ensures refused { OnErr result (output.new ≡ output.old) }
     ensures uncounted { OnErr result (cores.new ≡ cores.old) }
@@ -213,7 +218,8 @@ pub fn scrypt_in_steps<W: Backend, F: FnMut(u128) -> bool>(
     requires chunks { length chunks.old ≡ chunks_bytes params.now.r params.now.p }
     requires table { table_words params.now.log_n params.now.r ≤ length table.old }
     requires scratch { scratch_words params.now.r ≤ length scratch.old }
-    ensures derived { OnOk result (IsDerived params.now password.now salt.now (cost_by params.now) output.old output.new cores.old cores.new) }
+    ensures derived { OnOk result (IsDerived params.now password.now salt.now
+        (cost_by params.now) output.old output.new cores.old cores.new) }
     ensures cancelled { OnErr result ((state : F) × (done : ℕ) × (left : F) × F.step state done false left) }
     ensures refused { OnErr result (output.new ≡ output.old) }
 {
@@ -249,7 +255,8 @@ fn mix_more<W: Backend>(
     requires table { n * table_words params.now.log_n params.now.r ≤ length table.old }
     requires scratch { n * scratch_words params.now.r ≤ length scratch.old }
     ensures done { result ≡ min (done + count) (all_mixes params.now.log_n) }
-    ensures mixed { (b : ℕ → List ℕ) → IsMixing pivot n b (32 * params.now.r) params.now.log_n done table.old scratch.old
+    ensures mixed { (b : ℕ → List ℕ)
+        → IsMixing pivot n b (32 * params.now.r) params.now.log_n done table.old scratch.old
         → IsMixing pivot n b (32 * params.now.r) params.now.log_n result table.new scratch.new }
     ensures counted { AreCountedAs true ((result - done) * (n * (2 * params.now.r))) cores.old cores.new }
 {
@@ -287,7 +294,8 @@ fn begin_group<W: Backend>(
     requires scratch { scratch_words params.now.r ≤ length scratch.old }
     ensures start { (result.chunks ≡ i) × (result.mixes ≡ 0) }
     ensures going { CanGoOn W.most W.scalar params.now result table.new scratch.new }
-    ensures under_way { (password : List ℕ) → (salt : List ℕ) → AreMixed (first_b password salt params.now) params.now.log_n params.now.r i chunks.now
+    ensures under_way { (password : List ℕ) → (salt : List ℕ)
+        → AreMixed (first_b password salt params.now) params.now.log_n params.now.r i chunks.now
         → IsUnderWay password salt params.now result chunks.now table.new scratch.new }
 {
     params.expose_invariant();
@@ -322,7 +330,8 @@ fn write_first_rows(
     requires inside { i * (128 * params.now.r) + n * (128 * params.now.r) ≤ length chunks.now }
     requires table { n * table_words params.now.log_n params.now.r ≤ length table.old }
     requires scratch { n * scratch_words params.now.r ≤ length scratch.old }
-    ensures begun { (b : List ℕ) → AreMixed b params.now.log_n params.now.r i chunks.now → IsMixing pivot n (words_from b params.now.r i) (32
+    ensures begun { (b : List ℕ) → AreMixed b params.now.log_n params.now.r i chunks.now
+        → IsMixing pivot n (words_from b params.now.r i) (32
         * params.now.r) params.now.log_n 0 table.new scratch.new }
 {
     params.expose_invariant();
@@ -337,8 +346,9 @@ fn end_group(params: &Params, i: usize, n: usize, chunks: &mut [u8], scratch: &m
     requires inside { i * (128 * params.now.r) + n * (128 * params.now.r) ≤ length chunks.old }
     requires scratch { n * scratch_words params.now.r ≤ length scratch.old }
     ensures mixed { (b : List ℕ) → (table : List ℕ) → AreMixed b params.now.log_n params.now.r i chunks.old
-        → IsMixing pivot n (words_from b params.now.r i) (32 * params.now.r) params.now.log_n (all_mixes params.now.log_n) table scratch.old
-        → AreMixed b params.now.log_n params.now.r (i + n) chunks.new }
+        → IsMixing pivot n (words_from b params.now.r i) (32
+        * params.now.r) params.now.log_n (all_mixes params.now.log_n) table scratch.old → AreMixed b
+        params.now.log_n params.now.r (i + n) chunks.new }
 {
     params.expose_invariant();
     let r = params.r() as usize;

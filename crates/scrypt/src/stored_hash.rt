@@ -201,9 +201,11 @@ impl<'a> StoredHash<'a> {
         scratch: &mut [u32],
         cores: &mut CoreCount,
     ) -> Result<()>
-        ensures verdict { with_refusal result ≡ verdict_in (workspace_of chunks.old table.old scratch.old cores.old) password.now (reading self.now) }
-        ensures left { IsLeft (reading self.now)
-            (workspace_of chunks.old table.old scratch.old cores.old) (workspace_of chunks.new table.new scratch.new cores.new) }
+        ensures verdict { with_refusal result
+            ≡ verdict_in (workspace_of chunks.old table.old scratch.old cores.old) password.now
+            (reading self.now) }
+        ensures left { IsLeft (reading self.now) (workspace_of chunks.old table.old scratch.old cores.old)
+            (workspace_of chunks.new table.new scratch.new cores.new) }
         ensures hashed { cores.new.compressions ≡ cores.old.compressions
             + hashed_in (workspace_of chunks.old table.old scratch.old cores.old) password.now (reading self.now) }
     {

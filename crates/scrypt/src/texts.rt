@@ -36,8 +36,10 @@ pub fn hash_text(alloc: Global, password: &[u8], salt: [u8; 16], params: &Params
     ensures accepts { IfOk result (λ text. verdict password.now (reading (string_bytes text)) ≡ Ok tt) }
     ensures strong { IfOk result (λ text. weaker params.now (reading (string_bytes text)) ≡ Ok false) }
     ensures within { IfOk result (λ text. (defaults : Limits) (n : ℕ) → n ≤ key_len_or_default params.now
-        → buffers_bytes params.now.log_n params.now.r params.now.p < 2 ^ 64 → work params.now.log_n params.now.r params.now.p < 2 ^ 64
-        → within (limits_for_new defaults params.now n) (reading (string_bytes text)) ≡ reading (string_bytes text)) }
+        → buffers_bytes params.now.log_n params.now.r params.now.p < 2 ^ 64
+        → work params.now.log_n params.now.r params.now.p < 2 ^ 64
+        → within (limits_for_new defaults params.now n) (reading (string_bytes text))
+        ≡ reading (string_bytes text)) }
     ensures err { IfErr result (λ e. e ≡ OutOfMemory) }
 {
     made_texts_are_accepted();

@@ -41,7 +41,8 @@ fn is_key_of<M: TableMemory, W: Backend>(
     requires ready { IsReady M.room parts.now.params.log_n 0 parts.now.params.r parts.now.params.p used.old }
     ensures exact { result ≡ is_right password.now (stored parts.now) }
     ensures spent { IsSpent M.room parts.now.params used.old used.new }
-    ensures hashed { used.new.cores.now.compressions ≡ used.old.cores.now.compressions + verify_cost password.now (stored parts.now) }
+    ensures hashed { used.new.cores.now.compressions
+        ≡ used.old.cores.now.compressions + verify_cost password.now (stored parts.now) }
 {
     let params = &parts.params;
     let salt = parts.salt.as_bytes();
@@ -70,7 +71,8 @@ pub(crate) fn verify_allocating<W: Backend>(
     ensures memory { IsErrOf result OutOfMemory → cores.new ≡ cores.old }
     ensures counted { (¬ IsErrOf result OutOfMemory)
         → AreCounted (cost parts.now.params.log_n parts.now.params.r parts.now.params.p) cores.old cores.new }
-    ensures hashed { (¬ IsErrOf result OutOfMemory) → cores.new.compressions ≡ cores.old.compressions + verify_cost password.now (stored parts.now) }
+    ensures hashed { (¬ IsErrOf result OutOfMemory)
+        → cores.new.compressions ≡ cores.old.compressions + verify_cost password.now (stored parts.now) }
 {
     // A limit of 0 bytes selects one table.
     let (w, mut own) = OwnBuffers::allocate_within(alloc, &parts.params, 0)?;
@@ -91,8 +93,8 @@ pub(crate) fn verify_in_buffers<W: Backend>(
     scratch: &mut [u32],
     cores: &mut CoreCount,
 ) -> Result<()>
-    ensures left { IsLeft (Ok (stored parts.now))
-        (workspace_of chunks.old table.old scratch.old cores.old) (workspace_of chunks.new table.new scratch.new cores.new) }
+    ensures left { IsLeft (Ok (stored parts.now)) (workspace_of chunks.old table.old scratch.old cores.old)
+        (workspace_of chunks.new table.new scratch.new cores.new) }
     ensures verdict { with_refusal result
         ≡ verdict_in (workspace_of chunks.old table.old scratch.old cores.old) password.now (Ok (stored parts.now)) }
     ensures hashed { cores.new.compressions ≡ cores.old.compressions

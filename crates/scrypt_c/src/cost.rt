@@ -145,7 +145,8 @@ pub extern "C" fn scrypt_default_limits(
     ensures one { (result ≡ OK) ⊎ (result ≡ INVALID_PARAMS) }
     ensures limits { result ≡ OK → limits_of max_mem.new max_work.new min_key_len.new
         ≡ limits_for_new Limits.DEFAULT (params_of log_n r p) key_len }
-    ensures refused { result ≢ OK → (max_mem.new ≡ max_mem.old) × (max_work.new ≡ max_work.old) × (min_key_len.new ≡ min_key_len.old) }
+    ensures refused { result ≢ OK
+        → (max_mem.new ≡ max_mem.old) × (max_work.new ≡ max_work.old) × (min_key_len.new ≡ min_key_len.old) }
 {
     match Params::new(log_n, r, p) {
         Ok(params) => {

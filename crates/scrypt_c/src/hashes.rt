@@ -42,11 +42,15 @@ pub extern "C" fn scrypt_hash_phc(
     text: &mut [u8],
     text_len: &mut usize,
 ) -> i32
-    ensures made { result ≡ OK → IsWrittenTo (IsMadeText (wanted log_n r p key_len) password.now salt.now) text.old text.new text_len.new }
+    ensures made { result ≡ OK
+        → IsWrittenTo (IsMadeText (wanted log_n r p key_len) password.now salt.now)
+        text.old text.new text_len.new }
     ensures params { (result ≡ INVALID_PARAMS) ↔ (¬ AreHashParams log_n r p key_len) }
     ensures salt { (result ≡ SALT_INVALID) ↔ (AreHashParams log_n r p key_len × ¬ IsSaltLen (length salt.now)) }
-    ensures size { result ≡ BUFFER_SIZE → IsTooLong (IsMadeText (wanted log_n r p key_len) password.now salt.now) text.old text_len.new }
-    ensures status { (result ≡ OK) ⊎ (result ≡ INVALID_PARAMS) ⊎ (result ≡ SALT_INVALID) ⊎ (result ≡ OUT_OF_MEMORY) ⊎ (result ≡ BUFFER_SIZE) }
+    ensures size { result ≡ BUFFER_SIZE
+        → IsTooLong (IsMadeText (wanted log_n r p key_len) password.now salt.now) text.old text_len.new }
+    ensures status { (result ≡ OK) ⊎ (result ≡ INVALID_PARAMS) ⊎ (result ≡ SALT_INVALID)
+        ⊎ (result ≡ OUT_OF_MEMORY) ⊎ (result ≡ BUFFER_SIZE) }
     ensures refused { result ≢ OK → text.new ≡ text.old }
     ensures unchanged { result ≢ OK → result ≢ BUFFER_SIZE → text_len.new ≡ text_len.old }
 {
@@ -79,9 +83,12 @@ pub extern "C" fn scrypt_hash_mcf(
     text: &mut [u8],
     text_len: &mut usize,
 ) -> i32
-    ensures made { result ≡ OK → IsWrittenTo (IsMadeMcf (wanted log_n r p key_len) password.now salt.now) text.old text.new text_len.new }
+    ensures made { result ≡ OK
+        → IsWrittenTo (IsMadeMcf (wanted log_n r p key_len) password.now salt.now)
+        text.old text.new text_len.new }
     ensures params { (result ≡ INVALID_PARAMS) ↔ (¬ AreHashParams log_n r p key_len) }
-    ensures size { result ≡ BUFFER_SIZE → IsTooLong (IsMadeMcf (wanted log_n r p key_len) password.now salt.now) text.old text_len.new }
+    ensures size { result ≡ BUFFER_SIZE
+        → IsTooLong (IsMadeMcf (wanted log_n r p key_len) password.now salt.now) text.old text_len.new }
     ensures status { (result ≡ OK) ⊎ (result ≡ INVALID_PARAMS) ⊎ (result ≡ OUT_OF_MEMORY) ⊎ (result ≡ BUFFER_SIZE) }
     ensures refused { result ≢ OK → text.new ≡ text.old }
     ensures unchanged { result ≢ OK → result ≢ BUFFER_SIZE → text_len.new ≡ text_len.old }
@@ -112,7 +119,8 @@ pub extern "C" fn scrypt_hash_params(
 ) -> i32
     ensures read { ReadsParams text.now result log_n.new r.new p.new key_len.new }
     ensures missing { (result ≢ MISMATCH) × (result ≢ OUT_OF_MEMORY) }
-    ensures unchanged { result ≢ OK → (log_n.new ≡ log_n.old) × (r.new ≡ r.old) × (p.new ≡ p.old) × (key_len.new ≡ key_len.old) }
+    ensures unchanged { result ≢ OK
+        → (log_n.new ≡ log_n.old) × (r.new ≡ r.old) × (p.new ≡ p.old) × (key_len.new ≡ key_len.old) }
 {
     reading_names_no_password();
     let hash = match stored_hash(text) {

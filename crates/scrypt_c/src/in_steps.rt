@@ -48,7 +48,9 @@ pub extern "C" fn scrypt_key_begin(
     ensures status { (result ≡ OK) ⊎ (result ≡ INVALID_PARAMS) ⊎ (result ≡ BUFFER_SIZE) }
     ensures begun { result ≡ OK → IsBegun ⟦<Target as Backend>⟧.most ⟦<Target as Backend>⟧.scalar
         password.now salt.now (params_of log_n r p) at.new chunks.new table.new scratch.new }
-    ensures unchanged { result ≢ OK → (chunks.new ≡ chunks.old) × (table.new ≡ table.old) × (scratch.new ≡ scratch.old) × (at.new ≡ at.old) }
+    ensures unchanged { result ≢ OK
+        → (chunks.new ≡ chunks.old) × (table.new ≡ table.old) × (scratch.new ≡ scratch.old)
+        × (at.new ≡ at.old) }
 {
     let Ok(params) = Params::new(log_n, r, p) else {
         return INVALID_PARAMS;
@@ -84,16 +86,22 @@ pub extern "C" fn scrypt_key_step(
     ensures buffers { (result ≡ BUFFER_SIZE) ↔ (IsTrue (are_accepted log_n r p)
         × ¬ AreForSteps (params_of log_n r p) at.old.interleaved chunks.old table.old scratch.old) }
     ensures status { (result ≡ OK) ⊎ (result ≡ INVALID_PARAMS) ⊎ (result ≡ BUFFER_SIZE) ⊎ (result ≡ INVALID_PROGRESS) }
-    ensures before { result ≡ OK → CanBe ⟦<Target as Backend>⟧.most ⟦<Target as Backend>⟧.scalar (params_of log_n r p) at.old }
-    ensures outside { result ≡ INVALID_PROGRESS → ¬ CanBe ⟦<Target as Backend>⟧.most ⟦<Target as Backend>⟧.scalar (params_of log_n r p) at.old }
+    ensures before { result ≡ OK
+        → CanBe ⟦<Target as Backend>⟧.most ⟦<Target as Backend>⟧.scalar (params_of log_n r p) at.old }
+    ensures outside { result ≡ INVALID_PROGRESS
+        → ¬ CanBe ⟦<Target as Backend>⟧.most ⟦<Target as Backend>⟧.scalar (params_of log_n r p) at.old }
     ensures after { result ≡ OK → IsAt ⟦<Target as Backend>⟧.most ⟦<Target as Backend>⟧.scalar
         (params_of log_n r p) at.new chunks.new table.new scratch.new }
     ensures under_way { result ≡ OK → (password salt : List ℕ)
         → IsUnderWay password salt (params_of log_n r p) at.old chunks.old table.old scratch.old
         → IsUnderWay password salt (params_of log_n r p) at.new chunks.new table.new scratch.new }
-    ensures exact { result ≡ OK → mixes_done (params_of log_n r p) at.new
-        ≡ mixes_done (params_of log_n r p) at.old + at.old.interleaved * min count (lacking (params_of log_n r p) at.old) }
-    ensures unchanged { result ≢ OK → (chunks.new ≡ chunks.old) × (table.new ≡ table.old) × (scratch.new ≡ scratch.old) × (at.new ≡ at.old) }
+    ensures exact { result ≡ OK
+        → mixes_done (params_of log_n r p) at.new
+        ≡ mixes_done (params_of log_n r p) at.old
+        + at.old.interleaved * min count (lacking (params_of log_n r p) at.old) }
+    ensures unchanged { result ≢ OK
+        → (chunks.new ≡ chunks.old) × (table.new ≡ table.old) × (scratch.new ≡ scratch.old)
+        × (at.new ≡ at.old) }
 {
     let Ok(params) = Params::new(log_n, r, p) else {
         return INVALID_PARAMS;
@@ -125,8 +133,10 @@ pub extern "C" fn scrypt_key_finish(
     output: &mut [u8],
 ) -> i32
     ensures params { (result ≡ INVALID_PARAMS) ↔ (¬ IsTrue (are_accepted log_n r p)) }
-    ensures buffers { (result ≡ BUFFER_SIZE) ↔ (IsTrue (are_accepted log_n r p) × (length chunks.old ≢ chunks_bytes r p)) }
-    ensures status { (result ≡ OK) ⊎ (result ≡ INVALID_PARAMS) ⊎ (result ≡ BUFFER_SIZE) ⊎ (result ≡ UNFINISHED) ⊎ (result ≡ INVALID_OUTPUT_LEN) }
+    ensures buffers { (result ≡ BUFFER_SIZE)
+        ↔ (IsTrue (are_accepted log_n r p) × (length chunks.old ≢ chunks_bytes r p)) }
+    ensures status { (result ≡ OK) ⊎ (result ≡ INVALID_PARAMS) ⊎ (result ≡ BUFFER_SIZE)
+        ⊎ (result ≡ UNFINISHED) ⊎ (result ≡ INVALID_OUTPUT_LEN) }
     ensures unfinished { result ≡ UNFINISHED → at.now.chunks ≢ p }
     ensures length { result ≡ INVALID_OUTPUT_LEN → ¬ IsTrue (is_output_len (length output.old)) }
     ensures ended { result ≡ OK → (at.now.chunks ≡ p) × IsTrue (is_output_len (length output.old)) }
@@ -171,8 +181,10 @@ pub extern "C" fn scrypt_verify_begin(
     scratch: &mut [u32],
     at: &mut Progress,
 ) -> i32
-    ensures refused { OnErr (limited_reading max_mem max_work min_key_len text.now) (result ≡ result_status (limited_reading max_mem max_work min_key_len text.now)) }
-    ensures status { IfOk (limited_reading max_mem max_work min_key_len text.now) (λ s. (result ≡ OK) ⊎ (result ≡ BUFFER_SIZE)) }
+    ensures refused { OnErr (limited_reading max_mem max_work min_key_len text.now)
+        (result ≡ result_status (limited_reading max_mem max_work min_key_len text.now)) }
+    ensures status { IfOk (limited_reading max_mem max_work min_key_len text.now)
+        (λ s. (result ≡ OK) ⊎ (result ≡ BUFFER_SIZE)) }
     ensures buffers { IfOk (limited_reading max_mem max_work min_key_len text.now)
         (λ s. (result ≡ BUFFER_SIZE) ↔ ¬ AreForSteps s.params 1 chunks.old table.old scratch.old) }
     ensures params { result ≡ OK → IfOk (bytes_reading text.now)
@@ -180,8 +192,9 @@ pub extern "C" fn scrypt_verify_begin(
     ensures begun { result ≡ OK → IfOk (bytes_reading text.now)
         (λ s. IsBegun ⟦<Target as Backend>⟧.most ⟦<Target as Backend>⟧.scalar
         password.now s.salt (params_of log_n.new r.new p.new) at.new chunks.new table.new scratch.new) }
-    ensures unchanged { result ≢ OK → (chunks.new ≡ chunks.old) × (table.new ≡ table.old) × (scratch.new ≡ scratch.old) × (at.new ≡ at.old)
-        × (log_n.new ≡ log_n.old) × (r.new ≡ r.old) × (p.new ≡ p.old) }
+    ensures unchanged { result ≢ OK
+        → (chunks.new ≡ chunks.old) × (table.new ≡ table.old) × (scratch.new ≡ scratch.old)
+        × (at.new ≡ at.old) × (log_n.new ≡ log_n.old) × (r.new ≡ r.old) × (p.new ≡ p.old) }
 {
     let hash = match limited_hash(text, max_mem, max_work, min_key_len) {
         Ok(hash) => hash,

@@ -17,7 +17,7 @@ use crate::statuses::{
 use crate::target::Target;
 use scrypt::{
     BufferLens, CoreCount, DeriveError, Limits, Params, output_len_ok, scrypt_in_prefix,
-    scrypt_thin_with_backend, scrypt_with_max_mem,
+    scrypt_thin_with_backend, scrypt_with_max_mem_counted,
 };
 use std::alloc::Global;
 
@@ -46,8 +46,10 @@ pub extern "C" fn scrypt_kdf(
 ) -> i32
     ensures value { result ≡ OK → output.new ≡ derived_key password.now salt.now log_n r p (length output.old) }
     ensures params { (result ≡ INVALID_PARAMS) ↔ (¬ IsTrue (are_accepted log_n r p)) }
-    ensures length { (result ≡ INVALID_OUTPUT_LEN) ↔ (IsTrue (are_accepted log_n r p) × ¬ IsTrue (is_output_len (length output.old))) }
-    ensures status { (result ≡ OK) ⊎ (result ≡ INVALID_PARAMS) ⊎ (result ≡ INVALID_OUTPUT_LEN) ⊎ (result ≡ OUT_OF_MEMORY) }
+    ensures length { (result ≡ INVALID_OUTPUT_LEN)
+        ↔ (IsTrue (are_accepted log_n r p) × ¬ IsTrue (is_output_len (length output.old))) }
+    ensures status { (result ≡ OK) ⊎ (result ≡ INVALID_PARAMS) ⊎ (result ≡ INVALID_OUTPUT_LEN)
+        ⊎ (result ≡ OUT_OF_MEMORY) }
     ensures refused { result ≢ OK → output.new ≡ output.old }
 {
     let Ok(params) = Params::new(log_n, r, p) else {
@@ -55,7 +57,7 @@ pub extern "C" fn scrypt_kdf(
     };
     let max_mem = bytes_that_pay(&params, max_tables, max_mem);
     let mut cores = CoreCount::new();
-    match scrypt_with_max_mem::<Target>(
+    match scrypt_with_max_mem_counted::<Target>(
         alloc, password, salt, &params, max_mem, output, &mut cores,
     ) {
         Ok(()) => OK,
@@ -85,11 +87,15 @@ pub extern "C" fn scrypt_kdf_limited(
 ) -> i32
     ensures value { result ≡ OK → output.new ≡ derived_key password.now salt.now log_n r p (length output.old) }
     ensures params { (result ≡ INVALID_PARAMS) ↔ (¬ IsTrue (are_accepted log_n r p)) }
-    ensures costly { (result ≡ TOO_COSTLY) ↔ (IsTrue (are_accepted log_n r p)
+    ensures costly { (result ≡ TOO_COSTLY)
+        ↔ (IsTrue (are_accepted log_n r p)
         × (¬ IsTrue (are_within (limits_of max_mem max_work 0) (params_of log_n r p)))) }
-    ensures length { (result ≡ INVALID_OUTPUT_LEN) ↔ (IsTrue (are_accepted log_n r p)
-        × IsTrue (are_within (limits_of max_mem max_work 0) (params_of log_n r p)) × ¬ IsTrue (is_output_len (length output.old))) }
-    ensures status { (result ≡ OK) ⊎ (result ≡ INVALID_PARAMS) ⊎ (result ≡ TOO_COSTLY) ⊎ (result ≡ INVALID_OUTPUT_LEN) ⊎ (result ≡ OUT_OF_MEMORY) }
+    ensures length { (result ≡ INVALID_OUTPUT_LEN)
+        ↔ (IsTrue (are_accepted log_n r p)
+        × IsTrue (are_within (limits_of max_mem max_work 0) (params_of log_n r p))
+        × ¬ IsTrue (is_output_len (length output.old))) }
+    ensures status { (result ≡ OK) ⊎ (result ≡ INVALID_PARAMS) ⊎ (result ≡ TOO_COSTLY)
+        ⊎ (result ≡ INVALID_OUTPUT_LEN) ⊎ (result ≡ OUT_OF_MEMORY) }
     ensures refused { result ≢ OK → output.new ≡ output.old }
 {
     let Ok(params) = Params::new(log_n, r, p) else {
@@ -182,10 +188,12 @@ pub extern "C" fn scrypt_kdf_with_buffers(
         (IsTrue (are_enough (params_of log_n r p) chunks.old table.old scratch.old)) (length output.old) result }
     ensures value { result ≡ OK → output.new ≡ derived_key password.now salt.now log_n r p (length output.old) }
     ensures mixed { result ≡ OK → take (chunks_bytes r p) chunks.new ≡ mixed_b password.now salt.now log_n r p }
-    ensures rest { result ≡ OK → IsRestKept (params_of log_n r p)
-        (buffers chunks.old table.old scratch.old) (buffers chunks.new table.new scratch.new) }
+    ensures rest { result ≡ OK
+        → IsRestKept (params_of log_n r p) (buffers chunks.old table.old scratch.old)
+        (buffers chunks.new table.new scratch.new) }
     ensures refused { result ≢ OK → output.new ≡ output.old }
-    ensures unchanged { result ≢ OK → (chunks.new ≡ chunks.old) × (table.new ≡ table.old) × (scratch.new ≡ scratch.old) }
+    ensures unchanged { result ≢ OK
+        → (chunks.new ≡ chunks.old) × (table.new ≡ table.old) × (scratch.new ≡ scratch.old) }
 {
     let Ok(params) = Params::new(log_n, r, p) else {
         return INVALID_PARAMS;
@@ -228,7 +236,8 @@ pub extern "C" fn scrypt_kdf_thin(
     ensures value { result ≡ OK → output.new ≡ derived_key password.now salt.now log_n r p (length output.old) }
     ensures mixed { result ≡ OK → chunks.new ≡ mixed_b password.now salt.now log_n r p }
     ensures refused { result ≢ OK → output.new ≡ output.old }
-    ensures unchanged { result ≢ OK → (chunks.new ≡ chunks.old) × (table.new ≡ table.old) × (scratch.new ≡ scratch.old) }
+    ensures unchanged { result ≢ OK
+        → (chunks.new ≡ chunks.old) × (table.new ≡ table.old) × (scratch.new ≡ scratch.old) }
 {
     let Some((params, lens)) = params_and_lens(log_n, r, p, s) else {
         return INVALID_PARAMS;

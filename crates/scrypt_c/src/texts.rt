@@ -34,7 +34,8 @@ pub fn limited_hash(
     max_work: u64,
     min_key_len: usize,
 ) -> std::result::Result<StoredHash<'_>, LimitedError>
-    ensures reading { limited_reading max_mem max_work min_key_len bytes.now ≡ with_limited_refusal result and_then reading }
+    ensures reading { limited_reading max_mem max_work min_key_len bytes.now
+        ≡ with_limited_refusal result and_then reading }
     ensures read { IfOk result (λ hash. IsOk (reading hash) × (bytes_reading bytes.now ≡ reading hash)) }
 {
     let hash = match stored_hash(bytes) {

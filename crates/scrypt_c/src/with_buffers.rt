@@ -49,15 +49,19 @@ pub extern "C" fn scrypt_hash_phc_with_buffers(
     table: &mut [u32],
     scratch: &mut [u32],
 ) -> i32
-    ensures made { result ≡ OK → IsWrittenTo (IsMadeText (wanted log_n r p key_len) password.now salt.now) text.old text.new text_len.new }
+    ensures made { result ≡ OK
+        → IsWrittenTo (IsMadeText (wanted log_n r p key_len) password.now salt.now)
+        text.old text.new text_len.new }
     ensures params { (result ≡ INVALID_PARAMS) ↔ (¬ AreHashParams log_n r p key_len) }
     ensures salt { (result ≡ SALT_INVALID) ↔ (AreHashParams log_n r p key_len × ¬ IsSaltLen (length salt.now)) }
     ensures buffers { result ≡ OK → IsTrue (are_enough (wanted log_n r p key_len) chunks.old table.old scratch.old) }
-    ensures size { result ≡ BUFFER_SIZE → IsTrue (are_enough (wanted log_n r p key_len) chunks.old table.old scratch.old)
+    ensures size { result ≡ BUFFER_SIZE
+        → IsTrue (are_enough (wanted log_n r p key_len) chunks.old table.old scratch.old)
         → IsTooLong (IsMadeText (wanted log_n r p key_len) password.now salt.now) text.old text_len.new }
     ensures status { (result ≡ OK) ⊎ (result ≡ INVALID_PARAMS) ⊎ (result ≡ SALT_INVALID) ⊎ (result ≡ BUFFER_SIZE) }
     ensures used { (result ≡ OK) ⊎ (result ≡ BUFFER_SIZE)
-        → IsTrue (are_enough (wanted log_n r p key_len) chunks.old table.old scratch.old) → LeftIn (IsDone (wanted log_n r p key_len)
+        → IsTrue (are_enough (wanted log_n r p key_len) chunks.old table.old scratch.old)
+        → LeftIn (IsDone (wanted log_n r p key_len)
         (buffers chunks.old table.old scratch.old)) chunks.new table.new scratch.new }
     ensures refused { result ≢ OK → text.new ≡ text.old }
     ensures unchanged { (result ≡ INVALID_PARAMS) ⊎ (result ≡ SALT_INVALID)
@@ -98,10 +102,13 @@ pub extern "C" fn scrypt_hash_mcf_with_buffers(
     table: &mut [u32],
     scratch: &mut [u32],
 ) -> i32
-    ensures made { result ≡ OK → IsWrittenTo (IsMadeMcf (wanted log_n r p key_len) password.now salt.now) text.old text.new text_len.new }
+    ensures made { result ≡ OK
+        → IsWrittenTo (IsMadeMcf (wanted log_n r p key_len) password.now salt.now)
+        text.old text.new text_len.new }
     ensures params { (result ≡ INVALID_PARAMS) ↔ (¬ AreHashParams log_n r p key_len) }
     ensures buffers { result ≡ OK → IsTrue (are_enough (wanted log_n r p key_len) chunks.old table.old scratch.old) }
-    ensures size { result ≡ BUFFER_SIZE → IsTooShort (IsMadeMcf (wanted log_n r p key_len) password.now salt.now)
+    ensures size { result ≡ BUFFER_SIZE
+        → IsTooShort (IsMadeMcf (wanted log_n r p key_len) password.now salt.now)
         (made_text_len (wanted log_n r p key_len) (length salt.now))
         (IsTrue (are_enough (wanted log_n r p key_len) chunks.old table.old scratch.old)) text.old text_len.old text_len.new }
     ensures status { (result ≡ OK) ⊎ (result ≡ INVALID_PARAMS) ⊎ (result ≡ BUFFER_SIZE) }
@@ -140,7 +147,9 @@ pub extern "C" fn scrypt_verify_with_buffers(
     table: &mut [u32],
     scratch: &mut [u32],
 ) -> i32
-    ensures status { result ≡ buffers_status (verdict_in (buffers chunks.old table.old scratch.old) password.now (bytes_reading text.now)) }
+    ensures status { result
+        ≡ buffers_status (verdict_in (buffers chunks.old table.old scratch.old)
+        password.now (bytes_reading text.now)) }
     ensures left { LeftIn (IsLeft (bytes_reading text.now) (buffers chunks.old table.old scratch.old))
         chunks.new table.new scratch.new }
 {
@@ -186,8 +195,11 @@ fn verify(
     table: &mut [u32],
     scratch: &mut [u32],
 ) -> i32
-    ensures status { result ≡ buffers_status (verdict_in (buffers chunks.old table.old scratch.old) password.now (reading hash.now)) }
-    ensures left { LeftIn (IsLeft (reading hash.now) (buffers chunks.old table.old scratch.old)) chunks.new table.new scratch.new }
+    ensures status { result
+        ≡ buffers_status (verdict_in (buffers chunks.old table.old scratch.old)
+        password.now (reading hash.now)) }
+    ensures left { LeftIn (IsLeft (reading hash.now) (buffers chunks.old table.old scratch.old))
+        chunks.new table.new scratch.new }
 {
     let mut cores = CoreCount::new();
     match hash.verify_with_buffers::<Target>(password, chunks, table, scratch, &mut cores) {
@@ -221,8 +233,9 @@ pub extern "C" fn scrypt_verify_batch_with_buffers<'a>(
     table: &mut [u32],
     scratch: &mut [u32],
 )
-    ensures statuses { statuses.new ≡ statuses_in (buffers chunks.old table.old scratch.old)
-        ((password.now, text.now) ∷ (password_2.now, text_2.now) ∷ (password_3.now, text_3.now) ∷ (password_4.now, text_4.now) ∷ []) }
+    ensures statuses { statuses.new
+        ≡ statuses_in (buffers chunks.old table.old scratch.old) ((password.now, text.now) ∷
+        (password_2.now, text_2.now) ∷ (password_3.now, text_3.now) ∷ (password_4.now, text_4.now) ∷ []) }
     ensures left { LeftIn (AreLeft ((password.now, bytes_reading text.now) ∷ (password_2.now, bytes_reading text_2.now)
         ∷ (password_3.now, bytes_reading text_3.now) ∷ (password_4.now, bytes_reading text_4.now) ∷ [])
         (buffers chunks.old table.old scratch.old)) chunks.new table.new scratch.new }

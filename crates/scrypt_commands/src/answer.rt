@@ -17,7 +17,8 @@ use crate::limit_options::LimitOptions;
 use password_hash::Error;
 use scrypt::laws::mcf_texts_are_read;
 use scrypt::{
-    Backend, CoreCount, LimitedError, Limits, Params, StoredHash, mcf, phc, scrypt_with_max_mem,
+    Backend, CoreCount, LimitedError, Limits, Params, StoredHash, mcf, phc,
+    scrypt_with_max_mem_counted,
 };
 use std::alloc::Global;
 
@@ -62,7 +63,8 @@ impl<'a> Command<'a> {
         cores: &mut CoreCount,
     ) -> Result<Answer>
         ensures reply { Gives reply_view (reply_to options (request_view self.now) password.now) result }
-        ensures cores { AreOfRequest options (request_view self.now) password.now (IsErrOf result OutOfMemory) cores.old cores.new }
+        ensures cores { AreOfRequest options (request_view self.now) password.now
+            (IsErrOf result OutOfMemory) cores.old cores.new }
     {
         match self {
             Command::Make(making) => make::<M>(alloc, password, making),
@@ -94,7 +96,8 @@ fn replace<M: Backend>(
     password: &[u8],
     wanted: &Option<Making>,
 ) -> Result<Answer>
-    ensures { Gives reply_view (right_reply (option_map making_view wanted.now) (reading hash.now) password.now) result }
+    ensures { Gives reply_view
+        (right_reply (option_map making_view wanted.now) (reading hash.now) password.now) result }
 {
     match wanted {
         Some(making) if hash.needs_rehash(&making.params).unwrap_or(false) => {
@@ -112,8 +115,10 @@ fn verify<M: Backend>(
     limits: Option<Limits>,
     cores: &mut CoreCount,
 ) -> Result<bool>
-    ensures right { Gives (λ right. right) (right_of limits (verdict password.now (bounded limits (reading hash.now)))) result }
-    ensures cores { AreOfHash password.now (bounded limits (reading hash.now)) (IsErrOf result OutOfMemory) cores.old cores.new }
+    ensures right { Gives (λ right. right)
+        (right_of limits (verdict password.now (bounded limits (reading hash.now)))) result }
+    ensures cores { AreOfHash password.now (bounded limits (reading hash.now))
+        (IsErrOf result OutOfMemory) cores.old cores.new }
 {
     match verify_within::<M>(alloc, hash, password, limits, cores) {
         Ok(()) => Ok(true),
@@ -131,8 +136,8 @@ fn verify_within<M: Backend>(
     cores: &mut CoreCount,
 ) -> std::result::Result<(), LimitedError>
     ensures verdict { IsVerdict password.now (bounded limits (reading hash.now)) (with_limited_refusal result) }
-    ensures cores { AreOfHash password.now (bounded limits (reading hash.now)) (IsErrOf (with_limited_refusal result) Refused)
-        cores.old cores.new }
+    ensures cores { AreOfHash password.now (bounded limits (reading hash.now))
+        (IsErrOf (with_limited_refusal result) Refused) cores.old cores.new }
 {
     if let Some(limits) = limits {
         hash.within(&limits)?;
@@ -191,12 +196,16 @@ fn key<M: Backend>(
     len: usize,
     is_raw: bool,
 ) -> Result<Answer>
-    ensures { Gives reply_view (made_reply (record { target = Key len is_raw; params = params.now; salt = salt.now }) password.now) result }
+    ensures { Gives reply_view (made_reply
+        (record { target = Key len is_raw; params = params.now; salt = salt.now }) password.now) result }
 {
     let mut key = vec![in alloc; 0u8; len]?;
     // The length is allowed, so this fails only if an allocation does.
     let mut cores = CoreCount::new();
-    if scrypt_with_max_mem::<M>(alloc, password, salt, params, 0, &mut key, &mut cores).is_err() {
+    if scrypt_with_max_mem_counted::<M>(
+        alloc, password, salt, params, 0, &mut key, &mut cores,
+    ).is_err()
+    {
         return Err(CliError::OutOfMemory);
     }
     if is_raw {

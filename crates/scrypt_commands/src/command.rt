@@ -214,7 +214,8 @@ fn salt_word<'a>(drawn: Option<[u8; 16]>, words: &'a [String]) -> Read<'a, Salt<
 
 // Reads HASH, and also returns the words after it. The text of a file has no word.
 fn hash_word<'a>(file_text: Option<&'a str>, words: &'a [String]) -> Read<'a, &'a str>
-    ensures { Gives (before_words (λ text. text.now)) (hash_word (option_copied file_text.entry) (texts_of words.now)) result }
+    ensures { Gives (before_words (λ text. text.now))
+        (hash_word (option_copied file_text.entry) (texts_of words.now)) result }
 {
     match file_text {
         Some(text) => Ok((text, words)),

@@ -110,7 +110,8 @@ impl CliError {
 
 // Writes the error line of `Refused`, with its newline, with one `write_all` if it has no numbers.
 fn write_refused<F: Write>(faults: &mut F, why: LimitedError, limits: Limits) -> io::Result<()>
-    ensures written { OnOk result (Appends (F.contents faults.old) (F.contents faults.new) (limited_line limits (limited_refusal why))) }
+    ensures written { OnOk result (Appends (F.contents faults.old) (F.contents faults.new)
+        (limited_line limits (limited_refusal why))) }
 {
     let Limits {
         max_mem,

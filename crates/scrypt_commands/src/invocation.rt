@@ -110,13 +110,15 @@ impl<'a> Invocation<'a> {
             × ((options_in (invocation_view self.entry)).draws_salt ≡ true → M.draws machine.now salt)
             × IsRun (plan_of salt (option_copied file_text.entry) (invocation_view self.entry))
             (record { input = R.remaining reader.old; output = W.contents writer.old; faults = F.contents faults.old })
-            (record { input = R.remaining reader.new; output = W.contents writer.new; faults = F.contents faults.new }) ended) }
+            (record { input = R.remaining reader.new; output = W.contents writer.new; faults = F.contents faults.new })
+            ended) }
         ensures without_input { IfOk result (EndsUnread (invocation_view self.entry)) }
-        ensures refused { IfOk result (λ ended. IsRefusedUnread (option_copied file_text.entry) (invocation_view self.entry)
-            → (ended.status ≡ 2) ⊎ (ended.status ≡ 3)) }
+        ensures refused { IfOk result (λ ended. IsRefusedUnread (option_copied file_text.entry)
+            (invocation_view self.entry) → (ended.status ≡ 2) ⊎ (ended.status ≡ 3)) }
         ensures drawn { OnErr result (IsTrue (options_in (invocation_view self.entry)).draws_salt) }
         ensures unread { OnErr result (Keeps (R.remaining reader.old) (R.remaining reader.new)
-            × Keeps (W.contents writer.old) (W.contents writer.new) × Keeps (F.contents faults.old) (F.contents faults.new)) }
+            × Keeps (W.contents writer.old) (W.contents writer.new)
+            × Keeps (F.contents faults.old) (F.contents faults.new)) }
     {
         match self {
             Invocation::Tell(text) => Ok(print(text, writer, faults)),
@@ -135,8 +137,8 @@ impl<'a> Invocation<'a> {
 
 // Draws a salt if required. Returns the machine's error.
 fn draw<M: Machine>(machine: &M, is_drawn: bool) -> io::Result<Option<[u8; 16]>>
-    ensures salt { IfOk result (λ drawn. (salt : List ℕ) × (length salt ≡ 16) × (is_drawn ≡ true → M.draws machine.now salt)
-        × (drawn ≡ then_some is_drawn salt)) }
+    ensures salt { IfOk result (λ drawn. (salt : List ℕ) × (length salt ≡ 16)
+        × (is_drawn ≡ true → M.draws machine.now salt) × (drawn ≡ then_some is_drawn salt)) }
     ensures drawn { OnErr result (IsTrue is_drawn) }
 {
     if !is_drawn {

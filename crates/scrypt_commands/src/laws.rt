@@ -10,6 +10,7 @@ ghost use Rattle.scrypt_commands.specs.Run.{plan_of, plan_of_words};
 /// rejected without reading the input in the same cases.
 #[tactic(auto, using(crate::proofs::OutcomeFacts::without_options))]
 pub fn run_has_no_options()
-    ensures same { (salt : List ℕ) (words : List (List ℕ)) → text_of_words words ≡ None → options_of words ≡ (no_options, words)
-        → wants_file words ≡ false → plan_of salt None (invocation_of words) ≡ plan_of_words words }
+    ensures same { (salt : List ℕ) (words : List (List ℕ)) → text_of_words words ≡ None
+        → options_of words ≡ (no_options, words) → wants_file words ≡ false
+        → plan_of salt None (invocation_of words) ≡ plan_of_words words }
 {}

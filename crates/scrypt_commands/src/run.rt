@@ -47,8 +47,10 @@ pub fn run<R: Read, W: Write, F: Write>(
 ) -> Ended
     ensures run { IsRun (plan_of_words (texts_of words.now))
         (record { input = R.remaining reader.old; output = W.contents writer.old; faults = F.contents faults.old })
-        (record { input = R.remaining reader.new; output = W.contents writer.new; faults = F.contents faults.new }) result }
-    ensures refused { (plan_of_words (texts_of words.now)).is_unread ≡ true → (result.status ≡ 2) ⊎ (result.status ≡ 3) }
+        (record { input = R.remaining reader.new; output = W.contents writer.new; faults = F.contents faults.new })
+        result }
+    ensures refused { (plan_of_words (texts_of words.now)).is_unread ≡ true
+        → (result.status ≡ 2) ⊎ (result.status ≡ 3) }
 {
     match CommandLine::new(NONE, words) {
         Ok(given) => run_command::<Simd, R, W, F>(alloc, given, reader, writer, faults),
@@ -67,8 +69,10 @@ pub(crate) fn run_command<M: Backend, R: Read, W: Write, F: Write>(
 ) -> Ended
     ensures run { IsRun (plan_by (command_line_view command_line.entry))
         (record { input = R.remaining reader.old; output = W.contents writer.old; faults = F.contents faults.old })
-        (record { input = R.remaining reader.new; output = W.contents writer.new; faults = F.contents faults.new }) result }
-    ensures refused { IsErr (request_of (command_line_view command_line.entry)) → (result.status ≡ 2) ⊎ (result.status ≡ 3) }
+        (record { input = R.remaining reader.new; output = W.contents writer.new; faults = F.contents faults.new })
+        result }
+    ensures refused { IsErr (request_of (command_line_view command_line.entry))
+        → (result.status ≡ 2) ⊎ (result.status ≡ 3) }
 {
     match execute::<M, R, W>(alloc, command_line, reader, writer) {
         Ok(status) => answered(status),
@@ -92,11 +96,14 @@ fn execute<M: Backend, R: Read, W: Write>(
         reply_by (command_line_view command_line.entry) input ≡ Err (error_line error))) }
     ensures read_before_error { IfErr result (λ error. (error ≡ OutOfMemory) ⊎ (error ≡ InputFailed)
         ⊎ IsErr (request_of (command_line_view command_line.entry)) ⊎ IsAtEnd (R.remaining reader.new)) }
-    ensures nothing { IfErr result (λ error. (error ≡ OutputFailed) ⊎ Keeps (W.contents writer.old) (W.contents writer.new)) }
-    ensures begun { IfErr result (λ error. error ≡ OutputFailed → OnInput (R.remaining reader.old) (λ input.
-        AppendsBeginning (W.contents writer.old) (W.contents writer.new) (outcome (reply_by (command_line_view command_line.entry) input)).line)) }
+    ensures nothing { IfErr result
+        (λ error. (error ≡ OutputFailed) ⊎ Keeps (W.contents writer.old) (W.contents writer.new)) }
+    ensures begun { IfErr result (λ error. error ≡ OutputFailed
+        → OnInput (R.remaining reader.old) (λ input. AppendsBeginning (W.contents writer.old)
+        (W.contents writer.new) (outcome (reply_by (command_line_view command_line.entry) input)).line)) }
     ensures refused { IsErr (request_of (command_line_view command_line.entry))
-        → IfErr result (λ error. (error ≡ OutOfMemory) ⊎ (status_of error ≡ 2)) × IsErr result × Keeps (R.remaining reader.old) (R.remaining reader.new) }
+        → IfErr result (λ error. (error ≡ OutOfMemory) ⊎ (status_of error ≡ 2)) × IsErr result
+        × Keeps (R.remaining reader.old) (R.remaining reader.new) }
 {
     let command = Command::read(alloc, command_line)?;
     let input = read_all(alloc, reader)?;
@@ -174,7 +181,8 @@ pub(crate) fn answered(status: u8) -> Ended
 pub(crate) fn end<F: Write>(error: CliError, faults: &mut F) -> Ended
     ensures status { result.status ≡ status_of error }
     ensures failed { IsTrue result.input_failed ↔ (error ≡ InputFailed) }
-    ensures written { IsTrue result.fault_told → Appends (F.contents faults.old) (F.contents faults.new) (error_line error) }
+    ensures written { IsTrue result.fault_told
+        → Appends (F.contents faults.old) (F.contents faults.new) (error_line error) }
 {
     Ended {
         status: error.status(),

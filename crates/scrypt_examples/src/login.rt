@@ -85,7 +85,8 @@ impl LoginPolicy {
         ensures accepted { IfOk result (λ login.
             let_in (verdict password.now (reading stored.now)) ≡ Ok (lets_in login)) }
         ensures weaker { IfOk result (λ login. IsSome (new_text login)
-            ↔ ((verdict password.now (reading stored.now) ≡ Ok tt) × (weaker self.now.wanted (reading stored.now) ≡ Ok true))) }
+            ↔ ((verdict password.now (reading stored.now) ≡ Ok tt)
+            × (weaker self.now.wanted (reading stored.now) ≡ Ok true))) }
         ensures enrolled { IfOk result (λ login.
             IfSome (new_text login) (IsEnrolled self.now.wanted password.now salt)) }
         ensures err { IfErr result (λ e. (IsOk (reading stored.now) × (e ≡ OutOfMemory))

@@ -34,8 +34,11 @@ pub(crate) fn mix_all<M: TableMemory, W: Backend>(
     requires ready { IsReady M.room params.now.log_n s params.now.r count used.old }
     ensures kept { IsKept M.room used.old used.new }
     ensures value { used.new.chunks.now ≡ mixed_chunks used.old.chunks.now params.now.log_n params.now.r count }
-    ensures counted { AreCountedAs true (thin_chunks_cost used.old.chunks.now params.now.log_n params.now.r count s) used.old.cores.now used.new.cores.now }
-    ensures whole { s ≡ 0 → AreCountedAs true (cost params.now.log_n params.now.r count) used.old.cores.now used.new.cores.now }
+    ensures counted { AreCountedAs true
+        (thin_chunks_cost used.old.chunks.now params.now.log_n params.now.r count s) used.old.cores.now
+        used.new.cores.now }
+    ensures whole { s ≡ 0
+        → AreCountedAs true (cost params.now.log_n params.now.r count) used.old.cores.now used.new.cores.now }
 {
     let mut i = 0;
     'groups: while i < count {
@@ -94,12 +97,14 @@ fn mix_interleaved<M: TableMemory, W: Backend>(
     requires few { n ≤ W.most }
     requires alone { W.scalar ≡ true → n ≢ 2 }
     requires inside { i * (128 * params.now.r) + n * (128 * params.now.r) ≤ length used.old.chunks.now }
-    requires memory { HasTables params.now.log_n s params.now.r n (M.room used.old.rows.now) (length used.old.scratch.now) }
+    requires memory { HasTables params.now.log_n s params.now.r n
+        (M.room used.old.rows.now) (length used.old.scratch.now) }
     ensures mixed { (b : List ℕ) → AreMixed b params.now.log_n params.now.r i used.old.chunks.now
         → AreMixed b params.now.log_n params.now.r (i + n) used.new.chunks.now }
     ensures kept { IsKept M.room used.old used.new }
     ensures counted { AreCountedAs true (n
-        * thin_ro_mix_cost (words_of (part (128 * params.now.r) used.old.chunks.now i)) params.now.log_n s params.now.r) used.old.cores.now used.new.cores.now }
+        * thin_ro_mix_cost (words_of (part (128 * params.now.r) used.old.chunks.now i))
+        params.now.log_n s params.now.r) used.old.cores.now used.new.cores.now }
 {
     // A backend's results are constants, so that the compiler leaves out the groups that it never
     // mixes.
@@ -124,12 +129,14 @@ fn mix_group<O: OrderedBlocks, M: TableMemory>(
 )
     requires group { n ≡ O.count }
     requires inside { i * (128 * params.now.r) + n * (128 * params.now.r) ≤ length used.old.chunks.now }
-    requires memory { HasTables params.now.log_n s params.now.r n (M.room used.old.rows.now) (length used.old.scratch.now) }
+    requires memory { HasTables params.now.log_n s params.now.r n
+        (M.room used.old.rows.now) (length used.old.scratch.now) }
     ensures mixed { (b : List ℕ) → AreMixed b params.now.log_n params.now.r i used.old.chunks.now
         → AreMixed b params.now.log_n params.now.r (i + n) used.new.chunks.now }
     ensures kept { IsKept M.room used.old used.new }
     ensures counted { AreCountedAs O.simd (n
-        * thin_ro_mix_cost (words_of (part (128 * params.now.r) used.old.chunks.now i)) params.now.log_n s params.now.r) used.old.cores.now used.new.cores.now }
+        * thin_ro_mix_cost (words_of (part (128 * params.now.r) used.old.chunks.now i))
+        params.now.log_n s params.now.r) used.old.cores.now used.new.cores.now }
 {
     params.expose_invariant();
     let r = params.r() as usize;

@@ -123,7 +123,8 @@ fn key_by_letters<W: Backend>(
 #[tactic(auto, using(crate::proofs::McfTextFacts::made_length))]
 pub fn hash_len(params: &Params, salt: &[u8]) -> usize
     ensures value { result ≡ made_text_len params.now (length salt.now) }
-    ensures made { (password : List ℕ) → (text : List ℕ) × IsMadeHash params.now password salt.now text × (length text ≡ result) }
+    ensures made { (password : List ℕ)
+        → (text : List ℕ) × IsMadeHash params.now password salt.now text × (length text ≡ result) }
     ensures each { (password text : List ℕ) → IsMadeHash params.now password salt.now text → length text ≡ result }
 {
     params.expose_invariant();
@@ -149,7 +150,8 @@ fn params_letters(params: &Params) -> [u8; PARAMS_LEN]
 fn write_text(out: &mut [u8], params: &Params, salt: &[u8], key: &Output)
     requires len { length out.old ≡ made_text_len params.now (length salt.now) }
     requires key_len { length key.now ≡ key_len_or_default params.now }
-    ensures made { (password : List ℕ) → key.now ≡ made_key params.now password salt.now → IsMadeHash params.now password salt.now out.new }
+    ensures made { (password : List ℕ) → key.now ≡ made_key params.now password salt.now
+        → IsMadeHash params.now password salt.now out.new }
     ensures ascii { IsAscii out.new }
     ensures modular { IsMcf out.new }
 {
@@ -214,10 +216,11 @@ pub fn hash_with_buffers<W: Backend>(
     ensures exact { IsOk result ↔ (IsTrue (are_enough params.now chunks.old table.old scratch.old)
         × (made_text_len params.now (length salt.now) ≤ length text.old)) }
     ensures unwritten { OnErr result (text.new ≡ text.old) }
-    ensures done { OnOk result (IsDone params.now
-        (workspace_of chunks.old table.old scratch.old cores.old) (workspace_of chunks.new table.new scratch.new cores.new)) }
+    ensures done { OnOk result (IsDone params.now (workspace_of chunks.old table.old scratch.old cores.old)
+        (workspace_of chunks.new table.new scratch.new cores.new)) }
     ensures hashed { OnOk result (cores.new.compressions ≡ cores.old.compressions
-        + hash_cost (length password.now) (length (crypt64_of salt.now)) params.now.r params.now.p (key_len_or_default params.now)) }
+        + hash_cost (length password.now) (length (crypt64_of salt.now))
+        params.now.r params.now.p (key_len_or_default params.now)) }
     ensures unchanged { OnErr result (workspace_of chunks.new table.new scratch.new cores.new
         ≡ workspace_of chunks.old table.old scratch.old cores.old) }
 {
@@ -249,8 +252,10 @@ fn fill_with_hash<W: Backend>(
     ensures made { IsMadeHash params.now password.now salt.now text.new }
     ensures ascii { IsAscii text.new }
     ensures spent { IsSpent buffer_room params.now used.old used.new }
-    ensures hashed { used.new.cores.now.compressions ≡ used.old.cores.now.compressions
-        + hash_cost (length password.now) (length (crypt64_of salt.now)) params.now.r params.now.p (key_len_or_default params.now) }
+    ensures hashed { used.new.cores.now.compressions
+        ≡ used.old.cores.now.compressions
+        + hash_cost (length password.now) (length
+        (crypt64_of salt.now)) params.now.r params.now.p (key_len_or_default params.now) }
 {
     let letters = &mut text[..Base64::Crypt.encoded_len(salt.len())];
     encode(salt, letters);

@@ -124,10 +124,12 @@ pub fn hash_with_buffers<W: Backend>(
     ensures made { IfOk result (λ hash. IsMadeHash params.now password.now salt.now hash) }
     ensures err { IfErr result (λ e. HashIsRefused salt.now None None (refusal e)) }
     ensures salt { IsErrOf result SaltInvalid ↔ (¬ IsSaltLen (length salt.now)) }
-    ensures short { IsErrOf result OutOfMemory ↔ (IsSaltLen (length salt.now) × ¬ IsTrue (are_enough params.now chunks.old table.old scratch.old)) }
-    ensures exact { IsOk result ↔ (IsSaltLen (length salt.now) × IsTrue (are_enough params.now chunks.old table.old scratch.old)) }
-    ensures done { OnOk result (IsDone params.now
-        (workspace_of chunks.old table.old scratch.old cores.old) (workspace_of chunks.new table.new scratch.new cores.new)) }
+    ensures short { IsErrOf result OutOfMemory
+        ↔ (IsSaltLen (length salt.now) × ¬ IsTrue (are_enough params.now chunks.old table.old scratch.old)) }
+    ensures exact { IsOk result
+        ↔ (IsSaltLen (length salt.now) × IsTrue (are_enough params.now chunks.old table.old scratch.old)) }
+    ensures done { OnOk result (IsDone params.now (workspace_of chunks.old table.old scratch.old cores.old)
+        (workspace_of chunks.new table.new scratch.new cores.new)) }
     ensures hashed { OnOk result (cores.new.compressions ≡ cores.old.compressions
         + hash_cost (length password.now) (length salt.now) params.now.r params.now.p (key_len_or_default params.now)) }
     ensures unchanged { OnErr result (workspace_of chunks.new table.new scratch.new cores.new

@@ -38,8 +38,10 @@ impl<'a> StoredHash<'a> {
     ) -> Result<()>
         requires ended { IfOk (reading self.now) (λ s. at.chunks ≡ s.params.p) }
         requires chunks { IfOk (reading self.now) (λ s. length chunks.old ≡ chunks_bytes s.params.r s.params.p) }
-        ensures verdict { (table : List ℕ) → (scratch : List ℕ) → IfOk (reading self.now) (λ s. IsUnderWay password.now s.salt s.params at chunks.old
-            table scratch) → with_refusal result ≡ verdict password.now (reading self.now) }
+        ensures verdict { (table : List ℕ) → (scratch : List ℕ)
+            → IfOk (reading self.now)
+            (λ s. IsUnderWay password.now s.salt s.params at chunks.old table scratch)
+            → with_refusal result ≡ verdict password.now (reading self.now) }
         ensures counted { IfOk (reading self.now) (λ s. AreHashed (pbkdf2_cost (length password.now)
             (chunks_bytes s.params.r s.params.p) (length s.key)) cores.old cores.new) }
         ensures kept { chunks.new ≡ chunks.old }

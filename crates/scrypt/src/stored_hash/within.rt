@@ -20,7 +20,8 @@ impl<'a> StoredHash<'a> {
     /// parameters exceed the limit on memory or the limit on work; and `KeyTooShort` if its key is
     /// shorter than the limits allow.
     pub fn within(&self, limits: &Limits) -> Result<&StoredHash<'a>, LimitedError>
-        ensures value { mapped (λ hash. hash.now) (with_limited_refusal result) ≡ mapped (λ _. self.now) (within limits.now (reading self.now)) }
+        ensures value { mapped (λ hash. hash.now) (with_limited_refusal result)
+            ≡ mapped (λ _. self.now) (within limits.now (reading self.now)) }
         ensures same { IfOk result (λ _. within limits.now (reading self.now) ≡ reading self.now) }
         ensures err { IfErr result (λ e. within limits.now (reading self.now) ≡ Err (limited_refusal e)) }
     {
