@@ -45,7 +45,7 @@ def build(room, preset, name, given):
 
 
 def main(preset, *words):
-    # Outside the repository, in which rt rejects sources that belong to no crate.
+    # Outside the repository, where rt rejects sources that belong to no crate.
     with tempfile.TemporaryDirectory() as room:
         for name, _, given in (it.partition("=") for it in words):
             build(Path(room), preset, name, given)

@@ -1,6 +1,6 @@
 # shellcheck shell=sh
-# For tests, from the top of the repository: what they take of the machine that PRESET names
-# (c/CMakePresets.json; native without it), as CMake wrote it beside the library. Sets
+# For tests, from the top of the repository: facts about the machine that PRESET names
+# (c/CMakePresets.json; by default native), which CMake wrote next to the library. Sets
 #   build      the folder of what is built, which has lib and bin
 #   system     linux or windows
 #   machine    the processor, as Linux calls it
@@ -22,7 +22,7 @@ if [ "$system" = windows ]; then
   export WINEDEBUG="${WINEDEBUG:--all}" WINEDLLOVERRIDES="${WINEDLLOVERRIDES:-winedbg.exe=d}"
 fi
 
-# For tests: sets lib, the folder of the libraries, and room, a folder that is removed in the end.
+# For tests: sets lib, the folder of the libraries, and room, a folder that is removed at exit.
 begin_test() {
   lib=$PWD/$build/lib
   room=$(mktemp -d)

@@ -2,9 +2,9 @@
 """Runs the examples of README, of HASHER, of Python's and Go's pages, and the C examples of
 bindings/README.md, over build/lib.
 
-Only Go's has code around it. The example of Rust's page is run by `cargo test`, and that of
-JavaScript's by tools/release/test.sh. What is not installed is named by its Debian package. The
-script fails if an example fails or is missing.
+Only Go's has code around it. `cargo test` runs the example of Rust's page, and
+tools/release/test.sh the example of JavaScript's. Missing tools are named with their Debian package.
+The script fails if an example fails or is missing.
 """
 
 import json

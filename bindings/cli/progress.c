@@ -19,7 +19,7 @@ ssize_t read_or_ask(int fd, void *buffer, size_t len); /* of terminal.c */
 enum { DONE, NO_MEMORY = 3, IO_FAILED = 4 }; /* statuses of the program */
 enum { BAR = 40, FIRST_ROOM = 4096 };
 
-/* What the words of `key` and its options ask for. */
+/* The arguments of `key` and its options. */
 typedef struct {
   uint64_t log_n, r, p, len;
   uint8_t *salt;
@@ -60,7 +60,8 @@ static int read_salt(const char *word, request *key) {
   return 1;
 }
 
-/* Whether the proved program reads the input next if it has these words, of which one is `key`. */
+/* Whether the proved program would read the input next with these arguments, one of which is
+ * `key`. */
 static int is_accepted(char **word, request *key) {
   scrypt_cost cost;
   int count = 0;
@@ -102,7 +103,7 @@ static int read_password(int strips_newline, char **password, size_t *len) {
   return DONE;
 }
 
-/* Draws the bar again if the percentage is another one. */
+/* Draws the bar again if the percentage has changed. */
 static int draw(void *shown, uint64_t done, uint64_t all) {
   static const char full[] = "########################################";
   const int percent = (int)(100.0 * (double)done / (double)all);

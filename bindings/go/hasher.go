@@ -51,9 +51,9 @@ type Options struct {
 // tables for them, which takes less time on some processors. An error or a context of one call does
 // not affect the others.
 //
-// A call whose context is done returns the context's error immediately. If it is in C by then, where
-// up to eight calls for each slot derive or wait, its derivation takes place with a copy of the
-// password, which is wiped. After the deadline of the context no derivation begins.
+// A call whose context is done returns the context's error immediately. If it is in C by then,
+// where up to eight calls for each slot derive or wait, its derivation takes place with a copy of
+// the password, which is wiped. After the deadline of the context no derivation begins.
 //
 // A Hasher holds at most MaxTables tables, whatever P is, and keeps their memory for later calls
 // until Close. Create a Hasher with NewHasher: all methods of the zero value that return an error

@@ -73,7 +73,7 @@ def headings(text):
 
 
 def broken_links(path, text):
-    """Broken links, and definitions that are not in the file to which a link on their names leads."""
+    """Broken links, and links on names of definitions to files that do not have them."""
     for words, target in re.findall(r"\[([^\]]*)\]\(([^)\s]+)\)", text):
         if re.match(r"https?:", target):
             continue
@@ -93,7 +93,7 @@ def stripped(text):
 
 
 def other_examples(path, text):
-    """Examples in Rust that are not consecutive lines of the file to which the line before them links."""
+    """Examples in Rust that are not consecutive lines of the file that is linked above them."""
     for link, example in re.findall(r"\]\((\S+)\):\n```rust\n(.*?)^```$", text, re.M | re.S):
         file = os.path.normpath(os.path.join(os.path.dirname(path), link))
         if stripped(example) not in stripped(read(file)):

@@ -4,7 +4,7 @@ The compiler has to reject each mutant in the part for it of crates/NAME/mutants
 proof, because the mutant uses something private or makes the `prove!` of a constant false: clauses
 name constants, so they hold for any value.
 
-A count of cores could be wrong in more ways, each of which is an error here:
+A count of cores could also be wrong by the following, which are errors here:
 
 - a handwritten proof other than the counter's
 - a new count, except where a derivation begins and in tests; or another name for the counter, which

@@ -34,7 +34,7 @@ from tools.generate import sources
 
 FIRST, MORE = edits.GATE, edits.MORE
 
-# The proof of a function, by its path in antt and its name, of which a check uses only the contract.
+# The proof of a function of which only the contract is needed: its path in antt, and its name.
 HOLE = """use Rattle.{}.Statement as stated
 
 pub {}_spec : {{M : Type 1}} → stated.statement M

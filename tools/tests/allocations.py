@@ -1,4 +1,4 @@
-"""Makes each allocation of a run of the program fail in turn, and compares the number of
+"""Makes each allocation of a run of the program fail, one per run, and compares the number of
 allocations and the sizes for a derivation: a part of tools/tests/program.py.
 
 The program runs with failing_calls.c preloaded, which makes the n-th allocation fail, for each n.
@@ -62,7 +62,7 @@ BUFFERS = [
 
 
 def sizes(run):
-    """The sizes of the allocations of a run, in turn."""
+    """The sizes of the allocations of a run, in order."""
     return [int(line.split(" ")[1]) for line in run(SIZES="1")[2].splitlines() if "alloc " in line]
 
 
