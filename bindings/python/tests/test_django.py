@@ -122,7 +122,7 @@ class Hashers(unittest.TestCase):
             self.assertTrue(0.5 < times[1] / times[0] < 2, times)
 
     def test_no_hash(self):
-        """It is verified, and so in a batch, in which a new hash cannot be."""
+        """It is verified, so it can be derived in a batch, unlike a new hash."""
         hasher = mock.Mock(wraps=scrypt_c.PasswordHasher(log_n=6))
         ours = or_false(Small, hasher=hasher)
         with self.assertLogs("scrypt_c.django"):
