@@ -38,9 +38,13 @@ static void say(const char *text) {
 /* Reads a line, and returns its length, or -1. An empty line is rejected, because readpassphrase
  * does not distinguish it from the end of the input; an empty password can come from a pipe. */
 static ssize_t line_of(const char *prompt, char line[LINE]) {
-  ssize_t len = readpassphrase(prompt, line, LINE, RPP_REQUIRE_TTY) ? (ssize_t)strlen(line) : 0;
-  if (len == LINE - 1) say("The password may have been cut.\n");
-  if (len > 0 && len < LINE - 1) return len;
+  ssize_t len;
+  memset(line, '\n', LINE); /* no typed byte: what follows a typed zero byte is another one */
+  len = readpassphrase(prompt, line, LINE, RPP_REQUIRE_TTY) ? (ssize_t)strlen(line) : 0;
+  if (len == LINE - 1 || (len > 0 && line[len + 1] != '\n'))
+    say("The password may have been cut.\n");
+  else if (len > 0)
+    return len;
   errno = EIO; /* not EINTR, after which a reader may try again */
   return -1;
 }

@@ -38,6 +38,7 @@ ROWS = [
     (HASH, ["password\n", "pass\x1a", "password\n"], 0, [*TWICE, TWICE[1], HASHLIB], "Ctrl-Z at the second one"),
     (VERIFY, ["x" * 4094 + "\n"], 1, [*ONCE, "no"], "the longest one"),
     (VERIFY, ["x" * 4096 + "\n"], 4, [*ONCE, "The password may have been cut.", "input failed"], "one that Linux truncates"),
+    (HASH, ["pass\0word\n"], 4, [*ONCE, "The password may have been cut.", "input failed"], "one that Ctrl-Space truncates"),
     *((words, [*typed, it], -it, questions, f"signal {it}: echo is on again before it ends the program")
       for it in ENDING for words, typed, questions in [(VERIFY, [], ONCE), (HASH, ["password\n"], TWICE)]),
     ("verify $8$", [], 2, ["hash refused: EncodingInvalid"], "an error before the input: no prompt"),
