@@ -27,6 +27,7 @@ options for key:\n\
 \x20 --raw              print the bytes of the key and no newline, not to a terminal\n\
 options for hash and rehash:\n\
 \x20 --generate-salt    draw a salt of 16 bytes: then leave SALT_HEX out\n\
+and for hash:\n\
 \x20 --recommended      LOG_N R P are 17 8 1 and a salt is drawn: hash phc|mcf\n\
 options for verify and rehash, as an untrusted HASH chooses its own cost:\n\
 \x20 --default-limits   all three limits below; without an option there are none\n\
@@ -34,9 +35,9 @@ options for verify and rehash, as an untrusted HASH chooses its own cost:\n\
 \x20 --max-work=N       the maximum work, 4 * (2^LOG_N + 32) * R * P (16781312),\n\
 \x20                    or for rehash what the new hash needs if that is more\n\
 \x20 --min-key-len=N    the minimum length of the key in bytes (16 for verify, 0 for rehash)\n\
-and as others can see a HASH that is an argument:\n\
-\x20 --hash-file=FILE   read it from FILE: then leave HASH out\n\
-and alone:\n\
+and because other users can see arguments:\n\
+\x20 --hash-file=FILE   read HASH from FILE: then leave HASH out\n\
+without a command:\n\
 \x20 -h, --help, --version\n\
 \n\
 Statuses: 0 done or ok, 1 no, 2 refused, 3 out of memory, 4 input or output failed.\n\
