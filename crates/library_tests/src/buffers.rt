@@ -2,6 +2,7 @@
 
 use crate::holds;
 use crate::keys::FIRST;
+use scrypt::laws::conditions_are_inequalities;
 use scrypt::{
     BufferLens, Buffers, CoreCount, InvalidOutputLen, Params, scrypt_thin, scrypt_with_buffers,
 };
@@ -30,6 +31,7 @@ fn keys_in_used_buffers() -> Result<(), Fail> {
 
 #[test]
 fn keys_in_steps(rt: HostRuntime) -> Result<(), Fail> {
+    conditions_are_inequalities();
     let params = Params::new(4, 1, 1)?;
     let mut own = Buffers::allocate(rt.alloc(), &BufferLens::of(&params))?;
     let mut key = [0; 64];
