@@ -53,7 +53,8 @@ type Options struct {
 //
 // A call whose context is done returns the context's error immediately. If it is in C by then,
 // where up to eight calls for each slot derive or wait, its derivation takes place with a copy of
-// the password, which is wiped. After the deadline of the context no derivation begins.
+// the password, which is wiped. After the deadline of the context no derivation begins, and the
+// error is context.DeadlineExceeded, which the Err of the context can return a moment later.
 //
 // A Hasher holds at most MaxTables tables, whatever P is, and keeps their memory for later calls
 // until Close. Create a Hasher with NewHasher: all methods of the zero value that return an error
