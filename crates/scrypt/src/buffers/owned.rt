@@ -27,8 +27,9 @@ use password_hash::Result as HashResult;
 use password_hash::phc::PasswordHash;
 use std::alloc::{AllocError, Global};
 
-/// The three buffers of derivations, allocated once. Each call uses the front of each buffer, and
-/// accepts any parameters if the buffers are long enough for them. No call allocates.
+/// The three buffers of derivations, allocated once. Except with a smaller table and in steps, each
+/// call uses the front of each buffer, and accepts any parameters if the buffers are long enough for
+/// them. Only [`Buffers::allocate`] and [`Buffers::for_limits`] allocate.
 #[derive(Drop)]
 pub struct Buffers {
     /// The chunks, in bytes.
