@@ -233,7 +233,7 @@ def crates(folder="."):
 def checked_path(crate, source, it):
     """The path under which a check prints a function of a crate's sources.
 
-    `append_mix` in `impl Memory for Buffer<'_>` of src/memory.rt is `memory::BufferMemory::append_mix`, and a pair is
+    `mix_next` in `impl TableMemory for Buffer<'_>` of src/memory.rt is `memory::BufferTableMemory::mix_next`, and a pair is
     `Tuple2`. A type's own methods have the path of the type, the nearest if several have its name.
     """
     trait, _, kind = it.owner.rpartition(" for ")

@@ -1,5 +1,5 @@
 -- Facts on scryptROMix.
-use Rattle.std.proofs.Common.{◌≡◌, Bool, ℕ, zero, suc, ◌<◌, ◌+◌, ◌*◌, ◌/◌, ◌%◌, ◌^◌, List, [], ◌++◌, length, bit_xor, refl, ◌≤◌, take, drop, inl, inr}
+use Rattle.std.proofs.Common.{◌≡◌, Bool, ℕ, zero, suc, ◌<◌, ◌+◌, ◌*◌, ◌/◌, ◌%◌, ◌^◌, List, ◌++◌, length, bit_xor, refl, ◌≤◌, take, drop, inl, inr}
 use Rattle.std.proofs.Common.{sym, ap, ap₂, ◌∙◌, arith, add-one, add-zero, length-append}
 use Rattle.std.proofs.lemmas.Simd.{length-zip2}
 use Rattle.scrypt_kernel.specs.Words.{part, xor_words}
@@ -14,7 +14,7 @@ use Rattle.scrypt_kernel.proofs.CountFacts.{counted_both, counted_none}
 use Rattle.scrypt_kernel.specs.KeptRows.{AddsRow, mixed_in, place}
 use Rattle.scrypt_kernel.proofs.PartFacts.{length-part, part-take, part_after, part_append_front, part_inside, parts_apart}
 use Rattle.std.proofs.lemmas.Bool.{cases_lt}
-use Rattle.std.proofs.lemmas.List.{drop-drop}
+use Rattle.std.proofs.lemmas.List.{drop-drop, length-take, length-take-le}
 use Rattle.std.proofs.Math.Nat.{mul-le-mul_right}
 
 -- the rows after a row are rows
@@ -53,7 +53,7 @@ length-mixed_in p q x i some whole =
 
 -- rows of n chunks whose parts are those of x, one row in t, each with s words of each chunk
 pub record HoldsRows (p q : List ℕ) (n s t rows : ℕ) (x v : List ℕ) : Type 0 where
-  pub len : length v ≡ rows * (n * s)
+  pub len : rows * (n * s) ≤ length v
   pub each : (m k : ℕ) → m < rows → k < n → part s v (place n m k) ≡ mixed_in p q (m * t) (part s x k)
 
 -- after i block mixes of each part of kept: x is what they made, and the cores are counted
@@ -83,14 +83,27 @@ part_of_row n s m k v below =
 pub length-part_of_row : (n s k : ℕ) (x : List ℕ) → k < n → length x ≡ n * s → length (part s x k) ≡ s
 length-part_of_row n s k x below long = length-part s k x (part_inside s k n (length x) below (omega arith))
 
--- a row that is appended
-pub adds_row : (f : List ℕ → List ℕ) (n s m : ℕ) (before after added : List ℕ) → length before ≡ (m + 1) * (n * s) → after ≡ before ++ added
-    → length added ≡ n * s → ((k : ℕ) → k < n → part s added k ≡ f (part s (part (n * s) before m) k)) → AddsRow f n s m before after
-adds_row f n s m before after added long is row_long each = rw is (record {
-  len = length-append before added ∙ omega arith;
-  kept = λ i h. part_append_front s i before added (omega (arith, parts_apart s i ((m + 1) * n) h, long));
-  added = λ k h. part_after s ((m + 1) * n) k before added (omega arith) ∙ each k h ∙ ap f (part_of_row n s m k before h);
-})
+-- a row that is written after row m
+pub adds_row : (f : List ℕ → List ℕ) (n s m a : ℕ) (before after added : List ℕ)
+    → a ≡ (m + 1) * (n * s) → a ≤ length before → length added ≡ n * s → take (a + length added) after ≡ take a before ++ added
+    → ((k : ℕ) → k < n → part s added k ≡ f (part s (part (n * s) before m) k)) → AddsRow f n s m before after
+adds_row f n s m a before after added at room long is each =
+    let front = length-take-le a before room in
+    let end = ap length is ∙ length-append (take a before) added in
+    record {
+      len = omega (arith, at, long, front, end, length-take (a + length added) after);
+      kept = λ i h.
+          let inside : i * s + s ≤ a = omega (arith, parts_apart s i ((m + 1) * n) h, at) in
+          sym (part-take s i (a + length added) after (omega (arith, inside))) ∙ ap (λ z. part s z i) is
+          ∙ part_append_front s i (take a before) added (omega (arith, inside, front))
+          ∙ part-take s i a before inside;
+      added = λ k h.
+          let there = place_inside n s (m + 1) (m + 2) k h (omega arith) in
+          sym (part-take s (place n (m + 1) k) (a + length added) after (omega (arith, there, at, long)))
+          ∙ ap (λ z. part s z (place n (m + 1) k)) is
+          ∙ part_after s ((m + 1) * n) k (take a before) added (omega (arith, front, at))
+          ∙ each k h ∙ ap f (part_of_row n s m k before h);
+    }
 
 -- the row after one that is in another order
 module _ (p q : List ℕ) (inverse : AreInverse p q) where
@@ -123,23 +136,26 @@ module _ (p q : List ℕ) (inverse : AreInverse p q) where
     })
 
   -- the first row of a table
-  pub first_row : (n s t : ℕ) (x none v : List ℕ) → length x ≡ n * s → s % 32 ≡ 0 → none ≡ [] → v ≡ none ++ x → HoldsRows p q n s t 1 x v
-  first_row n s t x cleared v size whole empty added =
-      let is : v ≡ x = rw empty at added in
+  pub first_row : (n s t : ℕ) (x v : List ℕ) → length x ≡ n * s → s % 32 ≡ 0 → take (length x) v ≡ x
+      → HoldsRows p q n s t 1 x v
+  first_row n s t x v size whole is =
       let none : 0 * t ≡ 0 = omega arith in
       record {
-        len = ap length is ∙ omega arith;
+        len = omega (arith, size, ap length is, length-take (length x) v);
         each = λ m k first h.
             let zero : m ≡ 0 = omega arith in
             let at : 0 * n + k ≡ k = omega arith in
-            rw (zero, none, at) (ap (λ z. part s z k) is ∙ row_zero_in (part s x k) (omega (arith, length-part_of_row n s k x h size)));
+            let room = part_inside s k n (length x) h (omega (arith, size)) in
+            let long = length-part_of_row n s k x h size in
+            rw (zero, none, at) (sym (part-take s k (length x) v room) ∙ ap (λ z. part s z k) is
+            ∙ row_zero_in (part s x k) (omega (arith, long)));
       }
 
   -- and one more, which is t rows after the last
   pub more_rows : (n s t i : ℕ) (x v v' : List ℕ) → s % 32 ≡ 0 → HoldsRows p q n s t (i + 1) x v
       → AddsRow (mixed_in p q t) n s i v v' → HoldsRows p q n s t (i + 1 + 1) x v'
   more_rows n s t i x v v' whole held added = record {
-    len = added.len ∙ omega arith;
+    len = omega (arith, added.len);
     each = λ m k inside h. elim (cases_lt m (i + 1)) [
       | inl lt ↦
           let apart = parts_apart n m (i + 1) lt in

@@ -1,54 +1,14 @@
 -- Facts on scryptROMix in steps.
-use Rattle.std.proofs.Common.{◌≡◌, ℕ, zero, suc, ◌<◌, ◌≤◌, ◌+◌, ◌-◌, ◌*◌, ◌%◌, ◌^◌, List, ◌++◌, length, take, sym, ap, ◌∙◌, inl, inr, arith}
+use Rattle.std.proofs.Common.{◌≡◌, ℕ, ◌<◌, ◌≤◌, ◌+◌, ◌-◌, ◌*◌, ◌%◌, ◌^◌, List, ◌++◌, length, take, ap, ◌∙◌, inl, inr, arith}
 use Rattle.std.proofs.lemmas.Bool.{cases_lt}
-use Rattle.std.proofs.lemmas.List.{length-take-le}
 use Rattle.std.proofs.lemmas.Nat.{pow_pos}
-use Rattle.std.proofs.Math.Nat.{mul-le-mul_right}
 use Rattle.scrypt_kernel.specs.Words.{part}
 use Rattle.scrypt_kernel.specs.RoMix.{row, ro_mix, walk}
 use Rattle.scrypt_kernel.specs.Diagonal.{AreInverse, permuted}
-use Rattle.scrypt_kernel.specs.KeptRows.{AddsRow, AreWalkLens, IsInWalk, mixed_in, place}
+use Rattle.scrypt_kernel.specs.KeptRows.{AddsRow, IsInWalk, mixed_in, place}
 use Rattle.scrypt_kernel.specs.Steps.{IsMixing, all_mixes}
 use Rattle.scrypt_kernel.proofs.PartFacts.{length-part, part-take, part_append_front, part_inside, parts_apart}
 use Rattle.scrypt_kernel.proofs.RoMixFacts.{part_of_row, place_inside, row_after_in}
-
--- there is room for one of several
-pub one_of_several : (n t l : ℕ) → 0 < n → n * t ≤ l → t ≤ l
-one_of_several zero t l some room = absurd (omega arith)
-one_of_several (suc n) t l some room = omega arith
-
--- there is room for one more row
-pub one_more_row_fits : (m rows row total : ℕ) → m + 1 < rows → total ≡ rows * row → (m + 1) * row + row ≤ total
-one_more_row_fits m rows row total more is =
-    let next : suc (m + 1) ≤ rows = omega arith in
-    omega (arith, mul-le-mul_right row next)
-
--- the rows of a table, at the front of a longer one
-pub length-rows : (n len rows a : ℕ) (v : List ℕ) → a ≡ n * len * rows → n * (rows * len) ≤ length v → length (take a v) ≡ rows * (n * len)
-length-rows n len rows a v is room =
-    let long : a ≡ rows * (n * len) = omega arith in
-    length-take-le a v (omega (arith, long, room)) ∙ long
-
--- the lengths in steps, whose table keeps every row, for a count that is computed
-pub step_lens : {n count r log_n x next table : ℕ} → count ≡ n → 0 < count → 0 < r → log_n ≤ 56 → x ≡ count * (32 * r) → next ≡ x
-    → table ≡ 2 ^ log_n * (n * (32 * r)) → AreWalkLens n (32 * r) log_n 0 x next 0 table
-step_lens {r = r} {log_n = log_n} is some blocks small chunks scratch rows =
-    let every : log_n - 0 ≡ log_n = omega arith in
-    record {
-      some = omega arith;
-      row = record { some = omega arith; whole = omega arith };
-      small = small;
-      most = omega arith;
-      chunks = chunks ∙ ap (λ n. n * (32 * r)) is;
-      scratch = scratch;
-      alone = λ none. absurd (omega (arith, none));
-      room = λ none. absurd (omega (arith, none));
-      rows = rw every rows;
-    }
-
--- as many words in all as in these rows
-pub all_rows_len : (n len rows a : ℕ) → a ≡ n * len * rows → a ≡ rows * (n * len)
-all_rows_len n len rows a is = omega arith
 
 -- the cores of one more mix
 pub one_more_times : (i m c : ℕ) → i ≤ m → (m + 1 - i) * c ≡ (m - i) * c + c
@@ -78,42 +38,39 @@ mixing_as {p} {log_n = log_n} {done = done} b c same at = record {
   x = λ k below ended. at.x k below ended ∙ ap (λ z. permuted p (walk z log_n (done - 2 ^ log_n))) (same k below);
 }
 
--- in the beginnings of longer lists, and in lists that begin with these
-module _ {p : List ℕ} {n s log_n done : ℕ} {b : ℕ → List ℕ} (v x : List ℕ) (at : IsMixing p n b s log_n done v x) where
-  pub mixing_front : (a c : ℕ) → 2 ^ log_n * (n * s) ≤ a → n * s ≤ c → IsMixing p n b s log_n done (take a v) (take c x)
-  mixing_front a c rows row = record {
-    rows = λ m k inside made below.
-        part-take s (place n m k) a v (omega (arith, place_inside n s m (2 ^ log_n) k below inside, rows)) ∙ at.rows m k inside made below;
-    x = λ k below ended. part-take s k c x (part_inside s k n c below row) ∙ at.x k below ended;
+-- in the beginning of a longer scratch, and in a scratch that begins with this one
+module _ {p : List ℕ} {n s log_n done : ℕ} {b : ℕ → List ℕ} {v : List ℕ} (x : List ℕ)
+    (at : IsMixing p n b s log_n done v x) where
+  pub mixing_front : (a : ℕ) → n * s ≤ a → IsMixing p n b s log_n done v (take a x)
+  mixing_front a row = record {
+    rows = at.rows;
+    x = λ k below ended. part-take s k a x (part_inside s k n a below row) ∙ at.x k below ended;
   }
 
-  pub mixing_longer : (v' x' : List ℕ) → 2 ^ log_n * (n * s) ≤ length v → n * s ≤ length x → IsMixing p n b s log_n done (v ++ v') (x ++ x')
-  mixing_longer v' x' rows row = record {
-    rows = λ m k inside made below.
-        part_append_front s (place n m k) v v' (omega (arith, place_inside n s m (2 ^ log_n) k below inside, rows)) ∙ at.rows m k inside made below;
+  pub mixing_longer : (x' : List ℕ) → n * s ≤ length x → IsMixing p n b s log_n done v (x ++ x')
+  mixing_longer x' row = record {
+    rows = at.rows;
     x = λ k below ended. part_append_front s k x x' (part_inside s k n (length x) below row) ∙ at.x k below ended;
   }
 
 module _ (p q : List ℕ) (inverse : AreInverse p q) {n s log_n done : ℕ} {b : ℕ → List ℕ} (v x : List ℕ) (whole : s % 32 ≡ 0)
     (at : IsMixing p n b s log_n done v x) where
   -- after one more mix of step 2, which is not the last
-  pub one_more_row_mixed : (v' : List ℕ) (a c : ℕ) → done + 1 < 2 ^ log_n → a ≡ (done + 1) * (n * s) → c ≡ a + n * s → c ≤ length v
-      → AddsRow (mixed_in p q 1) n s done (take a v) (take c v') → IsMixing p n b s log_n (done + 1) v' x
-  one_more_row_mixed v' a c more from to room added = record {
-    rows = λ m k inside made below.
-        let there = place_inside n s m (done + 1 + 1) k below (omega arith) in
-        sym (part-take s (place n m k) c v' (omega (arith, there))) ∙ elim (cases_lt m (done + 1)) [
-          | inl lt ↦
-              let apart = parts_apart n m (done + 1) lt in
-              let front = place_inside n s m (done + 1) k below lt in
-              added.kept (place n m k) (omega arith) ∙ part-take s (place n m k) a v (omega (arith, front)) ∙ at.rows m k inside (omega arith) below
-          | inr ge ↦
-              let last : m ≡ done + 1 = omega arith in
-              let front = place_inside n s done (done + 1) k below (omega arith) in
-              let is = part-take s (place n done k) a v (omega (arith, front)) ∙ at.rows done k (omega arith) (omega arith) below in
-              let long = ap length (part-take s (place n done k) a v (omega (arith, front))) ∙ length-part s (place n done k) v (omega (arith, front)) in
-              rw last (added.added k below ∙ row_after_in p q inverse (b k) (part s (take a v) (place n done k)) done 1 (omega (arith, long)) is)
-        ];
+  pub one_more_row_mixed : (v' : List ℕ) → done + 1 < 2 ^ log_n → (done + 1) * (n * s) ≤ length v
+      → AddsRow (mixed_in p q 1) n s done v v' → IsMixing p n b s log_n (done + 1) v' x
+  one_more_row_mixed v' more room added = record {
+    rows = λ m k inside made below. elim (cases_lt m (done + 1)) [
+      | inl lt ↦
+          let apart = parts_apart n m (done + 1) lt in
+          added.kept (place n m k) (omega arith) ∙ at.rows m k inside (omega arith) below
+      | inr ge ↦
+          let last : m ≡ done + 1 = omega arith in
+          let front = place_inside n s done (done + 1) k below (omega arith) in
+          let long = length-part s (place n done k) v (omega (arith, front, room)) in
+          rw last (added.added k below
+          ∙ row_after_in p q inverse (b k) (part s v (place n done k)) done 1 (omega (arith, long))
+          (at.rows done k (omega arith) (omega arith) below))
+    ];
     x = λ k below ended. absurd (omega (arith, ended, more));
   }
 

@@ -1,5 +1,5 @@
 -- Facts on the walk over a table that keeps some rows, or all of them.
-use Rattle.std.proofs.Common.{◌≡◌, Bool, ℕ, zero, suc, ◌<◌, ◌≤◌, ◌+◌, ◌-◌, ◌*◌, ◌/◌, ◌%◌, ◌^◌, List, length, refl, sym, ap, subst, ◌∙◌, arith, add-one, add-zero}
+use Rattle.std.proofs.Common.{◌≡◌, Bool, ℕ, zero, suc, ◌<◌, ◌≤◌, ◌+◌, ◌-◌, ◌*◌, ◌/◌, ◌%◌, ◌^◌, List, length, refl, sym, ap, subst, ◌∙◌, arith, add-one}
 use Rattle.std.proofs.lemmas.Nat.{mod_below, one_shl, pow-add, pow_pos, shr_below}
 use Rattle.std.proofs.Math.Nat.{add_assoc, div-mul-le_self, lt_of_mul-lt-mul_left}
 use Rattle.scrypt_kernel.specs.Words.{part}
@@ -10,7 +10,7 @@ use Rattle.scrypt_kernel.specs.RoMixCost.{ro_mix_cost}
 use Rattle.scrypt_kernel.specs.Table.{extra_rows, recomputed_rows, thin_ro_mix_cost}
 use Rattle.scrypt_kernel.specs.KeptRows.{AfterSteps, AreWalkLens, IsFilled, IsInWalk, mixed_in, place, steps_cost, x_after}
 use Rattle.scrypt_kernel.specs.Diagonal.{AreInverse, permuted}
-use Rattle.scrypt_kernel.proofs.CountFacts.{counted_both, counted_none}
+use Rattle.scrypt_kernel.proofs.CountFacts.{counted_both}
 use Rattle.scrypt_kernel.proofs.PartFacts.{length-part}
 use Rattle.scrypt_kernel.proofs.OrderFacts.{standard_of}
 use Rattle.scrypt_kernel.proofs.RoMixFacts.{HoldsRows, length-mixed_in, length-part_of_row, next_step_in, part_of_row, place_inside, row_after_in}
@@ -37,7 +37,7 @@ filled p q inverse n s log_n t m x v last end small fits count whole held last_i
     let all = all_rows log_n t (m + 1) fits kept in
     let there : m * step + step ≡ 2 ^ log_n = omega (arith, all) in
     record {
-      len = held.len ∙ ap (λ rows. rows * (n * s)) kept;
+      len = rw kept at held.len;
       rows = λ k h. record {
         each = λ i inside. let below : step * i < step * (m + 1) = omega (arith, all, inside) in
             held.each i k (lt_of_mul-lt-mul_left step below) h;
@@ -52,12 +52,12 @@ filled p q inverse n s log_n t m x v last end small fits count whole held last_i
     }
 
 -- the part of a chunk in the kept row below row j is in the table
-pub kept_place : (n len s log_n j k total : ℕ) → s ≤ log_n → j < 2 ^ log_n → k < n → total ≡ 2 ^ (log_n - s) * (n * len)
-    → place n (j / 2 ^ s) k * len + len ≤ total
+pub kept_place : (n len s log_n j k total : ℕ) → s ≤ log_n → j < 2 ^ log_n → k < n
+    → 2 ^ (log_n - s) * (n * len) ≤ total → place n (j / 2 ^ s) k * len + len ≤ total
 kept_place n len s log_n j k total fits inside chunk long =
     let parts : log_n ≡ (log_n - s) + s = omega arith in
     let below : j / 2 ^ s < 2 ^ (log_n - s) = shr_below j (log_n - s) s (subst (λ n. j < 2 ^ n) parts inside) in
-    rw long (place_inside n len (j / 2 ^ s) (2 ^ (log_n - s)) k chunk below)
+    omega (arith, long, place_inside n len (j / 2 ^ s) (2 ^ (log_n - s)) k chunk below)
 
 -- if the first chunk's row is kept, so is each chunk's
 pub all_kept : (n k s : ℕ) (j : ℕ → ℕ) → (0 < s → n ≡ 1) → k < n → j 0 % 2 ^ s ≡ 0 → j k % 2 ^ s ≡ 0
@@ -135,16 +135,7 @@ one_step p q inverse {n} {s} {log_n} {t} {kept = kept} lens x y size stepped cou
   whole = λ every. let none : integerify (permuted q (part s x 0)) % 2 ^ log_n % 2 ^ t ≡ 0 = rw every (omega arith) in rw none at counted;
 }
 
--- no step
-pub no_step : {p : List ℕ} {n s log_n t : ℕ} {simd : Bool} {kept x : List ℕ} {cores : CoreCount} (count : ℕ) → count ≡ 0
-    → AfterSteps p n s log_n t simd kept count x cores x cores
-no_step count none = rw none (record {
-  walked = λ k below b i at. rw add-zero at;
-  counted = λ b i begin at until. rw add-zero until;
-  whole = λ every. counted_none _ _ _ (omega arith);
-})
-
--- and more steps after some
+-- more steps after some
 pub more_steps : {p : List ℕ} {n s log_n t m l : ℕ} {simd : Bool} {kept x y z : List ℕ} {a b c : CoreCount} → 0 < n
     → AfterSteps p n s log_n t simd kept m x a y b → AfterSteps p n s log_n t simd kept l y b z c
     → (count : ℕ) → count ≡ m + l → AfterSteps p n s log_n t simd kept count x a z c

@@ -22,9 +22,9 @@ mixed_in p q i x = permuted p (row (permuted q x) i)
 abbrev pub place : ℕ → ℕ → ℕ → ℕ
 place n m k = m * n + k
 
--- row m, the last one, is followed by a row each of whose n parts is f of the same part of row m
+-- after rows 0 to m comes a row each of whose n parts is f of the same part of row m
 pub record AddsRow (f : List ℕ → List ℕ) (n part_len m : ℕ) (before after : List ℕ) : Type 0 where
-  pub len : length after ≡ (m + 2) * (n * part_len)
+  pub len : (m + 2) * (n * part_len) ≤ length after
   pub kept : (i : ℕ) → i < (m + 1) * n → part part_len after i ≡ part part_len before i
   pub added : (k : ℕ) → k < n → part part_len after (place n (m + 1) k) ≡ f (part part_len before (place n m k))
 
@@ -36,7 +36,7 @@ pub record KeepsRows (p b : List ℕ) (n k part_len spacing rows : ℕ) (kept : 
 -- kept holds the rows that a table keeps for the parts of x, which are in the order p, and last is
 -- the row after all rows
 pub record IsFilled (p q : List ℕ) (n part_len log_n spacing : ℕ) (x kept last : List ℕ) : Type 0 where
-  pub len : length kept ≡ 2 ^ (log_n - spacing) * (n * part_len)
+  pub len : 2 ^ (log_n - spacing) * (n * part_len) ≤ length kept
   pub rows : (k : ℕ) → k < n → KeepsRows p (permuted q (part part_len x k)) n k part_len spacing (2 ^ log_n) kept
   pub after : (k : ℕ) → k < n → part part_len last k ≡ mixed_in p q (2 ^ log_n) (part part_len x k)
 
@@ -58,7 +58,7 @@ pub record AreWalkLens (n part_len log_n spacing x_len next_len spare_len kept_l
   pub scratch : next_len ≡ x_len
   pub alone : 0 < spacing → n ≡ 1
   pub room : 0 < spacing → part_len ≤ spare_len
-  pub rows : kept_len ≡ 2 ^ (log_n - spacing) * (n * part_len)
+  pub rows : 2 ^ (log_n - spacing) * (n * part_len) ≤ kept_len
 
 -- the block mix of the exclusive or of x and y, which are in the order p
 abbrev pub mix_of : List ℕ → List ℕ → List ℕ → List ℕ → List ℕ

@@ -77,9 +77,11 @@ pub fn step_chunks<O: OrderedBlocks>(
     let end = done + count.min(2 * rows - done);
     let (x, rest) = scratch.split_at_mut(n * len);
     let next = &mut rest[..n * len];
-    let table = &mut table[..n * len * rows];
     let at = fill_on::<O>(table, len, log_n, done, end, x, next, cores);
-    walk_on::<O>(table, len, log_n, at, end, x, next, cores);
+    // Step 3, as soon as the table is filled.
+    if at < end {
+        take_steps::<O>(x, table, next, &mut [], len, log_n, 0, end - at, cores);
+    }
     end
 }
 
@@ -103,41 +105,15 @@ fn fill_on<O: OrderedBlocks>(
         → IsMixing O.pivot O.count b len log_n result table.new x.new }
     ensures counted { AreCountedAs O.simd ((result - done) * (O.count * (2 * (len / 32)))) cores.old cores.new }
 {
-    let row_len = x.len();
     let to = done.max(end.min(1usize << log_n));
     'mixes: for m in done..to {
         if m + 1 < 1usize << log_n {
-            mix_next::<O>(table, (m + 1) * row_len, row_len, m, len, cores);
+            mix_next::<O>(table, m, len, cores);
         } else {
-            recompute::<O>(part(row_len, table, m), len, 1, x, next, cores);
+            recompute::<O>(part(x.len(), table, m), len, 1, x, next, cores);
         }
     }
     to
-}
-
-// Step 3 from mix `done` on, up to `end`.
-#[inline(always)]
-fn walk_on<O: OrderedBlocks>(
-    table: &[u32],
-    len: usize,
-    log_n: u8,
-    done: usize,
-    end: usize,
-    x: &mut [u32],
-    next: &mut [u32],
-    cores: &mut CoreCount,
-)
-    requires lens { AreWalkLens O.count len log_n 0 (length x.old) (length next.old) 0 (length table.now) }
-    requires order { done ≤ end }
-    requires filled { done < end → 2 ^ log_n ≤ done }
-    ensures mixed { (b : ℕ → List ℕ) → IsMixing O.pivot O.count b len log_n done table.now x.old
-        → IsMixing O.pivot O.count b len log_n end table.now x.new }
-    ensures counted { AreCountedAs O.simd ((end - done) * (O.count * (2 * (len / 32)))) cores.old cores.new }
-{
-    if done == end {
-        return;
-    }
-    take_steps::<O>(x, table, next, &mut [], len, log_n, 0, end - done, cores);
 }
 
 /// Ends the scryptROMix of the `n` chunks: writes the mixed chunks to `b`, in place of the original

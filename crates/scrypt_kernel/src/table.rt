@@ -35,11 +35,10 @@ pub(crate) fn fill<O: OrderedBlocks, M: TableMemory>(
     ensures filled { IsFilled O.pivot O.inverse_pivot O.count len log_n s x.old (M.words rows.new) x.new }
     ensures counted { AreCountedAs O.simd (2 ^ log_n * (O.count * (2 * (len / 32)))) cores.old cores.new }
 {
-    rows.clear();
-    rows.append(x);
+    rows.write(0, x);
     let last = (1usize << (log_n - s)) - 1;
     'rows: for m in 0..last {
-        append_next::<O, M>(rows, m, len, s, x, next, cores);
+        write_next::<O, M>(rows, m, len, s, x, next, cores);
     }
     recompute::<O>(
         part(x.len(), rows.words(), last),
@@ -51,10 +50,10 @@ pub(crate) fn fill<O: OrderedBlocks, M: TableMemory>(
     );
 }
 
-// Appends the row that is `2^s` rows after the last one, which is the kept row `m`. The contents of
-// `x` and `next` after the call are unspecified.
+// Writes the row that is `2^s` rows after the kept row `m`, as the kept row after it. The contents
+// of `x` and `next` after the call are unspecified.
 #[inline(always)]
-fn append_next<O: OrderedBlocks, M: TableMemory>(
+fn write_next<O: OrderedBlocks, M: TableMemory>(
     rows: &mut M,
     m: usize,
     len: usize,
@@ -67,7 +66,7 @@ fn append_next<O: OrderedBlocks, M: TableMemory>(
     requires chunks { length x.old ≡ O.count * len }
     requires scratch { length next.old ≡ length x.old }
     requires small { s ≤ 56 }
-    requires last { length (M.words rows.old) ≡ (m + 1) * (O.count * len) }
+    requires last { (m + 1) * (O.count * len) ≤ length (M.words rows.old) }
     requires room { (m + 2) * (O.count * len) ≤ M.room rows.old }
     ensures words { AddsRow
         (mixed_in O.pivot O.inverse_pivot (2 ^ s)) O.count len m (M.words rows.old) (M.words rows.new) }
@@ -75,7 +74,7 @@ fn append_next<O: OrderedBlocks, M: TableMemory>(
     ensures counted { AreCountedAs O.simd (2 ^ s * (O.count * (2 * (len / 32)))) cores.old cores.new }
 {
     if s == 0 {
-        rows.append_mix::<O>(m, len, x, cores);
+        rows.mix_next::<O>(m, len, cores);
     } else {
         recompute::<O>(
             part(x.len(), rows.words(), m),
@@ -85,7 +84,7 @@ fn append_next<O: OrderedBlocks, M: TableMemory>(
             next,
             cores,
         );
-        rows.append(x);
+        rows.write(m * x.len() + x.len(), x);
     }
 }
 

@@ -1,7 +1,8 @@
-use Rattle.std.proofs.Common.{◌≡◌, ◌<◌, ◌+◌, ◌-◌, ◌*◌, ◌^◌, length, ap, ◌∙◌, arith}
+use Rattle.std.proofs.Common.{◌≡◌, ◌<◌, ◌≤◌, ◌+◌, ◌-◌, ◌*◌, ◌^◌, length, arith}
+use Rattle.std.proofs.Math.Nat.{mul-le-mul_right}
 use Rattle.std.proofs.lemmas.Nat.{one_shl}
 use Rattle.scrypt_kernel.proofs.CountFacts.{counted_both}
-use Rattle.scrypt_kernel.proofs.StepFacts.{last_row_mixed, one_more_row_fits, one_more_row_mixed, one_more_times}
+use Rattle.scrypt_kernel.proofs.StepFacts.{last_row_mixed, one_more_row_mixed, one_more_times}
 use Rattle.scrypt_kernel.proofs.steps.fill_on.Goals as goal
 use Rattle.scrypt_kernel.proofs.steps.fill_on.Goals.{then-m-log_n, else-m-log_n}
 
@@ -9,27 +10,29 @@ pub mixes-preserved : goal.mixes-preserved
 mixes-preserved g c =
     let o = g.O.OrderedBlocks in
     let m = c.mixes.m in
-    let row = length c.args.x.now in
     let every : c.args.log_n - 0 ≡ c.args.log_n = omega arith in
-    let long = c.mixes.auto.table ∙ (rw every at c.requires.lens.rows) in
+    let long = rw every at c.requires.lens.rows in
     let shifted = one_shl c.args.log_n 64 (omega (arith, c.requires.lens.small)) in
+    let below : m + 1 ≤ 2 ^ c.args.log_n =
+    omega (arith, shifted, c.mixes-test.true, c.max-to.ensures, c.min.ensures, c.mixes.auto.m) in
+    let room : (m + 1) * (o.count * c.args.len) ≤ length c.mixes.table =
+    omega (arith, mul-le-mul_right (o.count * c.args.len) below, long, c.mixes.auto.table) in
     let sum = one_more_times c.args.done m _ c.mixes.auto.m in
     elim c.if-m-log_n.branch [
       | then-m-log_n w ↦
           let more : m + 1 < 2 ^ c.args.log_n = omega (arith, shifted, w.if-m-log_n.true) in
           rw (w.table-is, w.x-is, w.cores-is) (record {
             mixed = λ b begun. one_more_row_mixed o.pivot o.inverse_pivot g.met.O.OrderedBlocks.inverse c.mixes.table c.mixes.x
-                c.requires.lens.row.whole (c.mixes.invariant.mixed b begun) w.mix_next.new.memory ((m + 1) * row) ((m + 1) * row + row) more
-                (ap (λ z. (m + 1) * z) c.requires.lens.chunks) (ap (λ z. (m + 1) * row + z) c.requires.lens.chunks)
-                (one_more_row_fits m (2 ^ c.args.log_n) row _ more (rw (← c.requires.lens.chunks) at long)) w.mix_next.ensures.words;
+                c.requires.lens.row.whole (c.mixes.invariant.mixed b begun) w.mix_next.new.memory more
+                room w.mix_next.ensures.words;
             counted = counted_both _ c.mixes.invariant.counted w.mix_next.ensures.counted sum;
           })
       | else-m-log_n w ↦
-          let all : m + 1 ≡ 2 ^ c.args.log_n = omega (arith, shifted, w.if-m-log_n.false, c.mixes-test.true, c.max-to.ensures, c.min.ensures, c.mixes.auto.m) in
+          let all : m + 1 ≡ 2 ^ c.args.log_n = omega (arith, shifted, below, w.if-m-log_n.false) in
           rw (w.table-is, w.x-is, w.cores-is) (record {
             mixed = λ b begun. last_row_mixed o.pivot o.inverse_pivot g.met.O.OrderedBlocks.inverse c.mixes.table c.mixes.x
                 c.requires.lens.row.whole (c.mixes.invariant.mixed b begun) w.recompute.new.x w.part.result.now all
-                (rw all (omega (arith, long))) (rw c.requires.lens.chunks at w.part.ensures.value) w.recompute.ensures.value;
+                room (rw (c.mixes.auto.x, c.requires.lens.chunks) at w.part.ensures.value) w.recompute.ensures.value;
             counted = counted_both _ c.mixes.invariant.counted w.recompute.ensures.counted (omega (arith, sum));
           })
     ]

@@ -1,6 +1,5 @@
-use Rattle.std.proofs.Common.{◌≡◌, ◌≤◌, length, ◌*◌, ◌%◌, ◌-◌, ◌^◌, sym, arith}
-use Rattle.std.proofs.lemmas.Nat.{one_shl, pow_pos}
-use Rattle.std.proofs.Math.Nat.{mul-le-mul_right}
+use Rattle.std.proofs.Common.{◌≡◌, length, ◌*◌, ◌%◌, ◌-◌, ◌^◌, sym, arith, zero-add}
+use Rattle.std.proofs.lemmas.Nat.{one_shl}
 use Rattle.scrypt_kernel.proofs.CountFacts.{counted_both, counted_none}
 use Rattle.scrypt_kernel.proofs.RoMixFacts.{first_row, more_rows}
 use Rattle.scrypt_kernel.proofs.WalkFacts.{all_rows, filled, kept_rows}
@@ -8,29 +7,18 @@ use Rattle.scrypt_kernel.proofs.table.fill.Goals as goal
 
 pub rows-init : goal.rows-init
 rows-init g c = record {
-  room = omega (arith, c.clear.ensures.room, c.append.ensures.room);
-  held = first_row g.O.OrderedBlocks.pivot g.O.OrderedBlocks.inverse_pivot g.met.O.OrderedBlocks.inverse g.O.OrderedBlocks.count c.args.len (2 ^ c.args.s) c.args.x.now _ _
-      c.requires.lens.1.chunks c.requires.lens.1.row.whole c.clear.ensures.words c.append.ensures.words;
+  room = c.write.ensures.room;
+  held = first_row _ _ g.met.O.OrderedBlocks.inverse g.O.OrderedBlocks.count c.args.len (2 ^ c.args.s) c.args.x.now _
+      c.requires.lens.1.chunks c.requires.lens.1.row.whole (rw zero-add at c.write.ensures.words);
   counted = counted_none _ _ _ (omega arith);
 }
 
-pub append-requires : goal.append-requires
-append-requires g c =
-    let one : 1 ≤ 2 ^ (c.args.log_n - c.args.s) = pow_pos (c.args.log_n - c.args.s) in
-    rw c.clear.ensures.words (omega (
-      arith,
-      mul-le-mul_right (g.O.OrderedBlocks.count * c.args.len) one,
-      c.requires.room,
-      c.clear.ensures.room,
-      c.requires.lens.1.chunks,
-    ))
-
 pub rows-preserved : goal.rows-preserved
 rows-preserved g c = record {
-  room = omega (arith, c.rows.invariant.room, c.append_next.ensures.room);
+  room = omega (arith, c.rows.invariant.room, c.write_next.ensures.room);
   held = more_rows g.O.OrderedBlocks.pivot g.O.OrderedBlocks.inverse_pivot g.met.O.OrderedBlocks.inverse g.O.OrderedBlocks.count c.args.len (2 ^ c.args.s) c.rows.m _ _ _
-      c.requires.lens.1.row.whole c.rows.invariant.held c.append_next.ensures.words;
-  counted = counted_both _ c.rows.invariant.counted c.append_next.ensures.counted (omega arith);
+      c.requires.lens.1.row.whole c.rows.invariant.held c.write_next.ensures.words;
+  counted = counted_both _ c.rows.invariant.counted c.write_next.ensures.counted (omega arith);
 }
 
 pub returns-clause-filled : goal.returns-clause-filled

@@ -4,7 +4,7 @@ use Rattle.scrypt_kernel.specs.Words.{part}
 use Rattle.scrypt_kernel.specs.RoMix.{integerify}
 use Rattle.scrypt_kernel.specs.Diagonal.{permuted}
 use Rattle.scrypt_kernel.specs.KeptRows.{mix_of, mixed_in, place}
-use Rattle.scrypt_kernel.proofs.PartFacts.{length-part, part_inside}
+use Rattle.scrypt_kernel.proofs.PartFacts.{length-part}
 use Rattle.scrypt_kernel.proofs.RoMixFacts.{part_of_row, row_zero_in}
 use Rattle.scrypt_kernel.proofs.WalkFacts.{all_kept, kept_place, missing_rows, some_missing}
 use Rattle.scrypt_kernel.proofs.walk.step.Goals as goal
@@ -40,21 +40,12 @@ returns-then-missing-eq0-clause-value g c k h =
     c.mix.ensures.value k h ∙ ap₂ (mix_of p q) (c.of.ensures.parts k (omega (arith, h, c.count.ensures.value)))
     (taken ∙ row ∙ ap (λ i. mixed_in p q i low) (sym none))
 
-pub part-requires : goal.part-requires
-part-requires g c = part_inside c.args.len 0 g.O.OrderedBlocks.count _ c.requires.lens.some (omega (arith, c.requires.lens.chunks))
-
 pub part-kept-requires : goal.part-kept-requires
 part-kept-requires g c =
     let lens = c.requires.lens in
     let one = lens.alone (some_missing _ _ c.if-missing-eq0.false) in
     let room = rw one at (kept_place _ _ _ _ _ 0 _ lens.most c.integerify-j.ensures.inside (omega (arith, one)) lens.rows) in
     rw (lens.chunks, one) (omega (arith, room))
-
-pub mix_recomputed-requires-clause-room : goal.mix_recomputed-requires-clause-room
-mix_recomputed-requires-clause-room g c =
-    let lens = c.requires.lens in
-    let some = some_missing _ _ c.if-missing-eq0.false in
-    rw (lens.chunks, lens.alone some) (omega (arith, lens.room some))
 
 pub returns-else-missing-eq0-clause-value : goal.returns-else-missing-eq0-clause-value
 returns-else-missing-eq0-clause-value g c k h =
