@@ -10,7 +10,7 @@ export PROVED_LIBRARIES=$PWD/crates # of this run: nothing begins with what an e
 jobs=${JOBS:-$(($(nproc) + 2))} # with the proofs and what waits for them
 gate() { make --no-print-directory -f tools/gate/gate.mk "$@"; }
 
-echo "Proves and tests everything, in about 18 minutes on four idle processors." \
+echo "Proves and tests everything, in 18 to 33 minutes on four processors." \
   "What each task prints is in build/log."
 rm -rf build/{gate,log,lib,bin,machine.sh} crates/*/out/rlib crates/scrypt_tool/out/scrypt_tool.o
 for preset in native asan tsan by-rattle $(python3 -m tools.presets names); do
