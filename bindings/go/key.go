@@ -56,6 +56,9 @@ func keyInSteps(ctx context.Context, password, salt []byte, N, r, p, keyLen int,
 			begun := time.Now()
 			status = C.scrypt_key_step(&it, count)
 			count = next(count, time.Since(begun))
+			if all := mixes(2) << it.log_n; count > all {
+				count = all // a group of short chunks ends its step, which says nothing of a longer one
+			}
 			if progress != nil && status == C.SCRYPT_OK {
 				progress(float64(C.steps_done(&it)))
 			}

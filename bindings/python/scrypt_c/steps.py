@@ -47,7 +47,7 @@ def derived(
             begun = time.perf_counter()
             check(library.key_step(it, mixes))
             took = time.perf_counter() - begun
-            mixes = min(2 * mixes, max(1, int(mixes * STEP / max(took, 1e-9))))
+            mixes = min(2 * mixes, 2 << it.log_n, max(1, int(mixes * STEP / max(took, 1e-9))))
             if progress is not None:
                 mixed = it.at.chunks + it.at.interleaved * it.at.mixes / (2 << it.log_n)
                 progress(mixed / it.p)

@@ -68,7 +68,7 @@ fn by_steps(
         let begun = Instant::now();
         // SAFETY: as above.
         check(unsafe { scrypt_key_step(it, mixes) })?;
-        mixes = next(mixes, begun.elapsed());
+        mixes = next(mixes, begun.elapsed()).min(2 << it.log_n);
         let of_each = it.at.mixes as f64 / (2u64 << it.log_n) as f64;
         let mixed = it.at.chunks as f64 + it.at.interleaved as f64 * of_each;
         if progress(mixed / f64::from(it.p)).is_break() {
