@@ -37,9 +37,6 @@ int scrypt_buffer_lens(uint32_t log_n, uint32_t r, uint32_t p, uint8_t s, size_t
   return cleared_scrypt_buffer_lens(in_8_bits(log_n), r, p, s, chunks, table, scratch);
 }
 
-/* The maximum for several tables: four of 32 MiB, with scratch and chunks. */
-#define MAX_INTERLEAVED_MEM ((size_t)129 << 20)
-
 int scrypt_key(INPUTS, OUTPUT) {
   TAKE_OUTPUT;
   TAKE_INPUTS;

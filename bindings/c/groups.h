@@ -14,6 +14,10 @@ static inline const uint8_t *bytes_of(const void *bytes) {
  * larger value into an accepted one. */
 static inline uint8_t in_8_bits(uint32_t log_n) { return log_n < 64 ? (uint8_t)log_n : UINT8_MAX; }
 
+/* The maximum bytes of several tables where the caller sets no limit: four of 32 MiB, with scratch
+ * and chunks. */
+#define MAX_INTERLEAVED_MEM ((size_t)129 << 20)
+
 /* The number of interleaved chunks that is fastest on this processor, up to SCRYPT_MAX_LOGINS. */
 size_t max_interleave(void);
 

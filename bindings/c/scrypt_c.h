@@ -7,6 +7,7 @@
  *   a key on a small device, with a smaller table    scrypt_key_thin                          yes
  *   a key in steps, with progress between them       scrypt_key_begin; .._step; .._finish     yes
  *   to verify in steps, within limits                scrypt_verify_begin; .._finish           yes
+ *   a key in steps of some ms, with no buffers       scrypt_derivation_new; _run; _finish     no
  *   a key in one call, with progress                 scrypt_key_with_progress                 no
  *   the lengths of buffers; wiping them              scrypt_buffer_lens; scrypt_wipe          yes
  *   a password hash to store                         scrypt_hash_password                     no
@@ -36,7 +37,8 @@
  * output may be NULL with length 0, and another argument if the call's comment allows it. For any
  * other NULL a call returns SCRYPT_NULL_POINTER before any other status; only scrypt_buffer_lens
  * and scrypt_wipe do not check, and gcc and clang warn there. No output may overlap an input or
- * another output. The caller has to free only a scrypt_hasher.
+ * another output. The caller has to free only a scrypt_hasher and
+ * a scrypt_derivation.
  *
  * All calls are thread-safe, if they share no output or buffer.
  */
@@ -249,6 +251,49 @@ int scrypt_verify_begin(scrypt_steps *steps, const void *password, size_t passwo
 SCRYPT_NODISCARD
 int scrypt_verify_finish(const scrypt_steps *steps, const void *password, size_t password_len, const char *text,
                          size_t text_len);
+
+/* A derivation in steps of a given time, in memory of the library, for callers that do something
+ * between the steps. The password is read by the first call and by the last, and is not kept.
+ *
+ *   scrypt_derivation *it = NULL;
+ *   double done = 0;
+ *   int status = scrypt_derivation_new(password, password_len, salt, salt_len, 20, 8, 1, 0, 32, &it);
+ *   while (status == SCRYPT_OK && done < 1) {
+ *     status = scrypt_derivation_run(it, 10, &done);
+ *     show(done);
+ *   }
+ *   if (status == SCRYPT_OK) status = scrypt_derivation_finish(it, password, password_len, key, 32);
+ *   scrypt_derivation_free(&it);
+ *
+ * Threads: any thread may make the next call, but only one at a time.
+ * fork: the child has a copy, which it continues or frees; it is not the parent's.
+ * Memory: until it is freed, passwords can be guessed from it at little cost. */
+typedef struct scrypt_derivation scrypt_derivation;
+
+/* Begins to derive the key of password and salt, output_len bytes long, and writes the derivation,
+ * which the caller frees. If max_mem is 0, the tables are those of scrypt_key, and otherwise those
+ * of scrypt_key_limited; if several cannot be allocated, one is used. No core is run.
+ * SCRYPT_NULL_POINTER, SCRYPT_INVALID_PARAMS, SCRYPT_TOO_COSTLY (only with a max_mem),
+ * SCRYPT_INVALID_OUTPUT_LEN, SCRYPT_OUT_OF_MEMORY. */
+SCRYPT_NODISCARD
+int scrypt_derivation_new(const void *password, size_t password_len, const void *salt, size_t salt_len, uint32_t log_n,
+                          uint32_t r, uint32_t p, size_t max_mem, size_t output_len, scrypt_derivation **derivation);
+
+/* Derives for about this time, but at least one block mix of each interleaved chunk, or until all
+ * chunks are mixed. Writes the fraction that is done: 1 if all chunks are mixed, and less if not.
+ * SCRYPT_NULL_POINTER. */
+SCRYPT_NODISCARD
+int scrypt_derivation_run(scrypt_derivation *derivation, uint32_t milliseconds, double *done);
+
+/* Writes the key after all chunks are mixed. The password and output_len must be those of
+ * scrypt_derivation_new; with another password the key is wrong.
+ * SCRYPT_NULL_POINTER, SCRYPT_UNFINISHED, SCRYPT_INVALID_OUTPUT_LEN. */
+SCRYPT_NODISCARD
+int scrypt_derivation_finish(const scrypt_derivation *derivation, const void *password, size_t password_len,
+                             uint8_t *output, size_t output_len);
+
+/* Wipes and frees a derivation, finished or not, and sets it to NULL. Does nothing if it is NULL. */
+void scrypt_derivation_free(scrypt_derivation **derivation);
 
 /* The caller's function. It is called after each step, with the number of block mixes that are done
  * and their total. A result other than 0 stops the derivation. */

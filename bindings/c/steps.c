@@ -1,5 +1,5 @@
-/* Keys in steps, with calls of the caller's function between them. Not proved: uses the calls of
- * calls.c. */
+/* Keys in steps of a given time, in the library's memory; and with calls of the caller's function
+ * between them. Not proved: uses the calls of calls.c. */
 #include "groups.h"
 #include "system.h"
 
@@ -7,12 +7,25 @@
 void *clearing_malloc(size_t len);
 void clearing_free(void *block);
 
-/* As in scrypt_key: the bytes of four tables of 32 MiB, and the minimum words of a table that
- * make interleaving faster. */
-enum { MAX_OF_TABLES = 129 << 20, MIN_WORDS = 1 << 14 };
+/* As in scrypt_key: the minimum words of a table that make interleaving faster. */
+enum { MIN_WORDS = 1 << 14 };
 
-/* The time of a step, and the number of cores of the first one, which takes less. */
-enum { STEP_NS = 10000000, FIRST_CORES = 1 << 12 };
+/* The time of a step of scrypt_key_with_progress. */
+enum { STEP_NS = 10000000 };
+
+/* Half the number of cores of each chunk in the first proved step, which takes less than 1 ms. */
+enum { FIRST_CORES = 1 << 12 };
+
+struct scrypt_derivation {
+  scrypt_steps steps;
+  size_t output_len;
+  size_t max_mixes; /* of the next proved step: twice as many as any before */
+  double mix_ns;    /* the time of a block mix in the last proved step; 0 before the first */
+};
+
+static uint64_t mixes_of_chunk(const scrypt_steps *steps) { return UINT64_C(2) << steps->log_n; }
+
+static int is_mixed(const scrypt_steps *steps) { return steps->at.chunks >= steps->p; }
 
 static void free_buffers(scrypt_steps *steps) {
   clearing_free(steps->chunks);
@@ -33,52 +46,106 @@ static int take_buffers(scrypt_steps *steps, const scrypt_cost *cost, size_t tab
   return 0;
 }
 
-/* The number of block mixes for the next step, if the last step took this time. */
-static size_t next_step(size_t mixes, int64_t ns) {
-  if (ns < STEP_NS / 2) return mixes <= SIZE_MAX / 2 ? 2 * mixes : mixes;
-  if (ns > STEP_NS) mixes = (size_t)((double)mixes * STEP_NS / (double)ns);
-  return mixes > 0 ? mixes : 1;
+void scrypt_derivation_free(scrypt_derivation **derivation) {
+  if (derivation == NULL || *derivation == NULL) return;
+  free_buffers(&(*derivation)->steps);
+  clearing_free(*derivation);
+  *derivation = NULL;
 }
 
-static int all_steps(scrypt_steps *steps, scrypt_on_progress on_progress, void *context) {
-  const uint64_t of_chunk = UINT64_C(2) << steps->log_n, all = of_chunk * steps->p;
-  size_t mixes = FIRST_CORES / steps->r + 1;
+int scrypt_derivation_new(const void *password, size_t password_len, const void *salt, size_t salt_len,
+                          uint32_t log_n, uint32_t r, uint32_t p, size_t max_mem, size_t output_len,
+                          scrypt_derivation **derivation) {
+  scrypt_derivation *it;
+  scrypt_cost cost;
+  size_t tables;
+  int status;
+  if (is_null(password, password_len) || is_null(salt, salt_len) || derivation == NULL)
+    return SCRYPT_NULL_POINTER;
+  status = scrypt_params_cost(log_n, r, p, max_mem > 0 ? max_mem : MAX_INTERLEAVED_MEM, UINT64_MAX, &cost);
+  if (status != SCRYPT_OK && (status != SCRYPT_TOO_COSTLY || max_mem > 0)) return status;
+  if (output_len == 0 || output_len > SCRYPT_MAX_OUTPUT_LEN) return SCRYPT_INVALID_OUTPUT_LEN;
+  tables = cost.tables < max_interleave() ? cost.tables : max_interleave();
+  if (cost.table_len < MIN_WORDS) tables = 1;
+  it = (scrypt_derivation *)clearing_malloc(sizeof *it);
+  if (it == NULL) return SCRYPT_OUT_OF_MEMORY;
+  *it = (scrypt_derivation){{log_n, r, p, {0, 0, 0}, NULL, NULL, NULL, 0, 0, 0}, output_len, FIRST_CORES / r + 1, 0};
+  if (!take_buffers(&it->steps, &cost, tables) && (tables == 1 || !take_buffers(&it->steps, &cost, 1))) {
+    clearing_free(it);
+    return SCRYPT_OUT_OF_MEMORY;
+  }
+  status = scrypt_key_begin(&it->steps, password, password_len, salt, salt_len);
+  if (status != SCRYPT_OK) scrypt_derivation_free(&it);
+  else *derivation = it;
+  return status;
+}
+
+/* One proved step, of about this time, or of the first one's cores if no time is known. It ends
+ * with the chunks that are interleaved. */
+static int step(scrypt_derivation *it, int64_t ns) {
+  const uint64_t left = mixes_of_chunk(&it->steps) - it->steps.at.mixes;
+  const double wanted = it->mix_ns > 0 ? (double)ns / it->mix_ns : (double)it->max_mixes;
+  const size_t mixes = wanted >= (double)it->max_mixes ? it->max_mixes : wanted > 1 ? (size_t)wanted : 1;
+  const int64_t begun = now_ns();
+  const int status = scrypt_key_step(&it->steps, mixes);
+  const int64_t took = now_ns() - begun;
+  it->mix_ns = (double)(took > 0 ? took : 1) / (double)(mixes < left ? mixes : left);
+  if (mixes == it->max_mixes && mixes < mixes_of_chunk(&it->steps)) it->max_mixes *= 2;
+  return status;
+}
+
+static int mix_for(scrypt_derivation *it, int64_t ns) {
+  const int64_t end = now_ns() + ns;
+  int64_t left = ns;
   int status = SCRYPT_OK;
-  while (status == SCRYPT_OK && steps->at.chunks < steps->p) {
-    const int64_t begun = now_ns();
-    status = scrypt_key_step(steps, mixes);
-    mixes = next_step(mixes, now_ns() - begun);
-    if (status == SCRYPT_OK &&
-        on_progress(context,
-                    of_chunk * steps->at.chunks + (uint64_t)steps->at.interleaved * steps->at.mixes,
-                    all) != 0)
-      status = SCRYPT_STOPPED;
+  while (status == SCRYPT_OK && !is_mixed(&it->steps)) {
+    status = step(it, left);
+    left = end - now_ns();
+    if (left <= 0) break;
   }
   return status;
+}
+
+int scrypt_derivation_run(scrypt_derivation *derivation, uint32_t milliseconds, double *done) {
+  static const double BELOW_1 = 1 - 1.0 / (UINT64_C(1) << 53);
+  const scrypt_steps *steps;
+  double mixed;
+  int status;
+  if (derivation == NULL || done == NULL) return SCRYPT_NULL_POINTER;
+  status = mix_for(derivation, INT64_C(1000000) * milliseconds);
+  if (status != SCRYPT_OK) return status;
+  steps = &derivation->steps;
+  mixed = (double)steps->at.interleaved * (double)steps->at.mixes / (double)mixes_of_chunk(steps);
+  mixed = ((double)steps->at.chunks + mixed) / steps->p;
+  *done = is_mixed(steps) ? 1 : mixed < BELOW_1 ? mixed : BELOW_1;
+  return SCRYPT_OK;
+}
+
+int scrypt_derivation_finish(const scrypt_derivation *derivation, const void *password, size_t password_len,
+                             uint8_t *output, size_t output_len) {
+  if (derivation == NULL || is_null(password, password_len) || is_null(output, output_len))
+    return SCRYPT_NULL_POINTER;
+  if (is_mixed(&derivation->steps) && output_len != derivation->output_len) return SCRYPT_INVALID_OUTPUT_LEN;
+  return scrypt_key_finish(&derivation->steps, password, password_len, output, output_len);
 }
 
 int scrypt_key_with_progress(const void *password, size_t password_len, const void *salt,
                              size_t salt_len, uint32_t log_n, uint32_t r, uint32_t p,
                              scrypt_on_progress on_progress, void *context, uint8_t *output,
                              size_t output_len) {
-  scrypt_steps steps = {log_n, r, p, {0, 0, 0}, NULL, NULL, NULL, 0, 0, 0};
-  scrypt_cost cost;
-  size_t tables;
+  scrypt_derivation *it = NULL;
   int status;
-  if (is_null(password, password_len) || is_null(salt, salt_len) || is_null(output, output_len) ||
-      on_progress == NULL)
-    return SCRYPT_NULL_POINTER;
-  status = scrypt_params_cost(log_n, r, p, MAX_OF_TABLES, UINT64_MAX, &cost);
-  if (status != SCRYPT_OK && status != SCRYPT_TOO_COSTLY) return status;
-  if (output_len == 0 || output_len > SCRYPT_MAX_OUTPUT_LEN) return SCRYPT_INVALID_OUTPUT_LEN;
-  tables = cost.tables < max_interleave() ? cost.tables : max_interleave();
-  if (cost.table_len < MIN_WORDS) tables = 1;
-  if (!take_buffers(&steps, &cost, tables) && (tables == 1 || !take_buffers(&steps, &cost, 1)))
-    return SCRYPT_OUT_OF_MEMORY;
-  status = scrypt_key_begin(&steps, password, password_len, salt, salt_len);
-  if (status == SCRYPT_OK) status = all_steps(&steps, on_progress, context);
-  if (status == SCRYPT_OK)
-    status = scrypt_key_finish(&steps, password, password_len, output, output_len);
-  free_buffers(&steps);
+  if (is_null(output, output_len) || on_progress == NULL) return SCRYPT_NULL_POINTER;
+  status = scrypt_derivation_new(password, password_len, salt, salt_len, log_n, r, p, 0, output_len, &it);
+  while (status == SCRYPT_OK && !is_mixed(&it->steps)) {
+    const uint64_t of_chunk = mixes_of_chunk(&it->steps);
+    const scrypt_progress *at = &it->steps.at;
+    status = mix_for(it, STEP_NS);
+    if (status == SCRYPT_OK &&
+        on_progress(context, of_chunk * at->chunks + (uint64_t)at->interleaved * at->mixes, of_chunk * p) != 0)
+      status = SCRYPT_STOPPED;
+  }
+  if (status == SCRYPT_OK) status = scrypt_derivation_finish(it, password, password_len, output, output_len);
+  scrypt_derivation_free(&it);
   return status;
 }

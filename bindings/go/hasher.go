@@ -6,7 +6,6 @@ import "C"
 import (
 	"context"
 	"fmt"
-	"math"
 	"runtime"
 	"sync/atomic"
 	"time"
@@ -357,7 +356,7 @@ func orDefault(n, usual int) int {
 
 // cost describes the cost of a derivation, or says that the parameters are not accepted.
 func (params Params) cost() string {
-	cost, err := params.within(math.MaxUint64)
+	cost, err := params.costs()
 	if err == nil {
 		return inWords(cost)
 	}

@@ -6,18 +6,8 @@ import "C"
 import (
 	"context"
 	"fmt"
-	"math"
 	"math/bits"
-	"time"
 )
-
-type mixes = C.size_t // a name for tests, which cannot use cgo
-
-// stepTime is the duration of a step of KeyContext, unless one block mix takes longer.
-const stepTime = 10 * time.Millisecond
-
-// several is the maximum size in bytes of all buffers if there are several tables, as in Key.
-const several = 129 << 20
 
 // Key derives a key of keyLen bytes from a password and a salt. N must be a power of two. Limit
 // keyLen if it comes from a file: the process ends if it has no memory for the key. Params.Memory
@@ -36,52 +26,37 @@ func Key(password, salt []byte, N, r, p, keyLen int) ([]byte, error) {
 // is one step each.
 func KeyContext(ctx context.Context, password, salt []byte, N, r, p, keyLen int,
 	progress func(done float64)) ([]byte, error) {
-	return keyInSteps(ctx, password, salt, N, r, p, keyLen, progress, nextMixes)
+	return keyInSteps(ctx, password, salt, N, r, p, keyLen, progress, 10)
 }
 
-// keyInSteps calls next for the number of block mixes of each step after the first.
+// keyInSteps takes the time of a step in milliseconds.
 func keyInSteps(ctx context.Context, password, salt []byte, N, r, p, keyLen int,
-	progress func(done float64), next func(mixes, time.Duration) mixes) ([]byte, error) {
+	progress func(done float64), milliseconds uint32) ([]byte, error) {
 	return made(N, r, p, keyLen, func(cost C.scrypt_cost, key []byte) error {
-		var it C.scrypt_steps
-		if C.steps_map(&it, &cost) == 0 {
-			return ErrOutOfMemory
-		}
-		defer C.steps_unmap(&it)
-		status := C.scrypt_key_begin(&it, pointer(password), size(password), pointer(salt), size(salt))
-		for count := mixes(1); status == C.SCRYPT_OK && it.at.chunks < C.size_t(p); {
+		var it *C.scrypt_derivation
+		status := C.scrypt_derivation_new(pointer(password), size(password), pointer(salt), size(salt),
+			cost.log_n, cost.r, cost.p, 0, size(key), &it)
+		defer C.scrypt_derivation_free(&it)
+		for done := C.double(0); status == C.SCRYPT_OK && done < 1; {
 			if err := ctx.Err(); err != nil {
 				return err
 			}
-			begun := time.Now()
-			status = C.scrypt_key_step(&it, count)
-			count = next(count, time.Since(begun))
-			if all := mixes(2) << it.log_n; count > all {
-				count = all // a group of short chunks ends its step, which says nothing of a longer one
-			}
+			status = C.scrypt_derivation_run(it, C.uint32_t(milliseconds), &done)
 			if progress != nil && status == C.SCRYPT_OK {
-				progress(float64(C.steps_done(&it)))
+				progress(float64(done))
 			}
 		}
-		if status != C.SCRYPT_OK {
-			return failed(status)
+		if status == C.SCRYPT_OK {
+			status = C.scrypt_derivation_finish(it, pointer(password), size(password), bytes(key), size(key))
 		}
-		return failed(C.scrypt_key_finish(&it, pointer(password), size(password), bytes(key), size(key)))
+		return failed(status)
 	})
-}
-
-// nextMixes returns the number of block mixes in the next step, from the last step's and its time.
-func nextMixes(last mixes, took time.Duration) mixes {
-	if took < stepTime/2 {
-		return 2 * last
-	}
-	return mixes(math.Max(1, float64(last)*float64(stepTime)/float64(took)))
 }
 
 // made returns the key that derive writes, if N, r, p and keyLen are accepted.
 func made(N, r, p, keyLen int, derive func(C.scrypt_cost, []byte) error) ([]byte, error) {
 	params := Params{LogN: bits.TrailingZeros(uint(N)), R: r, P: p}
-	cost, err := params.within(several)
+	cost, err := params.costs()
 	switch {
 	case N < 1 || N&(N-1) != 0:
 		return nil, fmt.Errorf("%w: N is %d, and has to be a power of two", ErrInvalidParams, N)

@@ -77,15 +77,14 @@ func ParamsOf(text string) (Params, error) {
 // Memory returns the size of a derivation's buffers in bytes, up to math.MaxUint64, or
 // ErrInvalidParams if LogN, R and P are not accepted.
 func (params Params) Memory() (uint64, error) {
-	cost, err := params.within(math.MaxUint64)
+	cost, err := params.costs()
 	return uint64(cost.bytes), err
 }
 
-// within returns the cost of a derivation with as many tables as fit in the given number of bytes,
-// or ErrInvalidParams.
-func (params Params) within(bytes uint64) (cost C.scrypt_cost, err error) {
+// costs returns the cost of a derivation, or ErrInvalidParams.
+func (params Params) costs() (cost C.scrypt_cost, err error) {
 	status := C.scrypt_params_cost(number(params.LogN), number(params.R), number(params.P),
-		C.size_t(bytes), math.MaxUint64, &cost)
+		C.SIZE_MAX, math.MaxUint64, &cost)
 	if status == C.SCRYPT_INVALID_PARAMS {
 		err = ErrInvalidParams
 	}
@@ -96,7 +95,7 @@ func (params Params) within(bytes uint64) (cost C.scrypt_cost, err error) {
 // Salsa20/8 cores, where 32 accounts for PBKDF2. It returns math.MaxUint64 if the work is larger,
 // or if the parameters are not accepted.
 func (params Params) Work() uint64 {
-	cost, err := params.within(math.MaxUint64)
+	cost, err := params.costs()
 	if err != nil {
 		return math.MaxUint64
 	}

@@ -210,7 +210,7 @@ func TestRejectedArguments(t *testing.T) {
 	}
 }
 
-// Keys in steps of random lengths, 100 or as many as STEPS says, for ../compare_keys.py.
+// Keys in the shortest steps, 100 or as many as STEPS says, for ../compare_keys.py.
 func TestKeysInSteps(t *testing.T) {
 	count, _ := strconv.Atoi(os.Getenv("STEPS"))
 	rand.Seed(time.Now().UnixNano())
@@ -224,11 +224,20 @@ func TestKeysInSteps(t *testing.T) {
 			check(t, done > last && done <= 1, done, last)
 			last = done
 		}
-		next := func(mixes, time.Duration) mixes { return mixes(1 + rand.Intn(99)) }
-		key, err := keyInSteps(ctx, password, salt, n, r, p, keyLen, progress, next)
+		key, err := keyInSteps(ctx, password, salt, n, r, p, keyLen, progress, 0)
 		want, _ := Key(password, salt, n, r, p, keyLen)
 		check(t, err == nil && string(key) == string(want) && last == 1, password, salt, n, r, p, key, err)
 		fmt.Printf("KEY .%x .%x .%x %d %d %d\n", password, salt, key, n, r, p)
+	}
+}
+
+// Steps end by their time, even if a chunk takes less.
+func TestManyShortChunks(t *testing.T) {
+	for _, it := range []struct{ n, p int }{{1024, 500}, {512, 4096}} {
+		steps := 0
+		key, err := KeyContext(ctx, nil, nil, it.n, 1, it.p, 32, func(float64) { steps++ })
+		want, _ := Key(nil, nil, it.n, 1, it.p, 32)
+		check(t, err == nil && string(key) == string(want) && steps < 1000, it, steps, err)
 	}
 }
 

@@ -38,8 +38,8 @@ FUNCTION = "scrypt_on_progress"
 def in_python(declared):
     """A ctypes type. Bytes are c_char_p, even if C writes them; a number that C writes is behind a pointer."""
     word = header.word_of(declared)
-    if word == "scrypt_hasher":
-        return "hasher"
+    if word in header.OPAQUE:
+        return f"POINTER({inside(word).lower()})" if "**" in declared else inside(word).lower()
     if word in ("void", "char", "uint8_t") and "*" in declared:
         return "BYTES"
     if word == FUNCTION:
@@ -57,8 +57,9 @@ def python():
     for name, fields in STRUCTURES.items():
         pairs = ", ".join(f'("{header.name_of(it)}", {in_python(it)})' for it in fields)
         yield from ("", "", f"class {inside(name)}(ctypes.Structure):", f"    _fields_ = [{pairs}]")
-    yield from ("", "", "def calls(hasher: Any) -> dict[str, tuple[list[Any], Any]]:",
-                '    """The types of the arguments and of the result of each call. `hasher` is that of a scrypt_hasher."""', "    return {")
+    opaque = ", ".join(f"{inside(it).lower()}: Any" for it in header.OPAQUE)
+    yield from ("", "", f"def calls({opaque}) -> dict[str, tuple[list[Any], Any]]:",
+                '    """The types of the arguments and of the result of each call. Those of opaque structures are given."""', "    return {")
     for result, name, given in CALLS:
         yield f'        "{name}": ([{", ".join(map(in_python, given))}], {in_python(result)}),'
     yield "    }"
@@ -73,6 +74,8 @@ RUST = {"int": "c_int", "uint8_t": "u8", "uint32_t": "u32", "uint64_t": "u64", "
 def in_rust(declared):
     word = header.word_of(declared)
     kind = RUST.get(word) or f"Raw{inside(word)}"
+    if "**" in declared:
+        return f"*mut *mut {kind}"
     return f"*{'const' if declared.startswith('const') else 'mut'} {kind}" if "*" in declared else kind
 
 
@@ -82,8 +85,9 @@ def rust():
     yield from (f"/// `{FUNCTION}`.", 'pub type OnProgress = unsafe extern "C" fn(*mut c_void, u64, u64) -> c_int;', "")
     yield from (f"pub const {name}: u64 = {number};" for name, number in NUMBERS.items())
     yield from ("", *(f"pub const {name}: c_int = {number};" for name, number in STATUSES.items()))
-    yield from ("", "/// `scrypt_hasher`, which the library alone looks into.", "#[repr(C)]", "pub struct RawHasher {",
-                "    _inside: [u8; 0],", "}")
+    for name in header.OPAQUE:
+        yield from ("", f"/// `{name}`, which the library alone looks into.", "#[repr(C)]", f"pub struct {in_rust(name)} {{",
+                    "    _inside: [u8; 0],", "}")
     for name, fields in STRUCTURES.items():
         default = [] if any("*" in it for it in fields) else ["#[derive(Default)]"]
         inner = ", ".join(f"pub {header.name_of(it)}: {in_rust(it)}" for it in fields)
@@ -177,7 +181,8 @@ def each_call():
     for _, name, given in (it for it in CALLS if it[0] == "int" and it[2] != ["int status"]):
         words = []
         for it in given:
-            is_made = "*" in it and not it.startswith("const") and "scrypt_hasher" not in it and it != "void *context"
+            is_opaque = header.word_of(it) in header.OPAQUE and "**" not in it
+            is_made = "*" in it and not it.startswith("const") and not is_opaque and it != "void *context"
             words.append(("made." if is_made else "given.") + header.name_of(it))
             if "*" in it and name not in unchecked and it != "void *context":
                 words[-1] = f"P({words[-1]})"

@@ -12,6 +12,9 @@ TYPES = {"int": ctypes.c_int, "uint8_t": ctypes.c_uint8, "uint32_t": ctypes.c_ui
          "scrypt_on_progress": ctypes.CFUNCTYPE(ctypes.c_int, ctypes.c_void_p, ctypes.c_uint64, ctypes.c_uint64)}
 
 
+OPAQUE = re.findall(r"^typedef struct (\w+) \1;", TEXT, re.M)
+
+
 def without_comments(text):
     return re.sub(r"/\*.*?\*/", "", text, flags=re.S)
 

@@ -13,10 +13,11 @@ static __thread struct {
   const char *text;
   const scrypt_login *logins;
   scrypt_hasher *hasher;
+  scrypt_derivation *derivation; /* its chunks are mixed by scrypt_derivation_run */
   const scrypt_steps *steps;
   size_t password_len, salt_len, text_len, key_len, output_len, capacity, len, count, chunks_len, table_len, scratch_len;
   size_t max_mem, min_key_len, mixes;
-  uint32_t log_n, r, p;
+  uint32_t log_n, r, p, milliseconds;
   uint8_t s;
   uint64_t max_work;
   int64_t timeout_ms;
@@ -29,11 +30,13 @@ static __thread struct {
   uint8_t *chunks;
   uint32_t *table, *scratch;
   scrypt_steps steps[1];
+  scrypt_derivation *derivation[1];
   uint8_t output[64], key[64], salt[16];
   char text[SCRYPT_PHC_CAPACITY + SCRYPT_MCF_CAPACITY(64)];
   uint32_t log_n[1], r[1], p[1];
   size_t chunks_len[1], table_len[1], scratch_len[1], key_len[1], max_mem[1], min_key_len[1];
   uint64_t max_work[1];
+  double done[1];
   int statuses[SCRYPT_MAX_LOGINS];
   scrypt_cost cost[1];
   scrypt_stats stats[1];
@@ -79,6 +82,9 @@ static void take_arguments(const void *password, size_t password_len, const void
   ended.chunks = calloc(ended.chunks_len, 1);
   if (ended.chunks == NULL) exit(3);
   given.steps = &ended, given.mixes = 3, given.on_progress = go_on;
+  given.milliseconds = 60000, *made.derivation = NULL;
+  if (scrypt_derivation_new(password, password_len, salt, salt_len, log_n, r, p, SIZE_MAX, key_len,
+                            &given.derivation) != SCRYPT_OK) exit(3);
 }
 
 /* Sets the text that is verified and read, by itself and in `count` logins. */
@@ -92,6 +98,8 @@ static void free_arguments(void) {
   free(made.chunks);
   free(made.table);
   free(made.scratch);
+  scrypt_derivation_free(&given.derivation);
+  scrypt_derivation_free(made.derivation);
 }
 
 #endif

@@ -58,6 +58,17 @@ static size_t fewer(size_t one, size_t other) { return one < other ? one : other
 
 static int go_on(void *context, uint64_t done, uint64_t all) { return context != NULL || done > all; }
 
+/* The same key by a derivation in steps. */
+static int derive(uint32_t log_n, uint32_t p, size_t max_mem) {
+  scrypt_derivation *it = NULL;
+  double done = 0;
+  int status = scrypt_derivation_new(SECRETS, log_n, R, p, max_mem, sizeof key, &it);
+  while (status == SCRYPT_OK && done < 1) status = scrypt_derivation_run(it, 10, &done);
+  if (status == SCRYPT_OK) status = scrypt_derivation_finish(it, "password", 8, key, sizeof key);
+  scrypt_derivation_free(&it);
+  return status;
+}
+
 static void tables_of_keys(size_t that_pay) {
   static const struct {
     const char *why;
@@ -83,6 +94,7 @@ static void tables_of_keys(size_t that_pay) {
     REFUSES(KEYS[i].why, log_n, tables, wanted, scrypt_key(SECRETS, log_n, R, p, key, sizeof key));
     REFUSES(KEYS[i].why, log_n, tables, wanted,
             scrypt_key_with_progress(SECRETS, log_n, R, p, go_on, NULL, key, sizeof key));
+    REFUSES(KEYS[i].why, log_n, tables, wanted, derive(log_n, p, 0));
   }
 }
 
@@ -96,10 +108,13 @@ static void tables_of_limited_keys(size_t that_pay) {
                 {"one less than two need", CHUNKS + 2 * EACH - 1, 1},    {"two tables", CHUNKS + 2 * EACH, 2},
                 {"three tables", CHUNKS + 4 * EACH - 1, 3},              {"no limit", SIZE_MAX, 4}};
   size_t i;
-  for (i = 0; i < sizeof BOUNDS / sizeof BOUNDS[0]; i++)
-    REFUSES(BOUNDS[i].why, 14, fewer(BOUNDS[i].tables, that_pay),
-            BOUNDS[i].tables > 0 ? SCRYPT_OUT_OF_MEMORY : SCRYPT_TOO_COSTLY,
+  for (i = 0; i < sizeof BOUNDS / sizeof BOUNDS[0]; i++) {
+    const int wanted = BOUNDS[i].tables > 0 ? SCRYPT_OUT_OF_MEMORY : SCRYPT_TOO_COSTLY;
+    const size_t tables = fewer(BOUNDS[i].tables, that_pay);
+    REFUSES(BOUNDS[i].why, 14, tables, wanted,
             scrypt_key_limited(SECRETS, 14, R, 4, BOUNDS[i].max_mem, UINT64_MAX, key, sizeof key));
+    REFUSES(BOUNDS[i].why, 14, tables, wanted, derive(14, 4, BOUNDS[i].max_mem));
+  }
 }
 
 static const char PHC[] = "$scrypt$ln=14,r=8,p=4$c2FsdHNhbHQ$AAAAAAAAAAAAAAAAAAAAAA";
@@ -116,6 +131,8 @@ static void one_table_of_hashes(void) {
 /* A call that is rejected requests no table. */
 static void no_table(void) {
   REFUSES("a key of no bytes", 14, 0, SCRYPT_INVALID_OUTPUT_LEN, scrypt_key(SECRETS, 14, R, 4, key, 0));
+  REFUSES("a key of no bytes, in steps", 14, 0, SCRYPT_INVALID_OUTPUT_LEN,
+          scrypt_key_with_progress(SECRETS, 14, R, 4, go_on, NULL, key, 0));
   REFUSES("too much work for a key", 14, 0, SCRYPT_TOO_COSTLY,
           scrypt_key_limited(SECRETS, 14, R, 4, SIZE_MAX, 1, key, sizeof key));
   REFUSES("too many bytes", 14, 0, SCRYPT_TOO_COSTLY, scrypt_verify_limited(OF_PHC, 1, UINT64_MAX, 0));
@@ -131,6 +148,8 @@ static void one_of_several(void) {
   check(scrypt_key(SECRETS, 14, R, 4, key, sizeof key) == SCRYPT_OK && memcmp(key, same, 32) == 0, "in one table");
   check(scrypt_key_with_progress(SECRETS, 14, R, 4, go_on, NULL, key, sizeof key) == SCRYPT_OK &&
             memcmp(key, same, 32) == 0, "in one table, with progress");
+  memset(key, 7, sizeof key);
+  check(derive(14, 4, 0) == SCRYPT_OK && memcmp(key, same, 32) == 0, "in one table, in steps");
   min_refused = SIZE_MAX;
 }
 

@@ -103,6 +103,14 @@ static int wanted_of(int (*call)(void)) {
   return given.table_len == table_len ? SCRYPT_OK : SCRYPT_BUFFER_SIZE;
 }
 
+/* A derivation that is abandoned, because one that is not freed keeps its memory. */
+static int left_and_freed(void) {
+  int status = each_scrypt_derivation_new();
+  if (status == SCRYPT_OK) status = scrypt_derivation_run(*made.derivation, 0, made.done);
+  scrypt_derivation_free(made.derivation);
+  return status;
+}
+
 static int verify_wrong(void) { return scrypt_verify(SALT, 3, given.text, given.text_len); }
 static int no_room(void) {
   return scrypt_hash_mcf(SECRETS, given.log_n, given.r, given.p, 32, made.text, 2);
@@ -121,6 +129,7 @@ static void check_call(const char *name, int (*call)(void), int wanted, int is_f
 #ifndef _WIN32
   size_t from = used, before = blocks;
 #endif
+  if (call == each_scrypt_derivation_new) call = left_and_freed;
   if (!is_first && (call == each_scrypt_hash_password || call == each_scrypt_calibrate)) return;
   check_stack(name, call, wanted);
 #ifndef _WIN32

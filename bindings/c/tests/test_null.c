@@ -84,6 +84,7 @@ int main(void) {
   scrypt_hasher_free(given.hasher);
   scrypt_hasher_close(NULL);
   scrypt_hasher_free(NULL);
+  scrypt_derivation_free(NULL);
   free_arguments();
   return failed;
 }

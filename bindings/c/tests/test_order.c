@@ -31,6 +31,15 @@ static int is_verifying(void) {
   memcpy(ended.chunks, made.chunks, ended.chunks_len);
   return status == SCRYPT_OK;
 }
+static int is_all_done(void) { return *made.done == 1; }
+static int is_new(void) {
+  double done = 0;
+  int status = scrypt_derivation_finish(*made.derivation, "pw", 2, made.output, 20) == SCRYPT_UNFINISHED ? SCRYPT_OK : -1;
+  if (status == SCRYPT_OK) status = scrypt_derivation_run(*made.derivation, 60000, &done);
+  if (status == SCRYPT_OK) status = scrypt_derivation_finish(*made.derivation, "pw", 2, made.output, 20);
+  scrypt_derivation_free(made.derivation);
+  return status == SCRYPT_OK && done == 1 && *made.derivation == NULL && a_key();
+}
 static int a_hashers_key(void) { return memcmp(made.key, KEY, sizeof KEY) == 0; }
 static int a_phc(void) { return memcmp(made.text, PHC, sizeof PHC) == 0; }
 static int an_mcf(void) { return memcmp(made.text, MCF, sizeof MCF) == 0; }
@@ -86,6 +95,9 @@ static const struct {
     {"scrypt_key_finish", a_key, SCRYPT_OK},
     {"scrypt_verify_begin", is_verifying, SCRYPT_OK},
     {"scrypt_verify_finish", nothing, SCRYPT_OK},
+    {"scrypt_derivation_new", is_new, SCRYPT_OK},
+    {"scrypt_derivation_run", is_all_done, SCRYPT_OK},
+    {"scrypt_derivation_finish", a_key, SCRYPT_OK},
     {"scrypt_key_with_progress", a_key, SCRYPT_OK},
     {"scrypt_hash_password", a_new_hash, SCRYPT_OK},
     {"scrypt_hash_phc", a_phc, SCRYPT_OK},
@@ -113,7 +125,7 @@ static const struct {
     {"scrypt_generate_salt", a_salt, SCRYPT_OK},
 };
 
-/* Fills all outputs but the buffers and the steps, which are first. */
+/* Fills all outputs but the buffers, the steps and the derivation, which are first. */
 static void forget(void) {
   memset(&made.output, 0xaa, sizeof made - (size_t)((uint8_t *)&made.output - (uint8_t *)&made));
 }
@@ -214,6 +226,24 @@ static void keys(void) {
   meets("key_thin: output, buffers", scrypt_key_thin(SECRETS, PARAMS, 1, key, 0, NO_BUFFERS), SCRYPT_INVALID_OUTPUT_LEN);
 }
 
+static void derivations(void) {
+  scrypt_derivation *it = NULL;
+  double done = 0;
+#define NEW(...) scrypt_derivation_new(__VA_ARGS__, &it)
+  meets("derivation: r, bytes, output", NEW(SECRETS, 4, 0, 1, 1, 0), SCRYPT_INVALID_PARAMS);
+  meets("derivation: bytes, output", NEW(SECRETS, PARAMS, 5375, 0), SCRYPT_TOO_COSTLY);
+  meets("derivation: output, memory", NEW(SECRETS, HUGE, 1, 1, 0, 0), SCRYPT_INVALID_OUTPUT_LEN);
+  meets("derivation: a long output", NEW(SECRETS, HUGE, 1, 1, 0, SCRYPT_MAX_OUTPUT_LEN + 1), SCRYPT_INVALID_OUTPUT_LEN);
+  meets("derivation: memory", NEW(SECRETS, HUGE, 1, 1, 0, 20), SCRYPT_OUT_OF_MEMORY);
+  check(it == NULL, "no derivation");
+  check(NEW(SECRETS, PARAMS, 5376, 20) == SCRYPT_OK, "a derivation in its bytes");
+  meets("derivation: unfinished, output", scrypt_derivation_finish(it, "pw", 2, key, 19), SCRYPT_UNFINISHED);
+  check(scrypt_derivation_run(it, 60000, &done) == SCRYPT_OK && done == 1, "all is mixed");
+  meets("derivation: a shorter output", scrypt_derivation_finish(it, "pw", 2, key, 19), SCRYPT_INVALID_OUTPUT_LEN);
+  meets("derivation: no output", scrypt_derivation_finish(it, "pw", 2, NULL, 0), SCRYPT_INVALID_OUTPUT_LEN);
+  scrypt_derivation_free(&it);
+}
+
 static void hashes(void) {
   meets("phc: p, salt", scrypt_hash_phc(NO_SALT, 4, 8, 0, 20, NO_ROOM), SCRYPT_INVALID_PARAMS);
   meets("phc: salt, memory", scrypt_hash_phc(NO_SALT, HUGE, 1, 1, 20, NO_ROOM), SCRYPT_SALT_INVALID);
@@ -281,6 +311,7 @@ int main(void) {
   memset(text, '!', sizeof text);
   chunks[0] = 7, table[0] = 7, scratch[0] = 7;
   keys();
+  derivations();
   hashes();
   buffers();
   texts();

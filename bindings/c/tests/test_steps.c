@@ -1,8 +1,12 @@
 /* Keys and verdicts in steps: RFC 7914's keys and others, in steps of any size; a derivation that
- * is abandoned; a function between steps; and each error, which leaves everything unchanged. */
+ * is abandoned; steps by time, also in a child; a function between steps; and each error, which
+ * leaves everything unchanged. */
 #include "check.h"
 #include "scrypt_c.h"
 #include "test_keys.h"
+#ifndef _WIN32
+#include "child.h"
+#endif
 
 #include <stdlib.h>
 #include <string.h>
@@ -156,6 +160,7 @@ static void with_progress(void) {
       {"N of 1", 0, 1, 3, 32, 0, SCRYPT_OK},
       {"a key", 14, 8, 1, 32, 0, SCRYPT_OK},
       {"several chunks", 12, 8, 5, 32, 0, SCRYPT_OK},
+      {"500 short chunks", 10, 1, 500, 32, 0, SCRYPT_OK},
       {"stopped by the first call", 14, 8, 1, 32, 1, SCRYPT_STOPPED},
       {"stopped later", 14, 8, 2, 32, 3, SCRYPT_STOPPED},
       {"r of 0, no output", 4, 0, 1, 0, 0, SCRYPT_INVALID_PARAMS},
@@ -178,6 +183,74 @@ static void with_progress(void) {
     check(scrypt_key("pw", 2, "salt", 4, log_n, r, p, wanted, 32) == SCRYPT_OK && memcmp(key, wanted, 32) == 0, ROWS[i].why);
   }
 }
+
+/* ---- In the library's memory, by time ---- */
+
+/* A key by runs of this time; each run does more, and the last all. A step is bounded by a chunk,
+ * however many chunks there are, and a run ends at its time, even if no step takes as long. */
+static void by_time(void) {
+  static const struct {
+    const char *why;
+    uint32_t log_n, r, p, milliseconds;
+  } ROWS[] = {
+      {"N of 1", 0, 1, 3, 0},
+      {"one mix at a time", 5, 2, 7, 0},
+      {"many mixes in the shortest runs", 10, 8, 2, 0},
+      {"one run", 10, 8, 3, 60000},
+      {"the longest time", 10, 8, 3, UINT32_MAX},
+      {"runs of 10 ms", 14, 8, 5, 10},
+      {"r above the cores of the first step", 1, 5000, 2, 0},
+      {"500 short chunks", 10, 1, 500, 10},
+      {"4096 short chunks", 9, 1, 4096, 10},
+  };
+  uint8_t key[32], wanted[32];
+  size_t i;
+  for (i = 0; i < sizeof ROWS / sizeof *ROWS; i++) {
+    const uint32_t log_n = ROWS[i].log_n, r = ROWS[i].r, p = ROWS[i].p;
+    const size_t max_runs = ROWS[i].milliseconds == 0 ? (size_t)p << (log_n + 1) : ROWS[i].milliseconds > 10 ? 1 : 1000;
+    scrypt_derivation *it = NULL;
+    double done = 0, last = 0;
+    size_t runs = 0;
+    int status = scrypt_derivation_new("pw", 2, "salt", 4, log_n, r, p, 0, 32, &it);
+    for (; status == SCRYPT_OK && done < 1; runs++, last = done) {
+      check(scrypt_derivation_finish(it, "pw", 2, key, 32) == SCRYPT_UNFINISHED, ROWS[i].why);
+      status = scrypt_derivation_run(it, ROWS[i].milliseconds, &done);
+      check(done > last && done <= 1, ROWS[i].why);
+    }
+    check(status == SCRYPT_OK && runs <= max_runs, ROWS[i].why);
+    check(scrypt_derivation_run(it, 10, &done) == SCRYPT_OK && done == 1, "a run after the last");
+    check(scrypt_key("pw", 2, "salt", 4, log_n, r, p, wanted, 32) == SCRYPT_OK, ROWS[i].why);
+    check(scrypt_derivation_finish(it, "pw", 2, key, 32) == SCRYPT_OK && memcmp(key, wanted, 32) == 0, ROWS[i].why);
+    check(scrypt_derivation_finish(it, "PW", 2, key, 32) == SCRYPT_OK && memcmp(key, wanted, 32) != 0, "another password");
+    scrypt_derivation_free(&it);
+    scrypt_derivation_free(&it);
+    check(it == NULL, "freed");
+  }
+}
+
+#ifndef _WIN32
+static scrypt_derivation *shared;
+static uint8_t its_key[32];
+static int is_derived(void) {
+  uint8_t key[32];
+  double done = 0;
+  int status = SCRYPT_OK;
+  while (status == SCRYPT_OK && done < 1) status = scrypt_derivation_run(shared, 1, &done);
+  if (status == SCRYPT_OK) status = scrypt_derivation_finish(shared, "pw", 2, key, 32);
+  scrypt_derivation_free(&shared);
+  return status != SCRYPT_OK || memcmp(key, its_key, 32) != 0;
+}
+
+/* A child and its parent derive the rest, each in its own copy. */
+static void across_a_fork(void) {
+  double done = 0;
+  check(scrypt_key("pw", 2, "salt", 4, 15, 8, 2, its_key, 32) == SCRYPT_OK, "a key");
+  check(scrypt_derivation_new("pw", 2, "salt", 4, 15, 8, 2, 0, 32, &shared) == SCRYPT_OK &&
+            scrypt_derivation_run(shared, 5, &done) == SCRYPT_OK && done < 1, "a part of a key");
+  in_a_child(is_derived, "the rest of a key in a child");
+  check(is_derived() == 0, "the rest of a key in its parent");
+}
+#endif
 
 /* ---- Errors: how (4, 2, 2) in one table is changed before a call, and the statuses of
  * scrypt_key_begin, scrypt_key_step, and scrypt_key_finish with an empty output ---- */
@@ -235,6 +308,10 @@ int main(void) {
   hashes();
   refused_hashes();
   with_progress();
+  by_time();
+#ifndef _WIN32
+  across_a_fork();
+#endif
   refusals();
   return failed;
 }

@@ -2,22 +2,13 @@
 
 from __future__ import annotations
 
-import ctypes
 from typing import Callable, Optional
 
-from . import library
 from .arguments import Bytes, in_64_bits, number, raw_bytes
 from .declared import INVALID_OUTPUT_LEN, MAX_OUTPUT_LEN, TOO_COSTLY
 from .errors import InvalidParamsError, TooCostlyError, check
 from .params import NO_LIMIT, Params, accepted, check_costs, cost_of
 from .steps import derived
-
-# A key of this number of Salsa20/8 cores or more, about 40 ms, is derived in steps. A smaller
-# derivation is faster in one call, which need not map new memory.
-LONG = 3 << 18
-
-# The maximum size in bytes of several tables if there is no limit, as in the library's own call.
-SEVERAL = 129 << 20
 
 
 def scrypt(
@@ -58,7 +49,7 @@ def scrypt(
         raise TooCostlyError("SCRYPT_TOO_COSTLY", words)
     if not 1 <= dklen <= MAX_OUTPUT_LEN:
         check(INVALID_OUTPUT_LEN, f"dklen={dklen}")
-    return _made(password, salt, params, max_mem if maxmem else None, dklen, progress)
+    return derived(password, salt, params, max_mem if maxmem else 0, dklen, progress)
 
 
 def log_of(n: int) -> int:
@@ -75,28 +66,4 @@ def derive_within(
     and InvalidParamsError."""
     limits = in_64_bits(max_mem, "max_mem"), in_64_bits(max_work, "max_work")
     check_costs(*cost_of(params, *limits), max_mem, max_work)
-    return _made(password, salt, params, limits[0], dklen)
-
-
-def _made(
-    password: bytes,
-    salt: bytes,
-    params: Params,
-    max_mem: Optional[int],
-    dklen: int,
-    progress: Optional[Callable[[float], object]] = None,
-) -> bytes:
-    """Derives a key with as many tables as fit in `max_mem`, or as the library allows if it is
-    None, but at least one."""
-    if progress is not None or params.cores >= LONG:
-        return derived(password, salt, params, dklen, max_mem or SEVERAL, progress)
-    key = ctypes.create_string_buffer(dklen)
-    given = password, len(password), salt, len(salt), *params[:3]
-    if max_mem is None:
-        status = library.key(*given, key, dklen)
-    else:
-        status = library.key_limited(*given, max_mem, NO_LIMIT, key, dklen)
-    check(status, f"{cost_of(params)[1]}, and the key {dklen}" if status else "")
-    made = key.raw
-    ctypes.memset(key, 0, dklen)
-    return made
+    return derived(password, salt, params, limits[0], dklen)

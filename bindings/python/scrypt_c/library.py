@@ -51,7 +51,16 @@ class Hasher(ctypes.c_void_p):
         free(self)
 
 
-_types = declared.calls(Hasher) | {"PyObject_GC_UnTrack": ([ctypes.py_object], None)}
+class Derivation(ctypes.c_void_p):
+    """A scrypt_derivation, or NULL. The library writes it and frees it, each in one call, so that a
+    signal handler's exception finds it in one of these two states; then it is freed with this
+    object."""
+
+    def __del__(self, free: Any = _lib.scrypt_derivation_free, at: Any = ctypes.byref) -> None:
+        free(at(self))
+
+
+_types = declared.calls(Derivation, Hasher) | {"PyObject_GC_UnTrack": ([ctypes.py_object], None)}
 
 
 def _declared(name: str, library: ctypes.CDLL = _lib) -> Any:
@@ -63,11 +72,10 @@ def _declared(name: str, library: ctypes.CDLL = _lib) -> Any:
 params_cost = _declared("scrypt_params_cost")
 hash_cost = _declared("scrypt_hash_cost")
 default_limits = _declared("scrypt_default_limits")
-key = _declared("scrypt_key")
-key_limited = _declared("scrypt_key_limited")
-key_begin = _declared("scrypt_key_begin")
-key_step = _declared("scrypt_key_step")
-key_finish = _declared("scrypt_key_finish")
+derivation_new = _declared("scrypt_derivation_new")
+derivation_run = _declared("scrypt_derivation_run")
+derivation_finish = _declared("scrypt_derivation_finish")
+derivation_free = _declared("scrypt_derivation_free")
 hash_params = _declared("scrypt_hash_params")
 calibrate = _declared("scrypt_calibrate")
 _declared("scrypt_hasher_free")

@@ -7,6 +7,7 @@ import os
 import pathlib
 import random
 import re
+import resource
 import signal
 import threading
 import time
@@ -30,8 +31,8 @@ def growth(call):
 
 class Keys(unittest.TestCase):
     def test_keys_equal_hashlib(self):
-        """Also in steps of random lengths. The minimum maxmem is the same as in hashlib."""
-        step = library.key_step
+        """Also in the shortest steps. The minimum maxmem is the same as in hashlib."""
+        run = library.derivation_run
         for _ in range(int(os.environ.get("STEPS", 100))):
             costs = {"n": 2 << random.randrange(8), "salt": os.urandom(random.randrange(40))}
             for name, most in [("r", 9), ("p", 4), ("dklen", 99)]:
@@ -43,11 +44,33 @@ class Keys(unittest.TestCase):
             self.assertEqual(found, wanted, costs)
             for derive in (hashlib.scrypt, scrypt_c.scrypt):
                 self.assertRaises(ValueError, derive, password, **costs, maxmem=of.memory - 1)
-            with mock.patch.object(library, "key_step", lambda it, _: step(it, random.randint(1, 99))):
+            with mock.patch.object(library, "derivation_run", lambda it, _, done: run(it, 0, done)):
                 found = scrypt_c.scrypt(password, **costs, progress=seen.append)
             self.assertEqual((found, seen, seen[-1]), (wanted, sorted(seen), 1), costs)
         most = {"maxmem": B64 + 1, "max_work": B64 + 1}
         self.assertEqual(key(password=bytearray(b"pw"), salt=memoryview(b"salt"), **most), key())
+
+    def test_many_short_chunks(self):
+        """Steps end by their time, even if a chunk takes less."""
+        for n, p in [(1024, 500), (512, 4096)]:
+            costs, seen = {"salt": b"salt", "n": n, "r": 1, "p": p}, []
+            wanted = hashlib.scrypt(b"pw", **costs, maxmem=1 << 30)
+            self.assertEqual(scrypt_c.scrypt(b"pw", **costs), wanted)
+            self.assertEqual(scrypt_c.scrypt(b"pw", **costs, progress=seen.append), wanted)
+            self.assertEqual((seen, seen[-1]), (sorted(seen), 1))
+            self.assertLess(len(seen), 1000)
+
+    def test_one_table_of_several(self):
+        """One table is used if the system has no memory for several."""
+        wanted = key(n=1 << 15, p=4)
+        pages = int(pathlib.Path("/proc/self/statm").read_text("ascii").split()[0])
+        limits = resource.getrlimit(resource.RLIMIT_AS)
+        most = pages * resource.getpagesize() + (80 << 20)
+        resource.setrlimit(resource.RLIMIT_AS, (most, limits[1]))
+        try:
+            self.assertEqual(key(n=1 << 15, p=4), wanted)
+        finally:
+            resource.setrlimit(resource.RLIMIT_AS, limits)
 
     def test_maxmem_is_not_exceeded(self):
         """The tables that fit in maxmem are used, and all are freed."""

@@ -3,15 +3,8 @@
 use crate::calls::*;
 use crate::{DeriveError, Params};
 use std::ops::ControlFlow;
-use std::os::raw::{c_int, c_void};
+use std::os::raw::c_int;
 use std::ptr::null_mut;
-use std::time::{Duration, Instant};
-
-/// The duration of a step, unless one block mix takes longer.
-const STEP: Duration = Duration::from_millis(10);
-
-/// The maximum size in bytes of all buffers if there are several tables, as in `scrypt`.
-const SEVERAL: usize = 129 << 20;
 
 /// Derives a key like [`scrypt`](crate::scrypt()), in steps of about 10 ms. After each step it
 /// calls `progress` with the fraction that is done, from 0 to 1; `ControlFlow::Break` cancels the
@@ -41,51 +34,49 @@ pub fn scrypt_in_steps(
     output: &mut [u8],
     progress: impl FnMut(f64) -> ControlFlow<()>,
 ) -> Result<(), DeriveError> {
-    by_steps(password, salt, params, output, progress, next_mixes)
+    by_steps(password, salt, params, output, progress, 10)
 }
 
-// `next` returns the number of block mixes of each step after the first.
+// `milliseconds` is the duration of a step.
 fn by_steps(
     password: &[u8],
     salt: &[u8],
     params: &Params,
     output: &mut [u8],
     mut progress: impl FnMut(f64) -> ControlFlow<()>,
-    mut next: impl FnMut(usize, Duration) -> usize,
+    milliseconds: u32,
 ) -> Result<(), DeriveError> {
-    if output.is_empty() || output.len() as u64 > MAX_OUTPUT_LEN {
-        return Err(DeriveError::InvalidOutputLen);
-    }
-    let mut steps = Steps::new(params)?;
-    let (it, password_at) = (&mut steps.0, password.as_ptr().cast());
-    // SAFETY: until this returns the buffers have the lengths in `it`, and each other pointer and
-    // the length after it are from one slice.
+    let (mut it, mut done) = (Derivation(null_mut()), 0.0);
+    let (log_n, r, p) = (params.log_n().into(), params.r(), params.p());
+    let (password_at, len) = (password.as_ptr().cast(), output.len());
+    // SAFETY: here and below each pointer and the length after it are from one slice, and the
+    // others are those of local variables.
     check(unsafe {
-        scrypt_key_begin(it, password_at, password.len(), salt.as_ptr().cast(), salt.len())
+        let (salt_at, max_mem) = (salt.as_ptr().cast(), 0);
+        scrypt_derivation_new(
+            password_at,
+            password.len(),
+            salt_at,
+            salt.len(),
+            log_n,
+            r,
+            p,
+            max_mem,
+            len,
+            &mut it.0,
+        )
     })?;
-    let mut mixes = 1;
-    while it.at.chunks < it.p as usize {
-        let begun = Instant::now();
-        // SAFETY: as above.
-        check(unsafe { scrypt_key_step(it, mixes) })?;
-        mixes = next(mixes, begun.elapsed()).min(2 << it.log_n);
-        let of_each = it.at.mixes as f64 / (2u64 << it.log_n) as f64;
-        let mixed = it.at.chunks as f64 + it.at.interleaved as f64 * of_each;
-        if progress(mixed / f64::from(it.p)).is_break() {
+    while done < 1.0 {
+        // SAFETY: as above; `it` is a derivation of the library's, which only this thread has.
+        check(unsafe { scrypt_derivation_run(it.0, milliseconds, &mut done) })?;
+        if progress(done).is_break() {
             return Err(DeriveError::Cancelled);
         }
     }
     // SAFETY: as above.
     check(unsafe {
-        scrypt_key_finish(it, password_at, password.len(), output.as_mut_ptr(), output.len())
+        scrypt_derivation_finish(it.0, password_at, password.len(), output.as_mut_ptr(), len)
     })
-}
-
-fn next_mixes(mixes: usize, took: Duration) -> usize {
-    if took < STEP / 2 {
-        return 2 * mixes;
-    }
-    ((mixes as f64 * STEP.as_secs_f64() / took.as_secs_f64()) as usize).max(1)
 }
 
 fn check(status: c_int) -> Result<(), DeriveError> {
@@ -95,92 +86,14 @@ fn check(status: c_int) -> Result<(), DeriveError> {
     }
 }
 
-// A derivation with its buffers, one after another in one mapping. Dropping it unmaps them, so that
-// no secret is left in the process.
-struct Steps(RawSteps);
+// Dropping it wipes and frees what the library keeps of a derivation.
+struct Derivation(*mut RawDerivation);
 
-impl Steps {
-    fn new(params: &Params) -> Result<Steps, DeriveError> {
-        let (log_n, r, p) = (params.log_n().into(), params.r(), params.p());
-        let mut cost = RawCost::default();
-        // SAFETY: `cost` is a local variable. It is written even if one table is too large.
-        unsafe { scrypt_params_cost(log_n, r, p, SEVERAL, u64::MAX, &mut cost) };
-        let (table_len, scratch_len) =
-            (cost.tables * cost.table_len, cost.tables * cost.scratch_len);
-        let len = match usize::try_from(cost.bytes) {
-            Ok(one) if one < isize::MAX as usize => 4 * (table_len + scratch_len) + cost.chunks_len,
-            _ => return Err(DeriveError::OutOfMemory),
-        };
-        let table: *mut u32 = map(len).ok_or(DeriveError::OutOfMemory)?.cast();
-        // SAFETY: both pointers are within the mapping.
-        let (scratch, chunks) =
-            unsafe { (table.add(table_len), table.add(table_len + scratch_len).cast()) };
-        // SAFETY: all fields are numbers and raw pointers, for which zeros are valid.
-        let mut steps: RawSteps = unsafe { std::mem::zeroed() };
-        (steps.log_n, steps.r, steps.p) = (log_n, r, p);
-        (steps.chunks, steps.table, steps.scratch) = (chunks, table, scratch);
-        (steps.chunks_len, steps.table_len, steps.scratch_len) =
-            (cost.chunks_len, table_len, scratch_len);
-        Ok(Steps(steps))
-    }
-}
-
-impl Drop for Steps {
+impl Drop for Derivation {
     fn drop(&mut self) {
-        let it = &self.0;
-        unmap(it.table.cast(), 4 * (it.table_len + it.scratch_len) + it.chunks_len);
+        // SAFETY: it is NULL, or a derivation of the library's that is not freed yet.
+        unsafe { scrypt_derivation_free(&mut self.0) };
     }
-}
-
-#[cfg(not(windows))]
-fn map(len: usize) -> Option<*mut c_void> {
-    extern "C" {
-        fn mmap(at: *mut c_void, n: usize, p: c_int, f: c_int, d: c_int, o: i64) -> *mut c_void;
-        fn madvise(at: *mut c_void, len: usize, advice: c_int) -> c_int;
-    }
-    const READ_WRITE: c_int = 3;
-    const PRIVATE_ANONYMOUS: c_int = 0x22;
-    const HUGEPAGE: c_int = 14;
-    // SAFETY: this makes a new mapping, and no other code uses it.
-    unsafe {
-        let at = mmap(null_mut(), len, READ_WRITE, PRIVATE_ANONYMOUS, -1, 0);
-        if at as isize == -1 {
-            return None;
-        }
-        madvise(at, len, HUGEPAGE);
-        Some(at)
-    }
-}
-
-#[cfg(not(windows))]
-fn unmap(at: *mut c_void, len: usize) {
-    extern "C" {
-        fn munmap(at: *mut c_void, len: usize) -> c_int;
-    }
-    // SAFETY: this is a whole mapping, which is no longer used.
-    unsafe { munmap(at, len) };
-}
-
-#[cfg(windows)]
-extern "system" {
-    fn VirtualAlloc(at: *mut c_void, len: usize, kind: u32, protection: u32) -> *mut c_void;
-    fn VirtualFree(at: *mut c_void, len: usize, kind: u32) -> c_int;
-}
-
-#[cfg(windows)]
-fn map(len: usize) -> Option<*mut c_void> {
-    const RESERVE_COMMIT: u32 = 0x3000;
-    const READ_WRITE: u32 = 4;
-    // SAFETY: this makes a new mapping, and no other code uses it.
-    let at = unsafe { VirtualAlloc(null_mut(), len, RESERVE_COMMIT, READ_WRITE) };
-    (!at.is_null()).then_some(at)
-}
-
-#[cfg(windows)]
-fn unmap(at: *mut c_void, _: usize) {
-    const RELEASE: u32 = 0x8000;
-    // SAFETY: this is a whole mapping, which is no longer used.
-    unsafe { VirtualFree(at, 0, RELEASE) };
 }
 
 #[cfg(test)]
@@ -203,14 +116,7 @@ mod tests {
         bytes.iter().map(|it| format!("{it:02x}")).collect()
     }
 
-    #[test]
-    fn steps_of_10_ms() {
-        let next =
-            [(100, STEP / 4), (100, 4 * STEP), (1, 4 * STEP)].map(|it| next_mixes(it.0, it.1));
-        assert_eq!(next, [200, 25, 1]);
-    }
-
-    /// Keys derived in steps of random lengths equal the keys of one call. STEPS is the number of
+    /// Keys derived in the shortest steps equal the keys of one call. STEPS is the number of
     /// keys, which are printed for ../compare_keys.py.
     #[test]
     fn keys_in_steps() {
@@ -229,8 +135,7 @@ mod tests {
                 last = done;
                 ControlFlow::Continue(())
             };
-            let next = |_, _| 1 + random(&mut state, 99);
-            by_steps(&password, &salt, &params, &mut key, progress, next).unwrap();
+            by_steps(&password, &salt, &params, &mut key, progress, 0).unwrap();
             crate::scrypt(&password, &salt, &params, &mut wanted).unwrap();
             assert_eq!((&key, last), (&wanted, 1.0), "{password:x?} {salt:x?} {params:?}");
             let [password, salt, key] = [&password, &salt, &key].map(|it| hex(it));

@@ -18,6 +18,22 @@ fn rejected_keys() {
     assert_eq!(key, [7; 4]);
 }
 
+/// Steps end by their time, even if a chunk takes less.
+#[test]
+fn many_short_chunks() {
+    for (log_n, p) in [(10, 500), (9, 4096)] {
+        let (params, mut steps) = (Params::new(log_n, 1, p).unwrap(), 0);
+        let (mut key, mut wanted) = ([0; 32], [0; 32]);
+        let progress = |_| {
+            steps += 1;
+            ControlFlow::Continue(())
+        };
+        scrypt_in_steps(b"pw", b"salt", &params, &mut key, progress).unwrap();
+        scrypt(b"pw", b"salt", &params, &mut wanted).unwrap();
+        assert!(key == wanted && steps < 1000, "{params:?}, {steps} steps");
+    }
+}
+
 /// A derivation that takes seconds is cancelled between two steps, also by a panic.
 #[test]
 fn cancelled_between_steps() {
