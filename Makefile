@@ -1,4 +1,5 @@
-# You need the Rattle kit, make and Python 3.11. Two commands do everything, and need nothing built before:
+# You need the Rattle kit, make and Python 3.11. Two commands do everything, and need nothing built before. As root
+# on Debian they install what else they need; elsewhere they name it first (tools/packages.txt):
 #   make run       proves and builds the program, and prints the first key of RFC 7914, section 12
 #   make test      is the gate: proves everything from nothing, checks that wrong code is rejected, and runs
 #                  every test
@@ -24,7 +25,7 @@ unexport CDPATH # with it, cd would go elsewhere
 PRESET ?= native
 export PRESET
 prefix = $(or $(PREFIX),/usr/local)
-STEP = tools/gate/step.sh
+STEP = PROGRESS=yes tools/gate/step.sh
 GATE = +@$(MAKE) --no-print-directory --keep-going --output-sync -f tools/gate/gate.mk
 
 # The libraries below the program, each after the libraries that it uses. The two lowest take about equally
@@ -32,12 +33,14 @@ GATE = +@$(MAKE) --no-print-directory --keep-going --output-sync -f tools/gate/g
 LIBRARIES = $(addprefix proved-,password_hash scrypt_kernel scrypt scrypt_commands)
 HAS_ROOM := $(shell [ $$(nproc) -ge 4 ] && awk '/^MemAvailable/ && $$2 > 12000000 { print "yes" }' /proc/meminfo)
 PROVE = $(MAKE) --no-print-directory -j$(if $(HAS_ROOM),2,1)
-.PHONY: help kit run lib linked js install uninstall test check documents suites examples \
+.PHONY: help kit setup-run setup-lib setup-test run lib linked js install uninstall test check documents suites examples \
   generate promises doc dist clean proved-scrypt_tool $(LIBRARIES)
 help:
 	@sed -n '/^#/!q; s/^# \{0,1\}//p' Makefile
 kit:
 	@command -v rt > /dev/null || { echo "The Rattle kit's command rt isn't here: nothing was proved." >&2; exit 1; }
+setup-run setup-lib setup-test: setup-%: kit
+	@tools/setup.sh $*
 proved-password_hash proved-scrypt_kernel: private JOBS = $(if $(HAS_ROOM),--jobs 3)
 $(LIBRARIES): proved-%: kit
 	@$(STEP) $* env -C crates/$* rt lib $(JOBS)
@@ -46,7 +49,7 @@ proved-scrypt_commands: proved-scrypt
 proved-scrypt_tool: proved-scrypt_commands
 	@$(STEP) scrypt_tool env -C crates/scrypt_tool rt run -- key 4 1 1 64 "" < /dev/null
 
-run: kit
+run: setup-run
 	@echo "Proves and builds the program, in about 8 minutes on four idle processors. The steps' logs are in build/log."
 	@$(PROVE) proved-scrypt_tool
 	@$(STEP) program --needs cc:gcc /usr/include/bsd/readpassphrase.h:libbsd-dev bindings/cli/build.sh
@@ -58,7 +61,7 @@ BUILD_native = cd crates/scrypt_c && rt lib --cpu x86-64-v3 && mkdir -p out/x86-
   mv out/libscrypt_c.a out/x86-64-v3/ && rt lib
 BUILD_windows = rm -rf build/given && python3 -m tools.gate.library build/given crates/scrypt_c/out/incremental llvm && \
   python3 -m bindings.bitcode build/given
-lib: kit
+lib: setup-lib
 	$(PROVE) proved-scrypt$(if $(BUILD_$(PRESET)),,_commands)
 	$(or $(BUILD_$(PRESET)),python3 -m bindings.cross $(PRESET) scrypt_c scrypt_tool)
 	@$(MAKE) --no-print-directory linked
@@ -69,14 +72,14 @@ linked: # compiles and links the proved code
 js: kit
 	$(PROVE) proved-scrypt
 	python3 -m bindings.js.build
-	$(firstword $(wildcard bindings/js/test.sh bindings/js/test/test.sh))
+	$(firstword $(wildcard bindings/js/test.sh bindings/js/test/test.sh)) || [ $$? = 77 ]
 install:
 	@[ -e build/$(PRESET)/cmake_install.cmake ] || { echo "first run make lib" >&2; exit 1; }
 	@DESTDIR="$(DESTDIR)" cmake --install build/$(PRESET) --prefix "$(prefix)" > build/install.log
 	@echo "installed; programs find the library after ldconfig, or by LD_LIBRARY_PATH=$(prefix)/lib"
 uninstall:
 	@sed "s|^|$(DESTDIR)|" build/$(PRESET)/install_manifest.txt | tr '\n' '\0' | xargs -0 rm -f
-test: kit; @tools/gate/run.sh
+test: setup-test; @tools/gate/run.sh
 check: kit documents # from nothing, the libraries are proved first, with more jobs for each
 	$(if $(wildcard crates/scrypt_commands/out/incremental),,$(PROVE) $(LIBRARIES))
 	@$(STEP) what-changed rt all test --jobs $(if $(HAS_ROOM),4,1)

@@ -5,7 +5,7 @@ unset CDPATH
 cd "$(dirname "$0")/../.."
 . bindings/preset.sh
 begin_test
-has go golang-go && has "$CC" gcc || exit 0
+has go golang-go && has "$CC" gcc || exit 77
 export GOPROXY=off
 quiet() { "$@" > "$room/log" 2>&1 || { cat "$room/log"; exit 1; }; }
 cp "$lib/libscrypt_c.a" "bindings/go/$bundled"

@@ -4,6 +4,7 @@ import {
 } from './arguments.js';
 import { SALT_LEN } from './declared.js';
 import { ScryptError, errorFor, errorOfHash } from './errors.js';
+import { host } from './host.js';
 import { Instance, places } from './instance.js';
 import { MEMORY } from './machine.js';
 import { keyInSteps, turn, verdictInSteps } from './steps.js';
@@ -62,7 +63,7 @@ export class Scrypt {
 
   hash(password, given) {
     const options = optionsOf(given, 'hash');
-    const { salt = crypto.getRandomValues(new Uint8Array(SALT_LEN)), format = 'phc' } = options;
+    const { salt = (host.crypto ?? crypto).getRandomValues(new Uint8Array(SALT_LEN)), format = 'phc' } = options;
     const params = withDefaults(options);
     const keyLen = BigInt(lengthOf(options.dkLen));
     const maxMem = limit(options.maxmem, 'maxmem', MAX_MEMORY);

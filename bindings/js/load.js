@@ -1,6 +1,7 @@
 // The module: its source, and whether this engine can run it.
 import { Scrypt } from './core.js';
 import { ScryptError } from './errors.js';
+import { host } from './host.js';
 
 // A module of one function, which makes a SIMD vector.
 const VECTOR = Uint8Array.of(
@@ -11,10 +12,15 @@ const VECTOR = Uint8Array.of(
 /** Whether this engine has WebAssembly with SIMD. */
 export const isSupported = () => typeof WebAssembly === 'object' && WebAssembly.validate(VECTOR);
 
+const node = globalThis.process?.versions?.node;
+
 function checkSupported() {
+  if (host.os && parseInt(node, 10) < 18) {
+    throw new ScryptError('LOAD_FAILED', `scrypt-proved needs Node 18 or later, this is ${node}`);
+  }
   if (isSupported()) return;
   throw new ScryptError('UNSUPPORTED', 'this engine lacks WebAssembly with vectors (SIMD), which '
-    + 'Chrome 91, Firefox 89, Safari 16.4 and Node 20 have');
+    + 'Chrome 91, Firefox 89, Safari 16.4 and Node 18 have');
 }
 
 let given = Promise.resolve(); // the module of the last source that was loaded, if there was one
@@ -64,13 +70,13 @@ async function compileAt(address) {
   try {
     return await WebAssembly.compile(await bytesAt(address));
   } catch (cause) {
-    throw new Error(`${address}: ${cause.message}`, { cause });
+    const hint = node && !host.readFile ? ' (in Node: import node.js, or bundle for platform node)' : '';
+    throw new Error(`${address}: ${cause.message}${hint}`, { cause });
   }
 }
 
 async function bytesAt(address) {
-  const files = globalThis.process?.getBuiltinModule?.('node:fs/promises');
-  if (files && address.startsWith('file:')) return files.readFile(new URL(address));
+  if (host.readFile && address.startsWith('file:')) return host.readFile(new URL(address));
   const response = await fetch(address);
   if (!response.ok) throw new Error(`status ${response.status}`);
   return response.arrayBuffer();

@@ -1,8 +1,8 @@
 // The memory and the processors of the machine, or of the container.
-const { process } = globalThis;
-const os = process?.getBuiltinModule?.('node:os');
+import { host } from './host.js';
 
-const memory = Math.min(process?.constrainedMemory?.() || Infinity, os?.totalmem() ?? Infinity);
+const { os } = host;
+const memory = Math.min(globalThis.process?.constrainedMemory?.() || Infinity, os?.totalmem() ?? Infinity);
 
 /** The bytes that calls may use; the rest is for the program. A page does not know: Infinity. */
 export const MEMORY = Math.floor((memory * 7) / 8);

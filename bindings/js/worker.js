@@ -2,9 +2,9 @@
 import { bytesAmong } from './arguments.js';
 import { Scrypt } from './core.js';
 import { outOfMemory } from './errors.js';
+import { host } from './host.js';
 
-const port = typeof WorkerGlobalScope === 'function'
-  ? globalThis : process.getBuiltinModule('node:worker_threads').parentPort;
+const port = host.port ?? globalThis;
 let own; // the last module that was received
 let scrypt;
 let controller; // of the last call

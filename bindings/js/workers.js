@@ -1,6 +1,7 @@
 // Calls in workers, so that they don't block the thread of a page or of a server.
 import { amount, bytesAmong, optionsOf } from './arguments.js';
 import { ScryptError, errorNamed, outOfMemory } from './errors.js';
+import { host } from './host.js';
 import { compile } from './load.js';
 import { MAX_WORKERS } from './machine.js';
 
@@ -27,11 +28,8 @@ function start() {
     // Bundlers look for exactly this expression.
     return new Worker(new URL('./worker.js', import.meta.url), { type: 'module' });
   }
-  // Not imported, because bundlers for pages would look for it.
-  const threads = globalThis.process?.getBuiltinModule?.('node:worker_threads');
-  if (!threads) throw new Error('this thread cannot start workers; use load()');
-  // Without the program's flags: `--input-type` is an error if a file is run.
-  const worker = new threads.Worker(new URL('./worker.js', import.meta.url), { execArgv: [] });
+  if (!host.start) throw new Error('this thread cannot start workers; use load()');
+  const worker = host.start();
   worker.on('message', (data) => worker.onmessage({ data }));
   worker.on('error', (error) => worker.onerror(error));
   worker.on('messageerror', (error) => worker.onmessageerror(error));

@@ -6,6 +6,6 @@ cd "$(dirname "$0")"
 export PATH="/usr/bin:$PATH" PYTHONPATH=../../bindings/python SCRYPT_C_LIBRARY=../../build/lib
 if ! python3 -c 'import Cryptodome' 2> /dev/null; then
   echo "Cryptodome is not installed (package python3-pycryptodome): not run: examples/key_files"
-  exit
+  exit 77
 fi
 python3 -B test_key_files.py "$@"

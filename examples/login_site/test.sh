@@ -8,7 +8,7 @@ export PATH="/usr/bin:$PATH" PYTHONPATH=../../bindings/python SCRYPT_C_LIBRARY=.
 for module in django waitress gunicorn selenium; do
   if ! python3 -c "import $module" 2> /dev/null; then
     echo "$module is not installed (package python3-$module): not run: examples/login_site"
-    exit
+    exit 77
   fi
 done
 python3 -B manage.py test -k Client -k Waitress "$@"

@@ -22,6 +22,7 @@ TOP = Path(__file__).resolve().parents[2]
 # Prints the measurements of javascript.js as JSON.
 NODE = """
 import { scryptSync } from 'node:crypto';
+import '../../bindings/js/node_host.js';
 import { measure } from './javascript.js';
 
 const crypto = (password, salt) => (N, r, p) => scryptSync(password, salt, 32, { N, r, p, maxmem: 2 ** 33 });

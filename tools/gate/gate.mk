@@ -25,7 +25,7 @@ endif
 # The longest tasks, and tasks that others wait for, are first.
 BUILDS = library linked module program $(CROSS:%=program-%) $(MACHINES:%=library-%)
 CRATE_MUTANTS = $(patsubst %,mutants-%,scrypt scrypt_kernel scrypt_commands password_hash scrypt_c scrypt_examples)
-DOCUMENTS = pages lint links version fit promises formats cores
+DOCUMENTS = pages lint first-steps links version fit promises formats cores
 EXAMPLES = $(patsubst examples/%/test.sh,example-%,$(wildcard examples/*/test.sh))
 LANGUAGES = python go rust javascript drop-in $(EXAMPLES) examples-of-pages
 SUITES = native asan tsan $(LANGUAGES) answers hashes migration oracle hostile completions
@@ -70,6 +70,8 @@ cores:
 # ---- The documents and the scripts ----
 lint:
 	$(TASK) tools/gate/lint.sh
+first-steps:
+	$(TASK) tools/gate/first_steps.sh
 formats:
 	$(TASK) --needs rt:the-Rattle-kit tools/gate/formats.sh
 links:
@@ -92,7 +94,7 @@ native asan tsan by-rattle: linked
 	$(TASK) tools/gate/c_tests.sh $@
 # Mutants of the hasher by rules: another twelfth of them with each commit.
 mutants-hasher: linked
-	$(TASK) $(PY) bindings.c.tests.mutants $$(($$(git rev-list --count HEAD) % 12 + 1)) 12
+	$(TASK) $(PY) bindings.c.tests.mutants $$(($$(git rev-list --count HEAD 2> /dev/null || echo 0) % 12 + 1)) 12
 $(CROSS:%=library-%): library-%: library
 	$(TASK) $(call FOR,$*) $(PY) bindings.cross $* scrypt_c=$(KEPT)
 library-windows: library

@@ -1,7 +1,8 @@
 #!/usr/bin/env bash
 # The gate: proves every crate by `rt ci`, and concurrently runs every other task of gate.mk, even if
-# some fail. The last line is `N passed, M failed`; the status is 0 if no task failed and none was
-# skipped because of a failure. Before it come the missing packages that parts of it need, and the time.
+# some fail. The last line is `N passed, M failed`, and `, K skipped` if what these tasks
+# need is not installed; the status is 0 if no task failed, and none did not begin because of a failure.
+# Before it come the tasks that were skipped, or ran in part, with the packages that they need, and the time.
 set -u
 unset CDPATH
 cd "$(dirname "$0")/../.."
@@ -20,21 +21,21 @@ mkdir -p build/log build/gate/proved
 python3 -B -m tools.generate.declarations || exit 1
 gate --keep-going --output-sync=target -j"$jobs" gate
 
-failed=0 passed=0
+failed=0 passed=0 skipped=0 without='' in_part=''
 for task in $(gate tasks); do
-  status=unbegun
-  if [ -e "build/log/$task.took" ]; then read -r status _ < "build/log/$task.took"; fi
+  status=unbegun needs=
+  if [ -e "build/log/$task.took" ]; then read -r status _ _ needs < "build/log/$task.took"; fi
   case $status in
-    0) passed=$((passed + 1)) ;;
+    0) passed=$((passed + 1)) && in_part=$in_part${needs:+"; $task (needs $needs)"} ;;
+    77) skipped=$((skipped + 1)) && without="$without; $task (needs $needs)" ;;
     unbegun) failed=$((failed + 1)) && echo "$task: did not begin, since what it needs failed" ;;
     *) failed=$((failed + 1)) && echo "$task: FAILED (build/log/$task.log)" ;;
   esac
 done
 cat build/log/{proofs,library,module,library-*,program-*}.log > build/log/verdicts.log 2> /dev/null
 if [ $failed = 0 ]; then python3 -B tools/release/proved.py keep build/log/verdicts.log || failed=1; fi
-grep -h ': not run' build/log/*.log | sort -u
-packages=$(grep -h ': not run' build/log/*.log | grep -oE 'packages? [a-z0-9+., -]+' | sed -E 's/packages? //; s/ is$//' | tr ', ' '\n\n' | sort -u)
-if [ -n "$packages" ]; then echo "parts were left out without the packages" $packages; fi
+if [ -n "$in_part" ]; then echo "in part: ${in_part#; }"; fi
+if [ -n "$without" ]; then echo "skipped: ${without#; }"; fi
 took=$((SECONDS - begun))
 times > build/gate/times # of this shell, and of its children
 used=$(tail -n 1 build/gate/times | tr 'ms' '  ' | awk '{ printf "%.1f", $1 + $2 / 60 + $3 + $4 / 60 }')
@@ -44,5 +45,6 @@ proofs=$(tail -n 1 build/log/proofs.log)
 if [[ $proofs =~ ^([0-9]+)\ passed,\ ([0-9]+)\ failed ]]; then
   passed=$((passed + BASH_REMATCH[1])) failed=$((failed + BASH_REMATCH[2]))
 fi
-echo "$passed passed, $failed failed"
+if [ "$skipped" = 0 ]; then skipped=; fi
+echo "$passed passed, $failed failed${skipped:+, $skipped skipped}"
 [ "$failed" = 0 ]

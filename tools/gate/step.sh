@@ -1,9 +1,13 @@
 #!/usr/bin/env bash
 # Runs a command as a step of the gate or of make. Its output goes to build/log/NAME.log. One line has
-# the result and the time; if the step failed, the last lines of the log come first.
+# the result and the time; if the step failed, the last lines of the log come first. With PROGRESS, a line
+# says that it begins, and others how many functions are checked: one a minute, or, on a terminal, one
+# that changes.
 #
 # usage: step.sh NAME [--needs COMMAND:PACKAGE ..] COMMAND ..
-# If a needed command (or file) is missing, nothing is run, and a line names the Debian package.
+# If a needed command (or file) is missing, nothing is run. A command that ran nothing ends with the status
+# 77. Both are skipped: the line names the Debian packages, which the log has in lines
+# `WHAT is not installed (packages NAMES): not run`. build/log/NAME.took has the status, the times, and the packages.
 set -u
 unset CDPATH
 name=$1 log=build/log/$1.log took=build/log/$1.took missing=
@@ -21,23 +25,60 @@ fi
 # A failure is told without the prover's line for each proved function.
 tail_of_log() { grep -v ': proved$' "$log" | tail -n 40; }
 minutes() { awk -v all="$1" 'BEGIN { printf "%d:%02d", all / 60, all % 60 }'; }
+packages() { sed -nE 's/.*\(packages? ([^()]*)\): not run.*/\1/p' "$log" | tr -s ', ' '\n\n' | sort -u | tr '\n' ' '; }
+
+# What the prover said last, until this step ends.
+report() {
+  local every=60 before="" after="\n" now
+  if [ -t 1 ]; then every=2 before=$clear after=""; fi
+  for ((second = 1; ; second++)); do
+    sleep 1
+    kill -0 $$ 2> /dev/null || exit # it was killed
+    if ((second % every == 0)); then
+      now=$(grep -oE '^so far: [0-9]+ of [0-9]+ functions checked' "$log" | tail -n 1)
+      printf "$before%s$after" "$name: ${now:-no function is checked yet}"
+    fi
+  done
+}
+if [ -t 1 ]; then clear="\r\033[K"; else clear=""; fi
 
 if [ -n "$missing" ]; then
-  echo "$name: not installed (packages$missing): not run" | tee "$log"
-  echo "0 0 0" > "$took"
+  echo "$name is not installed (packages${missing}): not run" > "$log"
+  echo "77 0 0$missing" > "$took"
+  echo "$name: skipped (needs$missing)"
   exit
+fi
+if [ -n "${PROGRESS:-}" ]; then
+  : > "$log"
+  echo "$name: begins"
+  report &
+  reporter=$!
 fi
 TIMEFORMAT='%1R %1U %1S'
 { time nice -n "${NICE:-0}" "$@" > "$log" 2>&1; } 2> "$took.part"
 status=$?
+if [ -n "${PROGRESS:-}" ]; then
+  { kill "$reporter" && wait "$reporter"; } 2> /dev/null
+  printf '%b' "$clear"
+fi
 read -r real user system < <(tail -n 1 "$took.part")
 rm -f "$took.part"
 used=$(echo "$user $system" | awk '{ print $1 + $2 }')
-echo "$status $real $used" > "$took"
+absent=$(packages)
+absent=${absent% }
+echo "$status $real $used $absent" > "$took"
 how="($(minutes "$real"), $(minutes "$used") of a processor)"
+if [ $status = 77 ]; then
+  echo "$name: skipped (needs ${absent:-what build/log/$name.log names})"
+  exit
+fi
 if [ $status = 0 ]; then
-  count=$(grep -v -e ': not run' -e '^$' "$log" | grep -E '[0-9]+ (of [0-9]+|passed)|^OK|tests passed|^# pass' | tail -n 1)
-  echo "$name: ${count:-passed} $how"
+  # The prover's verdict, or else the last count, which is not a line of its progress.
+  count=$(sed -nE 's/^logic=proved functions=([0-9]+) .*/proved, \1 functions/p' "$log" | tail -n 1)
+  if [ -z "$count" ]; then
+    count=$(grep -v -e ': not run' -e '^$' -e '^so far: ' "$log" | grep -E '[0-9]+ (of [0-9]+|passed)|^OK|tests passed|^# pass' | tail -n 1)
+  fi
+  echo "$name: ${count:-passed}${absent:+, in part (needs $absent)} $how"
 else
   printf '%s\n' "$(tail_of_log)" "$name: FAILED $how"
 fi

@@ -33,6 +33,8 @@ def output(*command):
 
 def commit():
     """The commit, with a note if there are uncommitted changes."""
+    if not Path(".git").exists():
+        return "no commit: sources without .git"
     changes = output("git", "status", "--porcelain", "--untracked-files=no")
     return output("git", "rev-parse", "HEAD") + (", with changes that are not committed" if changes else "")
 

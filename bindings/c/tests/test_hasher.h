@@ -235,8 +235,11 @@ static struct look { int leading, is_idle; scrypt_stats stats; } look_at(scrypt_
 #define RUN(test) run_test(test, #test)
 static void run_test(void (*test)(void), const char *name) {
   int64_t begun_at = now_ns();
+  int failed_before = failed;
+  failed = 0;
   test();
   expect(READ(mapped) == 0 && READ(allocated) == 0, "memory is left");
   printf("%s: %s, %d ms\n", name, failed ? "FAILED" : "ok",
          (int)((now_ns() - begun_at) / NS_OF_MS));
+  failed |= failed_before;
 }

@@ -5,7 +5,7 @@ import { spawnSync } from 'node:child_process';
 import { randomBytes, randomInt, scryptSync } from 'node:crypto';
 import { readFileSync, writeFileSync } from 'node:fs';
 import { test } from 'node:test';
-import { ScryptError, storedText } from '../index.js';
+import { ScryptError, storedText } from '../node.js';
 import { checks } from './checks.js';
 import { hex } from './support.js';
 
@@ -38,7 +38,7 @@ test('the texts of bindings/stored.tsv', () => {
 
 // Programs on the command line, with a flag that a file must not have. They exit by themselves.
 function prints(program) {
-  const text = program.replaceAll("'scrypt-proved'", `'${at('bindings/js/index.js')}'`);
+  const text = program.replaceAll("'scrypt-proved'", `'${at('bindings/js/node.js')}'`);
   const { stdout, status } = spawnSync(process.execPath, ['--input-type=module', '-e', text]);
   return `${stdout}${status || ''}`;
 }

@@ -10,8 +10,8 @@ trap 'rm -rf "$room"' EXIT
 
 # Whether this succeeds, or else which package brings it, and what was left out.
 has() {
-  ("$2" "$3" "${4:-}") > /dev/null 2>&1 && return
-  echo "package $1 is not installed, or is too old: not run"
+  ("$3" "$4" "${5:-}") > /dev/null 2>&1 && return
+  echo "$1 is not installed, or is too old (package $2): not run"
   return 1
 }
 
@@ -27,22 +27,30 @@ by_esbuild() {
   echo '{ "type": "module" }' > "$app/package.json"
   echo "import { hash, verify } from 'scrypt-proved';
     console.log(await verify('a', await hash('a', { N: 2 })));" > "$app/login.js"
-  (cd "$app" && sh -eu lines 2> log) || { cat "$app/log"; exit 1; }
+  sed 's/ --bundle/& --platform=node/; s/worker\.js/node_&/' "$app/lines" > "$app/for_node"
+  bundles() { (cd "$app" && sh -eu "$1" 2> log) || { cat "$app/log"; exit 1; }; }
   [ "$(node "$app/login.js")" = true ]
-  rm -r "$app/node_modules"
+  bundles for_node
+  mv "$app/node_modules" "$app/away"
   [ "$(node "$app/dist/login.js")" = true ]
+  mv "$app/away" "$app/node_modules"
+  bundles lines
   echo "bundled by esbuild"
 }
 
-has "nodejs, from 20.16 on" node -e 'process.getBuiltinModule("node:fs")' || exit 0
-python3 -B -m bindings.js.test.test_lower
+has "Node 18" nodejs node -e 'process.exit(Number(parseInt(process.versions.node) < 18))' || exit 77
+# Node 18 does not compile each instruction on a 64-bit memory.
+later='process.exit(Number(parseInt(process.versions.node) < 20))'
+if has "Node 20, for the module before lower.py," "nodejs>=20" node -e "$later"; then
+  python3 -B -m bindings.js.test.test_lower
+fi
 node --test --test-reporter=tap $here/node.test.js > "$room/log" || { cat "$room/log"; exit 1; }
 grep -E '^# (pass|fail) ' "$room/log"
-if has esbuild esbuild --version; then by_esbuild; fi
-if has node-typescript tsc --version; then
+if has esbuild esbuild esbuild --version; then by_esbuild; fi
+if has tsc node-typescript tsc --version; then
   tsc --strict --exactOptionalPropertyTypes --noEmit --target es2022 --module node16 $here/types.ts
 fi
-has chromium chromium --version || exit 0
+has chromium chromium chromium --version || exit 0
 python3 -B $here/in_browser.py
 if [ -e "$app" ]; then # a page that is opened from the disk makes a hash its title
   chromium --headless=new --no-sandbox --user-data-dir="$room/profile" --virtual-time-budget=20000 \

@@ -1,5 +1,6 @@
 // The checks of calls in workers, of their errors and aborts, and of loading.
 import { hash, isSupported, load, needsRehash, params, scrypt, verify } from '../index.js';
+import { host } from '../host.js';
 import { compile } from '../load.js';
 import { OF, equal, hex, instead, refused, utf8 } from './support.js';
 
@@ -113,10 +114,10 @@ const endings = {
   'the default number of workers': async () => {
     const os = { availableParallelism: () => 8, totalmem: () => 2 ** 40 };
     for (const [mib, wanted] of [[0, 4], [187, 1], [512, 1], [700, 2], [1024, 3], [2048, 4]]) {
-      const process = { constrainedMemory: () => mib * 2 ** 20, getBuiltinModule: () => os };
-      await instead(globalThis, 'process', process, async () => {
+      const process = { constrainedMemory: () => mib * 2 ** 20 };
+      await instead(globalThis, 'process', process, () => instead(host, 'os', os, async () => {
         equal((await import(`../machine.js?${mib}`)).MAX_WORKERS, wanted, `${mib} MiB`);
-      });
+      }));
     }
   },
 };
@@ -137,7 +138,7 @@ const calls = {
   'a worker wipes its arguments': async () => {
     const posted = [];
     const post = (...message) => posted.push(message);
-    await instead(globalThis, 'WorkerGlobalScope', class {}, () =>
+    await instead(host, 'port', undefined, () =>
       instead(globalThis, 'postMessage', post, async () => {
         await import('../worker.js?wipes');
         for (const [name, ...args] of [
@@ -176,7 +177,7 @@ const sources = {
   'an engine that compiles no bytes and starts no workers': async () => {
     const module = await compile();
     await instead(WebAssembly, 'compile', fails, () => instead(globalThis, 'Worker', undefined, () =>
-      instead(globalThis, 'process', undefined, async () => {
+      instead(host, 'start', undefined, async () => {
         const own = await load(module);
         equal(own.verify('', own.hash('', OF)), true, 'own');
         const { call } = await import('../workers.js?edge');

@@ -1,0 +1,4 @@
+// The entry in Node.
+import './node_host.js';
+
+export * from './index.js';

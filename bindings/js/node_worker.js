@@ -1,0 +1,3 @@
+// worker.js in Node.
+import './node_host.js';
+import './worker.js';
