@@ -1,8 +1,8 @@
 #!/bin/sh
 # Links the installed program: the proved program, whose reads of the standard input go through
-# terminal.c, and which progress.c calls. If the library for C is built, --progress shows a bar.
+# terminal.c.
 # usage: build.sh                   links build/bin/scrypt_tool; with PRESET (c/CMakePresets.json), for that
-#                                   machine, whose library is built, into its folder
+#                                   machine, into its folder
 #        build.sh PROGRAM OUTPUT    PROGRAM is crates/scrypt_tool/out/scrypt_tool, with its object next to it
 set -eu
 unset CDPATH
@@ -20,14 +20,10 @@ fi
 program=${1:-crates/scrypt_tool/$proved/scrypt_tool} output=${2:-$build/bin/scrypt_tool}
 room=$(mktemp -d)
 trap 'rm -r "$room"' EXIT
-"$objcopy" --redefine-sym read=read_or_ask --redefine-sym main=proved_main \
-  "$program.o" "$room/program.o"
-library=$build/lib/libscrypt_c.a
-if [ -e "$library" ]; then library="-Wl,-u,scrypt_key_with_progress $library"; else library=; fi
+"$objcopy" --redefine-sym read=read_or_ask "$program.o" "$room/program.o"
 # Only this object of libbsd: others would replace glibc's functions, such as getentropy.
 (cd "$room" && ar x "$($CC -print-file-name=libbsd.a)" readpassphrase.o)
 mkdir -p "$(dirname "$output")"
 # shellcheck disable=SC2086 # words without spaces
 $CC -std=gnu99 -O2 -Wall -Wextra -fstack-protector-strong -U_FORTIFY_SOURCE -D_FORTIFY_SOURCE=2 \
-  -Wl,-z,relro -Wl,-z,now -o "$output" "$room"/*.o bindings/cli/terminal.c \
-  bindings/cli/progress.c $library $kit_c
+  -Wl,-z,relro -Wl,-z,now -o "$output" "$room"/*.o bindings/cli/terminal.c $kit_c

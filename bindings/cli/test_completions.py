@@ -1,7 +1,4 @@
-"""Compares bash completions with the commands and options in the program's help.
-
-The help is the proved program's, which does not have --progress.
-"""
+"""Compares bash completions with the commands and options in the program's help."""
 
 import re
 import sys
@@ -10,5 +7,5 @@ from pathlib import Path
 HELP = Path("tools/tests/help.txt").read_text("utf-8")
 named = set(re.findall(r"^  ([a-z]+) [a-zA-Z]", HELP, re.M)) | set(re.findall(r"(?<= )--[a-z-]+=?", HELP))
 offered = re.search('choices="(key.*?)"', Path("bindings/cli/scrypt_tool.bash").read_text("utf-8"), re.S)
-if other := (named | {"--progress"}) ^ set(offered[1].split()):
+if other := named ^ set(offered[1].split()):
     sys.exit(f"completed by bash or in the help alone: {' '.join(sorted(other))}")

@@ -6,9 +6,9 @@ USAGE = (
 )
 # The line for options that the command does not take.
 MISFIT = {
-    "key": "key takes no option except --raw and --strip-newline: see --help",
+    "key": "key takes no option except --progress, --raw and --strip-newline: see --help",
     "hash": "hash takes no option except --generate-salt, --recommended and --strip-newline: see --help",
-    "verify": "verify does not take --generate-salt, --raw and --recommended: see --help",
-    "rehash": "rehash does not take --raw and --recommended: see --help",
+    "verify": "verify does not take --generate-salt, --progress, --raw and --recommended: see --help",
+    "rehash": "rehash does not take --progress, --raw and --recommended: see --help",
 }
 NO_FILE = "--hash-file wants its file after =, as in --hash-file=FILE"

@@ -76,7 +76,4 @@ def cases(program):
             written = shown.decode().removesuffix("\r\n").split("\r\n")
             wanted = status, lines, [False] * len(typed) + [True]
             yield f"on a terminal, {words!r} ({reason})", (ended, written, echo), wanted
-        if os.path.exists(f"{TOP}/build/lib/libscrypt_c.a"):
-            yield from progress.cases(f"{folder}/scrypt_tool")
-        else:
-            print("the library for C is not built (make lib): not run: the program with a bar")
+        yield from progress.cases(f"{folder}/scrypt_tool")

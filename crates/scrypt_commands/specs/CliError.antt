@@ -46,10 +46,10 @@ abbrev pub fixed_line : CliError → List ℕ
 fixed_line Usage =
     codes "usage: key LOG_N R P LEN SALT_HEX | hash phc|mcf LOG_N R P SALT_HEX [LEN] | verify HASH | rehash phc|mcf LOG_N R P LEN SALT_HEX HASH\n"
 fixed_line NoHashFile = codes "--hash-file wants its file after =, as in --hash-file=FILE\n"
-fixed_line (Misfit names.Key) = codes "key takes no option except --raw and --strip-newline: see --help\n"
+fixed_line (Misfit names.Key) = codes "key takes no option except --progress, --raw and --strip-newline: see --help\n"
 fixed_line (Misfit names.Hash) = codes "hash takes no option except --generate-salt, --recommended and --strip-newline: see --help\n"
-fixed_line (Misfit names.Verify) = codes "verify does not take --generate-salt, --raw and --recommended: see --help\n"
-fixed_line (Misfit names.Rehash) = codes "rehash does not take --raw and --recommended: see --help\n"
+fixed_line (Misfit names.Verify) = codes "verify does not take --generate-salt, --progress, --raw and --recommended: see --help\n"
+fixed_line (Misfit names.Rehash) = codes "rehash does not take --progress, --raw and --recommended: see --help\n"
 fixed_line SaltNotHex = codes "salt is not hexadecimal\n"
 fixed_line InvalidParams = codes "invalid scrypt parameters\n"
 fixed_line InvalidOutputLen = codes "invalid output buffer length\n"

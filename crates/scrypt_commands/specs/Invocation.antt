@@ -40,12 +40,12 @@ name_of word =
 
 -- Whether an option does not fit a command. Only `verify` and `rehash` take options about a stored
 -- hash, only `hash` and `rehash` draw a salt, only `hash` has recommended parameters, and only a key
--- is written raw.
+-- is written raw, or made with its progress shown.
 abbrev pub is_unfit : Options → Name → Bool
 is_unfit o Key = (is_some o.limit_options || is_some o.hash_file) || o.draws_salt
-is_unfit o Hash = (is_some o.limit_options || is_some o.hash_file) || o.is_raw
-is_unfit o Verify = o.draws_salt || o.is_raw
-is_unfit o Rehash = o.is_recommended || o.is_raw
+is_unfit o Hash = ((is_some o.limit_options || is_some o.hash_file) || o.is_raw) || o.shows_progress
+is_unfit o Verify = (o.draws_salt || o.is_raw) || o.shows_progress
+is_unfit o Rehash = (o.is_recommended || o.is_raw) || o.shows_progress
 
 -- the error of options that do not fit a command
 abbrev pub misfit : Options → Name → Option CliError
@@ -105,6 +105,7 @@ options_view it = record {
   is_recommended = it.is_recommended;
   strips_newline = it.strips_newline;
   is_raw = it.is_raw;
+  shows_progress = it.shows_progress;
   hash_file = option_copied it.hash_file;
 }
 

@@ -40,6 +40,7 @@ pub record Options : Type 0 where
   pub is_recommended : Bool
   pub strips_newline : Bool
   pub is_raw : Bool
+  pub shows_progress : Bool
   pub hash_file : Option (List ℕ)
 
 -- no options
@@ -50,6 +51,7 @@ no_options = record {
   is_recommended = false;
   strips_newline = false;
   is_raw = false;
+  shows_progress = false;
   hash_file = None;
 }
 
@@ -71,6 +73,7 @@ with_option o word =
     else if bytes_eq word (codes "--recommended") then Some (record o { is_recommended = true; draws_salt = true })
     else if bytes_eq word (codes "--strip-newline") then Some (record o { strips_newline = true })
     else if bytes_eq word (codes "--raw") then Some (record o { is_raw = true })
+    else if bytes_eq word (codes "--progress") then Some (record o { shows_progress = true })
     else with_value o word
 
 -- the options that come first, and the words after them

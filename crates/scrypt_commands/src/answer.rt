@@ -1,7 +1,8 @@
 // The answer to a command.
 
-ghost use Rattle.std.specs.Prelude.{◌≡◌, IsErrOf, option_map, string_bytes};
+ghost use Rattle.std.specs.Prelude.{◌≡◌, IsErrOf, OnOk, length, option_map, string_bytes};
 ghost use Rattle.password_hash.specs.Refusal.{OutOfMemory as Refused};
+ghost use Rattle.scrypt.specs.KeyOfParams.{key_by};
 ghost use Rattle.scrypt.specs.Reading.{IsVerdict, verdict};
 ghost use Rattle.scrypt.specs.StoredHash.{reading};
 ghost use Rattle.scrypt.specs.WithinLimits.{with_limited_refusal};
@@ -13,12 +14,13 @@ ghost use Rattle.scrypt_commands.specs.declared.error.CliError.TheVariants.{OutO
 
 use crate::command::{Command, Format, Making, Target};
 use crate::error::{CliError, Result};
+use crate::invocation::Machine;
 use crate::limit_options::LimitOptions;
 use password_hash::Error;
 use scrypt::laws::mcf_texts_are_read;
 use scrypt::{
-    Backend, CoreCount, LimitedError, Limits, Params, StoredHash, mcf, phc,
-    scrypt_with_max_mem_counted,
+    Backend, BufferLens, Buffers, Cancelled, CoreCount, DeriveError, LimitedError, Limits, Params,
+    StoredHash, mcf, output_len_ok, phc, scrypt_in_steps, scrypt_with_max_mem_counted,
 };
 use std::alloc::Global;
 
@@ -54,10 +56,11 @@ impl<'a> Command<'a> {
     /// Returns the error of hashing or verifying, including `TooCostly` or `KeyTooShort` if a hash
     /// exceeds the limits, and `OutOfMemory` if an allocation fails. `cores` counts the cores of
     /// verifying, and the blocks that SHA-256 compresses: none if the hash cannot be read or
-    /// exceeds the limits.
-    pub fn answer<M: Backend>(
+    /// exceeds the limits. The progress of a key is shown by the machine, if one is given.
+    pub fn answer<M: Machine>(
         &self,
         alloc: Global,
+        shown_by: Option<&M>,
         password: &[u8],
         options: Option<LimitOptions>,
         cores: &mut CoreCount,
@@ -67,12 +70,12 @@ impl<'a> Command<'a> {
             (IsErrOf result OutOfMemory) cores.old cores.new }
     {
         match self {
-            Command::Make(making) => make::<M>(alloc, password, making),
+            Command::Make(making) => make::<M>(alloc, shown_by, password, making),
             Command::Verify(hash, wanted) => {
                 if !verify::<M>(alloc, hash, password, limits_by(options, wanted), cores)? {
                     return Ok(Answer::Wrong);
                 }
-                replace::<M>(alloc, hash, password, wanted)
+                replace::<M>(alloc, shown_by, hash, password, wanted)
             }
         }
     }
@@ -90,8 +93,9 @@ fn limits_by(options: Option<LimitOptions>, wanted: &Option<Making>) -> Option<L
 }
 
 // Makes the wanted replacement of a hash from this password, if the hash is weaker than wanted.
-fn replace<M: Backend>(
+fn replace<M: Machine>(
     alloc: Global,
+    shown_by: Option<&M>,
     hash: &StoredHash<'_>,
     password: &[u8],
     wanted: &Option<Making>,
@@ -101,14 +105,14 @@ fn replace<M: Backend>(
 {
     match wanted {
         Some(making) if hash.needs_rehash(&making.params).unwrap_or(false) => {
-            make::<M>(alloc, password, making)
+            make::<M>(alloc, shown_by, password, making)
         }
         _ => Ok(Answer::Right),
     }
 }
 
 // Returns whether the password matches the hash. A hash that exceeds the limits is an error.
-fn verify<M: Backend>(
+fn verify<M: Machine>(
     alloc: Global,
     hash: &StoredHash<'_>,
     password: &[u8],
@@ -120,7 +124,7 @@ fn verify<M: Backend>(
     ensures cores { AreOfHash password.now (bounded limits (reading hash.now))
         (IsErrOf result OutOfMemory) cores.old cores.new }
 {
-    match verify_within::<M>(alloc, hash, password, limits, cores) {
+    match verify_within::<M::Backend>(alloc, hash, password, limits, cores) {
         Ok(()) => Ok(true),
         Err(LimitedError::Hash(Error::PasswordInvalid)) => Ok(false),
         Err(why) => Err(CliError::of(why, limits.unwrap_or(Limits::DEFAULT))),
@@ -149,14 +153,21 @@ fn verify_within<M: Backend>(
 }
 
 // Makes a key or a hash from the password.
-fn make<M: Backend>(alloc: Global, password: &[u8], making: &Making) -> Result<Answer>
+fn make<M: Machine>(
+    alloc: Global,
+    shown_by: Option<&M>,
+    password: &[u8],
+    making: &Making,
+) -> Result<Answer>
     ensures { Gives reply_view (made_reply (making_view making.now) password.now) result }
 {
     let (salt, params) = (&making.salt, &making.params);
     match making.target {
-        Target::Key { len, is_raw } => key::<M>(alloc, password, salt, params, len, is_raw),
+        Target::Key { len, is_raw } => {
+            key::<M>(alloc, shown_by, password, salt, params, len, is_raw)
+        }
         Target::Hash { format } => {
-            let mut text = make_hash::<M>(alloc, password, salt, params, format)?;
+            let mut text = make_hash::<M::Backend>(alloc, password, salt, params, format)?;
             text.push('\n')?;
             Ok(Answer::Made(text.into_bytes()))
         }
@@ -188,8 +199,9 @@ fn make_hash<M: Backend>(
 }
 
 // Makes the derived key of `len` bytes.
-fn key<M: Backend>(
+fn key<M: Machine>(
     alloc: Global,
+    shown_by: Option<&M>,
     password: &[u8],
     salt: &[u8],
     params: &Params,
@@ -201,11 +213,11 @@ fn key<M: Backend>(
 {
     let mut key = vec![in alloc; 0u8; len]?;
     // The length is allowed, so this fails only if an allocation does.
-    let mut cores = CoreCount::new();
-    if scrypt_with_max_mem_counted::<M>(
-        alloc, password, salt, params, 0, &mut key, &mut cores,
-    ).is_err()
-    {
+    let derived = match shown_by {
+        Some(machine) => derive_shown::<M>(alloc, machine, password, salt, params, &mut key),
+        None => derive::<M::Backend>(alloc, password, salt, params, &mut key),
+    };
+    if derived.is_err() {
         return Err(CliError::OutOfMemory);
     }
     if is_raw {
@@ -214,4 +226,69 @@ fn key<M: Backend>(
     let mut digits = hex::encode(alloc, key.as_slice())?;
     digits.push('\n')?;
     Ok(Answer::Made(digits.into_bytes()))
+}
+
+// Derives a key of an allowed length.
+fn derive<M: Backend>(
+    alloc: Global,
+    password: &[u8],
+    salt: &[u8],
+    params: &Params,
+    key: &mut [u8],
+) -> std::result::Result<(), DeriveError>
+    ensures { OnOk result (key.new ≡ key_by params.now password.now salt.now (length key.old)) }
+{
+    let mut cores = CoreCount::new();
+    scrypt_with_max_mem_counted::<M>(alloc, password, salt, params, 0, key, &mut cores)
+}
+
+// Does the same in steps, each of at most about a hundredth of the work or a whole chunk, and shows
+// each percentage at most once.
+fn derive_shown<M: Machine>(
+    alloc: Global,
+    machine: &M,
+    password: &[u8],
+    salt: &[u8],
+    params: &Params,
+    key: &mut [u8],
+) -> std::result::Result<(), DeriveError>
+    ensures { OnOk result (key.new ≡ key_by params.now password.now salt.now (length key.old)) }
+{
+    if !output_len_ok(key.len()) {
+        return Err(DeriveError::InvalidOutputLen);
+    }
+    let lens = BufferLens::of(params);
+    let mut own = Buffers::allocate(alloc, &lens)?;
+    // The table has `32 * r * N` words. There are `4 * N * r * p` cores, in `2 * N` mixes of each
+    // chunk.
+    let all = lens.table as u128 / 8 * u128::from(params.p());
+    let hundredth = lens.table / (1 + 1600 * params.r() as usize);
+    let count = hundredth.saturating_mul(params.p() as usize).max(1);
+    let mut shown = 0u8;
+    machine.show_progress(0);
+    let go_on = |done: u128| {
+        let percent = percent_of(done, all);
+        if percent != shown {
+            shown = percent;
+            machine.show_progress(percent);
+        }
+        true
+    };
+    let (chunks, table, scratch) = (&mut own.chunks, &mut own.table, &mut own.scratch);
+    let mut cores = CoreCount::new();
+    let derived = scrypt_in_steps::<M::Backend, _>(
+        password, salt, params, count, go_on, chunks, table, scratch, key, &mut cores,
+    );
+    match derived {
+        Ok(()) => Ok(()),
+        Err(Cancelled) => unreachable!(),
+    }
+}
+
+// Returns the percentage of what is done, of what there is in all.
+fn percent_of(done: u128, all: u128) -> u8 {
+    if all == 0 {
+        return 100;
+    }
+    (done.saturating_mul(100) / all).min(100) as u8
 }

@@ -86,16 +86,16 @@ impl CliError {
                 b"--hash-file wants its file after =, as in --hash-file=FILE\n"
             }
             CliError::Misfit(Name::Key) => {
-                b"key takes no option except --raw and --strip-newline: see --help\n"
+                b"key takes no option except --progress, --raw and --strip-newline: see --help\n"
             }
             CliError::Misfit(Name::Hash) => {
                 b"hash takes no option except --generate-salt, --recommended and --strip-newline: see --help\n"
             }
             CliError::Misfit(Name::Verify) => {
-                b"verify does not take --generate-salt, --raw and --recommended: see --help\n"
+                b"verify does not take --generate-salt, --progress, --raw and --recommended: see --help\n"
             }
             CliError::Misfit(Name::Rehash) => {
-                b"rehash does not take --raw and --recommended: see --help\n"
+                b"rehash does not take --progress, --raw and --recommended: see --help\n"
             }
             CliError::SaltNotHex => b"salt is not hexadecimal\n",
             CliError::InvalidParams => b"invalid scrypt parameters\n",

@@ -29,6 +29,9 @@ pub trait Machine {
     /// Draws a salt at random.
     fn draw_salt(&self) -> io::Result<[u8; 16]>
         ensures drawn { IfOk result (λ salt. draws self.now salt) };
+
+    /// Shows which percentage of a key is done. Nothing is promised of what is shown.
+    fn show_progress(&self, percent: u8);
 }
 
 /// A parsed command line.
@@ -129,7 +132,8 @@ impl<'a> Invocation<'a> {
                     file_text,
                     ..command_line
                 };
-                Ok(run_command::<M::Backend, R, W, F>(alloc, command_line, reader, writer, faults))
+                let shown_by = command_line.options.shows_progress.then_some(machine);
+                Ok(run_command::<M, R, W, F>(alloc, shown_by, command_line, reader, writer, faults))
             }
         }
     }

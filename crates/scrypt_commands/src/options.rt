@@ -22,6 +22,8 @@ pub struct Options<'a> {
     pub strips_newline: bool,
     /// a key is written as its bytes instead of as hexadecimal digits
     pub is_raw: bool,
+    /// the progress of a key is shown
+    pub shows_progress: bool,
     /// the file whose text is HASH, the last word
     pub hash_file: Option<&'a str>,
 }
@@ -33,6 +35,7 @@ pub const NONE: Options<'static> = Options {
     is_recommended: false,
     strips_newline: false,
     is_raw: false,
+    shows_progress: false,
     hash_file: None,
 };
 
@@ -70,6 +73,7 @@ impl<'a> Options<'a> {
             }
             "--strip-newline" => options.strips_newline = true,
             "--raw" => options.is_raw = true,
+            "--progress" => options.shows_progress = true,
             _ => return self.with_value(word),
         }
         Some(options)
@@ -110,9 +114,12 @@ impl<'a> Options<'a> {
             Name::Key => self.limit_options.is_some()
                 || self.hash_file.is_some()
                 || self.draws_salt,
-            Name::Hash => self.limit_options.is_some() || self.hash_file.is_some() || self.is_raw,
-            Name::Verify => self.draws_salt || self.is_raw,
-            Name::Rehash => self.is_recommended || self.is_raw,
+            Name::Hash => self.limit_options.is_some()
+                || self.hash_file.is_some()
+                || self.is_raw
+                || self.shows_progress,
+            Name::Verify => self.draws_salt || self.is_raw || self.shows_progress,
+            Name::Rehash => self.is_recommended || self.is_raw || self.shows_progress,
         }
     }
 

@@ -1,6 +1,6 @@
 // The program, over any reader and any two writers.
 
-ghost use Rattle.std.specs.Prelude.{◌≡◌, ◌⊎◌, ◌↔◌, IsTrue, IfOk, IfErr, IfSome, Err, IsErr, OnOk, false, true};
+ghost use Rattle.std.specs.Prelude.{◌≡◌, ◌⊎◌, ◌↔◌, IsTrue, IfOk, IfErr, IfSome, Err, IsErr, OnOk, false, true, ⊤};
 ghost use Rattle.std.specs.Io.KnownBytes.{Appends, IsAtEnd, Keeps};
 ghost use Rattle.scrypt_commands.specs.CliError.{error_line, status_of};
 ghost use Rattle.scrypt_commands.specs.Command.{request_of};
@@ -13,9 +13,11 @@ ghost use Rattle.scrypt_commands.specs.declared.error.CliError.TheVariants.{Inpu
 use crate::command::Command;
 use crate::command_line::CommandLine;
 use crate::error::{CliError, Result};
+use crate::invocation::Machine;
 use crate::options::NONE;
-use scrypt::{Backend, CoreCount, Simd};
+use scrypt::{CoreCount, Simd};
 use std::alloc::Global;
+use std::io;
 use std::io::{ErrorKind, Read, Write};
 
 /// How a run ended.
@@ -53,15 +55,16 @@ pub fn run<R: Read, W: Write, F: Write>(
         → (result.status ≡ 2) ⊎ (result.status ≡ 3) }
 {
     match CommandLine::new(NONE, words) {
-        Ok(given) => run_command::<Simd, R, W, F>(alloc, given, reader, writer, faults),
+        Ok(given) => run_command::<Bare, R, W, F>(alloc, None, given, reader, writer, faults),
         Err(usage) => end(usage, faults),
     }
 }
 
-/// Does the same for a command with options.
+/// Does the same for a command with options. The progress of a key is shown by this machine.
 #[tactic(auto, using(crate::proofs::OutcomeFacts::ends))]
-pub(crate) fn run_command<M: Backend, R: Read, W: Write, F: Write>(
+pub(crate) fn run_command<M: Machine, R: Read, W: Write, F: Write>(
     alloc: Global,
+    shown_by: Option<&M>,
     command_line: CommandLine<'_>,
     reader: &mut R,
     writer: &mut W,
@@ -74,16 +77,32 @@ pub(crate) fn run_command<M: Backend, R: Read, W: Write, F: Write>(
     ensures refused { IsErr (request_of (command_line_view command_line.entry))
         → (result.status ≡ 2) ⊎ (result.status ≡ 3) }
 {
-    match execute::<M, R, W>(alloc, command_line, reader, writer) {
+    match execute::<M, R, W>(alloc, shown_by, command_line, reader, writer) {
         Ok(status) => answered(status),
         Err(error) => end(error, faults),
     }
 }
 
+// The machine of a run without options, which draws no salt and shows no progress.
+struct Bare;
+
+impl Machine for Bare {
+    type Backend = Simd;
+
+    ghost draws = { λ _ _. ⊤ };
+
+    fn draw_salt(&self) -> io::Result<[u8; 16]> {
+        Err(io::Error::from(ErrorKind::Unsupported))
+    }
+
+    fn show_progress(&self, _percent: u8) {}
+}
+
 // Carries out the command in order, up to writing the output line, and returns the status.
 #[tactic(auto, using(crate::proofs::OutcomeFacts::endings))]
-fn execute<M: Backend, R: Read, W: Write>(
+fn execute<M: Machine, R: Read, W: Write>(
     alloc: Global,
+    shown_by: Option<&M>,
     command_line: CommandLine<'_>,
     reader: &mut R,
     writer: &mut W,
@@ -109,6 +128,7 @@ fn execute<M: Backend, R: Read, W: Write>(
     let input = read_all(alloc, reader)?;
     let answer = command.answer::<M>(
         alloc,
+        shown_by,
         command_line.options.password(&input),
         command_line.options.limit_options,
         &mut CoreCount::new(),

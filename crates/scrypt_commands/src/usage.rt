@@ -25,6 +25,7 @@ its end, LF or CR LF, is cut off.\n\
 \n\
 options for key:\n\
 \x20 --raw              print the bytes of the key and no newline, not to a terminal\n\
+\x20 --progress         draw a bar on the standard error, if that is a terminal\n\
 options for hash and rehash:\n\
 \x20 --generate-salt    draw a salt of 16 bytes: then leave SALT_HEX out\n\
 and for hash:\n\

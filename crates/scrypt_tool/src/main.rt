@@ -22,6 +22,9 @@ use std::{env, io};
 // Every hash is shorter, except a `$7$` hash with a salt so long that no program makes it.
 const MAX_BYTES: usize = 4096;
 
+// The whole bar of a key's progress.
+const FULL: &str = "########################################";
+
 fn main(rt: HostRuntime) -> ExitCode {
     let (mut output, mut errors) = (rt.stdout(), rt.stderr());
     let Ok(words) = words(&rt) else {
@@ -52,7 +55,7 @@ fn main(rt: HostRuntime) -> ExitCode {
     ExitCode::from(ended.status)
 }
 
-// The system's random bytes, and its processor.
+// The system's random bytes, its processor, and its standard error.
 #[derive(Drop)]
 struct System<'a>(&'a HostRuntime);
 
@@ -65,6 +68,18 @@ impl Machine for System<'_> {
         let mut salt = [0u8; 16];
         self.0.fill_bytes(&mut salt)?;
         Ok(salt)
+    }
+
+    fn show_progress(&self, percent: u8) {
+        if !self.0.stderr().is_terminal() {
+            return;
+        }
+        let drawn = FULL.len() * usize::from(percent.min(100)) / 100;
+        let bar = FULL.get(..drawn).unwrap_or(FULL);
+        let _ = eprint!(self.0; "\r[{bar:<40}] {percent:>3} %");
+        if percent == 100 {
+            let _ = eprint!(self.0; "\r{:48}\r", "");
+        }
     }
 }
 
