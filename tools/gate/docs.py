@@ -1,70 +1,66 @@
 """Compares the documents with the sources, and rejects differences:
 
-- a name in a document that no source has
 - a broken link, or a link whose words name a definition that its file doesn't have
-- an example in Rust that is not a part of the file that it names
-- a call in the graph of CONTRIBUTING that its function doesn't make
-- a module of proofs without a comment in its crate's proofs/Lib.antt
-- a proof of a caller that names a proof of a library, because callers are proved only from public
-  clauses
+- a name that no source has: text between backquotes that is a path (`mcf::Base64`), a word with an
+  underscore (`scrypt_ro_mix`), a call (`new()`, `.verify(&hash)`), or a file of the repository
+- a public function of the crate scrypt that docs/API.md doesn't name
 
-tools/generate/promises.py compares docs/PROMISES.md. A name is text between backquotes that is a
-path (`mcf::Base64`, `Params::{log_n, n}`), a word with an underscore (`scrypt_ro_mix`), a call
-(`new()`, `.verify(&hash)`), or a file of the repository. Names of other programs are listed below.
+tools/generate/make.py compares docs/PROMISES.md, and bindings/readme_examples.py runs the examples.
 """
 
 import glob
 import os
 import re
+import subprocess
 import sys
-from tools.generate import specs
-from tools.generate.sources import read, read_crate
 
-DOCS = ["*.md", "docs/*.md", "bindings/**/*.md", "tools/*.md", "tools/gate/*.md", "tools/release/*.md", "examples/**/*.md", "crates/*.md"]
-SOURCES = ["crates/**/*.rt", "crates/**/*.antt", "examples/**/*.py"]
-SOURCES += [f"bindings/**/*.{suffix}" for suffix in ("c", "h", "py", "go", "rs", "js")]
+from tools.generate import specs
+from tools.generate.library import Library
+from tools.generate.sources import read
+
+SOURCES = ("crates/", "examples/", "bindings/", "Makefile")
+SUFFIXES = (".rt", ".antt", ".c", ".h", ".py", ".go", ".rs", ".js", "Makefile")
+TEMPLATE = "tools/generate/promises.md"  # its links are those of docs/PROMISES.md
 
 # Names of other programs and libraries.
-OTHERS = {"check_password", "crypt_data", "crypt_r", "find_package", "generate", "maxmem_bytes", "mlockall", "must_use", "needs_update",
-          "run_in_executor", "sodium_init", "sodium_misuse", "sodium_stackzero"}
-
-# The crates that are proved from public clauses, and the libraries that they call.
-CALLERS = ["scrypt_c", "scrypt_commands", "scrypt_examples"]
-LIBRARY_PROOF = re.compile(r"Rattle\.(?:scrypt|scrypt_kernel|password_hash)\.proofs\.\w+")
+OTHERS = {"check_password", "crypt_data", "crypt_r", "find_package", "maxmem_bytes", "mlockall", "must_use", "needs_update",
+          "rattle_env", "rattle_env_at", "run_in_executor", "sodium_init", "sodium_misuse", "sodium_stackzero"}
 
 
-def known_names():
-    """Every word of the sources and the bindings: names consist of these."""
-    names = set(re.findall(r"^([\w-]+):", read("Makefile"), re.M)) | set(re.findall(r"\w+", read("tools/generate/axioms.txt")))
-    for path in (found for pattern in SOURCES for found in glob.glob(pattern, recursive=True)):
-        if "/out/" not in path and (path.startswith("crates/") or "test" not in path):
+def files():
+    """The files of the repository; outside of a clone, all below this folder."""
+    listed = subprocess.run(["git", "ls-files", "-co", "--exclude-standard"], capture_output=True, text=True)
+    found = listed.stdout.split() if listed.returncode == 0 else glob.glob("**", recursive=True)
+    return [path for path in found if os.path.isfile(path) and "/out/" not in path]
+
+
+def known_names(paths):
+    """Every word of the sources, and every part of a path: names consist of these."""
+    names = set()
+    for path in paths:
+        names.update(re.split(r"[/.]", path))
+        if path.startswith(SOURCES) and path.endswith(SUFFIXES) and (path.startswith("crates/") or "test" not in path):
             names.update(re.findall(r"[A-Za-z_][A-Za-z0-9_']*", read(path)))
-            names.update(re.split(r"[/.]", path))
     return names
 
 
 def words_of(name):
     """The words of a name; empty if it is not a name."""
-    called = re.fullmatch(r"\.?([A-Za-z_]\w*(?:(?:::|\.)[A-Za-z_]\w*)*)\(.*\)", name)
-    if called:
+    if called := re.fullmatch(r"\.?([A-Za-z_]\w*(?:(?:::|\.)[A-Za-z_]\w*)*)\(.*\)", name):
         return re.findall(r"\w+", called[1])
     bare = re.sub(r"<[^<>]*>", "", name)
     is_path = re.fullmatch(r"[A-Za-z_][\w']*(::(\{[\w, :]*\}|[\w']+))+", bare)
-    if is_path or re.fullmatch(r"[a-z0-9]+(_[a-z0-9]+)+", bare):
-        return re.findall(r"[\w']+", bare)
-    return []
+    return re.findall(r"[\w']+", bare) if is_path or re.fullmatch(r"[a-z0-9]+(_[a-z0-9]+)+", bare) else []
 
 
 def unknown_names(path, text, names):
-    """Names in a document that no source has."""
     for number, line in enumerate(text.splitlines(), 1):
         for name in re.findall(r"`([^`]+)`", line):
             file = re.fullmatch(r"(crates|docs|tools|bindings|examples)/[\w./-]+", name)
             if file and "NAME" not in name and not glob.glob(name):
                 yield f"{path}:{number}: no file {name}"
-            for word in words_of(name):
-                if word not in names and word not in OTHERS:
-                    yield f"{path}:{number}: no source has the name {word}, of {name}"
+            missing = (word for word in words_of(name) if word not in names and word not in OTHERS)
+            yield from (f"{path}:{number}: no source has the name {word}, of {name}" for word in missing)
 
 
 def headings(text):
@@ -73,82 +69,31 @@ def headings(text):
 
 
 def broken_links(path, text):
-    """Broken links, and links on names of definitions to files that do not have them."""
-    for words, target in re.findall(r"\[([^\]]*)\]\(([^)\s]+)\)", text):
-        if re.match(r"https?:", target):
-            continue
+    for words, target in re.findall(r"\[([^\]]*)\]\((?!https?:)([^)\s]+)\)", text):
         target, _, place = target.partition("#")
         file = os.path.normpath(os.path.join(os.path.dirname(path), target)) if target else path
         if not os.path.exists(file) or place and place not in headings(read(file)):
-            yield f"{path}: the link {target}#{place} leads nowhere".replace("# ", " ")
+            yield f"{path}: the link {target}{'#' * bool(place)}{place} leads nowhere"
         elif file.endswith(".antt") and "/specs/" in file:
             found = specs.read_module("", file, read(file)).definitions
-            for name in re.findall(r"`(\w+)`", words):
-                if name not in found or not found[name].public:
-                    yield f"{path}: {file} has no definition {name}"
+            missing = (name for name in re.findall(r"`(\w+)`", words) if name not in found or not found[name].public)
+            yield from (f"{path}: {file} has no definition {name}" for name in missing)
 
 
-def stripped(text):
-    return "\n" + "\n".join(line.strip() for line in text.strip().splitlines()) + "\n"
-
-
-def other_examples(path, text):
-    """Examples in Rust that are not consecutive lines of the file that is linked above them."""
-    for link, example in re.findall(r"\]\((\S+)\):\n```rust\n(.*?)^```$", text, re.M | re.S):
-        file = os.path.normpath(os.path.join(os.path.dirname(path), link))
-        if stripped(example) not in stripped(read(file)):
-            yield f"{path}: the example is not a part of {file}"
-
-
-def complaints(path, text, names):
-    """All errors in a document."""
-    return [*unknown_names(path, text, names), *broken_links(path, text), *other_examples(path, text)]
-
-
-def unexplained_modules(path, text):
-    """The modules of a list without a comment."""
-    lines = ["", *text.splitlines()]
-    for before, line in zip(lines, lines[1:]):
-        if line.startswith("pub mod ") and not before.startswith("--"):
-            yield f"{path}: no comment says what {line.split()[-1]} shows"
-
-
-def inner_proofs(path, text):
-    """Proofs of libraries that a caller's proof names."""
-    return [f"{path}: a proof of a library, {name}" for name in LIBRARY_PROOF.findall(text)]
-
-
-def names_of(source, item):
-    """The names that a picture can have for a function: with its module, its type or its trait, or without."""
-    owners = [re.sub(r"<.*", "", owner) for owner in item.owner.split(" for ")]
-    return {item.name, *(f"{owner}::{item.name}" for owner in [source.module.split("::")[-1], *owners])}
-
-
-def missing_calls(path, crates):
-    """The edges of a picture that are not calls: the first function's body doesn't have the second one's name."""
-    known = [(source, item) for crate in crates for source in crate.values() for item in source.items if item.kind == "fn"]
-    for edge in re.findall(r'\["([\w:]+)"\] -->(?:\|.*\|)? \w+\["([\w:]+)"\]', read(path)):
-        caller, called = ([function for function in known if name in names_of(*function)] for name in edge)
-        lines = [line for source, item in caller for line in source.text.splitlines()[item.opened : item.last]]
-        if not called or not re.search(rf"\b{called[0][1].name}(::<.*>)?\(", "\n".join(lines)):
-            yield f"{path}: {edge[0]} doesn't call {edge[1]}"
+def unnamed_calls(path, library):
+    """The public functions of the crate scrypt that a document doesn't name."""
+    words = set(re.findall(r"\w+", read(path)))
+    functions = ((source, it) for source in library.sources["scrypt"].values() for it in source.items if it.kind == "fn")
+    yield from (f"{path}: {source.path}:{it.line}: the public function {it.name} isn't named" for source, it in functions
+                if it.name not in words and " for " not in it.owner and library.is_public(source, it))
 
 
 def main():
-    names = known_names()
-    documents = sorted(path for pattern in DOCS for path in glob.glob(pattern, recursive=True))
-    found = [complaint for path in documents for complaint in complaints(path, read(path), names)]
-    for path in glob.glob("crates/*/proofs/Lib.antt"):
-        found += unexplained_modules(path, read(path))
-    for name in CALLERS:
-        for path in glob.glob(f"crates/{name}/proofs/**/*.antt", recursive=True):
-            found += inner_proofs(path, read(path))
-    trust, axioms = read("docs/TRUST.md"), [it.split("::")[-1] for it in read("tools/generate/axioms.txt").split()]
-    for wanted in [f"axioms={len(axioms)}", *axioms]:
-        if f"`{wanted}`" not in trust:
-            found.append(f"docs/TRUST.md: {wanted} of tools/generate/axioms.txt is not there")
-    found += missing_calls("CONTRIBUTING.md", [read_crate(name, f"crates/{name}") for name in ("scrypt", "scrypt_kernel")])
-    sys.exit("\n".join(found) or 0)
+    paths = files()
+    names = known_names(paths)
+    documents = {path: read(path) for path in paths if path.endswith(".md") and path != TEMPLATE}
+    found = [it for path, text in documents.items() for it in (*unknown_names(path, text, names), *broken_links(path, text))]
+    sys.exit("\n".join([*found, *unnamed_calls("docs/API.md", Library("."))]) or 0)
 
 
 if __name__ == "__main__":
