@@ -10,7 +10,8 @@
 #   make install   installs the built files below prefix=/usr/local, and honours DESTDIR
 #   make uninstall removes the last installation; use the same DESTDIR
 #   make js        proves and builds the module for JavaScript into bindings/js, and tests it
-#   make doc       makes pages for reading the proof, build/doc/index.html; needs python3-jinja2, python3-pygments
+#   make doc       makes pages for reading the proof, and prints the address that a browser opens; needs
+#                  python3-jinja2, python3-pygments
 #   make dist      makes packages for Debian, Python, Go, Rust and npm, archives, and their hashes, in build/dist
 # To change it:
 #   make check     proves and tests the changes since the last check
@@ -88,7 +89,7 @@ documents: generate
 documents suites examples:
 	$(GATE) -j$$(nproc) BUILT=1 $@
 generate:; @python3 -m tools.generate.declarations
-promises:; python3 -m tools.generate.promises
+promises:; python3 -m tools.generate.make promises
 doc:; python3 -m tools.generate.make
 dist:; tools/release/dist.sh
 clean:; rm -rf build crates/*/out

@@ -14,8 +14,6 @@ LIBRARY = build/lib/libscrypt_c.so
 CROSS := $(shell $(PY) tools.presets proved)
 MACHINES := $(shell $(PY) tools.presets names)
 FOR = --needs $(shell $(PY) tools.presets needs $1) env -u CC
-FOR_PAGES = --needs /usr/lib/python3/dist-packages/jinja2:python3-jinja2 \
-  /usr/lib/python3/dist-packages/pygments:python3-pygments
 ifdef BUILT
 proved =
 else
@@ -25,7 +23,7 @@ endif
 # The longest tasks, and tasks that others wait for, are first.
 BUILDS = library linked module program $(CROSS:%=program-%) $(MACHINES:%=library-%)
 CRATE_MUTANTS = $(patsubst %,mutants-%,scrypt scrypt_kernel scrypt_commands password_hash scrypt_c scrypt_examples)
-DOCUMENTS = pages lint first-steps links version fit promises formats cores
+DOCUMENTS = lint first-steps links version fit promises formats cores
 EXAMPLES = $(patsubst examples/%/test.sh,example-%,$(wildcard examples/*/test.sh))
 LANGUAGES = python go rust javascript drop-in $(EXAMPLES) examples-of-pages
 SUITES = native asan tsan $(LANGUAGES) answers hashes migration oracle hostile completions
@@ -81,9 +79,7 @@ version:
 fit:
 	$(TASK) $(PY) tools.gate.mutants fit
 promises:
-	$(TASK) $(PY) tools.generate.promises check
-pages:
-	$(TASK) $(FOR_PAGES) $(PY) tools.generate.make
+	$(TASK) $(PY) tools.generate.make check
 
 # ---- The library from C ----
 library: $(PROVED)/scrypt

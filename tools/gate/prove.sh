@@ -13,10 +13,10 @@ done
 status=${PIPESTATUS[0]}
 read -r real user system < build/log/proofs.time
 if [ "$status" != 0 ]; then tail -n 60 build/log/proofs.log | grep -v ': proved$'; fi
-known=$(wc -l < tools/generate/axioms.txt)
+known=$(sed -n 's/^- The program, `axioms=\([0-9]*\)`.*/\1/p' docs/TRUST.md)
 found=$(sed -n '/^== scrypt_tool$/,/^rt: /s/^logic=.* axioms=\([0-9]*\) .*/\1/p' build/log/proofs.log)
 if [ -n "$found" ] && [ "$found" != "$known" ]; then
-  echo "tools/generate/axioms.txt has $known functions, and the check of the program assumes $found: CONTRIBUTING says how it is written"
+  echo "docs/TRUST.md names $known axioms of the program, and its check assumes $found: rt check --list-axioms"
   status=1
 fi
 echo "$status $real $(echo "$user $system" | awk '{ print $1 + $2 }')" > build/log/proofs.took

@@ -1,12 +1,12 @@
-"""Generates the pages for reading the proof: build/doc/index.html and the pages that it links to.
+"""Reads the sources once, and makes of them docs/PROMISES.md and the pages for reading the proof.
 
-It reads the sources, the specs, crates.txt and headline.json, and needs Debian's python3-jinja2 and
-python3-pygments, but not the kit. It fails if a name in a clause or in a definition has no target,
-if a public function, a clause of it or a definition has no comment, if a link has no target, if two
-targets of a page have the same name, or if the headline differs from PROMISES or names a clause
-that no longer exists.
+usage: python3 -m tools.generate.make            writes the pages to build/doc, and prints the first one's address
+       python3 -m tools.generate.make promises   writes docs/PROMISES.md
+       python3 -m tools.generate.make check      writes the pages, and fails if PROMISES differs from the sources
 
-usage: python3 -m tools.generate.make [FOLDER]    the folder of the pages, which is replaced: build/doc
+The pages need Debian's python3-jinja2 and python3-pygments, and nothing needs the kit. It fails if a name in a
+clause or in a definition has no target; if a public function, a clause of it or a definition has no comment; if a
+link has no target, or two targets of a page have one name; or if the headline names a clause that no longer exists.
 """
 
 import html
@@ -15,22 +15,23 @@ import os
 import re
 import shutil
 import sys
-import time
 from collections import Counter
+from pathlib import Path
 
 from tools import debian
 
 debian.add_packages()
 try:
     import jinja2
-except ImportError as missing:
-    sys.exit(f"make doc needs Debian's python3-jinja2 and python3-pygments: {missing}")
+except ImportError:
+    jinja2 = None
 
 from tools.generate import comments, promises
 from tools.generate.library import Library, module_page, page_of
-from tools.generate.views import Views
 from tools.generate.sources import read
+from tools.generate.views import Views
 
+FOLDER = "build/doc"
 HERE = os.path.dirname(os.path.abspath(__file__))
 
 
@@ -55,12 +56,6 @@ def checked(pages):
     return len(links), wrong
 
 
-def plain(text):
-    """The words of a text, without the markup of quotations, links and code."""
-    text = re.sub(r"\[([^\]]*)\]\([^)]*\)", r"\1", re.sub(r"^>", "", text, flags=re.M))
-    return " ".join(re.sub(r"[`*]", "", text).split())
-
-
 class Pages:
     """The pages of a repository by their names."""
 
@@ -71,15 +66,15 @@ class Pages:
         self.env.filters["words"] = lambda text: jinja2.utils.markupsafe.Markup(comments.inline(text))
         self.env.globals.update(crates=views.crates, crate_page=lambda crate: f"{crate}.html", count=len)
         self.written = {}
-        self.named, self.within = views.tested()
+        self.tested = views.tested()
 
     def write(self, name, template, **values):
         text = self.env.get_template(template).render(page=name, **values)
         self.written[name] = re.sub(r"\n\s*\n+", "\n", text)
 
     def with_vectors(self, shown):
-        """Definitions, each with the vectors that name it and those that compute it."""
-        return [(it, self.named.get(it.key, []), self.within.get(it.key, [])) for it in shown]
+        """Definitions, each with the vectors that name it."""
+        return [(it, self.tested.get(it.key, [])) for it in shown]
 
     def definitions(self):
         for crate, modules in self.views.definitions.items():
@@ -88,7 +83,7 @@ class Pages:
         for crate, found in self.views.vectors.items():
             if found:
                 module, shown = found
-                self.module(crate, module, [(it, [], []) for it in shown], f"The vectors of {crate}", vectors=True)
+                self.module(crate, module, [(it, []) for it in shown], f"The vectors of {crate}", vectors=True)
 
     def module(self, crate, module, shown, title, vectors):
         names = [(it.name, it.name) for it, *_ in shown]
@@ -124,32 +119,14 @@ class Pages:
         return {"definitions": len(every), "lines": lines}
 
     def front(self):
-        """The first page, and the definitions that the headline depends on. Returns an error if
-        PROMISES has another headline."""
+        """The first page, and the definitions that the headline and the verdict depend on."""
         rows = json.loads(read(f"{HERE}/headline.json"))
         phrases, verifying = self.phrases(rows["headline"]), self.phrases(rows["verifying"])
         headline = self.reading("reading.html", "the headline", [clause for it in phrases for clause in it["clauses"]])
         verdict = self.reading("verdict.html", "the verdict", self.views.clauses(promises.VERDICT))
-        items = {crate: [it for _, shown in those for it in shown] for crate, those in self.views.sources.items()}
-        functions = {crate: sum(it.kind == "fn" for it in those) for crate, those in items.items()}
-        numbers = {
-            "functions": sum(functions.values()),
-            "clauses": sum(len(it.parts) for those in items.values() for it in those),
-            "definitions": sum(len(shown) for those in self.views.definitions.values() for _, shown in those),
-            "vectors": sum(it.kind == "vector" for those in self.views.vectors.values() if those for it in those[1]),
-        }
         self.write("index.html", "index.html", title="scrypt, proved", phrases=phrases, verifying=verifying,
-                   numbers=numbers, headline=headline, verdict=verdict,
-                   about=[(it, first_sentence(self.library.sources[it][""].doc), functions[it], self.library.uses[it])
-                          for it in self.views.crates])
-        is_same = plain("".join(it["text"] for it in phrases)) in plain(read("docs/PROMISES.md"))
-        return [] if is_same else ["headline.json: PROMISES has another headline: make promises"]
-
-    def trust(self):
-        own = self.library.uses
-        libraries = sorted({it for crate in self.views.crates for it in own[crate] if it not in own})
-        self.write("trust.html", "trust.html", title="What is trusted", libraries=libraries,
-                   axioms=read(f"{HERE}/axioms.txt").split(), handles=read("HANDLES").strip())
+                   headline=headline, verdict=verdict, about=[
+                       (it, first_sentence(self.library.sources[it][""].doc), self.library.uses[it]) for it in self.views.crates])
 
     def save(self, folder):
         shutil.rmtree(folder, ignore_errors=True)
@@ -160,17 +137,28 @@ class Pages:
         shutil.copy(f"{HERE}/style.css", f"{folder}/style.css")
 
 
-def main(folder="build/doc"):
-    begun = time.monotonic()
-    pages = Pages(Views(Library(".")))
+def made(views):
+    """Writes the pages. Returns the errors in them."""
+    if jinja2 is None:
+        print("jinja2 is not installed (packages python3-jinja2, python3-pygments): not run")
+        return []
+    pages = Pages(views)
     pages.definitions()
     pages.sources()
-    wrong = [*pages.front(), *pages.views.wrong()]
-    pages.trust()
+    pages.front()
     links, broken = checked(pages.written)
-    pages.save(folder)
-    print(f"doc: {folder}/index.html: {len(pages.written)} pages, {links} links, in {time.monotonic() - begun:.1f} seconds")
-    sys.exit("\n".join(wrong + broken) or 0)
+    pages.save(FOLDER)
+    print(f"{len(pages.written)} pages with {links} links; open {Path(FOLDER, 'index.html').resolve().as_uri()}")
+    return broken
+
+
+def main(what="pages"):
+    views = Views(Library("."))
+    if what == "promises":
+        Path(promises.PAGE).write_text(promises.page(views), "utf-8")
+    else:
+        wrong = made(views) + list(views.wrong())
+        sys.exit("\n".join(wrong + (promises.wrong(views) if what == "check" else [])) or 0)
 
 
 if __name__ == "__main__":

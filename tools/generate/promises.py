@@ -1,33 +1,14 @@
-"""Generates docs/PROMISES.md: fills the placeholders {name} of tools/generate/promises.md from the
-sources, without the kit and without packages. These are the clauses of a key and of a verdict with
-their definitions, the headline, the definitions to review, the public functions of each file, and
-checksums of each crate's clauses and definitions.
+"""The text of docs/PROMISES.md: fills the placeholders {name} of tools/generate/promises.md from the sources. These
+are the clauses of a key and of a verdict with their definitions, and the definitions to review."""
 
-usage: python3 -m tools.generate.promises          writes the page
-       python3 -m tools.generate.promises check    fails if the page differs from the sources, if TRUST
-                            has another number of lines to read, if a name has no target, or if a public
-                            function, a clause or a definition has no comment
-       python3 -m tools.generate.promises clauses  prints every public function with the text of its
-                            clauses, as in the packages
-"""
-
-import hashlib
 import itertools
-import json
 import os
 import re
-import sys
 import textwrap
 
-from tools.generate import comments
-from tools.generate.library import Library
-from tools.generate.views import Views
 from tools.generate.sources import read
 
 PAGE, TEMPLATE = "docs/PROMISES.md", "tools/generate/promises.md"
-
-# Relations that are not about calls: the shape of a model, and the laws of a derived relation.
-OF_MODELS = {"laws", "view", "invariant", "inverse_ok", "Value", "inverse", "inverse_invariant", "view_ok"}
 
 # The clauses of each of the two promises.
 KEY = ["scrypt::Params::new accepted", *(f"scrypt::scrypt_counted {it}" for it in ("length", "value", "counted"))]
@@ -45,69 +26,15 @@ QUOTED = {
     "definitions_of_a_verdict": [("scrypt", "Reading", ["is_right", "verdict", "IsVerdict"])],
 }
 
-CLAUSES = """# Every clause
-
-Each public function with the first sentence of its doc comment, and its clauses, which are proved for every input.
-
-{functions}"""
-
 
 def named(names):
     return ", ".join(f"`{it}`" for it in names)
-
-
-def checksum(texts):
-    return hashlib.sha256("\n".join(texts).encode()).hexdigest()[:12]
 
 
 def name_of(item):
     if item.kind == "impl":
         return "{} for {}".format(*item.name.split(" for ", 1))
     return f"{re.sub('<.*', '', item.owner)}::{item.name}" if item.owner else item.name
-
-
-def promised(library, source, item):
-    """The clauses that are promises of an item: the postconditions of a function with its preconditions, which limit the
-    promise, and the relations of a trait or of an implementation."""
-    if item.kind in ("impl", "trait"):
-        is_shown = item.kind == "trait" or library.is_public(source, item)
-        return [it for it in item.clauses if it.name not in OF_MODELS] if is_shown else []
-    if item.kind != "fn" or not library.is_public(source, item):
-        return []
-    return item.clauses if any(it.kind == "ensures" for it in item.clauses) else []
-
-
-def files(library, crate):
-    """The files of a crate that promise something, each with its items and their clauses."""
-    for source in library.sources[crate].values():
-        found = [(item, promised(library, source, item)) for item in source.items]
-        if found := [(item, clauses) for item, clauses in found if clauses]:
-            yield source, found
-
-
-def text_of(item, clauses):
-    """The promises of an item: its head, and each clause with its kind and its name."""
-    head = [" ".join(item.text.split())] if item.kind == "fn" else [item.name]
-    return "\n".join(head + [f"    {it.kind} {it.name} {{ {' '.join(it.text.split())} }}" for it in clauses])
-
-
-def functions(library):
-    for crate in library.crates():
-        rows = []
-        for source, found in files(library, crate):
-            names = ", ".join(f"`{name_of(item)}` {len(clauses)}" for item, clauses in found)
-            rows.append(filled(f"[{source.module or crate}](../{os.path.normpath(source.path)}): {names}", "- "))
-        if rows:
-            yield "\n".join([f"### {crate}\n", *rows, ""])
-
-
-def checksums(library):
-    yield "| crate | with clauses | checksum | definitions | checksum |\n|---|---|---|---|---|"
-    for crate in library.crates():
-        promises = [it for _, found in files(library, crate) for it in found]
-        texts = [it.text for module in library.specs_of(crate) for it in module.definitions.values()]
-        parts = [*map(lambda it: text_of(*it), promises)], texts
-        yield " | ".join([f"| {crate}", *(f"{len(it)} | `{checksum(it)}`" for it in parts)]) + " |"
 
 
 def quoted_function(library, crate, module, name):
@@ -138,16 +65,6 @@ def quoted(library, place):
         yield filled(f"[{path}](../{path}){comment}") + f"\n\n```{language}\n{text}\n```\n"
 
 
-def clauses(library):
-    """Every public function with its clauses."""
-    for crate in library.crates():
-        for source, found in files(library, crate):
-            yield f"## {source.name}\n"
-            for item, its in found:
-                words = re.sub(r"\[(`[^`]+`)\](\([^)]*\))?", r"\1", " ".join(comments.first_sentence(item.doc).split()))
-                yield "\n".join(filter(None, [f"`{name_of(item)}`{': ' if words else ''}{words}", f"\n```\n{text_of(item, its)}\n```\n"]))
-
-
 def reading(views):
     """The definitions to read for the two promises, in reading order, with the lines of each file."""
     known = set()
@@ -168,38 +85,16 @@ def filled(text, begin=""):
 
 
 def page(views):
-    library, phrases = views.library, json.loads(read("tools/generate/headline.json"))
-    parts = {place: "\n".join(quoted(library, place)).strip() for place in QUOTED}
-    parts |= {
-        "headline": textwrap.indent(filled("".join(it[0] for it in phrases["headline"])), "> "),
-        "reading": "\n".join(reading(views)),
-        "functions": "\n".join(functions(library)).strip(),
-        "checksums": "\n".join(checksums(library)),
-    }
+    parts = {place: "\n".join(quoted(views.library, place)).strip() for place in QUOTED}
+    parts["reading"] = "\n".join(reading(views))
     return re.sub(r"^\{(\w+)\}$", lambda found: parts[found[1]], read(TEMPLATE), flags=re.M)
 
 
 def wrong(views):
-    """The errors that `check` reports."""
-    yield from views.wrong()
-    if read(PAGE) != page(views):
-        yield f"{PAGE} differs from the sources: make promises"
+    """The errors in PROMISES, and in the numbers of lines to read that other pages state."""
+    found = [] if read(PAGE) == page(views) else [f"{PAGE} differs from the sources: make promises"]
     key, verdict = (sum(it.lines for _, shown in views.reading(views.clauses(its)) for it in shown) for its in (KEY, VERDICT))
     for path, lines in {"docs/TRUST.md": f"{key} lines for the key, {verdict} for the verdict", "README.md": f"[{verdict} lines]"}.items():
         if lines not in " ".join(read(path).split()):
-            yield f"{path}: what to read is {lines}"
-
-
-def main():
-    views = Views(Library("."))
-    if sys.argv[1:] == ["check"]:
-        sys.exit("\n".join(wrong(views)) or 0)
-    if sys.argv[1:] == ["clauses"]:
-        print(CLAUSES.format(functions="\n".join(clauses(views.library))).strip())
-        return
-    with open(PAGE, "w", encoding="utf-8") as file:
-        file.write(page(views))
-
-
-if __name__ == "__main__":
-    main()
+            found.append(f"{path}: what to read is {lines}")
+    return found

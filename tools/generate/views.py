@@ -167,17 +167,13 @@ class Views:
         return [(module, shown) for module, shown in found if shown]
 
     def tested(self):
-        """For each definition the vectors that name it, and those that compute it as a part of another."""
-        named, within = {}, {}
-        for those in filter(None, self.vectors.values()):
-            for shown in (it for it in those[1] if it.kind == "vector"):
-                roots = self.statement_roots(shown.key)
-                for key in roots:
+        """For each definition the vectors that name it."""
+        named = {}
+        for _, those in filter(None, self.vectors.values()):
+            for shown in (it for it in those if it.kind == "vector"):
+                for key in self.statement_roots(shown.key):
                     named.setdefault(key, []).append(shown)
-                for key in self.closure(roots):
-                    if key not in roots:
-                        within.setdefault(key, []).append(shown)
-        return named, within
+        return named
 
     def statement_roots(self, key):
         """The definitions that a statement names, also by the abbreviations of its own file."""

@@ -90,7 +90,6 @@ def text():
     sections = [
         ("scrypt, proved", f"version {version}\ncommit  {commit()}"),
         ("What the gate printed of each crate, and of its tests", said),
-        ("The axioms of the program", Path("tools/generate/axioms.txt").read_text("utf-8").strip()),
         ("SHA-256 of what the kit built, of which all was linked",
          "\n".join(f"{it}  {path}" for path, it in digests().items())),
     ]
