@@ -1,6 +1,8 @@
-# You need the Rattle kit, make and Python 3.11. Two commands do everything, and need nothing built before. As root
-# on Debian they install what else they need; elsewhere they name it first (tools/packages.txt):
-#   make run       proves and builds the program, and prints the first key of RFC 7914, section 12
+# You need the Rattle kit, make and Python 3.11. These commands need nothing built before. As root on Debian they
+# install what else they use (tools/packages.txt), but not with NO_INSTALL=1; elsewhere they name first what they need:
+#   make try       compiles and runs the program, and proves nothing: it prints the first key of RFC 7914,
+#                  section 12, in about a minute
+#   make run       proves and builds the program, and prints that key
 #   make test      is the gate: proves everything from nothing, checks that wrong code is rejected, and runs
 #                  every test
 # To use it:
@@ -34,7 +36,7 @@ GATE = +@$(MAKE) --no-print-directory --keep-going --output-sync -f tools/gate/g
 LIBRARIES = $(addprefix proved-,password_hash scrypt_kernel scrypt scrypt_commands)
 HAS_ROOM := $(shell [ $$(nproc) -ge 4 ] && awk '/^MemAvailable/ && $$2 > 12000000 { print "yes" }' /proc/meminfo)
 PROVE = $(MAKE) --no-print-directory -j$(if $(HAS_ROOM),2,1)
-.PHONY: help kit setup-run setup-lib setup-test run lib linked js install uninstall test check documents suites examples \
+.PHONY: help kit setup-run setup-lib setup-test try run lib linked js install uninstall test check documents suites examples \
   generate promises doc dist clean proved-scrypt_tool $(LIBRARIES)
 help:
 	@sed -n '/^#/!q; s/^# \{0,1\}//p' Makefile
@@ -49,6 +51,10 @@ proved-scrypt: proved-password_hash proved-scrypt_kernel
 proved-scrypt_commands: proved-scrypt
 proved-scrypt_tool: proved-scrypt_commands
 	@$(STEP) scrypt_tool env -C crates/scrypt_tool rt run -- key 4 1 1 64 "" < /dev/null
+
+try: kit
+	@echo "Compiles and runs the program, which prints the first key of RFC 7914, section 12. It proves nothing: proved=no."
+	@cd crates/scrypt_tool && rt try -- key 4 1 1 64 "" < /dev/null
 
 run: setup-run
 	@echo "Proves and builds the program, in about 8 minutes on four idle processors. The steps' logs are in build/log."

@@ -1,8 +1,8 @@
 #!/usr/bin/env bash
 # The first step of `make run`, `make lib` and `make test`. As root on Debian it installs the packages of
-# tools/packages.txt that are missing. If something is still missing without which the command cannot pass,
-# it ends with one line, before any proof; the parts that need other packages are skipped.
-# usage: setup.sh run|lib|test, with PRESET as make has it
+# tools/packages.txt that are missing, but not with NO_INSTALL=1. If something is still missing without which
+# the command cannot pass, it ends with one line, before any proof; the parts that need other packages are skipped.
+# usage: setup.sh run|lib|test, with PRESET and NO_INSTALL as make has them
 set -u
 unset CDPATH
 cd "$(dirname "$0")/.."
@@ -31,10 +31,10 @@ unused() {
 log=build/setup.log
 get() { apt-get install -o DPkg::Lock::Timeout=600 -qq -y --no-install-recommends "$@" >> $log 2>&1 < /dev/null; }
 
-if command -v apt-get > /dev/null && command -v dpkg-query > /dev/null && [ "$(id -u)" = 0 ]; then
+if [ "${NO_INSTALL:-}" != 1 ] && [ "$(id -u)" = 0 ] && command -v apt-get > /dev/null && command -v dpkg-query > /dev/null; then
   absent="$(needed)$(unused)"
   if [ -n "$absent" ]; then
-    echo "Installs Debian's packages, which takes some minutes: $absent"
+    echo "Installs these packages of Debian, in some minutes (NO_INSTALL=1 prevents it): ${absent% }"
     mkdir -p build
     export DEBIAN_FRONTEND=noninteractive
     for it in $absent; do
