@@ -50,6 +50,14 @@ test('the examples of README print what they say', () => {
   }
 });
 
+test('an old Node is named', () => {
+  deepStrictEqual(prints(`const versions = { ...process.versions, node: '16.20.2' };
+    Object.defineProperty(process, 'versions', { value: versions });
+    const { load } = await import('scrypt-proved');
+    await load().catch(({ code, message }) => console.log(code, message));`),
+  'LOAD_FAILED scrypt-proved needs Node 18 or later, this is 16.20.2\n');
+});
+
 test('the default limits are within the memory of a container', () => {
   deepStrictEqual(prints(`process.constrainedMemory = () => 160 * 2 ** 20;
     const { load } = await import('scrypt-proved');

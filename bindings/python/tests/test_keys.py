@@ -84,7 +84,8 @@ class Keys(unittest.TestCase):
 
     def test_interrupts(self):
         """Ctrl-C ends a derivation that takes seconds at the end of a step, and so does an
-        exception of `progress`."""
+        exception of `progress`. A shell lets what it starts in the background ignore Ctrl-C."""
+        self.addCleanup(signal.signal, signal.SIGINT, signal.signal(signal.SIGINT, signal.default_int_handler))
         begun = time.thread_time()
         threading.Timer(0.1, signal.raise_signal, [signal.SIGINT]).start()
         self.assertRaises(KeyboardInterrupt, key, n=1 << 20)
