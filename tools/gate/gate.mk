@@ -28,7 +28,7 @@ EXAMPLES = $(patsubst examples/%/test.sh,example-%,$(wildcard examples/*/test.sh
 LANGUAGES = python go rust javascript drop-in $(EXAMPLES) examples-of-pages
 SUITES = native asan tsan $(LANGUAGES) answers hashes migration oracle hostile completions
 TASKS = proofs $(BUILDS) $(MACHINES) $(CROSS:%=answers-%) $(CRATE_MUTANTS) must-not-compile new-user \
-  $(DOCUMENTS) $(SUITES) by-rattle mutants-hasher
+  $(DOCUMENTS) $(SUITES) by-rattle
 # Tasks give way to the proofs: not those that others wait for, and less those that take long alone.
 library linked: private NICE = 0
 mutants-scrypt $(CROSS:%=program-%) $(CROSS:%=library-%) $(CROSS) $(CROSS:%=answers-%): private NICE = 5
@@ -88,9 +88,6 @@ linked: $(call proved,library)
 	$(TASK) $(MAKE) --no-print-directory -f Makefile linked
 native asan tsan by-rattle: linked
 	$(TASK) tools/gate/c_tests.sh $@
-# Mutants of the hasher by rules: another twelfth of them with each commit.
-mutants-hasher: linked
-	$(TASK) $(PY) bindings.c.tests.mutants $$(($$(git rev-list --count HEAD 2> /dev/null || echo 0) % 12 + 1)) 12
 $(CROSS:%=library-%): library-%: library
 	$(TASK) $(call FOR,$*) $(PY) bindings.cross $* scrypt_c=$(KEPT)
 library-windows: library
