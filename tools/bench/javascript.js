@@ -1,13 +1,10 @@
-// Measures keys in Node or in a page: this package, plain JavaScript, and Node's crypto.
+// Measures keys in Node, and in a page, which posts them: this package, plain JavaScript, and Node's crypto.
 import { load } from '../../bindings/js/index.js';
 import { roMix } from './plain_scrypt.js';
 
 const PARAMS = [[14, 8, 1], [17, 8, 1], [14, 8, 4]];
 const ROUNDS = 6;
-
 const [PASSWORD, SALT] = ['pleaseletmein', 'SodiumChloride'];
-
-const hex = (bytes) => Array.from(bytes, (it) => it.toString(16).padStart(2, '0')).join('');
 
 // PBKDF2 with one iteration. Firefox's own makes at most 256 bytes.
 async function pbkdf2(key, salt, length) {
@@ -20,21 +17,21 @@ async function pbkdf2(key, salt, length) {
   return new Blob(await Promise.all(blocks)).arrayBuffer();
 }
 
-async function plainKey(N, r, p, dkLen) {
+async function plainKey(N, r, p) {
   const bytes = (text) => new TextEncoder().encode(text);
   const key = await crypto.subtle.importKey('raw', bytes(PASSWORD), { name: 'HMAC', hash: 'SHA-256' }, false, ['sign']);
   const chunks = new Int32Array(await pbkdf2(key, bytes(SALT).buffer, 128 * r * p));
   for (let i = 0; i < p; i++) roMix(chunks.subarray(32 * r * i, 32 * r * (i + 1)), N, r);
-  return new Uint8Array(await pbkdf2(key, chunks.buffer, dkLen));
+  return new Uint8Array(await pbkdf2(key, chunks.buffer, 32));
 }
 
-/** Rows of the name, log_n, r, p, and the minimum nanoseconds of a core; `others` derive keys of the same password and salt. */
+/** Rows of the name, the parameters, and the minimum nanoseconds of a core; `others` derive keys of the same password and salt. */
 export async function measure(others = () => ({})) {
   const own = await load();
   const kinds = {
     'this package': (N, r, p) => own.scrypt(PASSWORD, SALT, { N, r, p, dkLen: 32, maxmem: Infinity }),
     ...others(PASSWORD, SALT),
-    'plain JavaScript': (N, r, p) => plainKey(N, r, p, 32),
+    'plain JavaScript': plainKey,
   };
   const rows = [];
   for (const [logN, r, p] of PARAMS) {
@@ -44,12 +41,17 @@ export async function measure(others = () => ({})) {
     for (let round = 0; round < ROUNDS; round++) {
       for (const [name, derive] of Object.entries(kinds)) {
         const begun = performance.now();
-        keys.add(hex(await derive(2 ** logN, r, p)));
+        keys.add(String(new Uint8Array(await derive(2 ** logN, r, p))));
         best[name] = Math.min(best[name] ?? Infinity, performance.now() - begun);
       }
     }
     if (keys.size !== 1) throw new Error(`the keys of ${[logN, r, p]} differ`);
-    for (const name in best) rows.push([name, logN, r, p, (best[name] * 1e6) / (4 * 2 ** logN * r * p)]);
+    for (const name in best) rows.push([name, `(${logN}, ${r}, ${p})`, (best[name] * 1e6) / (4 * 2 ** logN * r * p)]);
   }
   return rows;
+}
+
+if (globalThis.document) {
+  const said = await measure().catch((error) => error.message);
+  await fetch('/said', { method: 'POST', body: JSON.stringify(said) });
 }

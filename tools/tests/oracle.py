@@ -4,7 +4,7 @@ parameters, on random input. tools/tests/migration.py compares it with other pro
 usage: python3 -m tools.tests.oracle PROGRAM [--seed N] [--worker PATH]
 
 Each part prints the number of cases that agree. WORKER speaks the protocol that
-tools/bench/bench.py describes: with it, only 10,000 keys are compared, some with parameters and
+tools/tests/worker.py describes: with it, only 10,000 keys are compared, some with parameters and
 lengths that both have to reject.
 """
 

@@ -1,4 +1,9 @@
-"""An implementation in a separate process, as tools/bench/bench.py describes it."""
+"""An implementation in a separate process, which reads lines and answers each line immediately with a line:
+
+    LOG_N R P LENGTH PASSWORD SALT REPEATS      numbers, and bytes in hexadecimal (- for none)
+    ok NANOSECONDS NANOSECONDS KEY              the minimum wall time and processor time, and the key
+    err REASON                                  if the input is rejected
+"""
 
 import os
 import subprocess
