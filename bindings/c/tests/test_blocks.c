@@ -13,9 +13,10 @@
 
 enum { R = 8, BESIDE = 3 << 20 }; /* maximum overhead of a mapping */
 
-static size_t min_refused = SIZE_MAX, max_asked;
+static size_t min_refused = SIZE_MAX, max_asked, large = SIZE_MAX, large_requests;
 static int is_granted(size_t len) {
   if (len > max_asked) max_asked = len;
+  if (len >= large) large_requests++;
   return len < min_refused;
 }
 
@@ -43,18 +44,19 @@ static char text[SCRYPT_PHC_CAPACITY];
 /* The size of a table, or SIZE_MAX for one that no system has memory for. */
 static size_t table_bytes(uint32_t log_n) { return log_n < 50 ? (size_t)128 * R << log_n : SIZE_MAX; }
 
-/* A call whose allocation of tables fails has requested this number of tables, returns this status,
- * and leaves its outputs unchanged. */
+static size_t fewer(size_t one, size_t other) { return one < other ? one : other; }
+
+/* A call whose allocation of tables fails has requested this number of tables at once, and then one if there
+ * were several, returns this status, and leaves its outputs unchanged. */
 #define REFUSES(why, log_n, tables, wanted, call)                                          \
   do {                                                                                     \
     memset(key, 7, sizeof key), text[0] = '!';                                             \
-    min_refused = table_bytes(log_n), max_asked = 0;                                       \
+    min_refused = large = table_bytes(log_n), max_asked = large_requests = 0;              \
     check((call) == (wanted) && max_asked / table_bytes(log_n) == (tables), why);          \
+    check(large_requests == fewer(tables, 2), why);                                        \
     min_refused = SIZE_MAX;                                                                \
     check(key[0] == 7 && text[0] == '!', why);                                             \
   } while (0)
-
-static size_t fewer(size_t one, size_t other) { return one < other ? one : other; }
 
 static int go_on(void *context, uint64_t done, uint64_t all) { return context != NULL || done > all; }
 
@@ -171,8 +173,9 @@ static void little_is_touched(void) {
  * before it are left. */
 static void not_unmapped(void) {
   size_t at, left = 0;
-  keeps = 1;
+  keeps = 1, large = table_bytes(15), large_requests = 0;
   check(scrypt_key(SECRETS, 15, R, 1, key, sizeof key) == SCRYPT_OK, "a key of 32 MiB");
+  check(large_requests == 1, "a table that is allocated once");
   keeps = 0;
   check(kept_len >= table_bytes(15) && kept_len <= table_bytes(15) + BESIDE, "the length of the mapping");
   for (at = 0; at < kept_len; at++) left += kept[at] != 0;

@@ -1,17 +1,21 @@
-/* Each call of the header that derives a key, once, for valgrind, which counts its instructions:
- * test_work.sh. Two calls choose their own parameters. */
+/* Each call of the header, once, for valgrind, which counts its instructions: test_work.sh. Two calls choose
+ * their own parameters.
+ * usage: test_work P */
 #include "arguments.h"
 
 #include <valgrind/callgrind.h>
 
-/* Of the password pw with (8, 8, 1), some 2 million instructions, by hashlib.scrypt. */
-#define PHC "$scrypt$ln=8,r=8,p=1$c2FsdA$TDZ/Jxw4n9NhM0n+/7le/7zAlgb2xfdZUjQRLb1nXA4"
+/* Of the password pw with (8, 8, 1) and (8, 8, 4), by hashlib.scrypt. */
+#define PHC_OF_1 "$scrypt$ln=8,r=8,p=1$c2FsdA$TDZ/Jxw4n9NhM0n+/7le/7zAlgb2xfdZUjQRLb1nXA4"
+#define PHC_OF_4 "$scrypt$ln=8,r=8,p=4$c2FsdA$IPeK901wvD/9azggbFpvYfN5e+jrsVHBpP0evtnobRM"
 
-int main(void) {
-  const scrypt_options options = {sizeof options, 8, 8, 1, 0, 0, 0, 0, 0, 0, 1, 1};
-  const scrypt_login login = {"pw", 2, PHC, strlen(PHC)};
-  take_arguments("pw", 2, "salt", 4, 8, 8, 1, 32, 1);
-  take_text(PHC, &login, 1);
+int main(int count, char **words) {
+  const uint32_t p = count > 1 ? (uint32_t)atoi(words[1]) : 1;
+  const char *phc = p == 1 ? PHC_OF_1 : PHC_OF_4;
+  const scrypt_options options = {sizeof options, 8, 8, p, 0, 0, 0, 0, 0, 0, 1, 1};
+  const scrypt_login login = {"pw", 2, phc, strlen(phc)};
+  take_arguments("pw", 2, "salt", 4, 8, 8, p, 32, 1);
+  take_text(phc, &login, 1);
   given.hasher = scrypt_hasher_new(&options, NULL);
 #define CALL(name, arguments)                                                                        \
   if (strcmp(#name, "scrypt_hash_password") != 0 && strcmp(#name, "scrypt_calibrate") != 0) {        \

@@ -1,0 +1,333 @@
+//! The Salsa20/8 core (RFC 7914, section 3) on words in diagonal order, of one block or of several
+//! side by side. Each vector has four lanes of every block.
+
+ghost use Rattle.std.specs.Prelude.{◌≡◌, ◌≢◌, ℕ, ◌+◌, ◌*◌, ◌/◌, ◌<◌, ◌≤◌, ◌++◌, List, length, true};
+ghost use Rattle.scrypt_kernel.specs.Words.{add_words, part, xor_words};
+ghost use Rattle.scrypt_kernel.specs.Salsa.{salsa20_8};
+ghost use Rattle.scrypt_kernel.specs.Count.{AreCountedAs};
+ghost use Rattle.scrypt_kernel.specs.Diagonal.{diagonal_core, diagonal_order, standard_order};
+ghost use Rattle.scrypt_kernel.specs.Lanes.{AreFourEach, at, block_of, quarter_rounds, turned, turned_left, xor_rotated};
+ghost use Rattle.scrypt_kernel.specs.Parts.{AreParts, part_of};
+
+pub mod both;
+pub mod scalars;
+
+use crate::cores::CoreCount;
+use crate::parts::Parts;
+use crate::words::{put_in_part, put_vector, vector};
+use std::simd::{Simd, u32x4, u32x8};
+
+/// Replaces the 16 words, which are in diagonal order, by their Salsa20/8 core in diagonal order,
+/// and counts it as a SIMD core (RFC 7914, section 3).
+#[inline(always)]
+pub fn core(x: &mut [u32; 16], cores: &mut CoreCount)
+    ensures value { x.new ≡ diagonal_order (salsa20_8 (standard_order x.old)) }
+    ensures counted { AreCountedAs true 1 cores.old cores.new }
+{
+    *x = in_vectors(x).counted_core(cores).block(0);
+}
+
+/// Returns these words as the lanes of four vectors.
+#[inline(always)]
+pub(crate) fn in_vectors(words: &[u32; 16]) -> Diagonal<u32x4>
+    ensures { block_of (λ v k. part 4 v k) result 0 ≡ words.now }
+{
+    Diagonal {
+        a: vector(words, 0),
+        b: vector(words, 1),
+        c: vector(words, 2),
+        d: vector(words, 3),
+    }
+}
+
+/// A block, or several side by side, with the words in diagonal order, as four vectors.
+#[derive(Clone, Copy)]
+pub struct Diagonal<V> {
+    pub(crate) a: V,
+    pub(crate) b: V,
+    pub(crate) c: V,
+    pub(crate) d: V,
+}
+
+impl<V: Lanes> Diagonal<V> {
+    ghost use Rattle.std.specs.Prelude.{◌≡◌, ℕ, ◌<◌, true};
+    ghost use Rattle.scrypt_kernel.specs.Count.{AreCountedAs};
+    ghost use Rattle.scrypt_kernel.specs.Diagonal.{diagonal_core, diagonal_round};
+    ghost use Rattle.scrypt_kernel.specs.Lanes.{AreWhole};
+
+    /// Returns the Salsa20/8 core of each block, and counts them as SIMD cores.
+    #[inline(always)]
+    pub(crate) fn counted_core(self, cores: &mut CoreCount) -> Diagonal<V>
+        ensures value { (k : ℕ) → k < V.count → block_of V.lanes result k ≡ diagonal_core (block_of V.lanes self k) }
+        ensures counted { AreCountedAs true V.count cores.old cores.new }
+    {
+        let mixed = self.salsa20_8();
+        self.count(&mixed, cores);
+        mixed
+    }
+
+    // Counts the cores whose inputs are these blocks and whose outputs are the blocks of `mixed`.
+    // The compiler removes this, because a count has no bytes.
+    fn count(&self, mixed: &Diagonal<V>, cores: &mut CoreCount)
+        requires { (k : ℕ) → k < V.count → block_of V.lanes mixed.now k ≡ diagonal_core (block_of V.lanes self.now k) }
+        ensures { AreCountedAs true V.count cores.old cores.new }
+    {
+        'each: for k in 0..V::count() {
+            *cores = CoreCount::after_core(cores, &self.block(k), &mixed.block(k));
+        }
+    }
+
+    #[inline(always)]
+    fn salsa20_8(self) -> Diagonal<V>
+        ensures { (k : ℕ) → k < V.count → block_of V.lanes result k ≡ diagonal_core (block_of V.lanes self k) }
+    {
+        let once = self.double_round();
+        let twice = once.double_round();
+        let thrice = twice.double_round();
+        let all = thrice.double_round();
+        Diagonal {
+            a: self.a.plus(all.a),
+            b: self.b.plus(all.b),
+            c: self.c.plus(all.c),
+            d: self.d.plus(all.d),
+        }
+    }
+
+    // A double round is two halves: the first is the columns, and the second the rows.
+    #[inline(always)]
+    fn double_round(self) -> Diagonal<V>
+        ensures whole { (k : ℕ) → k < V.count → AreWhole V.lanes self k }
+        ensures value { (k : ℕ) → k < V.count → block_of V.lanes result k ≡ diagonal_round (block_of V.lanes self k) }
+        ensures still_whole { (k : ℕ) → k < V.count → AreWhole V.lanes result k }
+    {
+        let (a, b, c, d) = turn(self.a, self.b, self.c, self.d);
+        let (a, b, c, d) = turn(a, b, c, d);
+        Diagonal { a, b, c, d }
+    }
+
+    /// Returns block `k`.
+    pub(crate) fn block(&self, k: usize) -> [u32; 16]
+        requires { k < V.count }
+        ensures { result ≡ block_of V.lanes self.now k }
+    {
+        let mut words = [0u32; 16];
+        put_vector(&mut words, 0, self.a.four(k));
+        put_vector(&mut words, 1, self.b.four(k));
+        put_vector(&mut words, 2, self.c.four(k));
+        put_vector(&mut words, 3, self.d.four(k));
+        words
+    }
+}
+
+/// A vector with four lanes of each block of a group.
+pub trait Lanes: Copy {
+    // the number of blocks
+    ghost count: { ℕ };
+
+    // the lanes of block k
+    ghost lanes: { Self → ℕ → List ℕ };
+
+    /// Returns the number of blocks.
+    fn count() -> usize
+        ensures value { result ≡ count }
+        ensures some { 0 < result }
+        ensures few { result ≤ 4 };
+
+    /// Reads four words of each part, from part `first` on: the words at indices `4 * j` to
+    /// `4 * j + 3`.
+    fn read(parts: &Parts<'_>, first: usize, j: usize) -> Self
+        requires all { AreParts (first + count) parts.now }
+        requires inside { 4 * j + 4 ≤ parts.now.len }
+        ensures { (k : ℕ) → k < count → lanes result k ≡ part 4 (part_of parts.now (first + k)) j };
+
+    /// Writes the lanes to the same indices of the parts of `x`, which is cut into parts of `len`
+    /// words.
+    #[inline]
+    fn write(self, x: &mut [u32], len: usize, j: usize)
+        requires all { count * len ≤ length x.old }
+        requires inside { 4 * j + 4 ≤ len }
+        ensures written { (k : ℕ) → k < count → part 4 (part len x.new k) j ≡ lanes self k }
+        ensures others { (k i : ℕ) → i ≢ j → part 4 (part len x.new k) i ≡ part 4 (part len x.old k) i }
+    {
+        'parts: for k in 0..Self::count() {
+            put_in_part(x, len, k, j, self.four(k));
+        }
+    }
+
+    /// Adds word by word.
+    fn plus(self, y: Self) -> Self
+        ensures { (k : ℕ) → lanes result k ≡ add_words (lanes self k) (lanes y k) };
+
+    /// The exclusive or.
+    fn xor(self, y: Self) -> Self
+        ensures four { (k : ℕ) → k < count → ((length (lanes self k) ≡ 4) × (length (lanes y k) ≡ 4)) }
+        ensures value { (k : ℕ) → lanes result k ≡ xor_words (lanes self k) (lanes y k) };
+
+    /// The exclusive or of each word with the word of `y` rotated to the left by `bits` bits.
+    fn xor_rotated(self, y: Self, bits: u32) -> Self
+        requires { (0 < bits) × (bits < 32) }
+        ensures four { (k : ℕ) → k < count → length (lanes self k) ≡ 4 }
+        ensures value { (k : ℕ) → lanes result k ≡ xor_rotated bits (lanes self k) (lanes y k) };
+
+    /// Rotates the lanes of each block to the left: the lanes of `d` by one, of `c` by two, and of
+    /// `b` by three.
+    fn turned(b: Self, c: Self, d: Self) -> (Self, Self, Self)
+        ensures { (k : ℕ) → k < count
+            → ((lanes result.0 k ≡ turned_left 1 (lanes d k))
+            × (lanes result.1 k ≡ turned_left 2 (lanes c k))
+            × (lanes result.2 k ≡ turned_left 3 (lanes b k))) };
+
+    /// Returns the lanes of block `k`.
+    fn four(self, k: usize) -> u32x4
+        requires { k < count }
+        ensures { result ≡ lanes self k };
+}
+
+impl Lanes for u32x4 {
+    ghost count = { 1 };
+
+    ghost lanes = { λ v k. part 4 v k };
+
+    #[inline]
+    fn count() -> usize {
+        1
+    }
+
+    #[inline]
+    fn read(parts: &Parts<'_>, first: usize, j: usize) -> u32x4 {
+        vector(parts.part(first), j)
+    }
+
+    #[inline]
+    fn plus(self, y: u32x4) -> u32x4 {
+        plus(self, y)
+    }
+
+    #[inline]
+    fn xor(self, y: u32x4) -> u32x4 {
+        xor(self, y)
+    }
+
+    #[inline]
+    fn xor_rotated(self, y: u32x4, bits: u32) -> u32x4 {
+        xor_rotated(self, y, bits)
+    }
+
+    #[inline]
+    fn turned(b: u32x4, c: u32x4, d: u32x4) -> (u32x4, u32x4, u32x4) {
+        (
+            d.rotate_elements_left::<1>(),
+            c.rotate_elements_left::<2>(),
+            b.rotate_elements_left::<3>(),
+        )
+    }
+
+    #[inline]
+    fn four(self, k: usize) -> u32x4 {
+        four_of(self, k)
+    }
+}
+
+impl Lanes for u32x8 {
+    ghost count = { 2 };
+
+    ghost lanes = { λ v k. part 4 v k };
+
+    #[inline]
+    fn count() -> usize {
+        2
+    }
+
+    #[inline]
+    fn read(parts: &Parts<'_>, first: usize, j: usize) -> u32x8 {
+        let x = vector(parts.part(first), j);
+        let y = vector(parts.part(first + 1), j);
+        x.shuffle(y, [0, 1, 2, 3, 4, 5, 6, 7])
+    }
+
+    #[inline]
+    fn plus(self, y: u32x8) -> u32x8 {
+        plus(self, y)
+    }
+
+    #[inline]
+    fn xor(self, y: u32x8) -> u32x8 {
+        xor(self, y)
+    }
+
+    #[inline]
+    fn xor_rotated(self, y: u32x8, bits: u32) -> u32x8 {
+        xor_rotated(self, y, bits)
+    }
+
+    #[inline]
+    fn turned(b: u32x8, c: u32x8, d: u32x8) -> (u32x8, u32x8, u32x8) {
+        (
+            d.swizzle([1, 2, 3, 0, 5, 6, 7, 4]),
+            c.swizzle([2, 3, 0, 1, 6, 7, 4, 5]),
+            b.swizzle([3, 0, 1, 2, 7, 4, 5, 6]),
+        )
+    }
+
+    #[inline]
+    fn four(self, k: usize) -> u32x4 {
+        four_of(self, k)
+    }
+}
+
+// Adds word by word.
+#[inline(always)]
+fn plus<const N: usize>(x: Simd<u32, N>, y: Simd<u32, N>) -> Simd<u32, N>
+    ensures { (k : ℕ) → part 4 result k ≡ add_words (part 4 x.entry k) (part 4 y.entry k) }
+{
+    x + y
+}
+
+// The exclusive or.
+#[inline(always)]
+fn xor<const N: usize>(x: Simd<u32, N>, y: Simd<u32, N>) -> Simd<u32, N>
+    ensures four { (k : ℕ) → 4 * k + 4 ≤ N → ((length (part 4 x.entry k) ≡ 4) × (length (part 4 y.entry k) ≡ 4)) }
+    ensures value { (k : ℕ) → part 4 result k ≡ xor_words (part 4 x.entry k) (part 4 y.entry k) }
+{
+    x ^ y
+}
+
+// Part `k` of the lanes, which are cut into parts of four.
+#[inline(always)]
+fn four_of<const N: usize>(x: Simd<u32, N>, k: usize) -> u32x4
+    requires { 4 * k + 4 ≤ N }
+    ensures { result ≡ part 4 x.entry k }
+{
+    vector(&x.to_array(), k)
+}
+
+// Four quarter rounds of each block in parallel, one in each lane. Then the lanes are rotated, so
+// that the columns of the block become the rows, or the reverse.
+#[inline(always)]
+fn turn<V: Lanes>(a: V, b: V, c: V, d: V) -> (V, V, V, V)
+    ensures four { (k : ℕ) → k < V.count → AreFourEach (V.lanes a k, V.lanes b k, V.lanes c k, V.lanes d k) }
+    ensures value { (k : ℕ) → k < V.count
+        → at V.lanes result k ≡ turned (quarter_rounds (V.lanes a k) (V.lanes b k) (V.lanes c k) (V.lanes d k)) }
+{
+    let b = b.xor_rotated(a.plus(d), 7);
+    let c = c.xor_rotated(b.plus(a), 9);
+    let d = d.xor_rotated(c.plus(b), 13);
+    let a = a.xor_rotated(d.plus(c), 18);
+    let (d, c, b) = V::turned(b, c, d);
+    (a, d, c, b)
+}
+
+// The exclusive or of `x` with the lanes of `y`, each rotated to the left by `k` bits. The two
+// parts of a rotation share no bit, so two exclusive ors can combine them with `x`, which is 3 to 8
+// per cent faster than an or of the parts first. The part that is used last is computed first, so
+// that the other one, which the next step waits for, needs no copy.
+#[inline(always)]
+fn xor_rotated<const N: usize>(x: Simd<u32, N>, y: Simd<u32, N>, k: u32) -> Simd<u32, N>
+    requires { (0 < k) × (k < 32) }
+    ensures four { (i : ℕ) → 4 * i + 4 ≤ N → length (part 4 x.entry i) ≡ 4 }
+    ensures value { (i : ℕ) → part 4 result i ≡ xor_rotated k (part 4 x.entry i) (part 4 y.entry i) }
+{
+    let right = y >> Simd::<u32, N>::splat(32 - k);
+    let left = y << Simd::<u32, N>::splat(k);
+    x ^ left ^ right
+}
