@@ -1,6 +1,6 @@
 //! The Salsa20/8 core (RFC 7914, section 3) on words in standard order.
 
-ghost use Rattle.std.specs.Prelude.{◌≡◌, ◌≢◌, ◌<◌, false};
+ghost use Rattle.std.specs.Prelude.{◌≡◌, ◌<◌, false};
 ghost use Rattle.scrypt_kernel.specs.Salsa.{quarter_round_at, double_round, salsa20_8};
 ghost use Rattle.scrypt_kernel.specs.Count.{AreCountedAs};
 
@@ -45,11 +45,15 @@ fn double_round(x: &mut [u32; 16])
 #[tactic(auto, unfolding(crate::specs::Salsa::quarter_round))]
 fn quarter_round(x: &mut [u32; 16], a: usize, b: usize, c: usize, d: usize)
     requires places { (a < 16) × (b < 16) × (c < 16) × (d < 16) }
-    requires apart { (a ≢ b) × (a ≢ c) × (a ≢ d) × (b ≢ c) × (b ≢ d) × (c ≢ d) }
     ensures { x.new ≡ quarter_round_at a b c d x.old }
 {
-    x[b] ^= x[a].wrapping_add(x[d]).rotate_left(7);
-    x[c] ^= x[b].wrapping_add(x[a]).rotate_left(9);
-    x[d] ^= x[c].wrapping_add(x[b]).rotate_left(13);
-    x[a] ^= x[d].wrapping_add(x[c]).rotate_left(18);
+    let (xa, xb, xc, xd) = (x[a], x[b], x[c], x[d]);
+    let xb = xb ^ xa.wrapping_add(xd).rotate_left(7);
+    let xc = xc ^ xb.wrapping_add(xa).rotate_left(9);
+    let xd = xd ^ xc.wrapping_add(xb).rotate_left(13);
+    let xa = xa ^ xd.wrapping_add(xc).rotate_left(18);
+    x[b] = xb;
+    x[c] = xc;
+    x[d] = xd;
+    x[a] = xa;
 }
