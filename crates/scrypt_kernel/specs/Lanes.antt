@@ -6,7 +6,7 @@ use Rattle.std.specs.List.{range_with_len}
 use Rattle.std.specs.Simd.Lanes.{zip2}
 use Rattle.scrypt_kernel.specs.Words.{part}
 use Rattle.scrypt_kernel.specs.Salsa.{quarter_round}
-use Rattle.scrypt_kernel.specs.declared.cores.lanes.Diagonal.{Diagonal}
+use Rattle.scrypt_kernel.specs.declared.cores.simd.Diagonal.{Diagonal}
 
 -- a block as the lanes of four vectors
 abbrev pub lanes_of : List ℕ → List ℕ × List ℕ × List ℕ × List ℕ

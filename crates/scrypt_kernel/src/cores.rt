@@ -2,8 +2,8 @@
 //! were compressed.
 
 mod count;
-pub mod lanes;
 pub mod salsa;
 pub(crate) mod sha256;
+pub mod simd;
 
 pub use count::CoreCount;

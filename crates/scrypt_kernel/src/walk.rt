@@ -13,7 +13,7 @@ use crate::block_mix::{Xor, mix};
 use crate::order::OrderedBlocks;
 use crate::parts::Parts;
 use crate::table::recompute;
-use crate::words::{lanes, part, put_lanes};
+use crate::words::{part, put_vector, vector};
 
 /// Does `count` of the N iterations of step 3: j = Integerify (X) mod N, T = X xor V[j], X =
 /// scryptBlockMix (T).
@@ -155,9 +155,9 @@ fn prefetch_row(row: &[u32], spare: &mut [u32])
     requires some { 16 ≤ length row.now }
     requires room { 4 ≤ length spare.old }
 {
-    let mut seen = lanes(row, row.len() / 4 - 4);
+    let mut seen = vector(row, row.len() / 4 - 4);
     for k in 0..(row.len() / 16).min(8) {
-        seen = seen | lanes(row, 4 * k);
+        seen = seen | vector(row, 4 * k);
     }
-    put_lanes(spare, 0, seen);
+    put_vector(spare, 0, seen);
 }

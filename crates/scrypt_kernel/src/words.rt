@@ -48,18 +48,18 @@ pub(crate) fn part(len: usize, x: &[u32], k: usize) -> &[u32]
     &x[k * len..k * len + len]
 }
 
-/// Returns part `k` of `x`, which is cut into parts of four words, as the lanes of a vector.
+/// Returns part `k` of `x`, which is cut into parts of four words, as a vector.
 #[inline(always)]
-pub(crate) fn lanes(x: &[u32], k: usize) -> u32x4
+pub(crate) fn vector(x: &[u32], k: usize) -> u32x4
     requires { 4 * k + 4 ≤ length x.now }
     ensures { result ≡ part 4 x.now k }
 {
     u32x4::from_slice(part(4, x, k))
 }
 
-/// Writes four lanes as part `k` of `x`, which is cut into parts of four words.
+/// Writes `from` as part `k` of `x`, which is cut into parts of four words.
 #[inline(always)]
-pub(crate) fn put_lanes(x: &mut [u32], k: usize, from: u32x4)
+pub(crate) fn put_vector(x: &mut [u32], k: usize, from: u32x4)
     requires { 4 * k + 4 ≤ length x.old }
     ensures written { part 4 x.new k ≡ from }
     ensures others { (j : ℕ) → j ≢ k → part 4 x.new j ≡ part 4 x.old j }
@@ -67,7 +67,7 @@ pub(crate) fn put_lanes(x: &mut [u32], k: usize, from: u32x4)
     from.copy_to_slice(&mut x[4 * k..4 * k + 4]);
 }
 
-/// Writes four words as part `k` of `x`, which is cut into parts of four words.
+/// Writes `from` as part `k` of `x`, which is cut into parts of four words.
 #[inline(always)]
 pub(crate) fn put_words(x: &mut [u32], k: usize, from: &[u32; 4])
     requires { 4 * k + 4 ≤ length x.old }
@@ -77,7 +77,7 @@ pub(crate) fn put_words(x: &mut [u32], k: usize, from: &[u32; 4])
     x[4 * k..4 * k + 4].copy_from_slice(from);
 }
 
-/// Writes four lanes as vector `j` of part `k` of `x`, which is cut into parts of `len` words.
+/// Writes `from` as vector `j` of part `k` of `x`, which is cut into parts of `len` words.
 #[inline(always)]
 #[tactic(auto, using(crate::proofs::PartFacts::part_put_other))]
 pub(crate) fn put_in_part(x: &mut [u32], len: usize, k: usize, j: usize, from: u32x4)
@@ -87,5 +87,5 @@ pub(crate) fn put_in_part(x: &mut [u32], len: usize, k: usize, j: usize, from: u
     ensures others { (i : ℕ) → i ≢ j → part 4 (part len x.new k) i ≡ part 4 (part len x.old k) i }
     ensures parts { (i : ℕ) → i ≢ k → part len x.new i ≡ part len x.old i }
 {
-    put_lanes(&mut x[k * len..k * len + len], j, from);
+    put_vector(&mut x[k * len..k * len + len], j, from);
 }

@@ -7,7 +7,7 @@ ghost use Rattle.scrypt_kernel.specs.Diagonal.{diagonal_order, standard_order};
 
 use crate::CoreCount;
 use crate::block_mix::mix;
-pub use crate::cores::lanes::core;
+pub use crate::cores::simd::core;
 use crate::order::diagonal::Diagonal;
 pub use crate::order::diagonal::{shuffle_in, shuffle_out};
 use crate::parts::Parts;

@@ -11,10 +11,10 @@ ghost use Rattle.scrypt_kernel.specs.RoMix.{integerify};
 ghost use Rattle.scrypt_kernel.specs.Diagonal.{AreInverse, diagonal_order, inverse_pivot, permuted, pivot, standard_order};
 
 use crate::CoreCount;
-pub use crate::cores::lanes::Diagonal;
-pub use crate::cores::lanes::both::Both;
-pub use crate::cores::lanes::scalars::Scalars;
-use crate::cores::lanes::{Lanes, in_lanes};
+pub use crate::cores::simd::Diagonal;
+pub use crate::cores::simd::both::Both;
+pub use crate::cores::simd::scalars::Scalars;
+use crate::cores::simd::{Lanes, in_vectors};
 use crate::order::{OrderedBlocks, low_bits};
 use crate::parts::Parts;
 use crate::words::part;
@@ -171,5 +171,5 @@ fn permute_block(x: &mut [u32], k: usize, pivot: &[usize; 16])
         permuted[i] = from[pivot[i]];
     }
     let len = x.len();
-    in_lanes(&permuted).write(x, len, k);
+    in_vectors(&permuted).write(x, len, k);
 }

@@ -5,8 +5,8 @@ ghost use Rattle.std.specs.List.{range_with_len};
 ghost use Rattle.scrypt_kernel.specs.RoMix.{integerify};
 
 use crate::CoreCount;
-use crate::cores::lanes::{Diagonal, in_lanes};
 use crate::cores::salsa;
+use crate::cores::simd::{Diagonal, in_vectors};
 use crate::order::{OrderedBlocks, low_bits};
 use crate::parts::Parts;
 use std::simd::u32x4;
@@ -67,7 +67,7 @@ impl OrderedBlocks for Standard {
         let mut words = self.rows.block(0);
         salsa::core(&mut words, cores);
         Standard {
-            rows: in_lanes(&words),
+            rows: in_vectors(&words),
         }
     }
 
