@@ -13,10 +13,10 @@ ghost use Rattle.scrypt.specs.Stepping.{AreMixable, CanGoOn, AreMixed, IsUnderWa
 ghost use Rattle.scrypt.specs.declared.stepping.FinishError.TheVariants.{InvalidOutputLen as BadLength, Unfinished};
 
 use crate::buffers::interleaved_chunks;
-use crate::derivation::mixing::{Four, Three, group_by};
+use crate::derivation::mixing::group_by;
 use crate::derivation::{derive_chunks, output_len_ok};
 use crate::{Backend, CoreCount, Params};
-use scrypt_kernel::order::diagonal::{Diagonal, Scalars};
+use scrypt_kernel::order::diagonal::{Both, Diagonal, Scalars};
 use scrypt_kernel::pbkdf2::pbkdf2_counted;
 use scrypt_kernel::steps::{begin_chunks, end_chunks, step_chunks};
 use std::simd::{u32x4, u32x8};
@@ -274,8 +274,12 @@ fn mix_more<W: Backend>(
         2 if !W::is_scalar() => {
             step_chunks::<Diagonal<u32x8>>(r, table, scratch, log_n, done, count, cores)
         }
-        3 if most > 2 => step_chunks::<Three>(r, table, scratch, log_n, done, count, cores),
-        4 if most > 3 => step_chunks::<Four>(r, table, scratch, log_n, done, count, cores),
+        3 if most > 2 => step_chunks::<Diagonal<Both<u32x8, u32x4>>>(
+            r, table, scratch, log_n, done, count, cores,
+        ),
+        4 if most > 3 => step_chunks::<Diagonal<Both<u32x8, u32x8>>>(
+            r, table, scratch, log_n, done, count, cores,
+        ),
         _ => unreachable!(),
     }
 }

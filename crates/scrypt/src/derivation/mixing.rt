@@ -15,12 +15,6 @@ use scrypt_kernel::order::diagonal::{Both, Diagonal, Scalars};
 use scrypt_kernel::romix;
 use std::simd::{u32x4, u32x8};
 
-/// The words of three interleaved blocks.
-pub(crate) type Three = Diagonal<Both<u32x8, u32x4>>;
-
-/// The words of four interleaved blocks.
-pub(crate) type Four = Diagonal<Both<u32x8, u32x8>>;
-
 /// Replaces each of `count` chunks by its scryptROMix, interleaving at most `used.width` of them,
 /// by the backend `W`. The chunks belong to one derivation or to several, all with the `N` and the
 /// `r` of `params`. The table keeps one row in `2^s`.
@@ -108,12 +102,13 @@ fn mix_interleaved<M: TableMemory, W: Backend>(
 {
     // A backend's results are constants, so that the compiler leaves out the groups that it never
     // mixes.
+    let most = W::max_interleave();
     match n {
         1 if W::is_scalar() => mix_group::<Diagonal<Scalars>, M>(params, s, n, i, used),
         1 => mix_group::<Diagonal<u32x4>, M>(params, s, n, i, used),
         2 if !W::is_scalar() => mix_group::<Diagonal<u32x8>, M>(params, s, n, i, used),
-        3 if W::max_interleave() > 2 => mix_group::<Three, M>(params, s, n, i, used),
-        4 if W::max_interleave() > 3 => mix_group::<Four, M>(params, s, n, i, used),
+        3 if most > 2 => mix_group::<Diagonal<Both<u32x8, u32x4>>, M>(params, s, n, i, used),
+        4 if most > 3 => mix_group::<Diagonal<Both<u32x8, u32x8>>, M>(params, s, n, i, used),
         _ => unreachable!(),
     }
 }
