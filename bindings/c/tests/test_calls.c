@@ -30,7 +30,7 @@ static void keys(size_t i) {
   memset(key, 0, sizeof key);
   check(scrypt_key_limited(SECRETS_OF(i), PARAMS_OF(i), SIZE_MAX, UINT64_MAX, key, 64) == SCRYPT_OK && is_key(i, key),
         "the same within limits");
-  for (s = 0; s < 4; s++) {
+  for (s = 0; s < (i == 0 ? 5 : 4); s++) { /* the first one with a single row too */
     scrypt_steps in = new_buffers(PARAMS_OF(i), s, 1);
     memset(key, 0, sizeof key);
     check(scrypt_key_thin(SECRETS_OF(i), PARAMS_OF(i), s, key, 64, BUFFERS_OF(in)) == SCRYPT_OK && is_key(i, key),
