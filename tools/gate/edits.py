@@ -22,7 +22,7 @@ import tempfile
 from dataclasses import dataclass
 from pathlib import Path
 
-GATE, MORE, BY_TESTS, NOT_COMPILED = PARTS = ["the gate", "more", "refused by tests", "must not compile"]
+GATE, MORE, BY_TESTS = PARTS = ["the gate", "more", "refused by tests"]
 FILE = "mutants.txt"
 WORDS = {"file", "after", "old", "new", "answer", "unfolding", "use", "test"}
 # The lists and lemmas that tactics usually take, by their modules.
