@@ -29,7 +29,6 @@ PRESET ?= native
 export PRESET
 prefix = $(or $(PREFIX),/usr/local)
 STEP = PROGRESS=yes tools/gate/step.sh
-GATE = +@$(MAKE) --no-print-directory --keep-going --output-sync -f tools/gate/gate.mk
 
 # The libraries below the program, each after the libraries that it uses. The two lowest take about equally
 # long: if there is enough memory, they are proved concurrently with three jobs each.
@@ -89,11 +88,11 @@ uninstall:
 test: setup-test; @tools/gate/run.sh
 check: kit documents # from nothing, the libraries are proved first, with more jobs for each
 	$(if $(wildcard crates/scrypt_commands/out/incremental),,$(PROVE) $(LIBRARIES))
-	@$(STEP) what-changed rt all test --jobs $(if $(HAS_ROOM),4,1)
-	$(GATE) -j2 BUILT=1 answers hashes
+	@$(STEP) what-changed env RT_SECONDS=300 rt all test --jobs $(if $(HAS_ROOM),4,1)
+	@tools/gate/run.sh answers hashes
 documents: generate
 documents suites examples:
-	$(GATE) -j$$(nproc) BUILT=1 $@
+	@tools/gate/run.sh $@
 generate:; @python3 -m tools.generate.declarations
 promises:; python3 -m tools.generate.make promises
 doc:; python3 -m tools.generate.make

@@ -31,7 +31,7 @@ unused() {
 log=build/setup.log
 get() { apt-get install -o DPkg::Lock::Timeout=600 -qq -y --no-install-recommends "$@" >> $log 2>&1 < /dev/null; }
 
-if [ "${NO_INSTALL:-}" != 1 ] && [ "$(id -u)" = 0 ] && command -v apt-get > /dev/null && command -v dpkg-query > /dev/null; then
+if [ "${NO_INSTALL:-}" != 1 ] && command -v apt-get > /dev/null && command -v dpkg-query > /dev/null && [ "$(id -u)" = 0 ]; then
   absent="$(needed)$(unused)"
   if [ -n "$absent" ]; then
     echo "Installs these packages of Debian, in some minutes (NO_INSTALL=1 prevents it): ${absent% }"

@@ -1,23 +1,22 @@
 #!/usr/bin/env bash
-# Runs `rt ci` for the gate, and records in build/gate/proved which crates are proved. It prints these, and
-# for a failure the whole output of `rt ci`.
+# usage: prove.sh         runs `rt ci`, and compares the axioms of the program with docs/TRUST.md
+#        prove.sh NAME    waits until that run has proved this crate; the libraries are then in crates/*/out/rlib
 set -u
 unset CDPATH
 cd "$(dirname "$0")/../.."
-TIMEFORMAT='%1R %1U %1S'
-{ time rt ci 2>&1; } 2> build/log/proofs.time | while IFS= read -r line; do
-  printf '%s\n' "$line" >> build/log/proofs.log
-  if [[ $line =~ ^rt:\ ([a-z_0-9]+)\ (proved$|is\ kept:) ]]; then touch "build/gate/proved/${BASH_REMATCH[1]}"; fi
-  if [[ $line =~ ^rt:.*(proved|kept) ]]; then echo "${line#rt: } ($((SECONDS / 60)):$(printf %02d $((SECONDS % 60))))"; fi
-done
-status=${PIPESTATUS[0]}
-read -r real user system < build/log/proofs.time
-if [ "$status" != 0 ]; then tail -n 60 build/log/proofs.log | grep -v ': proved$'; fi
+log=build/log/proofs.log
+if [ $# = 1 ]; then
+  while read -r line; do
+    case $line in "rt: $1 proved" | "rt: $1 is kept:"*) exit 0 ;; "rt ci ended") exit 1 ;; esac
+  done < <(tail --pid=$$ -n +1 -F $log 2> /dev/null)
+fi
+rt ci
+status=$?
+echo "rt ci ended"
 known=$(sed -n 's/^- The program, `axioms=\([0-9]*\)`.*/\1/p' docs/TRUST.md)
-found=$(sed -n '/^== scrypt_tool$/,/^rt: /s/^logic=.* axioms=\([0-9]*\) .*/\1/p' build/log/proofs.log)
+found=$(sed -n '/^== scrypt_tool$/,/^rt: /s/^logic=.* axioms=\([0-9]*\) .*/\1/p' $log)
 if [ -n "$found" ] && [ "$found" != "$known" ]; then
   echo "docs/TRUST.md names $known axioms of the program, and its check assumes $found: rt check --list-axioms"
   status=1
 fi
-echo "$status $real $(echo "$user $system" | awk '{ print $1 + $2 }')" > build/log/proofs.took
-exit "$status"
+exit $status

@@ -1,28 +1,36 @@
 #!/usr/bin/env bash
-# The gate: proves every crate by `rt ci`, and concurrently runs every other task of gate.mk, even if
-# some fail. The last line is `N passed, M failed`, and `, K skipped` if what these tasks
-# need is not installed; the status is 0 if no task failed, and none did not begin because of a failure.
-# Before it come the tasks that were skipped, or ran in part, with the packages that they need, and the time.
+# Runs tasks of gate.mk, even if some fail. The last line is `N passed, M failed`, and `, K skipped` if what
+# these tasks need is not installed; the status is 0 if no task failed, and none did not begin because of a
+# failure. Before it come the tasks that were skipped, or ran in part, with the packages that they need, and the time.
+# usage: run.sh            the gate: every task, from nothing; `rt ci` proves every crate
+#        run.sh TARGET..   these tasks, or `documents`, `suites`, `examples`, with the files that are built
 set -u
 unset CDPATH
 cd "$(dirname "$0")/../.."
 begun=$SECONDS
-export PROVED_LIBRARIES=$PWD/crates # of this run: nothing begins with what an earlier one kept
 jobs=${JOBS:-$(($(nproc) + 2))} # with the proofs and what waits for them
 gate() { make --no-print-directory -f tools/gate/gate.mk "$@"; }
 
-echo "Proves and tests everything, in 18 to 33 minutes on four processors." \
-  "What each task prints is in build/log."
-rm -rf build/{gate,log,lib,bin,machine.sh} crates/*/out/rlib crates/scrypt_tool/out/scrypt_tool.o
-for preset in native asan tsan by-rattle $(python3 -m tools.presets names); do
-  rm -rf "build/$preset" crates/*/out/"$preset"
-done
-mkdir -p build/log build/gate/proved
-python3 -B -m tools.generate.declarations || exit 1
-gate --keep-going --output-sync=target -j"$jobs" gate
+if [ $# = 0 ]; then
+  set -- gate
+  export PROVED_LIBRARIES=$PWD/crates # of this run: nothing begins with what an earlier one kept
+  echo "Proves and tests everything, in 18 to 33 minutes on four processors." \
+    "What each task prints is in build/log."
+  rm -rf build/{gate,log,lib,bin,machine.sh} crates/*/out/rlib crates/scrypt_tool/out/scrypt_tool.o
+  for preset in native asan tsan by-rattle $(python3 -m tools.presets names); do
+    rm -rf "build/$preset" crates/*/out/"$preset"
+  done
+  python3 -B -m tools.generate.declarations || exit 1
+else
+  export BUILT=1
+fi
+mkdir -p build/log
+tasks=$(gate tasks OF="$*")
+for task in $tasks; do rm -f "build/log/$task.took"; done
+gate --keep-going --output-sync=target -j"$jobs" "$@"
 
 failed=0 passed=0 skipped=0 without='' in_part=''
-for task in $(gate tasks); do
+for task in $tasks; do
   status=unbegun needs=
   if [ -e "build/log/$task.took" ]; then read -r status _ _ needs < "build/log/$task.took"; fi
   case $status in
@@ -32,19 +40,19 @@ for task in $(gate tasks); do
     *) failed=$((failed + 1)) && echo "$task: FAILED (build/log/$task.log)" ;;
   esac
 done
-cat build/log/{proofs,library,module,library-*,program-*}.log > build/log/verdicts.log 2> /dev/null
-if [ $failed = 0 ]; then python3 -B tools/release/proved.py keep build/log/verdicts.log || failed=1; fi
+if [ "$*" = gate ]; then
+  # `rt ci` counts the crates and what it ran.
+  read -r more _ less < <(sed -nE 's/^([0-9]+) passed, ([0-9]+) failed$/\1 . \2/p' build/log/proofs.log | tail -n 1)
+  passed=$((passed + ${more:-0})) failed=$((failed + ${less:-1}))
+  cat build/log/{proofs,library,module,library-*,program-*}.log > build/log/verdicts.log 2> /dev/null
+  if [ $failed = 0 ]; then python3 -B tools/release/proved.py keep build/log/verdicts.log || failed=1; fi
+fi
 if [ -n "$in_part" ]; then echo "in part: ${in_part#; }"; fi
 if [ -n "$without" ]; then echo "skipped: ${without#; }"; fi
 took=$((SECONDS - begun))
-times > build/gate/times # of this shell, and of its children
-used=$(tail -n 1 build/gate/times | tr 'ms' '  ' | awk '{ printf "%.1f", $1 + $2 / 60 + $3 + $4 / 60 }')
+# shellcheck disable=SC2086 # names without blanks
+used=$(cd build/log && cat ${tasks// /.took }.took 2> /dev/null | awk '{ all += $3 } END { printf "%.1f", all / 60 }')
 echo "$((took / 60)):$(printf %02d $((took % 60))) minutes, $used processor minutes"
-# `rt ci` counts the crates and what it ran.
-proofs=$(tail -n 1 build/log/proofs.log)
-if [[ $proofs =~ ^([0-9]+)\ passed,\ ([0-9]+)\ failed ]]; then
-  passed=$((passed + BASH_REMATCH[1])) failed=$((failed + BASH_REMATCH[2]))
-fi
 if [ "$skipped" = 0 ]; then skipped=; fi
 echo "$passed passed, $failed failed${skipped:+, $skipped skipped}"
 [ "$failed" = 0 ]

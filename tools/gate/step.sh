@@ -1,8 +1,8 @@
 #!/usr/bin/env bash
 # Runs a command as a step of the gate or of make. Its output goes to build/log/NAME.log. One line has
 # the result and the time; if the step failed, the last lines of the log come first. With PROGRESS, a line
-# says that it begins, and others how many functions are checked: one a minute, or, on a terminal, one
-# that changes.
+# says that it begins, and others how many functions are checked, or which crates: one a minute, or, on a
+# terminal, one that changes.
 #
 # usage: step.sh NAME [--needs COMMAND:PACKAGE ..] COMMAND ..
 # If a needed command (or file) is missing, nothing is run. A command that ran nothing ends with the status
@@ -35,8 +35,9 @@ report() {
     sleep 1
     kill -0 $$ 2> /dev/null || exit # it was killed
     if ((second % every == 0)); then
-      now=$(grep -oE '^so far: [0-9]+ of [0-9]+ functions checked' "$log" | tail -n 1)
-      printf "$before%s$after" "$name: ${now:-no function is checked yet}"
+      now=$(grep -oE '^so far: [0-9]+ of [0-9]+ functions checked|^rt: .*(proved|kept)' "$log" | tail -n 1)
+      now=${now:-no function is checked yet}
+      printf "$before%s$after" "$name: ${now#rt: } ($(minutes $second))"
     fi
   done
 }
@@ -73,11 +74,9 @@ if [ $status = 77 ]; then
   exit
 fi
 if [ $status = 0 ]; then
-  # The prover's verdict, or else the last count, which is not a line of its progress.
-  count=$(sed -nE 's/^logic=proved functions=([0-9]+) .*/proved, \1 functions/p' "$log" | tail -n 1)
-  if [ -z "$count" ]; then
-    count=$(grep -v -e ': not run' -e '^$' -e '^so far: ' "$log" | grep -E '[0-9]+ (of [0-9]+|passed)|^OK|tests passed|^# pass' | tail -n 1)
-  fi
+  # The last verdict or count, which is not a line of the prover's progress.
+  count=$(sed -nE -e '/: not run|^so far: /d; s/^logic=proved functions=([0-9]+) .*/proved, \1 functions/p' \
+    -e '/[0-9]+ (of [0-9]+|passed)|^OK|tests passed|^# pass/p' "$log" | tail -n 1)
   echo "$name: ${count:-passed}${absent:+, in part (needs $absent)} $how"
 else
   printf '%s\n' "$(tail_of_log)" "$name: FAILED $how"
