@@ -1,7 +1,8 @@
 //! Tests of the libraries for what no contract can state: that the compiled code computes the
-//! standards' keys, and that calls succeed on texts at the limits of each format.
-//! `allocation_tests` tests the allocations of each call. `tools/tests/program.py` asks the linked
-//! program for the keys of RFC 7914, and `tools/tests/hashes.py` which texts it verifies.
+//! standards' keys; that calls succeed if memory is available, also on texts at the limits of each
+//! format and at large sizes; how much each call allocates, and the effect of a failed allocation.
+//! `tools/tests/program.py` asks the linked program for the keys of RFC 7914, and
+//! `tools/tests/hashes.py` which texts it verifies.
 //!
 //! A function that returns no error does exactly what its contract states, and its definition is
 //! evaluated on the standards' vectors in `proofs/StandardFacts.antt` of its crate. The tables here
@@ -11,7 +12,17 @@
 #[cfg(test)]
 mod buffers;
 #[cfg(test)]
+mod derivation_allocations;
+#[cfg(test)]
+mod failing_allocations;
+#[cfg(test)]
 mod groups;
+#[cfg(test)]
+mod hash_allocations;
+#[cfg(test)]
+mod hashes;
+#[cfg(test)]
+mod hostile;
 #[cfg(test)]
 mod keys;
 #[cfg(test)]
@@ -21,11 +32,17 @@ mod laws;
 #[cfg(test)]
 mod mcf_texts;
 #[cfg(test)]
+mod memory;
+#[cfg(test)]
 mod parameters;
 #[cfg(test)]
 mod phc_texts;
 #[cfg(test)]
+mod refused;
+#[cfg(test)]
 mod romix;
+#[cfg(test)]
+mod verdicts;
 
 #[cfg(test)]
 use std::test::Fail;
