@@ -8,7 +8,6 @@ from dataclasses import dataclass
 
 from tools.generate import sources, specs
 
-STANDARD_FACTS = "StandardFacts"
 TESTS = "_tests"
 
 
@@ -30,10 +29,9 @@ class Library:
 
     def read(self, crate, folder):
         self.sources[crate] = sources.read_crate(crate, folder)
-        for part in ("specs", "proofs"):
-            for path in sorted(glob.glob(f"{folder}/{part}/*.antt")):
-                name = f"Rattle.{crate}.{part}.{os.path.basename(path)[:-5]}"
-                self.modules[name] = specs.read_module(name, os.path.relpath(path, self.folder), sources.read(path))
+        for path in sorted(glob.glob(f"{folder}/specs/*.antt")):
+            name = f"Rattle.{crate}.specs.{os.path.basename(path)[:-5]}"
+            self.modules[name] = specs.read_module(name, os.path.relpath(path, self.folder), sources.read(path))
 
     def crates(self):
         """The crates that are promised: libraries, except for tests."""

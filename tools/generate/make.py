@@ -66,29 +66,17 @@ class Pages:
         self.env.filters["words"] = lambda text: jinja2.utils.markupsafe.Markup(comments.inline(text))
         self.env.globals.update(crates=views.crates, crate_page=lambda crate: f"{crate}.html", count=len)
         self.written = {}
-        self.tested = views.tested()
 
     def write(self, name, template, **values):
         text = self.env.get_template(template).render(page=name, **values)
         self.written[name] = re.sub(r"\n\s*\n+", "\n", text)
 
-    def with_vectors(self, shown):
-        """Definitions, each with the vectors that name it."""
-        return [(it, self.tested.get(it.key, [])) for it in shown]
-
     def definitions(self):
         for crate, modules in self.views.definitions.items():
             for module, shown in modules:
-                self.module(crate, module, self.with_vectors(shown), module.short, vectors=False)
-        for crate, found in self.views.vectors.items():
-            if found:
-                module, shown = found
-                self.module(crate, module, [(it, []) for it in shown], f"The vectors of {crate}", vectors=True)
-
-    def module(self, crate, module, shown, title, vectors):
-        names = [(it.name, it.name) for it, *_ in shown]
-        self.write(module_page(module.name), "definitions.html", title=title, crate=crate, module=module,
-                   shown=shown, vectors=vectors, names=names)
+                names = [(it.name, it.name) for it in shown]
+                self.write(module_page(module.name), "definitions.html", title=module.short, crate=crate, module=module,
+                           shown=shown, names=names)
 
     def sources(self):
         for crate, sources in self.views.sources.items():
@@ -102,7 +90,7 @@ class Pages:
     def of_crate(self, crate, sources):
         uses = self.library.uses[crate]
         return {"uses": [(it, it in self.views.crates) for it in uses], "modules": self.views.definitions[crate],
-                "sources": [it for it in sources if it[0].module], "vectors": self.views.vectors[crate],
+                "sources": [it for it in sources if it[0].module],
                 "first_line": first_sentence}
 
     def phrases(self, rows):
@@ -112,8 +100,8 @@ class Pages:
 
     def reading(self, page, of, clauses):
         """A page of the definitions that clauses depend on, in reading order. Returns their count and lines."""
-        found = [(module, self.with_vectors(shown)) for module, shown in self.views.reading(clauses)]
-        every = [it for _, shown in found for it, *_ in shown]
+        found = self.views.reading(clauses)
+        every = [it for _, shown in found for it in shown]
         lines = sum(it.lines for it in every)
         self.write(page, "reading.html", title=f"The definitions of {of}", of=of, modules=found, lines=lines)
         return {"definitions": len(every), "lines": lines}

@@ -1,11 +1,10 @@
 """The data of the templates: each item, clause and definition with its HTML and its citations."""
 
 import itertools
-import re
 from dataclasses import dataclass, field
 
 from tools.generate import comments, links
-from tools.generate.library import STANDARD_FACTS, definition_target, page_of
+from tools.generate.library import definition_target, page_of
 from tools.generate import specs
 
 # types are shown even if they are private, because clauses and definitions can cite them
@@ -36,13 +35,6 @@ class Shown:
         return f"{self.path}:{self.line}"
 
 
-def statement(definition):
-    """A theorem without its proof."""
-    lines = definition.text.splitlines()
-    is_proof = re.compile(rf"unfolding\b|{re.escape(definition.name)}\b[^:]*=")
-    return "\n".join(lines[:1] + list(itertools.takewhile(lambda it: not is_proof.match(it), lines[1:])))
-
-
 class Views:
     def __init__(self, library):
         self.library, self.links = library, links.Links(library)
@@ -53,7 +45,6 @@ class Views:
         keys = (("definition", it.name, name) for it in modules for name in it.definitions)
         self.order = {key: at for at, key in enumerate(keys)}
         self.definitions = {crate: [(it, self.of_module(it)) for it in specs_of[crate]] for crate in self.crates}
-        self.vectors = {crate: self.of_vectors(crate) for crate in self.crates}
         self.sources = {crate: self.of_crate(crate) for crate in self.crates}
         self.cites = {}
         for target, citers in self.links.cited.items():
@@ -68,20 +59,6 @@ class Views:
         return Shown(target.key, it.kind, it.name, it.name, target.href, comments.inline(it.comment),
                      self.links.definition(module, it), module.path, it.line,
                      specs.standards(it.comment, module.comment), it.text.count("\n") + 1)
-
-    def of_vectors(self, crate):
-        """The standards' vectors of a crate, and the texts that they compute."""
-        module = self.library.modules.get(f"Rattle.{crate}.proofs.{STANDARD_FACTS}")
-        found = []
-        for it in module.definitions.values() if module else ():
-            if it.kind == "theorem" and it.public:
-                it.text = statement(it)
-                shown = self.of_definition(module, it)
-                shown.kind, shown.standards = "vector", specs.standards(it.comment)
-                found.append(shown)
-            elif it.kind == "abbrev":
-                found.append(self.of_definition(module, it))
-        return (module, found) if any(it.kind == "vector" for it in found) else None
 
     def of_crate(self, crate):
         """The sources of a crate that have public items, with these items."""
@@ -165,21 +142,3 @@ class Views:
         modules = itertools.chain(*self.definitions.values())
         found = ((module, [it for it in shown if it.key in keys]) for module, shown in modules)
         return [(module, shown) for module, shown in found if shown]
-
-    def tested(self):
-        """For each definition the vectors that name it."""
-        named = {}
-        for _, those in filter(None, self.vectors.values()):
-            for shown in (it for it in those if it.kind == "vector"):
-                for key in self.statement_roots(shown.key):
-                    named.setdefault(key, []).append(shown)
-        return named
-
-    def statement_roots(self, key):
-        """The definitions that a statement names, also by the abbreviations of its own file."""
-        found, todo = [], [key]
-        while todo:
-            for it in self.cites.get(todo.pop(), ()):
-                if it[0] == "definition":
-                    (todo if STANDARD_FACTS in it[1] else found).append(it)
-        return list(dict.fromkeys(found))
