@@ -103,7 +103,8 @@ class Pages:
         found = self.views.reading(clauses)
         every = [it for _, shown in found for it in shown]
         lines = sum(it.lines for it in every)
-        self.write(page, "reading.html", title=f"The definitions of {of}", of=of, modules=found, lines=lines)
+        self.write(page, "reading.html", title=f"The definitions of {of}", of=of, modules=found, lines=lines,
+                   key=promises.lines(self.views, promises.KEY))
         return {"definitions": len(every), "lines": lines}
 
     def front(self):

@@ -90,11 +90,16 @@ def page(views):
     return re.sub(r"^\{(\w+)\}$", lambda found: parts[found[1]], read(TEMPLATE), flags=re.M)
 
 
+def lines(views, clauses):
+    """The number of lines of the definitions to read for clauses."""
+    return sum(it.lines for _, shown in views.reading(views.clauses(clauses)) for it in shown)
+
+
 def wrong(views):
     """The errors in PROMISES, and in the numbers of lines to read that other pages state."""
     found = [] if read(PAGE) == page(views) else [f"{PAGE} differs from the sources: make promises"]
-    key, verdict = (sum(it.lines for _, shown in views.reading(views.clauses(its)) for it in shown) for its in (KEY, VERDICT))
-    for path, lines in {"docs/TRUST.md": f"{key} lines for the key, {verdict} for the verdict", "README.md": f"[{verdict} lines]"}.items():
-        if lines not in " ".join(read(path).split()):
-            found.append(f"{path}: what to read is {lines}")
+    key, verdict = lines(views, KEY), lines(views, VERDICT)
+    for path, words in {"docs/TRUST.md": f"{key} lines for the key, {verdict} for the verdict", "README.md": f"[{verdict} lines]"}.items():
+        if words not in " ".join(read(path).split()):
+            found.append(f"{path}: what to read is {words}")
     return found
