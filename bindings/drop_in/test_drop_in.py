@@ -20,14 +20,20 @@ PWHASH = "crypto_pwhash_scryptsalsa208sha256"
 MANY = 1 << 32
 
 
-def loaded(name):
+def loaded(name, package):
     path = ctypes.util.find_library(name)
+    if not path:
+        print(f"lib{name} is not installed (package {package}): not run")
     return ctypes.CDLL(path, use_errno=True) if path else None
 
 
 ours = ctypes.CDLL(sys.argv[1], use_errno=True)
-sodium = loaded("sodium")
-BY_COSTS = {"crypto_scrypt": loaded("scrypt-kdf"), "libscrypt_scrypt": loaded("scrypt"), PWHASH + "_ll": sodium}
+sodium = loaded("sodium", "libsodium23")
+BY_COSTS = {
+    "crypto_scrypt": loaded("scrypt-kdf", "libscrypt-kdf1"),
+    "libscrypt_scrypt": loaded("scrypt", "libscrypt0"),
+    PWHASH + "_ll": sodium,
+}
 
 
 def call(library, name, types, *args):

@@ -4,10 +4,8 @@ set -eu
 unset CDPATH
 cd "$(dirname "$0")"
 export PATH="/usr/bin:$PATH"
-for command in scrypt chromedriver; do
-  if ! command -v $command > /dev/null; then
-    echo "$command is not installed (packages scrypt, chromium-driver): not run: examples/file_page"
-    exit 77
-  fi
-done
+if ! { command -v scrypt && command -v chromedriver && python3 -c 'import selenium'; } > /dev/null 2>&1; then
+  echo "what it needs is not installed (packages scrypt, chromium-driver, python3-selenium): not run"
+  exit 77
+fi
 python3 -B test_file_page.py "$@"

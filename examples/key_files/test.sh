@@ -5,7 +5,10 @@ unset CDPATH
 cd "$(dirname "$0")"
 export PATH="/usr/bin:$PATH" PYTHONPATH=../../bindings/python SCRYPT_C_LIBRARY=../../build/lib
 if ! python3 -c 'import Cryptodome' 2> /dev/null; then
-  echo "Cryptodome is not installed (package python3-pycryptodome): not run: examples/key_files"
+  echo "Cryptodome is not installed (package python3-pycryptodome): not run"
   exit 77
 fi
+for program in age scrypt; do
+  if ! command -v $program > /dev/null; then echo "$program is not installed (package $program): not run"; fi
+done
 python3 -B test_key_files.py "$@"

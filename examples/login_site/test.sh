@@ -5,12 +5,11 @@ set -eu
 unset CDPATH
 cd "$(dirname "$0")"
 export PATH="/usr/bin:$PATH" PYTHONPATH=../../bindings/python SCRYPT_C_LIBRARY=../../build/lib
-for module in django waitress gunicorn selenium; do
-  if ! python3 -c "import $module" 2> /dev/null; then
-    echo "$module is not installed (package python3-$module): not run: examples/login_site"
-    exit 77
-  fi
-done
+if ! { command -v chromedriver && python3 -c 'import django, waitress, gunicorn, selenium'; } > /dev/null 2>&1; then
+  echo "what it needs is not installed (packages python3-django, python3-waitress, gunicorn, python3-selenium," \
+    "chromium-driver): not run"
+  exit 77
+fi
 python3 -B manage.py test -k Client -k Waitress "$@"
 if command -v pg_virtualenv > /dev/null && python3 -c 'import psycopg2' 2> /dev/null; then
   pg_virtualenv python3 -B manage.py test -k sessions -k Gunicorn "$@"

@@ -1,7 +1,7 @@
 # The tasks of the gate. Each prints one line (tools/gate/step.sh), and its failure does not stop the
 # others; `tools/gate/run.sh` runs them. Two groups are useful separately: `make documents` needs nothing
 # built, and `make suites` calls the files that `make lib`, `make js` and `make run` have built (with BUILT=1).
-TASK = @NICE=$(or $(NICE),10) tools/gate/step.sh $@
+TASK = @NICE=$(or $(NICE),10) tools/gate/step.sh $@ $(NEEDS)
 PY = python3 -B -m
 
 # The proofs that building the crate scrypt_c keeps.
@@ -96,6 +96,8 @@ module: library
 	$(TASK) $(PY) bindings.js.build $(KEPT)
 javascript: $(call proved,module) linked
 	$(TASK) $(firstword $(wildcard bindings/js/test.sh bindings/js/test/test.sh))
+# Both have a program that reads from a terminal.
+answers example-key_files: private NEEDS = --needs /dev/pts/ptmx:/dev/pts
 $(examples): example-%: $(call proved,module) linked
 	$(TASK) examples/$*/test.sh
 examples-of-pages: linked
