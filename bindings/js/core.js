@@ -1,6 +1,6 @@
 // The proved calls, in memory that is wiped after each of them.
 import {
-  NO_LIMIT, bytesOf, copyOf, isNone, lengthOf, limit, optionsOf, parameters, withDefaults,
+  NO_LIMIT, attempt, bytesOf, copyOf, isNone, lengthOf, limit, optionsOf, parameters, withDefaults,
 } from './arguments.js';
 import { SALT_LEN } from './declared.js';
 import { ScryptError, errorFor, errorOfHash } from './errors.js';
@@ -77,27 +77,29 @@ export class Scrypt {
     });
   }
 
-  verify(password, text, given) {
+  verify(attempted, text, given) {
+    const [password, canMatch] = attempt(attempted);
     const wanted = verifyOptions(optionsOf(given, 'verify'));
     if (isNone(text)) return this.#run({ password }, (it, slice) => ofNobody(it, slice, wanted));
     return this.#run({ password, text }, (it, ...slices) => {
       const limits = limitsOf(it, wanted);
       const buffers = it.buffersOf(slices[1], limits);
       return it.isOk('scrypt_verify_limited_with_buffers', ...slices, ...limits, ...buffers);
-    });
+    }) && canMatch;
   }
 
   /** The same in steps; the event loop runs between them. */
-  async verifyAsync(password, text, given) {
+  async verifyAsync(attempted, text, given) {
+    const [password, canMatch] = attempt(attempted);
     const { onProgress, signal, ...options } = optionsOf(given, 'verify', 'steps');
     const wanted = verifyOptions(options);
     const values = isNone(text) ? { password } : { password, text };
-    return this.#runInSteps(values, function* work(it, passwordSlice, textSlice) {
+    return await this.#runInSteps(values, function* work(it, passwordSlice, textSlice) {
       if (textSlice === undefined) return yield* ofNobodyInSteps(it, passwordSlice, wanted);
       const limits = limitsOf(it, wanted);
       const buffers = it.buffersOf(textSlice, limits);
       return yield* verdictInSteps(it, passwordSlice, textSlice, limits, buffers);
-    }, onProgress, signal);
+    }, onProgress, signal) && canMatch;
   }
 
   needsRehash(text, given) {

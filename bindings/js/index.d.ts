@@ -1,4 +1,5 @@
-/** A string is encoded as UTF-8; one with a lone surrogate is rejected. */
+/** A string is encoded as UTF-8; one with a lone surrogate is rejected, but as a password that is
+ * verified it is a wrong one. */
 export type Bytes = string | ArrayBuffer | ArrayBufferView;
 
 export interface Params {

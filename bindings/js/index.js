@@ -1,5 +1,5 @@
 // scrypt (RFC 7914) and its password hashes. The module is proved, then changed; this is tested.
-import { copiesOf, isNone, optionsOf } from './arguments.js';
+import { attempt, copiesOf, isNone, optionsOf } from './arguments.js';
 import { Scrypt } from './core.js';
 import { RefusedHashError, ScryptError } from './errors.js';
 import { compile, isSupported, load } from './load.js';
@@ -27,10 +27,11 @@ export async function hash(password, given) {
 
 /** Verifies a password against the text of a hash, in a worker. Without a text the result is false,
  * after the work of a new hash. */
-export async function verify(password, text, given) {
+export async function verify(attempted, text, given) {
+  const [password, canMatch] = attempt(attempted);
   const [how, options] = parted(optionsOf(given, 'verify', 'steps', 'worker'));
   const [copy, textCopy] = copiesOf(isNone(text) ? { password } : { password, text });
-  return call('verify', [copy, textCopy, options], how);
+  return await call('verify', [copy, textCopy, options], how) && canMatch;
 }
 
 // Calls that only read a text take microseconds. The memory for a long text is not kept.

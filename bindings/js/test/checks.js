@@ -25,9 +25,9 @@ const VALUES = [
 ];
 const BYTES = [
   ['INVALID_TYPE', 1], ['INVALID_TYPE', {}], ['INVALID_TYPE', [1]], ['INVALID_TYPE', Symbol('x')],
-  ['LONE_SURROGATE', 'secret\ud800'], ['LONE_SURROGATE', '\udc00secret'],
   ['TypeError', gone(false)], ['TypeError', gone(false).buffer], ['TypeError', gone(true)],
 ];
+const LONE_SURROGATES = [['LONE_SURROGATE', 'secret\ud800'], ['LONE_SURROGATE', '\udc00secret']];
 const NO_OPTIONS = [
   5, 'maxmem', true, [], new Uint8Array(16), new Map([['maxmem', 1]]),
   { maxMem: 1 }, { n: 16 }, { cost: 16 }, // misspelt, and a name of node:crypto
@@ -38,9 +38,10 @@ const REFUSED = [
   ...VALUES.flatMap(([code, name, ...values]) => values.flatMap((it) => [
     [code, 'scrypt', '', '', { ...OF, [name]: it }], [code, 'hash', '', { ...OF, [name]: it }],
   ])),
-  ...BYTES.flatMap(([code, it]) => [
+  ...BYTES.map(([code, it]) => [code, 'verify', it, '$7$']),
+  ...[...BYTES, ...LONE_SURROGATES].flatMap(([code, it]) => [
     [code, 'scrypt', it, '', OF], [code, 'scrypt', 'secret', it, OF], [code, 'hash', it, OF],
-    [code, 'verify', it, '$7$'], [code, 'verify', 'secret', it], [code, 'params', it],
+    [code, 'verify', 'secret', it], [code, 'params', it],
   ]),
   ...NO_OPTIONS.flatMap((it) => [
     ['INVALID_TYPE', 'scrypt', '', '', it], ['INVALID_TYPE', 'verify', '', '$7$', it],
@@ -109,6 +110,14 @@ const OF_EACH = {
     equal(await api.verify('e\u0301', composed), false, 'a string is not normalized');
     equal(await api.hash('\u00e9', OF) === composed, false, 'two salts');
     for (const none of [null, undefined]) equal(await api.verify('', none, OF), false, `${none}`);
+    // A stranger can send it. It has the work and the errors of a wrong password, and no match.
+    for (const lone of ['\ud800', '\udc00']) {
+      const replaced = await api.hash('\ufffd', OF);
+      equal(await api.verify('\ufffd', replaced), true);
+      equal(await api.verify(lone, replaced), false, 'a lone surrogate is no U+FFFD');
+      equal(await api.verify(lone, null, OF), false, 'a lone surrogate, and no hash');
+      await refused('TOO_COSTLY', () => api.verify(lone, COSTLY));
+    }
     await refused('TOO_COSTLY', () => api.verify('', null, { maxmem: 1 }));
   },
   limits: async (api) => {
