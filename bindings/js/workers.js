@@ -103,9 +103,11 @@ function rest(worker) {
 
 const starting = () => [...workers].filter((it) => !it.isReady).length;
 
-// In an overload the calls that have waited long are about to give up, and then their work is lost.
-// So the order is LIFO while more than two calls wait for each worker, and otherwise FIFO.
-const next = () => (waiting.length > 2 * workers.size ? waiting.pop() : waiting.shift());
+// FIFO. But of the calls that only a signal ends, those that have waited long in an overload are about
+// to be aborted, and then their work is lost: while more than two calls wait for each worker, the
+// newest starts first (LIFO) if it is such a call. A timeout ends no call that has started.
+const isOverloaded = () => waiting.length > 2 * workers.size;
+const next = () => (isOverloaded() && waiting.at(-1).isEndedBySignal ? waiting.pop() : waiting.shift());
 
 // Gives waiting calls to idle workers, and starts more workers.
 function assign() {
@@ -163,6 +165,7 @@ function leave(call, reason) {
 // call waits for a worker.
 async function answer(call, signal, timeout) {
   const answered = new Promise((resolve, reject) => { Object.assign(call, { resolve, reject }); });
+  call.isEndedBySignal = signal !== undefined && timeout === undefined;
   const onAbort = () => leave(call, signal.reason);
   const message = `no worker was free within ${timeout} ms (timeout)`;
   const onTimeout = () => leave(call, new ScryptError('TIMEOUT', message));

@@ -105,12 +105,29 @@ const endings = {
     await add('late', { timeout: 1 });
     await answer(KEY);
     await Promise.all([first, ...others]);
-    // LIFO, while more than two wait for a worker.
-    equal(answers.join(), '0,3,1,TIMEOUT,2', 'the order');
+    equal(answers.join(), '0,1,2,TIMEOUT,3', 'FIFO');
     for (const timeout of [-1, NaN]) await refused('INVALID_LIMIT', () => call({ timeout }));
     await refused('INVALID_LIMIT', () => configure({ maxWorkers: 0 }));
     await refused('INVALID_LIMIT', () => configure({ maxQueue: NaN }));
   }),
+  // The calls that wait behind the first one, and the order in which they start.
+  ...Object.fromEntries(Object.entries({
+    'FIFO in an overload with timeouts': [['timeout', 'timeout', 'timeout'], '1,2,3'],
+    'FIFO in an overload with signals and timeouts': [['both', 'both', 'both'], '1,2,3'],
+    'LIFO in an overload that only signals end': [['signal', 'signal', 'signal'], '3,1,2'],
+    'FIFO for two calls that only signals end': [['signal', 'signal'], '1,2'],
+    'FIFO if the newest call has a timeout': [['signal', 'signal', 'timeout'], '1,2,3'],
+  }).map(([name, [kinds, wanted]]) => [name, withWorkers(async (call, made, busy, answer) => {
+    const { signal } = new AbortController();
+    const options = { timeout: { timeout: 9000 }, signal: { signal }, both: { signal, timeout: 9000 } };
+    const [order, first] = [[], call()];
+    await busy();
+    const calls = kinds.map((kind, i) => call(options[kind]).then(() => order.push(i + 1)));
+    await later(20); // they wait
+    for (let i = 0; i <= kinds.length; i++) await answer(KEY);
+    await Promise.all([first, ...calls]);
+    equal(order.join(), wanted, 'the order');
+  })])),
   'the default number of workers': async () => {
     const os = { availableParallelism: () => 8, totalmem: () => 2 ** 40 };
     for (const [mib, wanted] of [[0, 4], [187, 1], [512, 1], [700, 2], [1024, 3], [2048, 4]]) {
