@@ -13,7 +13,7 @@
 #   make uninstall removes the last installation; use the same DESTDIR
 #   make js        proves and builds the module for JavaScript into bindings/js, and tests it
 #   make doc       makes pages for reading the proof, and prints the address that a browser opens; needs
-#                  python3-jinja2, python3-pygments
+#                  python3-jinja2
 #   make dist      makes packages for Debian, Python, Go, Rust and npm, archives, and their hashes, in build/dist
 # To change it:
 #   make check     proves and tests the changes since the last check

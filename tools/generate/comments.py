@@ -36,6 +36,6 @@ def html(text):
     words, *more = re.split(r"^```(\w*)\n(.*?)\n```$", text + "\n", flags=re.M | re.S)
     out = paragraphs(words)
     for language, code, words in zip(more[::3], more[1::3], more[2::3]):
-        tokens = lexers.rust(code) if language in ("rust", "") else [("", code)]
+        tokens = lexers.tokens("rust", code) if language in ("rust", "") else [("", code)]
         out += [f"<pre><code>{lexers.marked_up(tokens)}</code></pre>", *paragraphs(words)]
     return "\n".join(out)

@@ -1,45 +1,28 @@
-"""Cuts code into tokens, colours it and puts links into it. A token is the class of its colour, or
-"", and its text.
-
-antt has its own lexer, and Rattle uses Rust's in Debian's python3-pygments; without that it has no
-colours.
-"""
+"""Cuts code in Rattle and antt into tokens, colours it and puts links into it. A token is the class of its
+colour, or "", and its text."""
 
 import re
 from html import escape
 
-try:
-    from pygments.lexers import RustLexer
-    from pygments.token import STANDARD_TYPES
-except ImportError:
-    RustLexer = None
-
-# A name can contain `'`, and `-` before another letter.
-ANTT = re.compile(
-    r"""
-    (?P<c1> -- .* | // .* )
+# A name in antt can contain `'`, and `-` before another letter.
+COMMON = r"""
+    (?P<c> -- .* | // .* )
   | (?P<s> "(?:[^"\\]|\\.)*" )
-  | (?P<k> λ | (?: let|in|if|then|else|do|record|with|data|where|abbrev|unfoldable|unfolding|pub|Type|infix[lr]?|as )
-           \b(?!') )
+  | (?P<k> \b (?:{keywords}) \b (?!') | λ )
   | (?P<m> 0x[0-9A-Fa-f]+ | \d+ )
-  | (?P<n> ◌\S+ | [^\W\d][\w']*(?:-[^\W\d][\w']*)* )
-  | (?P<o> \[\] | [^\s\w(){}\[\],;.\"']+ )
-  | (?P<p> [(){}\[\],;.] )
+  | (?P<n> ◌\S+ | [^\W\d][\w']*{dashed} )
+  | (?P<o> \[\] | [^\s\w(){{}}\[\],;.\"']+ )
+  | (?P<p> [(){{}}\[\],;.] )
   | \s+ | .
-    """,
-    re.X,
-)
+"""
+ANTT = "let|in|if|then|else|do|record|with|data|where|abbrev|unfoldable|unfolding|pub|Type|infix[lr]?|as"
+RUST = "let|mut|if|else|match|for|in|while|loop|return|use|mod|pub|fn|struct|enum|trait|impl|const|static|type|where|unsafe|self|Self|as|ref|move"
+LEXERS = {"antt": re.compile(COMMON.format(keywords=ANTT, dashed=r"(?:-[^\W\d][\w']*)*"), re.X),
+          "rust": re.compile(COMMON.format(keywords=RUST, dashed="(?<!')"), re.X)}
 
 
-def antt(text):
-    return [(found.lastgroup or "", found.group()) for found in ANTT.finditer(text)]
-
-
-def rust(text):
-    if RustLexer is None:
-        return [("", text)]
-    tokens = list(RustLexer(stripnl=False, ensurenl=False).get_tokens(text))
-    return [(STANDARD_TYPES.get(kind) or STANDARD_TYPES.get(kind.parent, ""), value) for kind, value in tokens]
+def tokens(language, text):
+    return [(found.lastgroup or "", found.group()) for found in LEXERS[language].finditer(text)]
 
 
 def marked_up(tokens, link=lambda at: None):

@@ -94,7 +94,7 @@ class Links:
 
     def antt(self, text, place):
         """HTML of a clause or of a definition. A name that is neither bound in it nor has a target is lost."""
-        tokens = lexers.antt(text)
+        tokens = lexers.tokens("antt", text)
         bound = place.bound | bound_in(text)
 
         def link(at):
@@ -139,7 +139,7 @@ class Links:
 
     def rust(self, text, source):
         """HTML of a signature or of a type; its names are linked if they are declared in these crates."""
-        tokens = lexers.rust(text)
+        tokens = lexers.tokens("rust", text)
 
         def link(at):
             style, value = tokens[at]

@@ -4,7 +4,7 @@ usage: python3 -m tools.generate.make            writes the pages to build/doc, 
        python3 -m tools.generate.make promises   writes docs/PROMISES.md
        python3 -m tools.generate.make check      writes the pages, and fails if PROMISES differs from the sources
 
-The pages need Debian's python3-jinja2 and python3-pygments, and nothing needs the kit. It fails if a name in a
+The pages need Debian's python3-jinja2, and nothing needs the kit. It fails if a name in a
 clause or in a definition has no target; if a public function, a clause of it or a definition has no comment; if a
 link has no target, or two targets of a page have one name; or if the headline names a clause that no longer exists.
 """
@@ -128,9 +128,6 @@ class Pages:
 
 def made(views):
     """Writes the pages. Returns the errors in them."""
-    if jinja2 is None:
-        print("jinja2 is not installed (packages python3-jinja2, python3-pygments): not run")
-        return []
     pages = Pages(views)
     pages.definitions()
     pages.sources()
@@ -145,9 +142,15 @@ def main(what="pages"):
     views = Views(Library("."))
     if what == "promises":
         Path(promises.PAGE).write_text(promises.page(views), "utf-8")
+        return
+    wrong = promises.wrong(views) if what == "check" else []
+    if jinja2:
+        wrong += made(views)
+    elif what == "check":
+        print("jinja2 is not installed (package python3-jinja2): not run")
     else:
-        wrong = made(views) + list(views.wrong())
-        sys.exit("\n".join(wrong + (promises.wrong(views) if what == "check" else [])) or 0)
+        wrong.append("make doc needs Debian's python3-jinja2")
+    sys.exit("\n".join([*wrong, *views.wrong()]) or 0)
 
 
 if __name__ == "__main__":
