@@ -98,7 +98,7 @@ enum scrypt_status {
   /* The text is not a hash that can be read: */
   SCRYPT_ALGORITHM = 5,           /* the hash names another algorithm */
   SCRYPT_ENCODING_INVALID = 6,    /* the text does not have the grammar of its format */
-  SCRYPT_OUTPUT_SIZE = 7,         /* the key in the text has a length that is not allowed */
+  SCRYPT_OUTPUT_SIZE = 7,         /* the text has no key, or one that is too long */
   SCRYPT_HASH_PARAM_INVALID = 8,  /* a parameter in the text is not a decimal in its range */
   SCRYPT_HASH_PARAMS_INVALID = 9, /* parameters in the text are not accepted, or not scrypt's */
   SCRYPT_VERSION = 11,            /* the hash names a version, but scrypt has no versions */
@@ -556,8 +556,9 @@ const scrypt_options *scrypt_hasher_options(const scrypt_hasher *hasher);
  * For a login whose name doesn't exist, pass NULL with text_len 0: the call derives with the
  * parameters of new hashes, and returns SCRYPT_MISMATCH after the time of a wrong password, so that
  * a timing attack doesn't tell which names exist.
- * SCRYPT_NULL_POINTER; the errors of scrypt_hash_cost, without waiting; SCRYPT_CLOSED,
- * SCRYPT_TIMEOUT, SCRYPT_OUT_OF_MEMORY, and last SCRYPT_MISMATCH if the password is wrong. */
+ * SCRYPT_NULL_POINTER; the errors of scrypt_hash_cost, without waiting, but SCRYPT_OUTPUT_SIZE for a
+ * hash without a key, which is damaged; SCRYPT_CLOSED, SCRYPT_TIMEOUT, SCRYPT_OUT_OF_MEMORY, and
+ * last SCRYPT_MISMATCH if the password is wrong. */
 SCRYPT_NODISCARD
 int scrypt_hasher_verify(scrypt_hasher *hasher, const void *password, size_t password_len, const char *text,
                          size_t text_len, int64_t timeout_ms);

@@ -13,7 +13,7 @@ static const struct {
     ROW(OUT_OF_MEMORY, "out of memory"),
     ROW(ALGORITHM, "the hash names another algorithm"),
     ROW(ENCODING_INVALID, "the text is not a PHC or $7$ hash"),
-    ROW(OUTPUT_SIZE, "the key in the hash is empty, or too long"),
+    ROW(OUTPUT_SIZE, "the hash has no key, or one that is too long"),
     ROW(HASH_PARAM_INVALID, "ln, r or p in the hash is not a decimal in its range"),
     ROW(HASH_PARAMS_INVALID, "the parameters in the hash are not accepted, or it has one other than ln, r and p"),
     ROW(SALT_INVALID, "a salt of a PHC hash has 1 to 64 bytes"),

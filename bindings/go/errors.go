@@ -32,7 +32,7 @@ const (
 	ErrAlgorithm Error = C.SCRYPT_ALGORITHM
 	// ErrEncodingInvalid: the text does not have the grammar of its format.
 	ErrEncodingInvalid Error = C.SCRYPT_ENCODING_INVALID
-	// ErrOutputSize: the key in the hash has a length that is not allowed.
+	// ErrOutputSize: the hash has no key, or one that is too long.
 	ErrOutputSize Error = C.SCRYPT_OUTPUT_SIZE
 	// ErrHashParamInvalid: a parameter in the hash is not a decimal in its range.
 	ErrHashParamInvalid Error = C.SCRYPT_HASH_PARAM_INVALID

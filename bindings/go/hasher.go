@@ -205,10 +205,9 @@ func (h *Hasher) Key(ctx context.Context, password, salt []byte, keyLen int) ([]
 	return key, nil
 }
 
-// Verify returns nil if the password matches the hash, and ErrMismatch if it does not, or if the
-// hash has no salt or no key. For a user who does not exist, pass "" as the text: Verify derives as
-// for a new hash and returns ErrMismatch, so that its time does not reveal whether there is such a
-// user.
+// Verify returns nil if the password matches the hash, and ErrMismatch if it does not. For a user
+// who does not exist, pass "" as the text: Verify derives as for a new hash and returns ErrMismatch,
+// so that its time does not reveal whether there is such a user.
 //
 // Other errors match (errors.Is) the context's error, ErrClosed or ErrOutOfMemory. If the hash is
 // rejected, Verify returns, without waiting, an error that matches ErrRefused: ErrInvalidHash,
@@ -241,7 +240,10 @@ func (h *Hasher) refusal(text []byte) error {
 	with := C.scrypt_hasher_options(h.of.c)
 	status := C.scrypt_hash_cost(chars(text), size(text), with.max_mem, with.max_work,
 		with.min_key_len, &cost)
-	if status == C.SCRYPT_TOO_COSTLY || status == C.SCRYPT_KEY_TOO_SHORT {
+	switch status {
+	case C.SCRYPT_MISMATCH: // no key: damaged, as scrypt_hasher_verify says
+		return Error(C.SCRYPT_OUTPUT_SIZE)
+	case C.SCRYPT_TOO_COSTLY, C.SCRYPT_KEY_TOO_SHORT:
 		const limits = "MaxMem is %d, MaxWork is %d, and the minimum key length is %d"
 		return fmt.Errorf("%w: %v, and a key of %d bytes; "+limits, Error(status), inWords(cost),
 			cost.key_len, with.max_mem, with.max_work, with.min_key_len)

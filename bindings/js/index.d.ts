@@ -122,7 +122,7 @@ export type ErrorCode =
   | 'ALGORITHM'
   /** The hash in PHC form names a version. */
   | 'VERSION'
-  /** The key of a `$7$` hash is empty. */
+  /** The hash has no key. */
   | 'OUTPUT_SIZE'
   /**
    * ln, r or p in PHC form is not a decimal number without leading zeros, or is above 255 (ln) or 2

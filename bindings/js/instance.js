@@ -1,6 +1,6 @@
 // An instance of the module: allocates in its memory, and calls its functions.
 import { NO_LIMIT } from './arguments.js';
-import { KEY_TOO_SHORT, OK, TOO_COSTLY } from './declared.js';
+import { KEY_TOO_SHORT, OK, OUTPUT_SIZE, TOO_COSTLY } from './declared.js';
 import { NO, errorOf, outOfMemory } from './errors.js';
 
 const PAGE = 65536;
@@ -126,12 +126,14 @@ export class Instance {
 
   /**
    * The buffers for verifying a hash, or empty ones if it is rejected: the call that verifies it
-   * returns the error before it checks the buffers.
+   * returns the error before it checks the buffers. A hash without a key is damaged: the proved calls
+   * return that no password matches it.
    */
   buffersOf(text, limits) {
     const [cost, keyLength, ...sizes] = this.#takeCost();
     const status = this.#status('scrypt_hash_cost', [text, ...limits, cost]);
     this.#cost = inWords([...sizes.slice(4), keyLength].map((it) => this.big(it)), limits);
+    if (status === NO) throw this.#refusal(OUTPUT_SIZE);
     return status === OK ? this.buffers(sizes) : [1, 4, 4].map((size) => this.take(0, size));
   }
 

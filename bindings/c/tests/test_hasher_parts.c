@@ -71,6 +71,8 @@ static void refused_verifications(void) {
   IS(verify(hasher, TEXT_OF("19,r=8,p=1", "AA"), "", -1), SCRYPT_TOO_COSTLY);
   IS(verify(hasher, TEXT_OF("4,r=8,p=32768", "AA"), "", -1), SCRYPT_TOO_COSTLY);
   IS(verify(hasher, TEXT_OF("4,r=8,p=1", ""), "", -1), SCRYPT_KEY_TOO_SHORT);
+  IS(verify(hasher, "$scrypt$ln=4,r=8,p=1$c2FsdHNhbHQ", "", -1), SCRYPT_OUTPUT_SIZE);
+  IS(verify(hasher, "$scrypt$ln=4,r=8,p=1", "", -1), SCRYPT_OUTPUT_SIZE);
   IS(verify(NULL, good, "", -1), SCRYPT_NULL_POINTER);
   IS(scrypt_hasher_verify(hasher, NULL, 1, good, strlen(good), -1), SCRYPT_NULL_POINTER);
   IS(scrypt_hasher_verify(hasher, "", 0, NULL, 1, -1), SCRYPT_NULL_POINTER);

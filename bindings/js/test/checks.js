@@ -136,6 +136,11 @@ const OF_EACH = {
     }
     const short = await api.hash('', { N: 2, dkLen: 10 });
     await refused('KEY_TOO_SHORT', () => api.verify('', short), '10 bytes (minKeyLength is 16)');
+    for (const damaged of ['$scrypt$ln=4,r=8,p=1', '$scrypt$ln=4,r=8,p=1$c2FsdHNhbHQ']) { // no key
+      equal(await outcome(api.verify('', damaged)), 'OUTPUT_SIZE', damaged);
+      equal(await api.needsRehash(damaged), true, damaged);
+      equal((await api.params(damaged)).dkLen, 0, damaged);
+    }
     equal(await api.verify('', short, { dkLen: 10 }), true, 'as short as new ones');
     equal(await api.verify('', short, { minKeyLength: 10 }), true, 'long enough');
   },

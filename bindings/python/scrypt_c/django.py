@@ -102,8 +102,8 @@ class ScryptPasswordHasher(BasePasswordHasher):
             raise _invalid("the text is not scrypt$N$SALT$r$p$KEY") from None
         if algorithm != self.algorithm:
             raise ValueError(f"{algorithm} is not {self.algorithm}")
-        if not salt:
-            raise _invalid("the hash has no salt")
+        if not salt or not key:
+            raise _invalid(f"the hash has no {'key' if salt else 'salt'}")
         return {"algorithm": algorithm, "salt": salt, "hash": key, **numbers}
 
     def verify(self, password: str, encoded: str) -> bool:

@@ -152,10 +152,9 @@ class PasswordHasher:
     def verify(self, hash: Union[str, bytes, None], password: Password) -> Literal[True]:
         """Returns True if the password matches the hash, in either format.
 
-        Otherwise raises VerifyMismatchError, also for a hash without a salt or a key. If the hash
-        is rejected, raises a RefusedHashError without waiting: InvalidHashError if it is not
-        a scrypt hash, TooCostlyError if the hash exceeds the limits, KeyTooShortError if its key is
-        too short. For a user who does not exist, pass None: the call derives as for a new hash, and
+        Otherwise raises VerifyMismatchError. If the hash is rejected, raises a RefusedHashError
+        without waiting: InvalidHashError if it is not a scrypt hash, or has no key, TooCostlyError if
+        it exceeds the limits, KeyTooShortError if its key is too short. For a user who does not exist, pass None: the call derives as for a new hash, and
         raises VerifyMismatchError, so that its time does not reveal whether there is such a user.
         """
         raw, secret = None if hash is None else raw_text(hash), raw_password(password)

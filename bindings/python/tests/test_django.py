@@ -37,6 +37,7 @@ DAMAGED = [
     "scrypt_c$7$46..../....saltsalt$..", "scrypt$16$seasalt$8", "scrypt$16$$8$1$AAAA",
     "scrypt$16$sea\ud800$8$1$AAAA", "scrypt$x$seasalt$8$1$AAAA",
     "scrypt$0$seasalt$8$1$AAAA",  # not the default
+    "scrypt_c$scrypt$ln=6,r=8,p=1", "scrypt_c$scrypt$ln=6,r=8,p=1$c2FsdHNhbHQ", "scrypt$16$seasalt$8$1$",
     f"scrypt${1 << 260}$seasalt$8$1$AAAA", f"scrypt$16$seasalt${8 + (1 << 32)}$1$AAAA",
 ]
 

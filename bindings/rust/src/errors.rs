@@ -28,7 +28,7 @@ pub enum DeriveError {
 #[derive(Clone, Copy, Debug, PartialEq, Eq)]
 #[non_exhaustive]
 pub enum Error {
-    /// The password does not match the hash, or the hash has no salt or no key.
+    /// The password does not match the hash; from `Scrypt`, also: the hash has no key.
     PasswordInvalid,
     /// The parameters, or the length of the key, are not accepted.
     InvalidParams,
@@ -40,7 +40,7 @@ pub enum Error {
     Algorithm,
     /// The text does not have the grammar of its format.
     EncodingInvalid,
-    /// The key in the text has a length that is not allowed.
+    /// The text has no key, or one that is too long.
     OutputSize,
     /// A parameter in the text is not a decimal in its range.
     ParamInvalid,

@@ -236,10 +236,10 @@ impl Hasher {
     ///
     /// # Errors
     ///
-    /// `PasswordInvalid` for a wrong password, and for a hash without a salt or a key. If the hash
-    /// is rejected ([`Error::is_refused`]), without waiting: `TooCostly` if the hash exceeds the
-    /// limits, `KeyTooShort` if its key is too short, and other errors if the text is not a hash.
-    /// `Closed`, `Timeout` and `OutOfMemory`.
+    /// `PasswordInvalid` for a wrong password. If the hash is rejected ([`Error::is_refused`]),
+    /// without waiting: `TooCostly` if it exceeds the limits, `KeyTooShort` if its key is too short,
+    /// and other errors if the text is not a hash, or has no key. `Closed`, `Timeout` and
+    /// `OutOfMemory`.
     pub fn verify(&self, text: &str, password: impl AsRef<[u8]>) -> Result<(), Error> {
         self.verify_optional(Some(text), password)
     }
