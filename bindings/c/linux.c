@@ -109,7 +109,7 @@ static size_t limit_of(const char *folder, const char *name, const char *period_
   char path[1024];
   long number = 0, period = 0;
   FILE *file;
-  int len = snprintf(path, sizeof path, ROOT "/sys/fs/cgroup%s/%s", folder, name);
+  int len = snprintf(path, sizeof path, ROOT "/sys/fs/cgroup/%s/%s", folder, name);
   if (len >= (int)sizeof path) return SIZE_MAX;
   file = fopen(path, "re");
   if (file == NULL) return SIZE_MAX;
@@ -122,26 +122,40 @@ static size_t limit_of(const char *folder, const char *name, const char *period_
 
 static size_t least(size_t one, size_t other) { return one < other ? one : other; }
 
-/* The minimum of the limits of this process's control group and of its ancestors, in version 2. The
- * file has the path of the group as "0::PATH". In a container the path may be the host's; then the
- * mounted group is the container's. */
-static size_t min_of_groups(const char *name) {
-  char line[1024] = "", *path = line + 3, *slash;
-  size_t most = limit_of("", name, NULL);
+/* Writes the path of this process's control group, or "". The file has "NUMBER:CONTROLLERS:PATH" for
+ * each hierarchy, without controllers for that of version 2. */
+static void find_group(const char *controller, char *group, size_t size) {
+  char line[1024], wanted[16];
   FILE *file = fopen(ROOT "/proc/self/cgroup", "re");
-  while (file != NULL && fgets(line, sizeof line, file) != NULL && strncmp(line, "0::", 3) != 0)
-    line[0] = '\0';
+  (void)snprintf(wanted, sizeof wanted, ",%s,", controller);
+  group[0] = '\0';
+  while (file != NULL && fgets(line, sizeof line, file) != NULL) {
+    char *names = strchr(line, ':'), *path = names != NULL ? strchr(names + 1, ':') : NULL, *found;
+    if (path == NULL) continue;
+    *names = *path = ',';
+    found = strstr(names, wanted);
+    if (found != NULL && found < path)
+      (void)snprintf(group, size, "%.*s", (int)strcspn(path + 1, "\n"), path + 1);
+  }
   if (file != NULL) (void)fclose(file);
-  if (strncmp(line, "0::", 3) != 0) return most;
-  path[strcspn(path, "\n")] = '\0';
+}
+
+/* The minimum of the limits of this process's control group and of its ancestors, for a controller of
+ * version 1, or "" in version 2. In a container the path may be the host's; then the mounted group is
+ * the container's. */
+static size_t min_of_groups(const char *controller, const char *name, const char *period_name) {
+  char folder[1100], *path = folder + strlen(controller), *slash;
+  size_t most = limit_of(controller, name, period_name);
+  (void)snprintf(folder, sizeof folder, "%s", controller);
+  find_group(controller, path, sizeof folder - strlen(controller));
   for (; (slash = strrchr(path, '/')) != NULL; *slash = '\0')
-    most = least(most, limit_of(path, name, NULL));
+    most = least(most, limit_of(folder, name, period_name));
   return most;
 }
 
 size_t processors_of_process(void) {
-  size_t of_version_1 = limit_of("/cpu", "cpu.cfs_quota_us", "cpu.cfs_period_us"), count = 0;
-  size_t quota = least(min_of_groups("cpu.max"), of_version_1);
+  size_t of_version_1 = min_of_groups("cpu", "cpu.cfs_quota_us", "cpu.cfs_period_us"), count = 0;
+  size_t quota = least(min_of_groups("", "cpu.max", NULL), of_version_1);
   cpu_set_t set;
   if (sched_getaffinity(0, sizeof set, &set) == 0) count = (size_t)CPU_COUNT(&set);
   else if (sysconf(_SC_NPROCESSORS_ONLN) > 0) count = (size_t)sysconf(_SC_NPROCESSORS_ONLN);
@@ -150,9 +164,9 @@ size_t processors_of_process(void) {
 }
 
 size_t memory_of_process(void) {
-  size_t most = least(min_of_groups("memory.max"), min_of_groups("memory.high"));
+  size_t most = least(min_of_groups("", "memory.max", NULL), min_of_groups("", "memory.high", NULL));
   long pages = sysconf(_SC_PHYS_PAGES);
-  most = least(most, limit_of("/memory", "memory.limit_in_bytes", NULL));
+  most = least(most, min_of_groups("memory", "memory.limit_in_bytes", NULL));
   if (pages > 0) most = least(most, (size_t)pages * (size_t)sysconf(_SC_PAGESIZE));
   return most;
 }

@@ -46,7 +46,9 @@ static void processors_of_groups(void) {
                 {"0::/", "", "cpu.max 1000 100000", 1},
                 {"0::/", "", "cpu.max", 64},
                 {"4:cpu,cpuacct:/a", "/cpu", "cpu.cfs_quota_us -1", 64},
-                {"9:memory:/m\n4:cpu,cpuacct:/a", "/cpu", "cpu.cfs_quota_us 150000", 2}}; /* of version 1, in a container */
+                {"9:memory:/m\n4:cpu,cpuacct:/a", "/cpu", "cpu.cfs_quota_us 150000", 2}, /* of version 1, in a container */
+                {"4:cpuacct,cpu:/a/b\n0::/x", "/cpu/a/b", "cpu.cfs_quota_us 150000", 2}, /* and outside of one */
+                {"4:cpuset:/a\n5:memory:/,cpu,", "/cpu/a", "cpu.cfs_quota_us 150000", 64}}; /* of other controllers */
   cpu_set_t set;
   size_t all = sched_getaffinity(0, sizeof set, &set) == 0 ? (size_t)CPU_COUNT(&set) : 1, i;
   for (i = 0; i < sizeof GROUPS / sizeof *GROUPS; i++) {
@@ -64,6 +66,8 @@ static void memory_of_groups(void) {
                 {"0::/a", "", "memory.high 1073741824", (size_t)1 << 30}, /* a group around it */
                 {"0::/a", "/a", "memory.max 1000", 1000},
                 {"9:memory:/m\n4:cpu:/a", "/memory", "memory.limit_in_bytes 1073741824", (size_t)1 << 30},
+                {"0::/x\n9:memory:/a/b", "/memory/a", "memory.limit_in_bytes 1000000", 1000000}, /* around it */
+                {"8:cpu:/a\n9:memory:/m", "/memory/a", "memory.limit_in_bytes 1000000", SIZE_MAX}, /* of others */
                 {"9:memory:/m", "/memory", "memory.limit_in_bytes 9223372036854771712", SIZE_MAX}};
   size_t all = (size_t)sysconf(_SC_PHYS_PAGES) * (size_t)sysconf(_SC_PAGESIZE), i;
   for (i = 0; i < sizeof GROUPS / sizeof *GROUPS; i++) {
