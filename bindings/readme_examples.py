@@ -1,8 +1,8 @@
 #!/usr/bin/env python3
 """Runs the examples of README, of HASHER, of Python's and Go's pages, and the C examples of
-bindings/README.md, over build/lib.
+bindings/README.md and SECURITY, over build/lib.
 
-Only Go's has code around it. `cargo test` runs the example of Rust's page, and
+Go's and SECURITY's have code around them. `cargo test` runs the example of Rust's page, and
 tools/release/test.sh the example of JavaScript's. Missing tools are named with their Debian package.
 The script fails if an example fails or is missing.
 """
@@ -42,6 +42,33 @@ func main() {{
 """
 
 
+# A rejected hash has the response of a wrong password, and at least half of its time.
+PYTHON_CHECKS = {
+    "docs/HASHER.md": "assert status_of_login('$2b$05$abc', 'x') == status_of_login(None, 'x') == 401",
+    "bindings/python/README.md": "assert is_right('$2b$05$abc', 'x') is False",
+}
+LOGIN = """#include <scrypt_c.h>
+#include <stdio.h>
+#include <string.h>
+#include <time.h>
+enum {{ LOGGED_IN, WRONG_NAME_OR_PASSWORD, TRY_LATER }};
+static scrypt_hasher *hasher;
+static const char *find_hash(const char *name) {{
+  return strcmp(name, "damaged") == 0 ? "$2b$05$abc" : NULL;
+}}
+static int log_in(const char *name, const char *password, size_t password_len) {{
+{example}}}
+static double seconds_of(const char *name) {{
+  clock_t begun = clock();
+  return log_in(name, "x", 1) == WRONG_NAME_OR_PASSWORD ? (double)(clock() - begun) : 0;
+}}
+int main(void) {{
+  hasher = scrypt_hasher_new(NULL, NULL);
+  return !(seconds_of("nobody") > 0 && seconds_of("damaged") > seconds_of("nobody") / 2);
+}}
+"""
+
+
 def examples(language, page="README.md"):
     """The blocks of a page in this language."""
     with open(os.path.join(TOP, page), encoding="utf-8") as file:
@@ -67,7 +94,8 @@ def run_python(room):
     paths = {"PYTHONPATH": os.path.join(TOP, "bindings", "python"), "SCRYPT_C_LIBRARY": LIBRARY}
     for page in ["README.md", "docs/HASHER.md", "bindings/python/README.md"]:
         for example in examples("python", page):
-            run([sys.executable, "-B", written(room, "login.py", example)], env=os.environ | paths)
+            login = written(room, "login.py", example + PYTHON_CHECKS.pop(page, ""))
+            run([sys.executable, "-B", login], env=os.environ | paths)
 
 
 def run_go(room):
@@ -83,7 +111,8 @@ def run_go(room):
 
 
 def run_c(room):
-    for example in examples("c", "bindings/README.md"):
+    log_in = LOGIN.format(example=examples("c", "SECURITY.md")[0])
+    for example in [*examples("c", "bindings/README.md"), log_in]:
         source, program = written(room, "login.c", example), os.path.join(room, "login")
         run(["cc", "-std=c99", "-Wall", "-Wextra", "-Werror", f"-I{LIBRARY}", source, f"{LIBRARY}/libscrypt_c.a", "-o", program])
         run([program])
