@@ -43,12 +43,6 @@ int scrypt_key(INPUTS, OUTPUT) {
   return cleared_scrypt_kdf(THE_INPUTS, max_interleave(), MAX_INTERLEAVED_MEM, THE_OUTPUT);
 }
 
-int scrypt_key_limited(INPUTS, size_t max_mem, uint64_t max_work, OUTPUT) {
-  TAKE_OUTPUT;
-  TAKE_INPUTS;
-  return cleared_scrypt_kdf_limited(THE_INPUTS, max_interleave(), max_mem, max_work, THE_OUTPUT);
-}
-
 int scrypt_key_with_buffers(INPUTS, OUTPUT, BUFFERS) {
   TAKE_OUTPUT;
   TAKE_INPUTS;
@@ -63,81 +57,36 @@ int scrypt_key_thin(INPUTS, uint8_t s, OUTPUT, BUFFERS) {
   return cleared_scrypt_kdf_thin(THE_INPUTS, s, THE_OUTPUT, THE_BUFFERS);
 }
 
-/* ---- In steps ---- */
-
-#define TAKE_STEPS \
-  REFUSE_IF(steps == NULL || steps->chunks == NULL || steps->table == NULL || steps->scratch == NULL)
-#define PARAMS_OF(steps) in_8_bits((steps)->log_n), (steps)->r, (steps)->p
-#define BUFFERS_OF(steps) \
-  (steps)->chunks, (steps)->chunks_len, (steps)->table, (steps)->table_len, (steps)->scratch, (steps)->scratch_len
-
-int scrypt_key_begin(scrypt_steps *steps, const void *password, size_t password_len, const void *salt, size_t salt_len) {
-  TAKE_STEPS;
-  TAKE(password);
-  TAKE(salt);
-  return cleared_scrypt_key_begin(password, password_len, salt, salt_len, PARAMS_OF(steps), BUFFERS_OF(steps),
-                                  &steps->at);
-}
-
-int scrypt_key_step(scrypt_steps *steps, size_t mixes) {
-  TAKE_STEPS;
-  return cleared_scrypt_key_step(PARAMS_OF(steps), mixes, BUFFERS_OF(steps), &steps->at);
-}
-
-int scrypt_key_finish(const scrypt_steps *steps, const void *password, size_t password_len, OUTPUT) {
-  TAKE_OUTPUT;
-  TAKE_STEPS;
-  TAKE(password);
-  return cleared_scrypt_key_finish(password, password_len, PARAMS_OF(steps), steps->chunks, steps->chunks_len, &steps->at,
-                                   THE_OUTPUT);
-}
-
-int scrypt_verify_begin(scrypt_steps *steps, STORED, size_t max_mem, uint64_t max_work, size_t min_key_len) {
-  uint8_t log_n = 0;
-  int status;
-  TAKE_STEPS;
-  TAKE(password);
-  TAKE(text);
-  status = cleared_scrypt_verify_begin(THE_STORED, max_mem, max_work, min_key_len, &log_n, &steps->r, &steps->p,
-                                       BUFFERS_OF(steps), &steps->at);
-  if (status == SCRYPT_OK) steps->log_n = log_n;
-  return status;
-}
-
-int scrypt_verify_finish(const scrypt_steps *steps, STORED) {
-  TAKE_STEPS;
-  TAKE(password);
-  TAKE(text);
-  return cleared_scrypt_verify_finish(THE_STORED, steps->chunks, steps->chunks_len, &steps->at);
-}
-
 /* ---- Hashes ---- */
 
 /* A call that writes a text, which is one byte longer by its NUL. */
-#define HASH_CALL(name, parameters, take, ...)                                           \
-  int name parameters {                                                                  \
-    char none = 0;                                                                       \
-    size_t text_len = 0;                                                                 \
-    int status;                                                                          \
-    REFUSE_IF(is_null(text, capacity));                                                  \
-    TAKE_INPUTS;                                                                         \
-    take;                                                                                \
-    if (capacity == 0) text = &none;                                                     \
-    else capacity--;                                                                     \
-    status = cleared_##name(THE_INPUTS, key_len, text, capacity, &text_len __VA_ARGS__); \
-    if (status == SCRYPT_OK) text[text_len] = '\0';                                      \
-    return status;                                                                       \
-  }
-#define TEXT size_t key_len, char *text, size_t capacity
-HASH_CALL(scrypt_hash_phc, (INPUTS, TEXT), (void)0, )
-HASH_CALL(scrypt_hash_mcf, (INPUTS, TEXT), (void)0, )
-HASH_CALL(scrypt_hash_phc_with_buffers, (INPUTS, TEXT, BUFFERS), TAKE_BUFFERS, , THE_BUFFERS)
-HASH_CALL(scrypt_hash_mcf_with_buffers, (INPUTS, TEXT, BUFFERS), TAKE_BUFFERS, , THE_BUFFERS)
+#define TAKE_TEXT                      \
+  char none = 0;                       \
+  size_t text_len = 0;                 \
+  int status;                          \
+  REFUSE_IF(is_null(text, capacity));  \
+  if (capacity == 0) text = &none;     \
+  else capacity--
+#define END_TEXT                                    \
+  if (status == SCRYPT_OK) text[text_len] = '\0';   \
+  return status
+#define TEXT size_t key_len, int mcf, char *text, size_t capacity
+#define THE_TEXT key_len, text, capacity, &text_len
 
-int scrypt_verify(STORED) {
-  TAKE(password);
-  TAKE(text);
-  return cleared_scrypt_verify(THE_STORED);
+int scrypt_hash_with_salt(INPUTS, TEXT) {
+  TAKE_TEXT;
+  TAKE_INPUTS;
+  status = (mcf ? cleared_scrypt_hash_mcf : cleared_scrypt_hash_phc)(THE_INPUTS, THE_TEXT);
+  END_TEXT;
+}
+
+int scrypt_hash_with_buffers(INPUTS, TEXT, BUFFERS) {
+  TAKE_TEXT;
+  TAKE_INPUTS;
+  TAKE_BUFFERS;
+  status = (mcf ? cleared_scrypt_hash_mcf_with_buffers : cleared_scrypt_hash_phc_with_buffers)(THE_INPUTS, THE_TEXT,
+                                                                                               THE_BUFFERS);
+  END_TEXT;
 }
 
 int scrypt_verify_limited(STORED, size_t max_mem, uint64_t max_work, size_t min_key_len) {
@@ -146,12 +95,11 @@ int scrypt_verify_limited(STORED, size_t max_mem, uint64_t max_work, size_t min_
   return cleared_scrypt_verify_limited(THE_STORED, max_mem, max_work, min_key_len);
 }
 
-int scrypt_verify_with_buffers(STORED, BUFFERS) {
-  TAKE(password);
-  TAKE(text);
-  TAKE_BUFFERS;
-  return cleared_scrypt_verify_with_buffers(THE_STORED, THE_BUFFERS);
+int scrypt_verify(STORED) {
+  return scrypt_verify_limited(THE_STORED, SCRYPT_DEFAULT_MAX_MEM, SCRYPT_DEFAULT_MAX_WORK, SCRYPT_DEFAULT_MIN_KEY_LEN);
 }
+
+int scrypt_verify_unlimited(STORED) { return scrypt_verify_limited(THE_STORED, SIZE_MAX, UINT64_MAX, 0); }
 
 int scrypt_verify_limited_with_buffers(STORED, size_t max_mem, uint64_t max_work, size_t min_key_len, BUFFERS) {
   TAKE(password);

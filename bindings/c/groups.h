@@ -18,6 +18,14 @@ static inline uint8_t in_8_bits(uint32_t log_n) { return log_n < 64 ? (uint8_t)l
  * and chunks. */
 #define MAX_INTERLEAVED_MEM ((size_t)129 << 20)
 
+/* The progress of a derivation in steps. Of the p * 2^(log_n + 1) block mixes of all chunks,
+ * chunks * 2^(log_n + 1) + interleaved * mixes are done. */
+typedef struct scrypt_progress {
+  size_t chunks;      /* the number of chunks that are mixed, of p */
+  size_t interleaved; /* the number of the next chunks, which are interleaved now */
+  size_t mixes;       /* the number of block mixes that are done for each of these */
+} scrypt_progress;
+
 /* The number of interleaved chunks that is fastest on this processor, up to SCRYPT_MAX_LOGINS. */
 size_t max_interleave(void);
 

@@ -212,9 +212,9 @@ static size_t form_batch(scrypt_hasher *hasher, struct call **batch, size_t max)
 }
 
 static int write_hash(const scrypt_options *with, const struct call *it, struct buffers of) {
-  return (with->mcf ? scrypt_hash_mcf_with_buffers : scrypt_hash_phc_with_buffers)(
-      it->login.password, it->login.password_len, it->salt, it->salt_len, with->log_n, with->r,
-      with->p, with->key_len, (char *)it->output, it->output_len, ALL_OF(of));
+  return scrypt_hash_with_buffers(it->login.password, it->login.password_len, it->salt, it->salt_len,
+                                  with->log_n, with->r, with->p, with->key_len, with->mcf,
+                                  (char *)it->output, it->output_len, ALL_OF(of));
 }
 
 static int write_key(const scrypt_options *with, const struct call *it, struct buffers of) {

@@ -12,10 +12,10 @@ int scrypt_hash_password(const void *password, size_t password_len, char *text, 
   uint8_t salt[SCRYPT_SALT_LEN];
   int status;
   if (is_null(password, password_len) || is_null(text, capacity)) return SCRYPT_NULL_POINTER;
-  /* scrypt_hash_phc would find this after the derivation. */
+  /* scrypt_hash_with_salt would find this after the derivation. */
   if (capacity < SCRYPT_HASH_CAPACITY) return SCRYPT_BUFFER_SIZE;
   status = scrypt_generate_salt(salt, sizeof salt);
   if (status != SCRYPT_OK) return status;
-  return scrypt_hash_phc(password, password_len, salt, sizeof salt, SCRYPT_RECOMMENDED_LOG_N, SCRYPT_RECOMMENDED_R,
-                           SCRYPT_RECOMMENDED_P, SCRYPT_KEY_LEN, text, capacity);
+  return scrypt_hash_with_salt(password, password_len, salt, sizeof salt, SCRYPT_RECOMMENDED_LOG_N, SCRYPT_RECOMMENDED_R,
+                               SCRYPT_RECOMMENDED_P, SCRYPT_KEY_LEN, 0, text, capacity);
 }

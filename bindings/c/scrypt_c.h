@@ -2,20 +2,16 @@
  *
  *   what you need                                    call                                     proved
  *   ----------------------------------------------   --------------------------------------   ------
- *   a key; the same within limits                    scrypt_key; scrypt_key_limited           yes
+ *   a key                                            scrypt_key                               yes
  *   a key with no allocation, in your own buffers    scrypt_key_with_buffers                  yes
  *   a key on a small device, with a smaller table    scrypt_key_thin                          yes
- *   a key in steps, with progress between them       scrypt_key_begin; .._step; .._finish     yes
- *   to verify in steps, within limits                scrypt_verify_begin; .._finish           yes
- *   a key in steps of some ms, with no buffers       scrypt_derivation_new; _run; _finish     no
- *   a key in one call, with progress                 scrypt_key_with_progress                 no
+ *   a key in steps, with progress between them       scrypt_derivation_new; _run; _finish     no
  *   the lengths of buffers; wiping them              scrypt_buffer_lens; scrypt_wipe          yes
  *   a password hash to store                         scrypt_hash_password                     no
- *   the same with other parameters, or your salt     scrypt_hash_phc; scrypt_hash_mcf: $7$    yes
+ *   the same with your salt and parameters           scrypt_hash_with_salt; .._with_buffers   yes
  *   to verify a password against a stored hash       scrypt_verify                            yes
- *   the same within limits, for an untrusted hash    scrypt_verify_limited                    yes
- *   to verify with no allocation, in your buffers    scrypt_verify_with_buffers               yes
- *   the same within limits                           scrypt_verify_limited_with_buffers       yes
+ *   the same within your limits; without limits      scrypt_verify_limited; .._unlimited      yes
+ *   to verify with no allocation, in your buffers    scrypt_verify_limited_with_buffers       yes
  *   up to four verifications in one batch            scrypt_verify_batch_with_buffers         yes
  *   whether a stored hash is too weak now            scrypt_needs_rehash                      yes
  *   the cost of a stored hash, within limits         scrypt_hash_cost; scrypt_hash_params     yes
@@ -91,7 +87,6 @@ extern "C" {
 enum scrypt_status {
   SCRYPT_OK = 0,
   SCRYPT_MISMATCH = 1,            /* the password is wrong, or the hash has no salt or no key */
-  SCRYPT_NEEDS_REHASH = 1,        /* scrypt_needs_rehash: the hash is weaker than wanted */
   SCRYPT_INVALID_PARAMS = 2,      /* log_n, r and p, or key_len, are not accepted */
   SCRYPT_INVALID_OUTPUT_LEN = 3,  /* output_len is 0, or above SCRYPT_MAX_OUTPUT_LEN */
   SCRYPT_OUT_OF_MEMORY = 4,       /* an allocation failed */
@@ -113,8 +108,8 @@ enum scrypt_status {
   SCRYPT_TIMEOUT = 18,            /* the call got no slot of the hasher before its timeout */
   SCRYPT_OPTIONS_SIZE = 19,       /* the size in the options is not sizeof (scrypt_options) */
   SCRYPT_UNFINISHED = 20,         /* not all chunks of a derivation in steps are mixed */
-  SCRYPT_INVALID_PROGRESS = 21,   /* no derivation with these parameters has this progress */
-  SCRYPT_STOPPED = 22             /* the caller's function stopped the derivation */
+  SCRYPT_INVALID_PROGRESS = 21,   /* of JavaScript's module: no derivation has this progress */
+  SCRYPT_NEEDS_REHASH = 22        /* the hash is weaker than wanted */
 };
 
 /* ---- Keys ---- */
@@ -126,15 +121,6 @@ enum scrypt_status {
 SCRYPT_NODISCARD
 int scrypt_key(const void *password, size_t password_len, const void *salt, size_t salt_len, uint32_t log_n, uint32_t r,
                uint32_t p, uint8_t *output, size_t output_len);
-
-/* The same, within limits: SCRYPT_TOO_COSTLY if the buffers with one table need more than
- * max_mem bytes together, or if the work, 4 * (2^log_n + 32) * r * p, exceeds max_work. The chunks
- * are interleaved as far as all buffers fit into max_mem bytes together.
- * SCRYPT_NULL_POINTER, SCRYPT_INVALID_PARAMS, SCRYPT_TOO_COSTLY, SCRYPT_INVALID_OUTPUT_LEN,
- * SCRYPT_OUT_OF_MEMORY. */
-SCRYPT_NODISCARD
-int scrypt_key_limited(const void *password, size_t password_len, const void *salt, size_t salt_len, uint32_t log_n, uint32_t r,
-                       uint32_t p, size_t max_mem, uint64_t max_work, uint8_t *output, size_t output_len);
 
 /* Writes the lengths of the buffers: of chunks in bytes, of table and scratch in words. With s = 0
  * they are the minimum lengths for scrypt_key_with_buffers; with any s up to log_n they are the
@@ -177,83 +163,7 @@ void scrypt_wipe(uint8_t *chunks, size_t chunks_len, uint32_t *table, size_t tab
 
 /* ---- Keys in steps, to show the progress of a derivation or to abandon it ---- */
 
-/* The progress of a derivation in steps. Each of its p chunks takes 2^(log_n + 1) block mixes, of
- * 2 * r Salsa20/8 cores each. Of the p * 2^(log_n + 1) block mixes of all chunks,
- * chunks * 2^(log_n + 1) + interleaved * mixes are done. */
-typedef struct scrypt_progress {
-  size_t chunks;      /* the number of chunks that are mixed, of p */
-  size_t interleaved; /* the number of the next chunks, which are interleaved now */
-  size_t mixes;       /* the number of block mixes that are done for each of these */
-} scrypt_progress;
-
-/* A derivation in steps. The caller sets the parameters and the buffers. Table and scratch are at
- * least as long as scrypt_buffer_lens returns for s = 0, and chunks has exactly that length. A
- * begin call writes the progress. With a table and a scratch of w times that length, up to w chunks
- * are interleaved, but no more than four. Between two calls the caller may read the structure, move
- * it, and move the buffers. To abandon a derivation, wipe its buffers. Nothing is allocated.
- *
- *   scrypt_steps it = {20, 8, 1};
- *   int status = scrypt_buffer_lens(it.log_n, it.r, it.p, 0, &it.chunks_len, &it.table_len,
- *                                   &it.scratch_len);
- *   it.chunks = malloc(it.chunks_len);
- *   it.table = malloc(4 * it.table_len), it.scratch = malloc(4 * it.scratch_len);
- *   if (status == SCRYPT_OK)
- *     status = scrypt_key_begin(&it, password, password_len, salt, salt_len);
- *   while (status == SCRYPT_OK && it.at.chunks < it.p) {
- *     status = scrypt_key_step(&it, 4096);                                    about 7 ms with r = 8
- *     show((it.at.chunks + it.at.interleaved * ldexp(it.at.mixes, -1 - (int)it.log_n)) / it.p);
- *   }
- *   if (status == SCRYPT_OK) status = scrypt_key_finish(&it, password, password_len, key, 32);
- *   scrypt_wipe(it.chunks, it.chunks_len, it.table, it.table_len, it.scratch, it.scratch_len); */
-typedef struct scrypt_steps {
-  uint32_t log_n, r, p;
-  scrypt_progress at;
-  uint8_t *chunks;
-  uint32_t *table;
-  uint32_t *scratch;
-  size_t chunks_len, table_len, scratch_len;
-} scrypt_steps;
-
-/* Begins to derive the key of password and salt. The initial content of the buffers does not
- * matter. No core is run.
- * SCRYPT_NULL_POINTER, also for a buffer; SCRYPT_INVALID_PARAMS; SCRYPT_BUFFER_SIZE. */
-SCRYPT_NODISCARD
-int scrypt_key_begin(scrypt_steps *steps, const void *password, size_t password_len, const void *salt, size_t salt_len);
-
-/* Runs `mixes` more block mixes on each chunk that is interleaved now, or the remaining ones if
- * these are fewer. After all p chunks are mixed it does nothing. On an error nothing has changed.
- * If the buffers do not hold the content that the last call left in them, the key will be wrong.
- * SCRYPT_INVALID_PROGRESS is returned for a progress that no call wrote with these parameters.
- * SCRYPT_NULL_POINTER, SCRYPT_INVALID_PARAMS, SCRYPT_BUFFER_SIZE, SCRYPT_INVALID_PROGRESS. */
-SCRYPT_NODISCARD
-int scrypt_key_step(scrypt_steps *steps, size_t mixes);
-
-/* Writes the key, output_len bytes long, after all p chunks are mixed. It reads only the chunks,
- * and changes no buffer: wipe them with scrypt_wipe.
- * SCRYPT_NULL_POINTER, SCRYPT_INVALID_PARAMS, SCRYPT_BUFFER_SIZE, SCRYPT_UNFINISHED,
- * SCRYPT_INVALID_OUTPUT_LEN. */
-SCRYPT_NODISCARD
-int scrypt_key_finish(const scrypt_steps *steps, const void *password, size_t password_len, uint8_t *output,
-                      size_t output_len);
-
-/* Begins to verify a password against the text of a hash, and writes the parameters of the hash
- * too. scrypt_hash_cost returns the lengths that the buffers need. Continue with scrypt_key_step.
- * SCRYPT_NULL_POINTER, also for a buffer; the errors of scrypt_hash_cost; SCRYPT_BUFFER_SIZE. */
-SCRYPT_NODISCARD
-int scrypt_verify_begin(scrypt_steps *steps, const void *password, size_t password_len, const char *text,
-                        size_t text_len, size_t max_mem, uint64_t max_work, size_t min_key_len);
-
-/* Returns the verdict of scrypt_verify, after all p chunks are mixed. It reads only the chunks, and
- * changes no buffer.
- * SCRYPT_NULL_POINTER; the errors of scrypt_verify for a text that cannot be read, including
- * SCRYPT_MISMATCH without a salt or a key; SCRYPT_BUFFER_SIZE, SCRYPT_UNFINISHED, and last
- * SCRYPT_MISMATCH if the password is wrong. */
-SCRYPT_NODISCARD
-int scrypt_verify_finish(const scrypt_steps *steps, const void *password, size_t password_len, const char *text,
-                         size_t text_len);
-
-/* A derivation in steps of a given time, in memory of the library, for callers that do something
- * between the steps. The password is read by the first call and by the last, and is not kept.
+/* A derivation in steps of a given time, for callers that do something between the steps. The password is read by the first call and by the last, and is not kept.
  *
  *   scrypt_derivation *it = NULL;
  *   double done = 0;
@@ -271,8 +181,10 @@ int scrypt_verify_finish(const scrypt_steps *steps, const void *password, size_t
 typedef struct scrypt_derivation scrypt_derivation;
 
 /* Begins to derive the key of password and salt, output_len bytes long, and writes the derivation,
- * which the caller frees. If max_mem is 0, the tables are those of scrypt_key, and otherwise those
- * of scrypt_key_limited; if several cannot be allocated, one is used. No core is run.
+ * which the caller frees. If max_mem is 0, the tables are those of scrypt_key; otherwise chunks are
+ * interleaved as far as all buffers fit into max_mem bytes together, and SCRYPT_TOO_COSTLY means
+ * that those with one table do not. If several tables cannot be allocated, one is used. No core is
+ * run.
  * SCRYPT_NULL_POINTER, SCRYPT_INVALID_PARAMS, SCRYPT_TOO_COSTLY (only with a max_mem),
  * SCRYPT_INVALID_OUTPUT_LEN, SCRYPT_OUT_OF_MEMORY. */
 SCRYPT_NODISCARD
@@ -295,20 +207,6 @@ int scrypt_derivation_finish(const scrypt_derivation *derivation, const void *pa
 /* Wipes and frees a derivation, finished or not, and sets it to NULL. Does nothing if it is NULL. */
 void scrypt_derivation_free(scrypt_derivation **derivation);
 
-/* The caller's function. It is called after each step, with the number of block mixes that are done
- * and their total. A result other than 0 stops the derivation. */
-typedef int (*scrypt_on_progress)(void *context, uint64_t done, uint64_t all);
-
-/* Like scrypt_key, but calls on_progress with this context about every 10 ms, the last time with
- * done equal to all. If on_progress stops the derivation, the output is unchanged. In any case the
- * memory is wiped and freed.
- * SCRYPT_NULL_POINTER, SCRYPT_INVALID_PARAMS, SCRYPT_INVALID_OUTPUT_LEN, SCRYPT_OUT_OF_MEMORY,
- * SCRYPT_STOPPED. */
-SCRYPT_NODISCARD
-int scrypt_key_with_progress(const void *password, size_t password_len, const void *salt, size_t salt_len,
-                             uint32_t log_n, uint32_t r, uint32_t p, scrypt_on_progress on_progress, void *context,
-                             uint8_t *output, size_t output_len);
-
 /* ---- Password hashes ---- */
 
 /* Writes the PHC string of a new hash, NUL-terminated, to text, with a random salt and the
@@ -318,83 +216,65 @@ int scrypt_key_with_progress(const void *password, size_t password_len, const vo
 SCRYPT_NODISCARD
 int scrypt_hash_password(const void *password, size_t password_len, char *text, size_t capacity);
 
-/* Writes the PHC string of a hash, $scrypt$ln=.., NUL-terminated, to text. The salt has 1 to 64
- * bytes, and the key has key_len bytes, 10 to 64. A capacity that is too small is detected only
- * after the derivation; SCRYPT_PHC_CAPACITY is enough.
+/* Writes the hash of password and salt, NUL-terminated, to text: the PHC string $scrypt$ln=.. if
+ * mcf is 0, and otherwise the $7$ hash of crypt(3). The key has key_len bytes, 10 to 64. The salt of
+ * a PHC string has 1 to 64 bytes, and that of a $7$ hash any length. A capacity that is too small is
+ * detected only after the derivation; SCRYPT_PHC_CAPACITY or SCRYPT_MCF_CAPACITY(salt_len) is enough.
  * SCRYPT_NULL_POINTER, SCRYPT_INVALID_PARAMS (also for key_len), SCRYPT_SALT_INVALID,
  * SCRYPT_OUT_OF_MEMORY, SCRYPT_BUFFER_SIZE. */
 SCRYPT_NODISCARD
-int scrypt_hash_phc(const void *password, size_t password_len, const void *salt, size_t salt_len, uint32_t log_n, uint32_t r,
-                    uint32_t p, size_t key_len, char *text, size_t capacity);
+int scrypt_hash_with_salt(const void *password, size_t password_len, const void *salt, size_t salt_len, uint32_t log_n,
+                          uint32_t r, uint32_t p, size_t key_len, int mcf, char *text, size_t capacity);
 
-/* The same for the $7$ hash of crypt(3), with a salt of any length. A capacity of
- * SCRYPT_MCF_CAPACITY(salt_len) is enough.
- * SCRYPT_NULL_POINTER, SCRYPT_INVALID_PARAMS (also for key_len), SCRYPT_OUT_OF_MEMORY,
- * SCRYPT_BUFFER_SIZE. */
-SCRYPT_NODISCARD
-int scrypt_hash_mcf(const void *password, size_t password_len, const void *salt, size_t salt_len, uint32_t log_n, uint32_t r,
-                    uint32_t p, size_t key_len, char *text, size_t capacity);
-
-/* Like scrypt_hash_phc, in the caller's buffers, each at least as long as scrypt_buffer_lens
- * returns for s = 0; their initial content does not matter. If a key was derived, the used parts of
- * chunks and scratch are zeros afterwards, the used part of the table is unspecified, and the rest
- * is unchanged; otherwise all buffers are unchanged. With a table and a scratch of w times that
- * length, up to w chunks are interleaved, but no more than four. Nothing is allocated.
+/* The same, in the caller's buffers, each at least as long as scrypt_buffer_lens returns for s = 0;
+ * their initial content does not matter. If a key was derived, the used parts of chunks and scratch
+ * are zeros afterwards, the used part of the table is unspecified, and the rest is unchanged;
+ * otherwise all buffers are unchanged. With a table and a scratch of w times that length, up to w
+ * chunks are interleaved, but no more than four. Nothing is allocated.
  * SCRYPT_NULL_POINTER, SCRYPT_INVALID_PARAMS (also for key_len), SCRYPT_SALT_INVALID,
- * SCRYPT_BUFFER_SIZE if a buffer is too short, and after the derivation SCRYPT_BUFFER_SIZE if the
- * text does not fit. */
+ * SCRYPT_BUFFER_SIZE if a buffer is too short, or if the text does not fit, which for a PHC string
+ * is detected only after the derivation. */
 SCRYPT_NODISCARD
-int scrypt_hash_phc_with_buffers(const void *password, size_t password_len, const void *salt, size_t salt_len,
-                                 uint32_t log_n, uint32_t r, uint32_t p, size_t key_len, char *text, size_t capacity,
-                                 uint8_t *chunks, size_t chunks_len, uint32_t *table, size_t table_len,
-                                 uint32_t *scratch, size_t scratch_len);
-
-/* The same for the $7$ hash, with a salt of any length.
- * SCRYPT_NULL_POINTER, SCRYPT_INVALID_PARAMS (also for key_len), SCRYPT_BUFFER_SIZE if the text
- * does not fit or if a buffer is too short, both before the derivation. */
-SCRYPT_NODISCARD
-int scrypt_hash_mcf_with_buffers(const void *password, size_t password_len, const void *salt, size_t salt_len,
-                                 uint32_t log_n, uint32_t r, uint32_t p, size_t key_len, char *text, size_t capacity,
-                                 uint8_t *chunks, size_t chunks_len, uint32_t *table, size_t table_len,
-                                 uint32_t *scratch, size_t scratch_len);
+int scrypt_hash_with_buffers(const void *password, size_t password_len, const void *salt, size_t salt_len, uint32_t log_n,
+                             uint32_t r, uint32_t p, size_t key_len, int mcf, char *text, size_t capacity,
+                             uint8_t *chunks, size_t chunks_len, uint32_t *table, size_t table_len, uint32_t *scratch,
+                             size_t scratch_len);
 
 /* Verifies a password against the text of a hash: returns SCRYPT_OK if the derived key is the key
  * of the hash, and SCRYPT_MISMATCH if it is not, or if the hash has no salt or no key.
  * A text that is $7 or begins with $7$ is read as a $7$ hash, and any other as a PHC string.
- * The hash sets the parameters, so an untrusted hash can cause a denial of service, by the memory
- * and the time that it needs: call scrypt_verify_limited or scrypt_hasher_verify for such a hash.
+ * The hash sets the parameters, and an untrusted one can demand any memory and time: one that
+ * exceeds the default limits of a hasher (SCRYPT_DEFAULT_MAX_MEM, SCRYPT_DEFAULT_MAX_WORK,
+ * SCRYPT_DEFAULT_MIN_KEY_LEN) is rejected before anything is allocated.
  * For a PHC string: SCRYPT_ENCODING_INVALID, SCRYPT_ALGORITHM, SCRYPT_VERSION;
  * SCRYPT_HASH_PARAM_INVALID or SCRYPT_HASH_PARAMS_INVALID, for the first parameter that is
  * rejected; SCRYPT_HASH_PARAMS_INVALID if the parameters are not accepted; SCRYPT_MISMATCH without
  * a salt or a key. For a $7$ hash: SCRYPT_ENCODING_INVALID if its first field encodes no
  * parameters; SCRYPT_HASH_PARAMS_INVALID; SCRYPT_ENCODING_INVALID for what follows;
  * SCRYPT_OUTPUT_SIZE.
- * Then SCRYPT_OUT_OF_MEMORY, and last SCRYPT_MISMATCH if the password is wrong. */
+ * Then, for a hash that can be read, SCRYPT_TOO_COSTLY, SCRYPT_KEY_TOO_SHORT, SCRYPT_OUT_OF_MEMORY,
+ * and last SCRYPT_MISMATCH if the password is wrong. */
 SCRYPT_NODISCARD
 int scrypt_verify(const void *password, size_t password_len, const char *text, size_t text_len);
 
-/* The same, within limits: if scrypt_hash_cost returns an error for them, returns that error,
- * before anything is allocated. If the hash can be read, the error is SCRYPT_TOO_COSTLY or, after
- * that, SCRYPT_KEY_TOO_SHORT. The default limits of a hasher are SCRYPT_DEFAULT_MAX_MEM,
- * SCRYPT_DEFAULT_MAX_WORK and SCRYPT_DEFAULT_MIN_KEY_LEN. */
+/* The same, within these limits: if scrypt_hash_cost returns an error for them, returns that error,
+ * before anything is allocated. */
 SCRYPT_NODISCARD
 int scrypt_verify_limited(const void *password, size_t password_len, const char *text, size_t text_len, size_t max_mem,
                           uint64_t max_work, size_t min_key_len);
 
-/* Like scrypt_verify, in the caller's buffers, each at least as long as scrypt_buffer_lens returns
- * for s = 0 and the parameters of the hash; their initial content does not matter. If the keys were
- * compared, the used parts of chunks and scratch are zeros afterwards, the used part of the table
- * is unspecified, and the rest is unchanged; otherwise all buffers are unchanged. With a table and
- * a scratch of w times that length, up to w chunks are interleaved, but no more than four. Nothing
- * is allocated: SCRYPT_BUFFER_SIZE, for a buffer that is too short, replaces
- * SCRYPT_OUT_OF_MEMORY. */
+/* The same for a hash of any cost, and a key of any length: only for hashes from a trusted source.
+ * SCRYPT_TOO_COSTLY means that the bytes or the work exceed 64 bits. */
 SCRYPT_NODISCARD
-int scrypt_verify_with_buffers(const void *password, size_t password_len, const char *text, size_t text_len,
-                               uint8_t *chunks, size_t chunks_len, uint32_t *table, size_t table_len,
-                               uint32_t *scratch, size_t scratch_len);
+int scrypt_verify_unlimited(const void *password, size_t password_len, const char *text, size_t text_len);
 
-/* The same, within limits: if scrypt_hash_cost returns an error for them, returns that error,
- * whatever the lengths of the buffers are. */
+/* Like scrypt_verify_limited, in the caller's buffers, each at least as long as scrypt_buffer_lens
+ * returns for s = 0 and the parameters of the hash; their initial content does not matter. If the
+ * keys were compared, the used parts of chunks and scratch are zeros afterwards, the used part of
+ * the table is unspecified, and the rest is unchanged; otherwise all buffers are unchanged. With a
+ * table and a scratch of w times that length, up to w chunks are interleaved, but no more than
+ * four. Nothing is allocated: SCRYPT_BUFFER_SIZE, for a buffer that is too short, replaces
+ * SCRYPT_OUT_OF_MEMORY. */
 SCRYPT_NODISCARD
 int scrypt_verify_limited_with_buffers(const void *password, size_t password_len, const char *text, size_t text_len,
                                        size_t max_mem, uint64_t max_work, size_t min_key_len, uint8_t *chunks,
@@ -412,8 +292,8 @@ typedef struct scrypt_login {
 #define SCRYPT_MAX_LOGINS 4
 
 /* Verifies up to SCRYPT_MAX_LOGINS passwords, each against its own hash. Each status becomes what
- * scrypt_verify_with_buffers would return for this login in these buffers, whatever the other
- * logins are.
+ * scrypt_verify_limited_with_buffers would return, without limits, for this login in these buffers,
+ * whatever the other logins are.
  *
  * If all hashes that are not rejected have the log_n and r of the first, and the buffers are long
  * enough for one derivation with all their chunks, the keys are derived in one batch. If table and
@@ -430,14 +310,14 @@ int scrypt_verify_batch_with_buffers(const scrypt_login *logins, size_t count, i
 
 /* Compares a hash with wanted parameters: returns SCRYPT_NEEDS_REHASH if its log_n, r, p or key
  * length is less than wanted, or if it has no salt or no key; otherwise SCRYPT_OK. Nothing is
- * allocated. First SCRYPT_INVALID_PARAMS (also for key_len), then the errors of scrypt_verify
- * except SCRYPT_OUT_OF_MEMORY. */
+ * allocated. First SCRYPT_INVALID_PARAMS (also for key_len), then the errors of scrypt_verify for a
+ * text that cannot be read, except SCRYPT_MISMATCH. */
 SCRYPT_NODISCARD
 int scrypt_needs_rehash(const char *text, size_t text_len, uint32_t log_n, uint32_t r, uint32_t p, size_t key_len);
 
-/* Writes the parameters of a hash, and the length of its key, or 0 if it has none. Nothing is
- * allocated.
- * The errors of scrypt_verify except SCRYPT_OUT_OF_MEMORY and SCRYPT_MISMATCH. */
+/* Writes the parameters of a hash, and the length of its key, or 0 if it has none: also of a PHC
+ * string without a salt or a key, which scrypt_hash_cost rejects. Nothing is allocated.
+ * The errors of scrypt_verify for a text that cannot be read, except SCRYPT_MISMATCH. */
 SCRYPT_NODISCARD
 int scrypt_hash_params(const char *text, size_t text_len, uint32_t *log_n, uint32_t *r, uint32_t *p, size_t *key_len);
 

@@ -6,7 +6,7 @@ static const struct {
   const char *name, *text;
 } STATUSES[] = {
     ROW(OK, "success"),
-    ROW(MISMATCH, "the password does not match, or the hash is weaker than wanted"),
+    ROW(MISMATCH, "the password does not match the hash"),
     ROW(INVALID_PARAMS, "invalid scrypt parameters (r and p at least 1, 128 * r * 2^log_n below 2^64, "
                         "r * p below 2^30, and a key in a hash of 10 to 64 bytes)"),
     ROW(INVALID_OUTPUT_LEN, "the length of the key is not 1 to 137438953440 bytes"),
@@ -28,7 +28,7 @@ static const struct {
     ROW(OPTIONS_SIZE, "the size in the options of a hasher is not sizeof (scrypt_options)"),
     ROW(UNFINISHED, "not all chunks of the derivation in steps are mixed"),
     ROW(INVALID_PROGRESS, "no derivation with these parameters has this progress"),
-    ROW(STOPPED, "the derivation was stopped"),
+    ROW(NEEDS_REHASH, "the hash is weaker than wanted"),
 };
 #undef ROW
 

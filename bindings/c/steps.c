@@ -1,7 +1,11 @@
-/* Keys in steps of a given time, in the library's memory; and with calls of the caller's function
- * between them. Not proved: uses the calls of calls.c. */
+/* Keys in steps of a given time, in the library's memory. Not proved: uses the proved steps. */
 #include "groups.h"
 #include "system.h"
+
+/* From clearing.c. */
+#define PROVED_CALL(name, parameters, arguments) int cleared_##name parameters;
+#define PROVED_PROCEDURE(name, parameters, arguments) void cleared_##name parameters;
+#include "proved_calls.h"
 
 /* From blocks.c: freed memory is wiped, or unmapped. */
 void *clearing_malloc(size_t len);
@@ -10,31 +14,41 @@ void clearing_free(void *block);
 /* As in scrypt_key: the minimum words of a table that make interleaving faster. */
 enum { MIN_WORDS = 1 << 14 };
 
-/* The time of a step of scrypt_key_with_progress. */
-enum { STEP_NS = 10000000 };
-
 /* Half the number of cores of each chunk in the first proved step, which takes less than 1 ms. */
 enum { FIRST_CORES = 1 << 12 };
 
+/* The parameters, the progress and the buffers, whose lengths are those of `at.interleaved` tables. */
+struct steps {
+  uint8_t log_n;
+  uint32_t r, p;
+  scrypt_progress at;
+  uint8_t *chunks;
+  uint32_t *table, *scratch;
+  size_t chunks_len, table_len, scratch_len;
+};
+#define PARAMS_OF(steps) (steps)->log_n, (steps)->r, (steps)->p
+#define BUFFERS_OF(steps) \
+  (steps)->chunks, (steps)->chunks_len, (steps)->table, (steps)->table_len, (steps)->scratch, (steps)->scratch_len
+
 struct scrypt_derivation {
-  scrypt_steps steps;
+  struct steps steps;
   size_t output_len;
   size_t max_mixes; /* of the next proved step: twice as many as any before */
   double mix_ns;    /* the time of a block mix in the last proved step; 0 before the first */
 };
 
-static uint64_t mixes_of_chunk(const scrypt_steps *steps) { return UINT64_C(2) << steps->log_n; }
+static uint64_t mixes_of_chunk(const struct steps *steps) { return UINT64_C(2) << steps->log_n; }
 
-static int is_mixed(const scrypt_steps *steps) { return steps->at.chunks >= steps->p; }
+static int is_mixed(const struct steps *steps) { return steps->at.chunks >= steps->p; }
 
-static void free_buffers(scrypt_steps *steps) {
+static void free_buffers(struct steps *steps) {
   clearing_free(steps->chunks);
   clearing_free(steps->table);
   clearing_free(steps->scratch);
 }
 
 /* Allocates buffers with this number of tables. */
-static int take_buffers(scrypt_steps *steps, const scrypt_cost *cost, size_t tables) {
+static int take_buffers(struct steps *steps, const scrypt_cost *cost, size_t tables) {
   steps->chunks_len = cost->chunks_len;
   steps->table_len = tables * cost->table_len;
   steps->scratch_len = tables * cost->scratch_len;
@@ -69,12 +83,14 @@ int scrypt_derivation_new(const void *password, size_t password_len, const void 
   if (cost.table_len < MIN_WORDS) tables = 1;
   it = (scrypt_derivation *)clearing_malloc(sizeof *it);
   if (it == NULL) return SCRYPT_OUT_OF_MEMORY;
-  *it = (scrypt_derivation){{log_n, r, p, {0, 0, 0}, NULL, NULL, NULL, 0, 0, 0}, output_len, FIRST_CORES / r + 1, 0};
+  *it = (scrypt_derivation){.steps = {.log_n = (uint8_t)log_n, .r = r, .p = p}, .output_len = output_len,
+                            .max_mixes = FIRST_CORES / r + 1};
   if (!take_buffers(&it->steps, &cost, tables) && (tables == 1 || !take_buffers(&it->steps, &cost, 1))) {
     clearing_free(it);
     return SCRYPT_OUT_OF_MEMORY;
   }
-  status = scrypt_key_begin(&it->steps, password, password_len, salt, salt_len);
+  status = cleared_scrypt_key_begin(bytes_of(password), password_len, bytes_of(salt), salt_len, PARAMS_OF(&it->steps),
+                                    BUFFERS_OF(&it->steps), &it->steps.at);
   if (status != SCRYPT_OK) scrypt_derivation_free(&it);
   else *derivation = it;
   return status;
@@ -87,7 +103,7 @@ static int step(scrypt_derivation *it, int64_t ns) {
   const double wanted = it->mix_ns > 0 ? (double)ns / it->mix_ns : (double)it->max_mixes;
   const size_t mixes = wanted >= (double)it->max_mixes ? it->max_mixes : wanted > 1 ? (size_t)wanted : 1;
   const int64_t begun = now_ns();
-  const int status = scrypt_key_step(&it->steps, mixes);
+  const int status = cleared_scrypt_key_step(PARAMS_OF(&it->steps), mixes, BUFFERS_OF(&it->steps), &it->steps.at);
   const int64_t took = now_ns() - begun;
   it->mix_ns = (double)(took > 0 ? took : 1) / (double)(mixes < left ? mixes : left);
   if (mixes == it->max_mixes && mixes < mixes_of_chunk(&it->steps)) it->max_mixes *= 2;
@@ -108,7 +124,7 @@ static int mix_for(scrypt_derivation *it, int64_t ns) {
 
 int scrypt_derivation_run(scrypt_derivation *derivation, uint32_t milliseconds, double *done) {
   static const double BELOW_1 = 1 - 1.0 / (UINT64_C(1) << 53);
-  const scrypt_steps *steps;
+  const struct steps *steps;
   double mixed;
   int status;
   if (derivation == NULL || done == NULL) return SCRYPT_NULL_POINTER;
@@ -123,29 +139,11 @@ int scrypt_derivation_run(scrypt_derivation *derivation, uint32_t milliseconds, 
 
 int scrypt_derivation_finish(const scrypt_derivation *derivation, const void *password, size_t password_len,
                              uint8_t *output, size_t output_len) {
+  const struct steps *steps;
   if (derivation == NULL || is_null(password, password_len) || is_null(output, output_len))
     return SCRYPT_NULL_POINTER;
-  if (is_mixed(&derivation->steps) && output_len != derivation->output_len) return SCRYPT_INVALID_OUTPUT_LEN;
-  return scrypt_key_finish(&derivation->steps, password, password_len, output, output_len);
-}
-
-int scrypt_key_with_progress(const void *password, size_t password_len, const void *salt,
-                             size_t salt_len, uint32_t log_n, uint32_t r, uint32_t p,
-                             scrypt_on_progress on_progress, void *context, uint8_t *output,
-                             size_t output_len) {
-  scrypt_derivation *it = NULL;
-  int status;
-  if (is_null(output, output_len) || on_progress == NULL) return SCRYPT_NULL_POINTER;
-  status = scrypt_derivation_new(password, password_len, salt, salt_len, log_n, r, p, 0, output_len, &it);
-  while (status == SCRYPT_OK && !is_mixed(&it->steps)) {
-    const uint64_t of_chunk = mixes_of_chunk(&it->steps);
-    const scrypt_progress *at = &it->steps.at;
-    status = mix_for(it, STEP_NS);
-    if (status == SCRYPT_OK &&
-        on_progress(context, of_chunk * at->chunks + (uint64_t)at->interleaved * at->mixes, of_chunk * p) != 0)
-      status = SCRYPT_STOPPED;
-  }
-  if (status == SCRYPT_OK) status = scrypt_derivation_finish(it, password, password_len, output, output_len);
-  scrypt_derivation_free(&it);
-  return status;
+  steps = &derivation->steps;
+  if (is_mixed(steps) && output_len != derivation->output_len) return SCRYPT_INVALID_OUTPUT_LEN;
+  return cleared_scrypt_key_finish(bytes_of(password), password_len, PARAMS_OF(steps), steps->chunks, steps->chunks_len,
+                                   &steps->at, output != NULL ? output : steps->chunks, output_len);
 }

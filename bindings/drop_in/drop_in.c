@@ -34,10 +34,16 @@ static int overlap(const uint8_t *a, size_t a_len, const uint8_t *b, size_t b_le
 /* Derives a key in one table, as these libraries do: memory for several might not be available. */
 static int derive_in_one(const uint8_t *password, size_t password_len, const uint8_t *salt, size_t salt_len, uint8_t log_n,
                          uint32_t r, uint32_t p, uint8_t *output, size_t output_len) {
+  scrypt_derivation *it = NULL;
   scrypt_cost cost;
+  double done = 0;
   int status = scrypt_params_cost(log_n, r, p, SIZE_MAX, UINT64_MAX, &cost);
-  if (status != SCRYPT_OK) return status;
-  return scrypt_key_limited(password, password_len, salt, salt_len, log_n, r, p, cost.bytes, UINT64_MAX, output, output_len);
+  if (status == SCRYPT_OK)
+    status = scrypt_derivation_new(password, password_len, salt, salt_len, log_n, r, p, cost.bytes, output_len, &it);
+  while (status == SCRYPT_OK && done < 1) status = scrypt_derivation_run(it, UINT32_MAX, &done);
+  if (status == SCRYPT_OK) status = scrypt_derivation_finish(it, password, password_len, output, output_len);
+  scrypt_derivation_free(&it);
+  return status;
 }
 
 /* Derives a key, if the parameters are within the limits of these libraries. Like them, it accepts
@@ -145,7 +151,7 @@ API int crypto_pwhash_scryptsalsa208sha256_str(char text[TEXT_LEN + 1], const ch
   choose(work, memory, &log_n, &r, &p);
   if (log_n > MAX_LOG_N) return refused(EINVAL);
   if (scrypt_generate_salt(salt, sizeof salt) != SCRYPT_OK) return refused(EIO);
-  if (scrypt_hash_mcf(password, (size_t)password_len, salt, SALT_LEN, log_n, r, p, KEY_LEN, made, sizeof made) != SCRYPT_OK)
+  if (scrypt_hash_with_salt(password, (size_t)password_len, salt, SALT_LEN, log_n, r, p, KEY_LEN, 1, made, sizeof made) != SCRYPT_OK)
     return refused(EINVAL); /* also if memory ran out, as in libsodium */
   memcpy(text, made, sizeof made);
   return 0;
@@ -157,7 +163,7 @@ API int crypto_pwhash_scryptsalsa208sha256_str_verify(const char text[TEXT_LEN +
   if (!has_costs(text) || text[KEY_AT - 1] != '$') return -1;
   log_n = strchr(LETTERS, text[3]) - LETTERS;
   if (log_n == 0 || log_n > MAX_LOG_N) return -1;
-  return scrypt_verify(password, (size_t)password_len, text, TEXT_LEN) == SCRYPT_OK ? 0 : -1;
+  return scrypt_verify_unlimited(password, (size_t)password_len, text, TEXT_LEN) == SCRYPT_OK ? 0 : -1;
 }
 
 /* Whether the parameters of the hash differ from the choice for these limits, even if larger. */

@@ -59,8 +59,6 @@ func (e Error) Error() string {
 		return "scrypt: an option of a Hasher is not in its range"
 	case ErrInvalidHash:
 		return "scrypt: the text is not a PHC or $7$ hash of scrypt"
-	case ErrMismatch:
-		return "scrypt: the password does not match the hash"
 	case ErrClosed:
 		return "scrypt: the Hasher is closed, or was not made by NewHasher"
 	default:

@@ -1,7 +1,7 @@
 // The errors.
 import {
   ALGORITHM, BUFFER_SIZE, ENCODING_INVALID, HASH_PARAMS_INVALID, HASH_PARAM_INVALID, KEY_TOO_SHORT,
-  MISMATCH, OUTPUT_SIZE, OUT_OF_MEMORY, TOO_COSTLY, VERSION, WORDS,
+  OUTPUT_SIZE, OUT_OF_MEMORY, TOO_COSTLY, VERSION, WORDS,
 } from './declared.js';
 
 /** An error of a call: `code` for programs, `message` for people. Neither holds a secret. */
@@ -39,9 +39,6 @@ export function errorOfHash(error, password = new Uint8Array()) {
 /** The error that a worker reported. */
 export const errorNamed = ({ name, code = 'INTERNAL', message }) =>
   new (name === 'RefusedHashError' ? RefusedHashError : ScryptError)(code, message);
-
-/** A wrong password, or: needs a new hash. */
-export const NO = MISMATCH;
 
 /**
  * The error for the status of a proved call, with a longer message. A buffer that is too short is a

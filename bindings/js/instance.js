@@ -1,7 +1,7 @@
 // An instance of the module: allocates in its memory, and calls its functions.
 import { NO_LIMIT } from './arguments.js';
-import { KEY_TOO_SHORT, OK, OUTPUT_SIZE, TOO_COSTLY } from './declared.js';
-import { NO, errorOf, outOfMemory } from './errors.js';
+import { KEY_TOO_SHORT, MISMATCH, NEEDS_REHASH, OK, OUTPUT_SIZE, TOO_COSTLY } from './declared.js';
+import { errorOf, outOfMemory } from './errors.js';
 
 const PAGE = 65536;
 const STACK = 2 ** 20; // of the module, at the bottom of its memory
@@ -59,7 +59,7 @@ export class Instance {
   /** The same for a call that can also return no. */
   isOk(name, ...args) {
     const status = this.#status(name, args);
-    if (status !== OK && status !== NO) throw this.#refusal(status);
+    if (![OK, MISMATCH, NEEDS_REHASH].includes(status)) throw this.#refusal(status);
     return status === OK;
   }
 
@@ -133,7 +133,7 @@ export class Instance {
     const [cost, keyLength, ...sizes] = this.#takeCost();
     const status = this.#status('scrypt_hash_cost', [text, ...limits, cost]);
     this.#cost = inWords([...sizes.slice(4), keyLength].map((it) => this.big(it)), limits);
-    if (status === NO) throw this.#refusal(OUTPUT_SIZE);
+    if (status === MISMATCH) throw this.#refusal(OUTPUT_SIZE);
     return status === OK ? this.buffers(sizes) : [1, 4, 4].map((size) => this.take(0, size));
   }
 

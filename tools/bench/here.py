@@ -27,7 +27,7 @@ PASSWORD, SALT, LENGTH = b"pleaseletmein", b"SodiumChloride", 64
 def logins_of(path, log_n):
     """The seconds of a process's first login, the minimum of the others, and the peak of its memory in MiB. Seconds are
     processor time, so other work on the machine matters only if it slows memory down."""
-    verify, before = ours.loaded(path).scrypt_verify, resource.getrusage(resource.RUSAGE_SELF).ru_maxrss
+    verify, before = ours.loaded(path).scrypt_verify_unlimited, resource.getrusage(resource.RUSAGE_SELF).ru_maxrss
     first, *others = (ours.seconds(verify, log_n, 8, 1) for _ in range(1 + RUNS))
     return first, min(others), (resource.getrusage(resource.RUSAGE_SELF).ru_maxrss - before) / 1024
 
@@ -75,7 +75,7 @@ def waits_of(library, log_n, max_tables, clients):
     """The seconds that each login took, but for those in the first tenth of the time. Each client is a thread that verifies
     one hash repeatedly, by a hasher on all processors."""
     hasher, text = ours.hasher(library, log_n=log_n, r=8, p=1, max_tables=max_tables), ctypes.create_string_buffer(512)
-    if library.scrypt_hash_phc(PASSWORD, len(PASSWORD), SALT, len(SALT), log_n, 8, 1, ctypes.c_size_t(32), text, ctypes.c_size_t(512)):
+    if library.scrypt_hash_with_salt(PASSWORD, len(PASSWORD), SALT, len(SALT), log_n, 8, 1, ctypes.c_size_t(32), 0, text, ctypes.c_size_t(512)):
         sys.exit("no hash")
     waits, end = [], time.perf_counter() + SECONDS
 

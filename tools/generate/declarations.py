@@ -32,7 +32,6 @@ def inside(word):
 # ---- Python ----
 
 PYTHON = {"int": "INT", "uint8_t": "U8", "uint32_t": "U32", "uint64_t": "U64", "int64_t": "I64", "size_t": "SIZE", "double": "DOUBLE"}
-FUNCTION = "scrypt_on_progress"
 
 
 def in_python(declared):
@@ -42,8 +41,6 @@ def in_python(declared):
         return f"POINTER({inside(word).lower()})" if "**" in declared else inside(word).lower()
     if word in ("void", "char", "uint8_t") and "*" in declared:
         return "BYTES"
-    if word == FUNCTION:
-        return "ON_PROGRESS"
     kind = inside(word) if word in STRUCTURES else PYTHON.get(word, "None")
     return f"POINTER({kind})" if "*" in declared else kind
 
@@ -52,7 +49,6 @@ def python():
     yield from (f'"""{NOTE}bindings/c/scrypt_c.h: its numbers, statuses, structures and calls. DO NOT EDIT."""', "", "from __future__ import annotations")
     yield from ("", "import ctypes", "from ctypes import POINTER", "from typing import Any", "", "BYTES = ctypes.c_char_p")
     yield from (f"{short} = ctypes.c_{word if short == 'SIZE' else word.removesuffix('_t')}" for word, short in PYTHON.items())
-    yield "ON_PROGRESS = ctypes.CFUNCTYPE(INT, ctypes.c_void_p, U64, U64)"
     yield from ("", f'VERSION_STRING = "{VERSION}"', *(f"{name} = {number}" for name, number in (NUMBERS | STATUSES).items()))
     for name, fields in STRUCTURES.items():
         pairs = ", ".join(f'("{header.name_of(it)}", {in_python(it)})' for it in fields)
@@ -68,7 +64,7 @@ def python():
 # ---- Rust ----
 
 RUST = {"int": "c_int", "uint8_t": "u8", "uint32_t": "u32", "uint64_t": "u64", "int64_t": "i64", "size_t": "usize",
-        "double": "f64", "void": "c_void", "char": "c_char", FUNCTION: "OnProgress"}
+        "double": "f64", "void": "c_void", "char": "c_char"}
 
 
 def in_rust(declared):
@@ -82,7 +78,6 @@ def in_rust(declared):
 def rust():
     yield from (f"//! {NOTE}bindings/c/scrypt_c.h: its numbers, statuses, structures and calls. DO NOT EDIT.", "#![allow(dead_code)]", "")
     yield from ("use std::os::raw::{c_char, c_int, c_void};", "")
-    yield from (f"/// `{FUNCTION}`.", 'pub type OnProgress = unsafe extern "C" fn(*mut c_void, u64, u64) -> c_int;', "")
     yield from (f"pub const {name}: u64 = {number};" for name, number in NUMBERS.items())
     yield from ("", *(f"pub const {name}: c_int = {number};" for name, number in STATUSES.items()))
     for name in header.OPAQUE:
@@ -114,7 +109,6 @@ def javascript():
     yield from ("", *(f"export const {name} = {number};" for name, number in proved.items()))
     yield from ("", "/** The name and the words of each status. */", "export const WORDS = new Map([")
     words = header.words_of(read("bindings/c/status.c"))
-    words["MISMATCH"] = "the password does not match the hash"  # where C has one text for the two statuses of that number
     for name in filter(proved.get, words):
         yield f"  [{name}, ['{name}', '{words[name].replace('2^log_n', 'N')}']],"
     yield "]);"
@@ -145,8 +139,8 @@ def check_layout(path, text):
     """Fails if the fields of a structure of the proved calls differ from the header's."""
     for name, fields in re.findall(r"^#\[repr\(C\)\]\n.*?^pub struct (\w+) \{\n(.*?)^\}", text, re.M | re.S):
         own = [f"{C[kind]} {field}" for field, kind in re.findall(r"pub (\w+): (\w+),", fields)]
-        if own != STRUCTURES[C[name]]:
-            sys.exit(f"{path}: {name} has other fields than {C[name]} in the header: {', '.join(own)}")
+        if own != (STRUCTURES | header.structures_of(read("bindings/c/groups.h")))[C[name]]:
+            sys.exit(f"{path}: {name} has other fields than {C[name]} in bindings/c: {', '.join(own)}")
 
 
 def proved():
@@ -182,9 +176,9 @@ def each_call():
         words = []
         for it in given:
             is_opaque = header.word_of(it) in header.OPAQUE and "**" not in it
-            is_made = "*" in it and not it.startswith("const") and not is_opaque and it != "void *context"
+            is_made = "*" in it and not it.startswith("const") and not is_opaque
             words.append(("made." if is_made else "given.") + header.name_of(it))
-            if "*" in it and name not in unchecked and it != "void *context":
+            if "*" in it and name not in unchecked:
                 words[-1] = f"P({words[-1]})"
         yield f"CALL({name}, ({', '.join(words)}))"
 

@@ -8,8 +8,7 @@ from pathlib import Path
 
 TEXT = (Path(__file__).parents[2] / "bindings/c/scrypt_c.h").read_text("utf-8")
 TYPES = {"int": ctypes.c_int, "uint8_t": ctypes.c_uint8, "uint32_t": ctypes.c_uint32, "uint64_t": ctypes.c_uint64,
-         "int64_t": ctypes.c_int64, "size_t": ctypes.c_size_t, "double": ctypes.c_double,
-         "scrypt_on_progress": ctypes.CFUNCTYPE(ctypes.c_int, ctypes.c_void_p, ctypes.c_uint64, ctypes.c_uint64)}
+         "int64_t": ctypes.c_int64, "size_t": ctypes.c_size_t, "double": ctypes.c_double}
 
 
 OPAQUE = re.findall(r"^typedef struct (\w+) \1;", TEXT, re.M)

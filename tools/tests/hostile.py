@@ -159,9 +159,9 @@ def calls(path):
 
     def within(*text):
         status = library.scrypt_hash_cost(*text, *BOUNDS, cost)
-        return status or library.scrypt_verify_with_buffers(b"", 0, *text, *buffers)
+        return status or library.scrypt_verify_limited_with_buffers(b"", 0, *text, *BOUNDS, *buffers)
 
-    return functools.partial(library.scrypt_verify, b"", 0), within
+    return functools.partial(library.scrypt_verify_unlimited, b"", 0), within
 
 
 def random_params(rng):

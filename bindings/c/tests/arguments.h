@@ -14,22 +14,19 @@ static __thread struct {
   const scrypt_login *logins;
   scrypt_hasher *hasher;
   scrypt_derivation *derivation; /* its chunks are mixed by scrypt_derivation_run */
-  const scrypt_steps *steps;
   size_t password_len, salt_len, text_len, key_len, output_len, capacity, len, count, chunks_len, table_len, scratch_len;
-  size_t max_mem, min_key_len, mixes;
+  size_t max_mem, min_key_len;
   uint32_t log_n, r, p, milliseconds;
   uint8_t s;
+  int mcf;
   uint64_t max_work;
   int64_t timeout_ms;
   double seconds;
-  scrypt_on_progress on_progress;
-  void *context;
 } given;
 
 static __thread struct {
   uint8_t *chunks;
   uint32_t *table, *scratch;
-  scrypt_steps steps[1];
   scrypt_derivation *derivation[1];
   uint8_t output[64], key[64], salt[16];
   char text[SCRYPT_PHC_CAPACITY + SCRYPT_MCF_CAPACITY(64)];
@@ -42,18 +39,10 @@ static __thread struct {
   scrypt_stats stats[1];
 } made;
 
-/* A derivation in steps whose chunks are all mixed, in its own buffer. */
-static __thread scrypt_steps ended;
-
 /* A pointer that may not be NULL. */
 #define P(pointer) pointer
 
 #define BUFFERS_MADE made.chunks, given.chunks_len, made.table, given.table_len, made.scratch, given.scratch_len
-
-#define BUFFERS_OF_STEPS \
-  made.chunks, made.table, made.scratch, given.chunks_len, given.table_len, given.scratch_len
-
-static int go_on(void *context, uint64_t done, uint64_t all) { return context != NULL || done > all; }
 
 /* Sets the buffers: for up to this number of tables, and no more than a derivation can use. */
 static void take_arguments(const void *password, size_t password_len, const void *salt, size_t salt_len, uint32_t log_n,
@@ -76,12 +65,6 @@ static void take_arguments(const void *password, size_t password_len, const void
   made.table = calloc(given.table_len, 4);
   made.scratch = calloc(given.scratch_len, 4);
   if (made.chunks == NULL || made.table == NULL || made.scratch == NULL) exit(3);
-  *made.steps = (scrypt_steps){log_n, r, p, {0, 0, 0}, BUFFERS_OF_STEPS};
-  made.steps->at.interleaved = 1; /* so that a step is possible in any order of calls */
-  ended = *made.steps, ended.at.chunks = p;
-  ended.chunks = calloc(ended.chunks_len, 1);
-  if (ended.chunks == NULL) exit(3);
-  given.steps = &ended, given.mixes = 3, given.on_progress = go_on;
   given.milliseconds = 60000, *made.derivation = NULL;
   if (scrypt_derivation_new(password, password_len, salt, salt_len, log_n, r, p, SIZE_MAX, key_len,
                             &given.derivation) != SCRYPT_OK) exit(3);
@@ -94,7 +77,6 @@ static void take_text(const char *text, const scrypt_login *logins, size_t count
 }
 
 static void free_arguments(void) {
-  free(ended.chunks);
   free(made.chunks);
   free(made.table);
   free(made.scratch);

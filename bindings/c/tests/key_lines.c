@@ -65,11 +65,11 @@ static void print_key(const struct line *of, size_t tables) {
 /* A zero appended to the password would not make it wrong. */
 static void print_text(struct line *of, int is_mcf) {
   char text[SCRYPT_MCF_CAPACITY(MAX)];
-  int status = (is_mcf ? scrypt_hash_mcf : scrypt_hash_phc)(GIVEN, of->len, text, sizeof text);
+  int status = scrypt_hash_with_salt(GIVEN, of->len, is_mcf, text, sizeof text);
   if (status != SCRYPT_OK) text[0] = 0;
   of->password[of->password_len] = 1;
-  printf("%d %s %d %d\n", status, text, scrypt_verify(of->password, of->password_len, text, strlen(text)),
-         scrypt_verify(of->password, of->password_len + 1, text, strlen(text)));
+  printf("%d %s %d %d\n", status, text, scrypt_verify_unlimited(of->password, of->password_len, text, strlen(text)),
+         scrypt_verify_unlimited(of->password, of->password_len + 1, text, strlen(text)));
 }
 
 static void print_need(const struct line *of) {

@@ -58,8 +58,6 @@ static size_t fewer(size_t one, size_t other) { return one < other ? one : other
     check(key[0] == 7 && text[0] == '!', why);                                             \
   } while (0)
 
-static int go_on(void *context, uint64_t done, uint64_t all) { return context != NULL || done > all; }
-
 /* The same key by a derivation in steps. */
 static int derive(uint32_t log_n, uint32_t p, size_t max_mem) {
   scrypt_derivation *it = NULL;
@@ -94,8 +92,6 @@ static void tables_of_keys(size_t that_pay) {
     const int wanted = KEYS[i].tables > 0 ? SCRYPT_OUT_OF_MEMORY : SCRYPT_INVALID_PARAMS;
     const size_t tables = fewer(KEYS[i].tables, that_pay);
     REFUSES(KEYS[i].why, log_n, tables, wanted, scrypt_key(SECRETS, log_n, R, p, key, sizeof key));
-    REFUSES(KEYS[i].why, log_n, tables, wanted,
-            scrypt_key_with_progress(SECRETS, log_n, R, p, go_on, NULL, key, sizeof key));
     REFUSES(KEYS[i].why, log_n, tables, wanted, derive(log_n, p, 0));
   }
 }
@@ -113,8 +109,6 @@ static void tables_of_limited_keys(size_t that_pay) {
   for (i = 0; i < sizeof BOUNDS / sizeof BOUNDS[0]; i++) {
     const int wanted = BOUNDS[i].tables > 0 ? SCRYPT_OUT_OF_MEMORY : SCRYPT_TOO_COSTLY;
     const size_t tables = fewer(BOUNDS[i].tables, that_pay);
-    REFUSES(BOUNDS[i].why, 14, tables, wanted,
-            scrypt_key_limited(SECRETS, 14, R, 4, BOUNDS[i].max_mem, UINT64_MAX, key, sizeof key));
     REFUSES(BOUNDS[i].why, 14, tables, wanted, derive(14, 4, BOUNDS[i].max_mem));
   }
 }
@@ -123,20 +117,16 @@ static const char PHC[] = "$scrypt$ln=14,r=8,p=4$c2FsdHNhbHQ$AAAAAAAAAAAAAAAAAAA
 #define OF_PHC "password", 8, PHC, sizeof PHC - 1
 
 static void one_table_of_hashes(void) {
-  REFUSES("phc", 14, 1, SCRYPT_OUT_OF_MEMORY, scrypt_hash_phc(SECRETS, 14, R, 4, 32, text, sizeof text));
-  REFUSES("mcf", 14, 1, SCRYPT_OUT_OF_MEMORY, scrypt_hash_mcf(SECRETS, 14, R, 4, 32, text, sizeof text));
+  REFUSES("phc", 14, 1, SCRYPT_OUT_OF_MEMORY, scrypt_hash_with_salt(SECRETS, 14, R, 4, 32, 0, text, sizeof text));
+  REFUSES("mcf", 14, 1, SCRYPT_OUT_OF_MEMORY, scrypt_hash_with_salt(SECRETS, 14, R, 4, 32, 1, text, sizeof text));
   REFUSES("verify", 14, 1, SCRYPT_OUT_OF_MEMORY, scrypt_verify(OF_PHC));
-  REFUSES("verify_limited", 14, 1, SCRYPT_OUT_OF_MEMORY, scrypt_verify_limited(OF_PHC, NO_LIMITS, 0));
+  REFUSES("verify_unlimited", 14, 1, SCRYPT_OUT_OF_MEMORY, scrypt_verify_unlimited(OF_PHC));
   REFUSES("hash_password", 17, 1, SCRYPT_OUT_OF_MEMORY, scrypt_hash_password("password", 8, text, sizeof text));
 }
 
 /* A call that is rejected requests no table. */
 static void no_table(void) {
   REFUSES("a key of no bytes", 14, 0, SCRYPT_INVALID_OUTPUT_LEN, scrypt_key(SECRETS, 14, R, 4, key, 0));
-  REFUSES("a key of no bytes, in steps", 14, 0, SCRYPT_INVALID_OUTPUT_LEN,
-          scrypt_key_with_progress(SECRETS, 14, R, 4, go_on, NULL, key, 0));
-  REFUSES("too much work for a key", 14, 0, SCRYPT_TOO_COSTLY,
-          scrypt_key_limited(SECRETS, 14, R, 4, SIZE_MAX, 1, key, sizeof key));
   REFUSES("too many bytes", 14, 0, SCRYPT_TOO_COSTLY, scrypt_verify_limited(OF_PHC, 1, UINT64_MAX, 0));
   REFUSES("too much work", 14, 0, SCRYPT_TOO_COSTLY, scrypt_verify_limited(OF_PHC, SIZE_MAX, 1, 0));
   REFUSES("a key of 16 bytes", 14, 0, SCRYPT_KEY_TOO_SHORT, scrypt_verify_limited(OF_PHC, NO_LIMITS, 17));
@@ -148,8 +138,6 @@ static void one_of_several(void) {
   check(scrypt_key(SECRETS, 14, R, 4, same, sizeof same) == SCRYPT_OK, "a key");
   min_refused = 2 * table_bytes(14);
   check(scrypt_key(SECRETS, 14, R, 4, key, sizeof key) == SCRYPT_OK && memcmp(key, same, 32) == 0, "in one table");
-  check(scrypt_key_with_progress(SECRETS, 14, R, 4, go_on, NULL, key, sizeof key) == SCRYPT_OK &&
-            memcmp(key, same, 32) == 0, "in one table, with progress");
   memset(key, 7, sizeof key);
   check(derive(14, 4, 0) == SCRYPT_OK && memcmp(key, same, 32) == 0, "in one table, in steps");
   min_refused = SIZE_MAX;

@@ -27,11 +27,8 @@
 static void keys(size_t i) {
   uint8_t key[64], s;
   check(scrypt_key(SECRETS_OF(i), PARAMS_OF(i), key, 64) == SCRYPT_OK && is_key(i, key), "a key of RFC 7914");
-  memset(key, 0, sizeof key);
-  check(scrypt_key_limited(SECRETS_OF(i), PARAMS_OF(i), SIZE_MAX, UINT64_MAX, key, 64) == SCRYPT_OK && is_key(i, key),
-        "the same within limits");
   for (s = 0; s < (i == 0 ? 5 : 4); s++) { /* the first one with a single row too */
-    scrypt_steps in = new_buffers(PARAMS_OF(i), s, 1);
+    struct buffers in = new_buffers(PARAMS_OF(i), s, 1);
     memset(key, 0, sizeof key);
     check(scrypt_key_thin(SECRETS_OF(i), PARAMS_OF(i), s, key, 64, BUFFERS_OF(in)) == SCRYPT_OK && is_key(i, key),
           "with a smaller table");
@@ -44,24 +41,20 @@ static void keys(size_t i) {
 
 #define INPUTS "pw", 2, "saltsalt", 8, 6, 1
 
-typedef int (*hash)(const void *, size_t, const void *, size_t, uint32_t, uint32_t, uint32_t, size_t, char *, size_t);
-typedef int (*hash_in)(const void *, size_t, const void *, size_t, uint32_t, uint32_t, uint32_t, size_t, char *, size_t,
-                       uint8_t *, size_t, uint32_t *, size_t, uint32_t *, size_t);
-static const hash HASH[] = {scrypt_hash_phc, scrypt_hash_mcf};
-static const hash_in HASH_IN[] = {scrypt_hash_phc_with_buffers, scrypt_hash_mcf_with_buffers};
+#define TEXT_AND_LIMITS text, strlen(text), SIZE_MAX, UINT64_MAX, 0
 
 /* A hash of each format, by itself and in buffers, which have zeros then. */
 static void hashes(uint32_t p, size_t tables, char texts[2][SCRYPT_PHC_CAPACITY]) {
   int i;
   for (i = 0; i < 2; i++) {
-    scrypt_steps in = new_buffers(6, 1, p, 0, tables);
+    struct buffers in = new_buffers(6, 1, p, 0, tables);
     char same[SCRYPT_PHC_CAPACITY], *text = texts[i];
-    check(HASH[i](INPUTS, p, 32, text, SCRYPT_PHC_CAPACITY) == SCRYPT_OK, "a hash");
-    check(HASH_IN[i](INPUTS, p, 32, same, sizeof same, BUFFERS_OF(in)) == SCRYPT_OK && strcmp(text, same) == 0,
-          "the same hash in buffers");
+    check(scrypt_hash_with_salt(INPUTS, p, 32, i, text, SCRYPT_PHC_CAPACITY) == SCRYPT_OK, "a hash");
+    check(scrypt_hash_with_buffers(INPUTS, p, 32, i, same, sizeof same, BUFFERS_OF(in)) == SCRYPT_OK &&
+              strcmp(text, same) == 0, "the same hash in buffers");
     check(scrypt_verify("pw", 2, text, strlen(text)) == SCRYPT_OK, "its password");
-    check(scrypt_verify_with_buffers("pw", 2, text, strlen(text), BUFFERS_OF(in)) == SCRYPT_OK, "in buffers");
-    check(scrypt_verify_with_buffers("PW", 2, text, strlen(text), BUFFERS_OF(in)) == SCRYPT_MISMATCH, "another one");
+    check(scrypt_verify_limited_with_buffers("pw", 2, TEXT_AND_LIMITS, BUFFERS_OF(in)) == SCRYPT_OK, "in buffers");
+    check(scrypt_verify_limited_with_buffers("PW", 2, TEXT_AND_LIMITS, BUFFERS_OF(in)) == SCRYPT_MISMATCH, "another one");
     check(is_all(0, in.chunks, in.chunks_len) && is_all(0, in.scratch, 4 * in.scratch_len / tables), "zeros");
     free_buffers(in);
   }
@@ -74,7 +67,7 @@ static void batches(uint32_t p, size_t tables, char texts[2][SCRYPT_PHC_CAPACITY
   size_t count, kinds, i;
   for (count = 0; count <= SCRYPT_MAX_LOGINS; count++)
     for (kinds = p; kinds < 81; kinds += 16) {
-      scrypt_steps in = new_buffers(6, 1, p * (uint32_t)(count > 0 ? count : 1), 0, tables);
+      struct buffers in = new_buffers(6, 1, p * (uint32_t)(count > 0 ? count : 1), 0, tables);
       scrypt_login logins[SCRYPT_MAX_LOGINS];
       int statuses[] = {-1, -1, -1, -1}, wanted[] = {-1, -1, -1, -1};
       size_t kind = kinds;
@@ -92,7 +85,7 @@ static void batches(uint32_t p, size_t tables, char texts[2][SCRYPT_PHC_CAPACITY
 static void chunks_in_tables(uint32_t p, size_t tables) {
   char texts[2][SCRYPT_PHC_CAPACITY];
   uint8_t key[32], same[32];
-  scrypt_steps in = new_buffers(6, 1, p, 0, tables);
+  struct buffers in = new_buffers(6, 1, p, 0, tables);
   check(scrypt_key(INPUTS, p, key, 32) == SCRYPT_OK, "a key of several chunks");
   check(scrypt_key_with_buffers(INPUTS, p, same, 32, BUFFERS_OF(in)) == SCRYPT_OK && memcmp(key, same, 32) == 0,
         "the same key in buffers");
@@ -104,7 +97,7 @@ static void chunks_in_tables(uint32_t p, size_t tables) {
 /* Each row of each table changes, except in a second table on processors that use one table for two
  * chunks. Twelve chunks leave no rest, whatever the number of tables. */
 static void several_tables_are_used(size_t tables) {
-  scrypt_steps in = new_buffers(6, 1, 12, 0, tables);
+  struct buffers in = new_buffers(6, 1, 12, 0, tables);
   uint8_t key[16];
   size_t row, changed = 0;
   check(scrypt_key_with_buffers(INPUTS, 12, key, sizeof key, BUFFERS_OF(in)) == SCRYPT_OK, "a key in several tables");
@@ -118,8 +111,8 @@ static void several_tables_are_used(size_t tables) {
 static int write_hash(int i, char *text, size_t capacity) {
   static uint8_t chunks[128];
   static uint32_t table[32 * 64], scratch[64];
-  if (i < 2) return HASH[i](INPUTS, 1, 32, text, capacity);
-  return HASH_IN[i - 2](INPUTS, 1, 32, text, capacity, chunks, sizeof chunks, table, 32 * 64, scratch, 64);
+  if (i < 2) return scrypt_hash_with_salt(INPUTS, 1, 32, i, text, capacity);
+  return scrypt_hash_with_buffers(INPUTS, 1, 32, i - 2, text, capacity, chunks, sizeof chunks, table, 32 * 64, scratch, 64);
 }
 
 static void capacities(void) {
@@ -140,22 +133,20 @@ static void capacities(void) {
 /* Whether a long password matches this text. */
 static int is_of_long(const char *password, size_t len, const char *text) {
   return scrypt_verify(password, len, text, strlen(text)) == SCRYPT_OK &&
-         scrypt_verify_limited(password, len, text, strlen(text), SIZE_MAX, UINT64_MAX, 0) == SCRYPT_OK;
+         scrypt_verify_unlimited(password, len, text, strlen(text)) == SCRYPT_OK;
 }
 
 /* If there is memory, a call succeeds, however long a password, a salt, a key and a text are. */
 static void long_inputs(void) {
   enum { LEN = 5000 };
   static char password[LEN], salt[LEN], text[SCRYPT_MCF_CAPACITY(LEN)];
-  static uint8_t key[LEN], same[LEN];
+  static uint8_t key[LEN];
   memset(password, 'p', LEN);
   memset(salt, 's', LEN);
   check(scrypt_key(password, LEN, salt, LEN, 4, 1, 1, key, LEN) == SCRYPT_OK, "a long key");
-  check(scrypt_key_limited(password, LEN, salt, LEN, 4, 1, 1, SIZE_MAX, UINT64_MAX, same, LEN) == SCRYPT_OK &&
-            memcmp(key, same, LEN) == 0, "the same within limits");
-  check(scrypt_hash_phc(password, LEN, salt, 64, 4, 1, 1, 64, text, sizeof text) == SCRYPT_OK &&
+  check(scrypt_hash_with_salt(password, LEN, salt, 64, 4, 1, 1, 64, 0, text, sizeof text) == SCRYPT_OK &&
             is_of_long(password, LEN, text), "the longest salt of a PHC string");
-  check(scrypt_hash_mcf(password, LEN, salt, LEN, 4, 1, 1, 64, text, sizeof text) == SCRYPT_OK && strlen(text) > LEN &&
+  check(scrypt_hash_with_salt(password, LEN, salt, LEN, 4, 1, 1, 64, 1, text, sizeof text) == SCRYPT_OK && strlen(text) > LEN &&
             is_of_long(password, LEN, text), "a long $7$ hash");
 }
 
@@ -204,7 +195,7 @@ static void words_of_statuses(void) {
   for (status = SCRYPT_OK; has_words(status); status++)
     for (other = SCRYPT_OK; other < status; other++)
       check(strcmp(scrypt_strerror(status), scrypt_strerror(other)) != 0, "each status has its own message");
-  check(status > SCRYPT_STOPPED, "a message for each status");
+  check(status > SCRYPT_NEEDS_REHASH, "a message for each status");
   for (status = -1; status < 99; status++) {
     const int is_of_text = status >= SCRYPT_ALGORITHM && status <= SCRYPT_VERSION && status != SCRYPT_SALT_INVALID;
     check((scrypt_status_name(status) != NULL) == has_words(status), "a name for each status");

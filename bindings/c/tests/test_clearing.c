@@ -91,12 +91,10 @@ __attribute__((noinline)) static void check_stack(const char *name, int (*call)(
 #include "each_call.h"
 #undef CALL
 
-/* No key can be derived in so little time, scrypt_key_thin takes one table, and the chunks that
- * scrypt_verify_finish is given are zeros. */
+/* No key can be derived in so little time, and scrypt_key_thin takes one table. */
 static int wanted_of(int (*call)(void)) {
   size_t chunks_len, table_len, scratch_len;
   if (call == each_scrypt_calibrate) return SCRYPT_TOO_COSTLY;
-  if (call == each_scrypt_verify_finish) return SCRYPT_MISMATCH;
   if (call != each_scrypt_key_thin) return SCRYPT_OK;
   if (scrypt_buffer_lens(given.log_n, given.r, given.p, 0, &chunks_len, &table_len, &scratch_len))
     exit(3);
@@ -113,7 +111,7 @@ static int left_and_freed(void) {
 
 static int verify_wrong(void) { return scrypt_verify(SALT, 3, given.text, given.text_len); }
 static int no_room(void) {
-  return scrypt_hash_mcf(SECRETS, given.log_n, given.r, given.p, 32, made.text, 2);
+  return scrypt_hash_with_salt(SECRETS, given.log_n, given.r, given.p, 32, 1, made.text, 2);
 }
 
 static const struct {
@@ -143,7 +141,7 @@ static void all_calls(uint32_t p, size_t max_tables) {
   scrypt_options with = {sizeof with, 4, 8, p, 0, 64, 0, SIZE_MAX, UINT64_MAX, 0, 2, 1};
   char name[100];
   size_t i;
-  if (scrypt_hash_phc(SECRETS, 4, 8, p, 64, phc, sizeof phc) != SCRYPT_OK) exit(3);
+  if (scrypt_hash_with_salt(SECRETS, 4, 8, p, 64, 0, phc, sizeof phc) != SCRYPT_OK) exit(3);
   logins[0] = logins[1] = (scrypt_login){PASSWORD, sizeof PASSWORD - 1, phc, strlen(phc)};
   take_arguments(SECRETS, 4, 8, p, 64, max_tables);
   take_text(phc, logins, 2);

@@ -200,8 +200,7 @@ static scrypt_hasher *new_hasher(size_t processors, size_t max_tables, uint32_t 
 }
 
 static void make_text(char *text, const char *password, uint8_t log_n, uint32_t r, uint32_t p) {
-  IS(scrypt_hash_phc(password, strlen(password), "salt", 4, log_n, r, p, 32, text,
-                     SCRYPT_PHC_CAPACITY), SCRYPT_OK);
+  IS(scrypt_hash_with_salt(password, strlen(password), "salt", 4, log_n, r, p, 32, 0, text, SCRYPT_PHC_CAPACITY), SCRYPT_OK);
 }
 
 static int verify(scrypt_hasher *hasher, const char *text, const char *password, int64_t ms) {

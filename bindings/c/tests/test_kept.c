@@ -21,7 +21,7 @@ static int large_key(void) {
 }
 static int hash(void) {
   char text[SCRYPT_PHC_CAPACITY];
-  return scrypt_hash_phc("pw", 2, "salt", 4, 4, 8, 1, 32, text, sizeof text);
+  return scrypt_hash_with_salt("pw", 2, "salt", 4, 4, 8, 1, 32, 0, text, sizeof text);
 }
 static int verify(void) { return scrypt_verify("pw", 2, TEXT, sizeof TEXT - 1) == SCRYPT_MISMATCH ? SCRYPT_OK : -1; }
 static int by_hasher(void) {
@@ -95,7 +95,7 @@ int main(void) {
   check(changed_by(changes_two) == 2, "a change is found");
   check(changed_by(key) == 0, "scrypt_key");
   check(changed_by(large_key) == 0, "scrypt_key, in a separate mapping");
-  check(changed_by(hash) == 0, "scrypt_hash_phc");
+  check(changed_by(hash) == 0, "scrypt_hash_with_salt");
   check(changed_by(verify) == 0, "scrypt_verify");
   check(changed_by(by_hasher) == 0, "scrypt_hasher_verify");
   scrypt_hasher_free(hasher);

@@ -21,16 +21,6 @@ static char MCF[] = "$7$20....1....n34PoBLMgF5$Z8J2bfek1wDXI7xhu6YDEbhVlE3";
 /* The expected result of a call for the case. */
 static int nothing(void) { return 1; }
 static int a_key(void) { return memcmp(made.output, KEY, sizeof KEY) == 0; }
-static int is_begun(void) { return made.steps->at.chunks == 0 && made.steps->at.mixes == 0; }
-static int is_at_3(void) { return made.steps->at.chunks == 0 && made.steps->at.interleaved == 1 && made.steps->at.mixes == 3; }
-/* Mixes all chunks, for scrypt_verify_finish. */
-static int is_verifying(void) {
-  int status = SCRYPT_OK;
-  if (!is_begun() || made.steps->log_n != 4 || made.steps->r != 2 || made.steps->p != 3) return 0;
-  while (status == SCRYPT_OK && made.steps->at.chunks < 3) status = scrypt_key_step(made.steps, 7);
-  memcpy(ended.chunks, made.chunks, ended.chunks_len);
-  return status == SCRYPT_OK;
-}
 static int is_all_done(void) { return *made.done == 1; }
 static int is_new(void) {
   double done = 0;
@@ -84,29 +74,22 @@ static const struct {
   int wanted;
 } KNOWN[] = {
     {"scrypt_key", a_key, SCRYPT_OK},
-    {"scrypt_key_limited", a_key, SCRYPT_OK},
     {"scrypt_buffer_lens", lens, SCRYPT_OK},
     {"scrypt_buffer_lens, of half a table", lens_of_half, SCRYPT_OK},
     {"scrypt_key_with_buffers", a_key, SCRYPT_OK},
     {"scrypt_key_thin", a_key, SCRYPT_OK},
     {"scrypt_key_thin, in half a table", a_key, SCRYPT_OK},
-    {"scrypt_key_begin", is_begun, SCRYPT_OK},
-    {"scrypt_key_step", is_at_3, SCRYPT_OK},
-    {"scrypt_key_finish", a_key, SCRYPT_OK},
-    {"scrypt_verify_begin", is_verifying, SCRYPT_OK},
-    {"scrypt_verify_finish", nothing, SCRYPT_OK},
     {"scrypt_derivation_new", is_new, SCRYPT_OK},
     {"scrypt_derivation_run", is_all_done, SCRYPT_OK},
     {"scrypt_derivation_finish", a_key, SCRYPT_OK},
-    {"scrypt_key_with_progress", a_key, SCRYPT_OK},
     {"scrypt_hash_password", a_new_hash, SCRYPT_OK},
-    {"scrypt_hash_phc", a_phc, SCRYPT_OK},
-    {"scrypt_hash_mcf", an_mcf, SCRYPT_OK},
-    {"scrypt_hash_phc_with_buffers", a_phc, SCRYPT_OK},
-    {"scrypt_hash_mcf_with_buffers", an_mcf, SCRYPT_OK},
+    {"scrypt_hash_with_salt", a_phc, SCRYPT_OK},
+    {"scrypt_hash_with_salt, $7$", an_mcf, SCRYPT_OK},
+    {"scrypt_hash_with_buffers", a_phc, SCRYPT_OK},
+    {"scrypt_hash_with_buffers, $7$", an_mcf, SCRYPT_OK},
     {"scrypt_verify", nothing, SCRYPT_OK},
     {"scrypt_verify_limited", nothing, SCRYPT_OK},
-    {"scrypt_verify_with_buffers", nothing, SCRYPT_OK},
+    {"scrypt_verify_unlimited", nothing, SCRYPT_OK},
     {"scrypt_verify_limited_with_buffers", nothing, SCRYPT_OK},
     {"scrypt_verify_batch_with_buffers", verdicts, SCRYPT_OK},
     {"scrypt_needs_rehash", nothing, SCRYPT_OK},
@@ -125,7 +108,7 @@ static const struct {
     {"scrypt_generate_salt", a_salt, SCRYPT_OK},
 };
 
-/* Fills all outputs but the buffers, the steps and the derivation, which are first. */
+/* Fills all outputs but the buffers and the derivation, which are first. */
 static void forget(void) {
   memset(&made.output, 0xaa, sizeof made - (size_t)((uint8_t *)&made.output - (uint8_t *)&made));
 }
@@ -141,11 +124,9 @@ static void check_call(const char *name, int status) {
 /* Parameters that are not accepted: N in place of log_n, even if its last 8 bits are a log_n, and an
  * r * p of 2^30. */
 static void rejected(uint32_t log_n, uint32_t r, uint32_t p) {
-  given.log_n = made.steps->log_n = ended.log_n = log_n;
-  given.r = made.steps->r = ended.r = r;
-  given.p = made.steps->p = ended.p = p;
-#define CALL(name, arguments)                                                              \
-  if (strstr(#arguments, "given.log_n") != NULL || strncmp(#name, "scrypt_key_", 11) == 0) \
+  given.log_n = log_n, given.r = r, given.p = p;
+#define CALL(name, arguments)                       \
+  if (strstr(#arguments, "given.log_n") != NULL)    \
     check(name arguments == SCRYPT_INVALID_PARAMS, #name ", parameters that are not accepted");
 #include "each_call.h"
 #undef CALL
@@ -161,8 +142,6 @@ static void *arguments(void *text) {
   take_text((const char *)text, LOGINS, 4);
   given.hasher = scrypt_hasher_new(&options, NULL);
   given.max_mem = 5376, given.max_work = 1152;
-  if (scrypt_key_with_buffers(SECRETS, PARAMS, made.output, 20, ended.chunks, ended.chunks_len, ended.table, ended.table_len,
-                              ended.scratch, ended.scratch_len) != SCRYPT_OK) exit(3); /* the chunks are mixed */
   forget();
 #define CALL(name, arguments) check_call(#name, name arguments);
 #include "each_call.h"
@@ -171,6 +150,9 @@ static void *arguments(void *text) {
              scrypt_buffer_lens(PARAMS, 1, made.chunks_len, made.table_len, made.scratch_len));
   check_call("scrypt_key_thin, in half a table",
              scrypt_key_thin(SECRETS, PARAMS, 1, made.output, 20, made.chunks, 768, half, 512, scratch, 192));
+  check_call("scrypt_hash_with_salt, $7$", scrypt_hash_with_salt(SECRETS, PARAMS, 20, 1, made.text, given.capacity));
+  check_call("scrypt_hash_with_buffers, $7$",
+             scrypt_hash_with_buffers(SECRETS, PARAMS, 20, 1, made.text, given.capacity, BUFFERS_MADE));
   check_call("scrypt_params_cost, of two tables", scrypt_params_cost(PARAMS, 9984, 1152, made.cost));
   check_call("scrypt_default_limits, of short keys",
              scrypt_default_limits(PARAMS, 10, made.max_mem, made.max_work, made.min_key_len));
@@ -214,10 +196,6 @@ static void keys(void) {
   meets("key: r, output", scrypt_key(SECRETS, 4, 0, 1, key, 0), SCRYPT_INVALID_PARAMS);
   meets("key: output, memory", scrypt_key(SECRETS, HUGE, 1, 1, key, 0), SCRYPT_INVALID_OUTPUT_LEN);
   meets("key: memory", scrypt_key(SECRETS, HUGE, 1, 1, key, 20), SCRYPT_OUT_OF_MEMORY);
-  meets("key_limited: r, bytes, output", scrypt_key_limited(SECRETS, 4, 0, 1, 0, 0, key, 0), SCRYPT_INVALID_PARAMS);
-  meets("key_limited: bytes, output", scrypt_key_limited(SECRETS, PARAMS, 5375, 1152, key, 0), SCRYPT_TOO_COSTLY);
-  meets("key_limited: work, output", scrypt_key_limited(SECRETS, PARAMS, 5376, 1151, key, 0), SCRYPT_TOO_COSTLY);
-  meets("key_limited: output, memory", scrypt_key_limited(SECRETS, HUGE, 1, 1, NO_LIMITS, key, 0), SCRYPT_INVALID_OUTPUT_LEN);
   meets("key_with_buffers: r, output, buffers", scrypt_key_with_buffers(SECRETS, 4, 0, 1, key, 0, NO_BUFFERS),
         SCRYPT_INVALID_PARAMS);
   meets("key_with_buffers: output, buffers", scrypt_key_with_buffers(SECRETS, PARAMS, key, 0, NO_BUFFERS),
@@ -245,18 +223,18 @@ static void derivations(void) {
 }
 
 static void hashes(void) {
-  meets("phc: p, salt", scrypt_hash_phc(NO_SALT, 4, 8, 0, 20, NO_ROOM), SCRYPT_INVALID_PARAMS);
-  meets("phc: salt, memory", scrypt_hash_phc(NO_SALT, HUGE, 1, 1, 20, NO_ROOM), SCRYPT_SALT_INVALID);
-  meets("phc: memory, text", scrypt_hash_phc(SECRETS, HUGE, 1, 1, 20, NO_ROOM), SCRYPT_OUT_OF_MEMORY);
-  meets("mcf: key, memory", scrypt_hash_mcf(SECRETS, HUGE, 1, 1, 65, NO_ROOM), SCRYPT_INVALID_PARAMS);
-  meets("mcf: memory, text", scrypt_hash_mcf(SECRETS, HUGE, 1, 1, 20, NO_ROOM), SCRYPT_OUT_OF_MEMORY);
-  meets("phc_with_buffers: key, salt, buffers, text",
-        scrypt_hash_phc_with_buffers(NO_SALT, PARAMS, 9, NO_ROOM, NO_BUFFERS), SCRYPT_INVALID_PARAMS);
-  meets("phc_with_buffers: salt, buffers, text", scrypt_hash_phc_with_buffers(NO_SALT, PARAMS, 20, NO_ROOM, NO_BUFFERS),
+  meets("phc: p, salt", scrypt_hash_with_salt(NO_SALT, 4, 8, 0, 20, 0, NO_ROOM), SCRYPT_INVALID_PARAMS);
+  meets("phc: salt, memory", scrypt_hash_with_salt(NO_SALT, HUGE, 1, 1, 20, 0, NO_ROOM), SCRYPT_SALT_INVALID);
+  meets("phc: memory, text", scrypt_hash_with_salt(SECRETS, HUGE, 1, 1, 20, 0, NO_ROOM), SCRYPT_OUT_OF_MEMORY);
+  meets("mcf: key, memory", scrypt_hash_with_salt(SECRETS, HUGE, 1, 1, 65, 1, NO_ROOM), SCRYPT_INVALID_PARAMS);
+  meets("mcf: memory, text", scrypt_hash_with_salt(SECRETS, HUGE, 1, 1, 20, 1, NO_ROOM), SCRYPT_OUT_OF_MEMORY);
+  meets("phc, in buffers: key, salt, buffers, text",
+        scrypt_hash_with_buffers(NO_SALT, PARAMS, 9, 0, NO_ROOM, NO_BUFFERS), SCRYPT_INVALID_PARAMS);
+  meets("phc, in buffers: salt, buffers, text", scrypt_hash_with_buffers(NO_SALT, PARAMS, 20, 0, NO_ROOM, NO_BUFFERS),
         SCRYPT_SALT_INVALID);
-  meets("mcf_with_buffers: key, buffers, text", scrypt_hash_mcf_with_buffers(SECRETS, PARAMS, 9, NO_ROOM, NO_BUFFERS),
+  meets("mcf, in buffers: key, buffers, text", scrypt_hash_with_buffers(SECRETS, PARAMS, 9, 1, NO_ROOM, NO_BUFFERS),
         SCRYPT_INVALID_PARAMS);
-  meets("mcf_with_buffers: text, buffers", scrypt_hash_mcf_with_buffers(SECRETS, PARAMS, 20, NO_ROOM, NO_BUFFERS),
+  meets("mcf, in buffers: text, buffers", scrypt_hash_with_buffers(SECRETS, PARAMS, 20, 1, NO_ROOM, NO_BUFFERS),
         SCRYPT_BUFFER_SIZE);
 }
 
@@ -267,10 +245,10 @@ static void buffers(void) {
 #define SHORT chunks, 768 - (i == 0), table, 1024 - (i == 1), scratch, 128 - (i == 2)
     meets("key_with_buffers", scrypt_key_with_buffers(SECRETS, PARAMS, key, 20, SHORT), SCRYPT_BUFFER_SIZE);
     meets("key_thin", scrypt_key_thin(SECRETS, PARAMS, 0, key, 20, SHORT), SCRYPT_BUFFER_SIZE);
-    meets("phc_with_buffers", scrypt_hash_phc_with_buffers(SECRETS, PARAMS, 20, TEXT, SHORT), SCRYPT_BUFFER_SIZE);
-    meets("mcf_with_buffers", scrypt_hash_mcf_with_buffers(SECRETS, PARAMS, 20, TEXT, SHORT), SCRYPT_BUFFER_SIZE);
-    meets("verify_with_buffers", scrypt_verify_with_buffers("", 0, OF(PHC), SHORT), SCRYPT_BUFFER_SIZE);
-    meets("verify_limited_with_buffers", scrypt_verify_limited_with_buffers("", 0, OF(MCF), NO_LIMITS, 0, SHORT),
+    meets("phc, in buffers", scrypt_hash_with_buffers(SECRETS, PARAMS, 20, 0, TEXT, SHORT), SCRYPT_BUFFER_SIZE);
+    meets("mcf, in buffers", scrypt_hash_with_buffers(SECRETS, PARAMS, 20, 1, TEXT, SHORT), SCRYPT_BUFFER_SIZE);
+    meets("verify, in buffers", scrypt_verify_limited_with_buffers("", 0, OF(PHC), NO_LIMITS, 0, SHORT), SCRYPT_BUFFER_SIZE);
+    meets("verify, in buffers", scrypt_verify_limited_with_buffers("", 0, OF(MCF), NO_LIMITS, 0, SHORT),
           SCRYPT_BUFFER_SIZE);
   }
 }
@@ -289,12 +267,12 @@ static void texts(void) {
     const int status = TEXTS[i].status;
 #define OF_TEXT "pw", 2, TEXTS[i].text, strlen(TEXTS[i].text)
 #define IF_READ(other) (status == SCRYPT_OUT_OF_MEMORY ? other : status)
-    meets("verify", scrypt_verify(OF_TEXT), status);
+    meets("verify", scrypt_verify(OF_TEXT), IF_READ(SCRYPT_TOO_COSTLY));
+    meets("verify_unlimited", scrypt_verify_unlimited(OF_TEXT), status);
     meets("verify_limited", scrypt_verify_limited(OF_TEXT, NO_LIMITS, 15), status);
     meets("key", scrypt_verify_limited(OF_TEXT, NO_LIMITS, 16), IF_READ(SCRYPT_KEY_TOO_SHORT));
     meets("bytes, key", scrypt_verify_limited(OF_TEXT, 5375, UINT64_MAX, 16), IF_READ(SCRYPT_TOO_COSTLY));
     meets("work, key", scrypt_verify_limited(OF_TEXT, SIZE_MAX, 1151, 16), IF_READ(SCRYPT_TOO_COSTLY));
-    meets("buffers", scrypt_verify_with_buffers(OF_TEXT, NO_BUFFERS), IF_READ(SCRYPT_BUFFER_SIZE));
     meets("buffers", scrypt_verify_limited_with_buffers(OF_TEXT, NO_LIMITS, 15, NO_BUFFERS), IF_READ(SCRYPT_BUFFER_SIZE));
     meets("key, buffers", scrypt_verify_limited_with_buffers(OF_TEXT, NO_LIMITS, 16, NO_BUFFERS),
           IF_READ(SCRYPT_KEY_TOO_SHORT));

@@ -51,9 +51,6 @@ class InvalidOutputLenError(ScryptError, ValueError):
     """The key is empty, or longer than scrypt allows."""
 
 
-# C has one message for SCRYPT_MISMATCH and SCRYPT_NEEDS_REHASH, which are the same number.
-WORDS = {declared.MISMATCH: "the password does not match the hash"}
-
 # The exceptions of the statuses that a call of this package can return, except the statuses of an
 # invalid hash.
 KINDS: dict[int, type[Exception]] = {
@@ -78,6 +75,6 @@ def check(status: int, about: str = "") -> None:
     is_invalid = library.status_is_invalid_hash(status)
     kind = InvalidHashError if is_invalid else KINDS.get(status, ScryptError)
     name = (library.status_name(status) or b"status %d" % status).decode()
-    words = WORDS.get(status) or library.strerror(status).decode()
+    words = library.strerror(status).decode()
     message = f"{words}{about and ': '}{about}"
     raise kind(name, message) if issubclass(kind, ScryptError) else kind(message)

@@ -145,9 +145,6 @@ impl Error {
 
 // The library's message for a status.
 fn words_of(status: c_int) -> &'static str {
-    if status == MISMATCH {
-        return "the password does not match the hash"; // in C two statuses share it
-    }
     // SAFETY: the library returns a NUL-terminated string that is never freed.
     unsafe { CStr::from_ptr(scrypt_strerror(status)) }.to_str().unwrap_or_default()
 }
@@ -216,7 +213,7 @@ mod tests {
                 OPTIONS_SIZE,
                 UNFINISHED,
                 INVALID_PROGRESS,
-                STOPPED,
+                NEEDS_REHASH,
             ]
             .contains(&status);
             let has_numbers = [TOO_COSTLY, KEY_TOO_SHORT].contains(&status);

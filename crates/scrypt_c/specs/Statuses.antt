@@ -36,10 +36,11 @@ abbrev pub IsVerifyStatus : List ℕ → Result Stored Refusal → ℤ → Type 
 IsVerifyStatus password reading status =
     (status ≡ result_status (verdict password reading)) ⊎ (IsOk reading × (status ≡ pos 4))
 
--- the status of comparing a hash with the wanted parameters
+-- the status of comparing a hash with the wanted parameters: one without a salt or a key is weaker
 abbrev pub rehash_status : Result Bool Refusal → ℤ
 rehash_status (Ok false) = pos 0
-rehash_status (Ok true) = pos 1
+rehash_status (Ok true) = pos 22
+rehash_status (Err PasswordInvalid) = pos 22
 rehash_status (Err why) = refusal_status why
 
 -- the status of an error in the caller's buffers, where `OutOfMemory` means that a buffer is too

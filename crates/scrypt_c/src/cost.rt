@@ -34,8 +34,8 @@ pub struct Cost {
 /// Writes to `cost` what verifying with the text of a hash needs, if the buffers may have
 /// `max_mem` bytes in total. Does not allocate.
 ///
-/// Returns `OK`, or the first of these: the errors of `scrypt_verify` for a hash that cannot be
-/// read, including `MISMATCH` if it has no salt or no key, and then nothing is written;
+/// Returns `OK`, or the first of these: the errors of `scrypt_verify_limited` for a hash that cannot
+/// be read, including `MISMATCH` if it has no salt or no key, and then nothing is written;
 /// `TOO_COSTLY` if the buffers with one table have more than `max_mem` bytes in total, or if the
 /// work, `4 * (2^log_n + 32) * r * p`, exceeds `max_work`; and `KEY_TOO_SHORT` if the key has
 /// fewer than `min_key_len` bytes. These two write the same as `OK`; `tables` is 1 if even one

@@ -17,7 +17,7 @@ use crate::statuses::{
 };
 use crate::target::Target;
 use crate::texts::{copy_to, limited_hash, stored_hash};
-use password_hash::Result;
+use password_hash::{Error, Result};
 use scrypt::laws::reading_names_no_password;
 use scrypt::{CoreCount, Params, StoredHash, mcf, phc};
 use std::alloc::Global;
@@ -107,7 +107,7 @@ pub extern "C" fn scrypt_hash_mcf(
 /// caller can bound the work of verifying. A PHC hash without a salt or a key has parameters too.
 /// Nothing is allocated.
 ///
-/// Returns `OK`, or the first error of `scrypt_verify` for this text before it allocates, except
+/// Returns `OK`, or the error of `scrypt_verify_limited` for a text that cannot be read, except
 /// `MISMATCH`. On an error the four outputs are unchanged.
 #[unsafe(no_mangle)]
 pub extern "C" fn scrypt_hash_params(
@@ -140,30 +140,16 @@ pub extern "C" fn scrypt_hash_params(
 }
 
 /// Verifies the password against the text of a hash, with the parameters, the salt and the key
-/// length that the text encodes. All bytes of the two keys are compared.
+/// length that the text encodes, if it is within the limits. All bytes of the two keys are
+/// compared.
 ///
 /// A text that is `$7` or begins with `$7$` is read as a `$7$` hash, and any other as a PHC string.
-/// Returns `OK` if the password has the same key as the hash, and otherwise `ENCODING_INVALID` if
-/// the bytes are not UTF-8, or the status of the error of `StoredHash::read` or
-/// `StoredHash::verify`.
-#[unsafe(no_mangle)]
-pub extern "C" fn scrypt_verify(alloc: Global, password: &[u8], text: &[u8]) -> i32
-    ensures status { IsVerifyStatus password.now (bytes_reading text.now) result }
-{
-    match stored_hash(text) {
-        Ok(hash) => verify_allocating(alloc, password, &hash),
-        Err(error) => status_of(error),
-    }
-}
-
-/// Does what `scrypt_verify` does if the hash is within the limits, because an untrusted hash
-/// chooses its own cost.
-///
-/// Returns the errors of `scrypt_verify` for a hash that cannot be read, including `MISMATCH` if it
-/// has no salt or no key; then `TOO_COSTLY` if the buffers with one table have more than
-/// `max_mem` bytes in total, or if the work, `4 * (2^log_n + 32) * r * p`, exceeds `max_work`;
-/// `KEY_TOO_SHORT` if the key has fewer than `min_key_len` bytes; `OUT_OF_MEMORY`; and `MISMATCH`
-/// if the keys differ.
+/// Returns `OK` if the password has the same key as the hash, and otherwise the first of these:
+/// `ENCODING_INVALID` if the bytes are not UTF-8; the status of the error of `StoredHash::read` and
+/// of reading its parameters; `MISMATCH` if it has no salt or no key; `TOO_COSTLY` if the buffers
+/// with one table have more than `max_mem` bytes in total, or if the work,
+/// `4 * (2^log_n + 32) * r * p`, exceeds `max_work`; `KEY_TOO_SHORT` if the key has fewer than
+/// `min_key_len` bytes; `OUT_OF_MEMORY`; and `MISMATCH` if the keys differ.
 #[unsafe(no_mangle)]
 pub extern "C" fn scrypt_verify_limited(
     alloc: Global,
@@ -185,9 +171,9 @@ pub extern "C" fn scrypt_verify_limited(
 /// `log_n`, `r`, `p` and the length of its key is below the wanted value. Nothing is allocated.
 ///
 /// Returns the first of these: `INVALID_PARAMS` unless `log_n`, `r` and `p` are accepted and the
-/// wanted key has 10 to 64 bytes, whatever the text is; the first error of `scrypt_verify` before
-/// it allocates, where `MISMATCH`, for a missing salt or key, is the same number as `NEEDS_REHASH`;
-/// `NEEDS_REHASH` if the hash is weaker; and `OK` if it is not.
+/// wanted key has 10 to 64 bytes, whatever the text is; the error of `scrypt_verify_limited` for a
+/// text that cannot be read; `NEEDS_REHASH` if the hash has no salt or no key, or is weaker; and
+/// `OK` if it is not.
 #[unsafe(no_mangle)]
 pub extern "C" fn scrypt_needs_rehash(text: &[u8], log_n: u8, r: u32, p: u32, key_len: usize) -> i32
     ensures status { ((result ≡ INVALID_PARAMS) × ¬ AreHashParams log_n r p key_len)
@@ -199,7 +185,7 @@ pub extern "C" fn scrypt_needs_rehash(text: &[u8], log_n: u8, r: u32, p: u32, ke
     };
     match stored_hash(text) {
         Ok(hash) => rehash_status(hash.needs_rehash(&wanted)),
-        Err(error) => status_of(error),
+        Err(error) => rehash_status(Err(error)),
     }
 }
 
@@ -218,7 +204,7 @@ fn rehash_status(weaker: Result<bool>) -> i32
     ensures { result ≡ rehash_status (with_refusal weaker) }
 {
     match weaker {
-        Ok(true) => NEEDS_REHASH,
+        Ok(true) | Err(Error::PasswordInvalid) => NEEDS_REHASH,
         Ok(false) => OK,
         Err(error) => status_of(error),
     }

@@ -137,8 +137,11 @@ pub extern "C" fn scrypt_key_finish(
         ↔ (IsTrue (are_accepted log_n r p) × (length chunks.old ≢ chunks_bytes r p)) }
     ensures status { (result ≡ OK) ⊎ (result ≡ INVALID_PARAMS) ⊎ (result ≡ BUFFER_SIZE)
         ⊎ (result ≡ UNFINISHED) ⊎ (result ≡ INVALID_OUTPUT_LEN) }
-    ensures unfinished { result ≡ UNFINISHED → at.now.chunks ≢ p }
-    ensures length { result ≡ INVALID_OUTPUT_LEN → ¬ IsTrue (is_output_len (length output.old)) }
+    ensures unfinished { (result ≡ UNFINISHED) ↔ (IsTrue (are_accepted log_n r p)
+        × (length chunks.old ≡ chunks_bytes r p) × (at.now.chunks ≢ p)) }
+    ensures length { (result ≡ INVALID_OUTPUT_LEN) ↔ (IsTrue (are_accepted log_n r p)
+        × (length chunks.old ≡ chunks_bytes r p) × (at.now.chunks ≡ p)
+        × ¬ IsTrue (is_output_len (length output.old))) }
     ensures ended { result ≡ OK → (at.now.chunks ≡ p) × IsTrue (is_output_len (length output.old)) }
     ensures value { result ≡ OK → (salt table scratch : List ℕ)
         → IsUnderWay password.now salt (params_of log_n r p) at.now chunks.old table scratch
@@ -217,11 +220,10 @@ pub extern "C" fn scrypt_verify_begin(
     OK
 }
 
-/// Finishes verifying a password against the text of a hash: returns the verdict of
-/// `scrypt_verify`.
+/// Finishes verifying a password against the text of a hash: returns the verdict.
 ///
-/// Returns `OK`, or the first of these: the errors of `scrypt_verify` for a hash that cannot be
-/// read; `BUFFER_SIZE` unless the chunks have the length of `scrypt_buffer_lens`; `UNFINISHED`
+/// Returns `OK`, or the first of these: the errors of `scrypt_verify_limited` for a hash that cannot
+/// be read; `BUFFER_SIZE` unless the chunks have the length of `scrypt_buffer_lens`; `UNFINISHED`
 /// unless all chunks are mixed; and `MISMATCH`. The chunks are unchanged.
 #[unsafe(no_mangle)]
 pub extern "C" fn scrypt_verify_finish(

@@ -5,18 +5,15 @@ ghost use Rattle.scrypt.specs.Accepted.{are_accepted, is_output_len};
 ghost use Rattle.scrypt.specs.InBuffers.{are_enough};
 ghost use Rattle.scrypt.specs.Cost.{chunks_bytes};
 ghost use Rattle.scrypt.specs.Key.{derived_key, mixed_b};
-ghost use Rattle.scrypt.specs.Limits.{are_within};
 ghost use Rattle.scrypt.specs.Workspace.{IsRestKept, buffers};
 ghost use Rattle.scrypt_c.specs.Buffers.{AreBuffers, IsSpacing};
-ghost use Rattle.scrypt_c.specs.Limits.{bytes_that_pay, limits_of, params_of};
+ghost use Rattle.scrypt_c.specs.Limits.{bytes_that_pay, params_of};
 ghost use Rattle.scrypt_c.specs.Statuses.{IsKeyStatus};
 
-use crate::statuses::{
-    BUFFER_SIZE, INVALID_OUTPUT_LEN, INVALID_PARAMS, OK, OUT_OF_MEMORY, TOO_COSTLY,
-};
+use crate::statuses::{BUFFER_SIZE, INVALID_OUTPUT_LEN, INVALID_PARAMS, OK, OUT_OF_MEMORY};
 use crate::target::Target;
 use scrypt::{
-    BufferLens, CoreCount, DeriveError, Limits, Params, output_len_ok, scrypt_in_prefix,
+    BufferLens, CoreCount, DeriveError, Params, output_len_ok, scrypt_in_prefix,
     scrypt_thin_with_backend, scrypt_with_max_mem_counted,
 };
 use std::alloc::Global;
@@ -64,54 +61,6 @@ pub extern "C" fn scrypt_kdf(
         Err(DeriveError::InvalidOutputLen) => INVALID_OUTPUT_LEN,
         Err(DeriveError::OutOfMemory) => OUT_OF_MEMORY,
     }
-}
-
-/// Does what `scrypt_kdf` does, if the parameters are within the limits.
-///
-/// Returns `OK`, or the first of these: `INVALID_PARAMS`; `TOO_COSTLY` if the buffers with one
-/// table have more than `max_mem` bytes in total, or if the work, `4 * (2^log_n + 32) * r * p`,
-/// exceeds `max_work`; `INVALID_OUTPUT_LEN`; and `OUT_OF_MEMORY`. On an error the output is
-/// unchanged.
-#[unsafe(no_mangle)]
-pub extern "C" fn scrypt_kdf_limited(
-    alloc: Global,
-    password: &[u8],
-    salt: &[u8],
-    log_n: u8,
-    r: u32,
-    p: u32,
-    max_tables: usize,
-    max_mem: usize,
-    max_work: u64,
-    output: &mut [u8],
-) -> i32
-    ensures value { result ≡ OK → output.new ≡ derived_key password.now salt.now log_n r p (length output.old) }
-    ensures params { (result ≡ INVALID_PARAMS) ↔ (¬ IsTrue (are_accepted log_n r p)) }
-    ensures costly { (result ≡ TOO_COSTLY)
-        ↔ (IsTrue (are_accepted log_n r p)
-        × (¬ IsTrue (are_within (limits_of max_mem max_work 0) (params_of log_n r p)))) }
-    ensures length { (result ≡ INVALID_OUTPUT_LEN)
-        ↔ (IsTrue (are_accepted log_n r p)
-        × IsTrue (are_within (limits_of max_mem max_work 0) (params_of log_n r p))
-        × ¬ IsTrue (is_output_len (length output.old))) }
-    ensures status { (result ≡ OK) ⊎ (result ≡ INVALID_PARAMS) ⊎ (result ≡ TOO_COSTLY)
-        ⊎ (result ≡ INVALID_OUTPUT_LEN) ⊎ (result ≡ OUT_OF_MEMORY) }
-    ensures refused { result ≢ OK → output.new ≡ output.old }
-{
-    let Ok(params) = Params::new(log_n, r, p) else {
-        return INVALID_PARAMS;
-    };
-    let limits = Limits {
-        max_mem,
-        max_work,
-        min_key_len: 0,
-    };
-    if !limits.allow(&params) {
-        return TOO_COSTLY;
-    }
-    scrypt_kdf(
-        alloc, password, salt, log_n, r, p, max_tables, max_mem, output,
-    )
 }
 
 // With fewer words in a table, interleaving is slower than one chunk at a time.

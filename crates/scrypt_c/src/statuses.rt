@@ -8,14 +8,12 @@ ghost use Rattle.scrypt_c.specs.Statuses.{refusal_status};
 use password_hash::Error;
 use scrypt::LimitedError;
 
-/// The call succeeded; from `scrypt_verify`: the password has the same key as the hash.
+/// The call succeeded; from `scrypt_verify_limited`: the password has the same key as the hash.
 pub const OK: i32 = 0;
 
-/// `scrypt_verify`: the password has another key than the hash, or the hash has no key.
+/// `scrypt_verify_limited`: the password has another key than the hash, or the hash has no salt or
+/// no key.
 pub const MISMATCH: i32 = 1;
-
-/// `scrypt_needs_rehash`: the hash is weaker than wanted.
-pub const NEEDS_REHASH: i32 = 1;
 
 /// `log_n`, `r` and `p`, or the length of a key, are not accepted.
 pub const INVALID_PARAMS: i32 = 2;
@@ -62,8 +60,11 @@ pub const UNFINISHED: i32 = 20;
 /// `scrypt_key_step`: the progress is impossible for a key with these parameters.
 pub const INVALID_PROGRESS: i32 = 21;
 
+/// `scrypt_needs_rehash`: the hash is weaker than wanted, or has no salt or no key.
+pub const NEEDS_REHASH: i32 = 22;
+
 // Clauses use the names of the statuses; callers in C see their numbers.
-const _: () = prove!(OK == 0 && MISMATCH == 1 && NEEDS_REHASH == 1 && INVALID_PARAMS == 2);
+const _: () = prove!(OK == 0 && MISMATCH == 1 && INVALID_PARAMS == 2);
 
 const _: () = prove!(INVALID_OUTPUT_LEN == 3 && OUT_OF_MEMORY == 4 && ALGORITHM == 5);
 
@@ -73,7 +74,7 @@ const _: () = prove!(HASH_PARAMS_INVALID == 9 && SALT_INVALID == 10 && VERSION =
 
 const _: () = prove!(BUFFER_SIZE == 12 && TOO_COSTLY == 13 && KEY_TOO_SHORT == 15);
 
-const _: () = prove!(UNFINISHED == 20 && INVALID_PROGRESS == 21);
+const _: () = prove!(UNFINISHED == 20 && INVALID_PROGRESS == 21 && NEEDS_REHASH == 22);
 
 // Returns the status of an error.
 pub(crate) fn status_of(error: Error) -> i32

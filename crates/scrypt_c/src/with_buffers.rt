@@ -134,37 +134,13 @@ pub extern "C" fn scrypt_hash_mcf_with_buffers(
     }
 }
 
-/// Does what `scrypt_verify` does, in the caller's buffers. A key is derived if keys are compared.
+/// Does what `scrypt_verify_limited` does, in the caller's buffers. A key is derived if keys are
+/// compared.
 ///
-/// Returns `OK` as there, or the first of these: the first error of `scrypt_verify` before it
-/// allocates; `BUFFER_SIZE` if a buffer is shorter than `scrypt_buffer_lens` returns for the
-/// parameters of the hash with `s = 0`; and `MISMATCH` if the keys differ.
-#[unsafe(no_mangle)]
-pub extern "C" fn scrypt_verify_with_buffers(
-    password: &[u8],
-    text: &[u8],
-    chunks: &mut [u8],
-    table: &mut [u32],
-    scratch: &mut [u32],
-) -> i32
-    ensures status { result
-        ≡ buffers_status (verdict_in (buffers chunks.old table.old scratch.old)
-        password.now (bytes_reading text.now)) }
-    ensures left { LeftIn (IsLeft (bytes_reading text.now) (buffers chunks.old table.old scratch.old))
-        chunks.new table.new scratch.new }
-{
-    match stored_hash(text) {
-        Ok(hash) => verify(password, &hash, chunks, table, scratch),
-        Err(error) => short_status_of(error),
-    }
-}
-
-/// Does what `scrypt_verify_with_buffers` does if the hash is within the limits, because an
-/// untrusted hash chooses its own cost.
-///
-/// Returns the errors of `scrypt_verify_limited` before it allocates, however long the buffers are,
-/// and then the errors of `scrypt_verify_with_buffers`. A hash that exceeds the limits leaves the
-/// buffers unchanged.
+/// Returns `OK` as there, or the first of these: the errors of `scrypt_verify_limited` before it
+/// allocates, however long the buffers are; `BUFFER_SIZE` if a buffer is shorter than
+/// `scrypt_buffer_lens` returns for the parameters of the hash with `s = 0`; and `MISMATCH` if the
+/// keys differ.
 #[unsafe(no_mangle)]
 pub extern "C" fn scrypt_verify_limited_with_buffers(
     password: &[u8],
@@ -212,8 +188,8 @@ fn verify(
 /// caller's buffers. If there are fewer, pass empty texts for the last ones: an empty text is
 /// rejected without deriving a key.
 ///
-/// Writes to each status what `scrypt_verify_with_buffers` returns for that password and hash in
-/// these buffers, whatever the others are. All keys are derived in one batch if all hashes that are
+/// Writes to each status what `scrypt_verify_limited_with_buffers` returns, without limits, for that
+/// password and hash in these buffers, whatever the others are. All keys are derived in one batch if all hashes that are
 /// not rejected have the same `log_n` and `r` as the first of them, and each buffer is long enough
 /// for one derivation with the chunks of all: up to four chunks are then interleaved, one for each
 /// table and scratch. Otherwise the first is verified on its own, and the rest are tried in the
