@@ -51,7 +51,7 @@ proved-scrypt_tool: proved-scrypt
 # ---- Mutants that the prover or the compiler has to reject ----
 $(CRATE_MUTANTS): mutants-%:
 	$(TASK) $(PY) tools.gate.mutants $*
-$(CRATE_MUTANTS) must-not-compile new-user: proved-scrypt
+$(CRATE_MUTANTS) must-not-compile new-user: $(call proved,proved-scrypt)
 must-not-compile:
 	$(TASK) $(PY) tools.gate.must_not_compile edits
 new-user:
@@ -108,7 +108,7 @@ hostile: linked
 # ---- The program ----
 program: $(call proved,proved-scrypt_tool linked)
 	$(TASK) --needs cc:gcc /usr/include/bsd/readpassphrase.h:libbsd-dev tools/gate/program.sh
-$(CROSS:%=program-%): program-%: proved-scrypt_tool
+$(CROSS:%=program-%): program-%: $(call proved,proved-scrypt_tool)
 	$(TASK) $(call FOR,$*) $(PY) bindings.cross $* scrypt_tool
 $(CROSS:%=answers-%): answers-%: % program-%
 	$(TASK) $(call FOR,$*) env PRESET=$* tools/gate/program.sh

@@ -2,9 +2,9 @@
 # Runs the commands of README's *Build* on a fresh machine: a root of Debian 12 with make, python3, git and the
 # kit alone. A user without rights, in a clone, runs `make try` and `make run`, and finds `make lib` and `make test` stop at
 # once. Root, in the sources of an archive, without .git, runs `make test NO_INSTALL=1`, which stops too, then
-# `make run` and `make test`. Needs root, mmdebstrap, a network, and about the time of three gates. build/fresh.log has what
+# `make run` and `make test`. Needs root, mmdebstrap, a network, and an hour of four processors. build/fresh.log has what
 # each prints, and its time. If one fails, the root is kept.
-# usage: fresh.sh [setup]    with `setup`, without what is proved: it ends with the installation
+# usage: fresh.sh [setup]    with `setup`, without what is proved: it ends with the installation, and `make documents`
 set -euo pipefail
 unset CDPATH
 cd "$(dirname "$0")/../.."
@@ -23,9 +23,8 @@ date -u > "$log"
 # In a separate namespace for processes and mounts, so that none is left.
 inside() { # USER COMMAND
   unshare --mount --pid --fork --kill-child sh -c 'mount -t proc proc "$0/proc" && mount --rbind /dev "$0/dev" &&
-    mount --rbind -o ro /sys "$0/sys" && mount --bind "$1" "$0$1" && mount -o remount,ro,bind "$0$1" && exec chroot \
-    --userspec="$2" "$0" env -i PATH=/usr/local/bin:/usr/sbin:/usr/bin:/sbin:/bin HOME=~"$2" sh -c "cd ~$2/scrypt && $3"' \
-    "$root" "$kit" "$1" "$2" < /dev/null
+    mount --rbind /sys "$0/sys" && mount --bind "$1" "$0$1" && mount -o remount,ro,bind "$0$1" &&
+    exec chroot "$0" su - "$2" -c "cd scrypt && $3"' "$root" "$kit" "$1" "$2" < /dev/null
 }
 # try USER COMMAND TEXT [SECONDS] runs a command, whose output has this text. With SECONDS it has to fail, in so short a
 # time, and to print a line, beside make's.
@@ -48,7 +47,7 @@ try user "make lib" "$lacks" 5
 try user "make try" "^$key"
 try root "make test NO_INSTALL=1" "$lacks" 5
 if [ "${1:-}" = setup ]; then
-  try root "make setup-test" "^Installs these packages of Debian"
+  try root "make setup-test && make documents" "^[0-9]* passed, 0 failed$"
 else
   try user "make run" "^$key"
   try root "make run" "^$key"
