@@ -59,6 +59,7 @@ run: setup-run
 	@echo "Proves and builds the program, in about 8 minutes on four idle processors. The steps' logs are in build/log."
 	@$(PROVE) proved-scrypt_tool
 	@$(STEP) program --needs cc:gcc /usr/include/bsd/readpassphrase.h:libbsd-dev bindings/cli/build.sh
+	@[ -e build/bin/scrypt_tool ] || echo "build/bin/scrypt_tool, which asks for a password on a terminal, was not linked"
 	@echo "crates/scrypt_tool/out/scrypt_tool prints the first key of RFC 7914, section 12:"
 	@crates/scrypt_tool/out/scrypt_tool key 4 1 1 64 "" < /dev/null
 

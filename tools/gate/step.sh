@@ -2,7 +2,7 @@
 # Runs a command as a step of the gate or of make. Its output goes to build/log/NAME.log. One line has
 # the result and the time; if the step failed, the last lines of the log come first. With PROGRESS, a line
 # says that it begins, and others how many functions are checked, or which crates: one a minute, or, on a
-# terminal, one that changes.
+# terminal and without PROGRESS=lines, one that changes.
 #
 # usage: step.sh NAME [--needs COMMAND:PACKAGE ..] COMMAND ..
 # If a needed command (or file) is missing, nothing is run. A command that ran nothing ends with the status
@@ -30,7 +30,7 @@ packages() { sed -nE 's/.*\(packages? ([^()]*)\): not run.*/\1/p' "$log" | tr -s
 # What the prover said last, until this step ends.
 report() {
   local every=60 before="" after="\n" now
-  if [ -t 1 ]; then every=2 before=$clear after=""; fi
+  if [ -n "$clear" ]; then every=2 before=$clear after=""; fi
   for ((second = 1; ; second++)); do
     sleep 1
     kill -0 $$ 2> /dev/null || exit # it was killed
@@ -41,7 +41,8 @@ report() {
     fi
   done
 }
-if [ -t 1 ]; then clear="\r\033[K"; else clear=""; fi
+clear=""
+if [ -t 1 ] && [ "${PROGRESS:-}" != lines ]; then clear="\r\033[K"; fi
 
 if [ -n "$missing" ]; then
   echo "$name is not installed (packages${missing}): not run" > "$log"
