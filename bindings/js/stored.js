@@ -22,9 +22,20 @@ export function letters(bytes) {
 export const phcText = (salt, key, [logN, r, p]) =>
   `$scrypt$ln=${logN},r=${r},p=${p}$${base64(salt)}$${base64(key)}`;
 
+// It keeps a byte order mark, and fails for bytes that are not UTF-8.
+const UTF_8 = new TextDecoder('utf-8', { fatal: true, ignoreBOM: true });
+
+function textOf(salt) {
+  try {
+    return UTF_8.decode(salt);
+  } catch {
+    return '$';
+  }
+}
+
 export function mcfText(salt, key, [logN, r, p]) {
-  const text = new TextDecoder().decode(salt);
-  if (/[$\ufffd]/.test(text)) wrong('neither format can store this salt', 'SALT_INVALID');
+  const text = textOf(salt);
+  if (text.includes('$')) wrong('neither format can store this salt', 'SALT_INVALID');
   return `$7$${digits(logN, 1)}${digits(r, 5)}${digits(p, 5)}${text}$${letters(key)}`;
 }
 
