@@ -72,7 +72,7 @@ fn tables(rt: HostRuntime) -> Result<(), Fail> {
 // Parameters, the lengths of a password, a salt and a key, and the reason for the row.
 static LARGE: [((u8, u32, u32), [usize; 3], &str); 8] = [
     ((16, 8, 1), [0, 0, 32], "a table of 64 MiB"),
-    ((1, 1, 1 << 20), [0, 0, 32], "2^20 chunks"),
+    ((1, 1, 1 << 18), [0, 0, 32], "2^18 chunks"),
     ((4, 1, 1), [10 << 20, 1, 32], "a password of 10 MiB"),
     ((4, 1, 1), [5000, 64, 64], "the longest salt of a PHC hash"),
     ((4, 1, 1), [0, 65, 65], "a salt and a key of a byte more"),
