@@ -8,7 +8,8 @@ static const struct {
     ROW(OK, "success"),
     ROW(MISMATCH, "the password does not match the hash"),
     ROW(INVALID_PARAMS, "invalid scrypt parameters (r and p at least 1, 128 * r * 2^log_n below 2^64, "
-                        "r * p below 2^30, and a key in a hash of 10 to 64 bytes)"),
+                        "r * p below 2^30, and a key in a hash of 10 to 64 bytes; "
+                        "log_n is the logarithm of N, 14 for 16384)"),
     ROW(INVALID_OUTPUT_LEN, "the length of the key is not 1 to 137438953440 bytes"),
     ROW(OUT_OF_MEMORY, "out of memory"),
     ROW(ALGORITHM, "the hash names another algorithm"),

@@ -7,6 +7,7 @@ import (
 	"context"
 	"fmt"
 	"runtime"
+	"strings"
 	"sync/atomic"
 	"time"
 	"unsafe"
@@ -218,7 +219,9 @@ func (h *Hasher) Verify(ctx context.Context, text string, password []byte) error
 		return ErrClosed
 	}
 	raw := []byte(text)
-	if err := h.refusal(raw); err != nil {
+	if err := h.refusal(raw); err == ErrEncodingInvalid && looksLikeHash(password) {
+		return fmt.Errorf("%w: the hash comes first, and then the password", err)
+	} else if err != nil {
 		return err
 	}
 	return h.run(ctx, password, func(password []byte, ms milliseconds) status {
@@ -228,6 +231,10 @@ func (h *Hasher) Verify(ctx context.Context, text string, password []byte) error
 		}
 		return C.scrypt_hasher_verify(h.of.c, pointer(password), size(password), at, size(raw), ms)
 	})
+}
+
+func looksLikeHash(text []byte) bool {
+	return strings.HasPrefix(string(text), "$scrypt$") || strings.HasPrefix(string(text), "$7$")
 }
 
 // refusal returns the error of a hash that is rejected, with its cost; nil for an empty text.
@@ -362,11 +369,7 @@ func (params Params) cost() string {
 	if err == nil {
 		return inWords(cost)
 	}
-	words := fmt.Sprintf("LogN %d, R %d and P %d are not accepted", params.LogN, params.R, params.P)
-	if params.LogN < 0 || params.LogN > 63 {
-		words += ": LogN is the logarithm of N, from 0 to 63"
-	}
-	return words
+	return fmt.Sprintf("LogN %d, R %d and P %d are not accepted", params.LogN, params.R, params.P)
 }
 
 func inWords(cost C.scrypt_cost) string {

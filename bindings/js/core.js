@@ -77,9 +77,9 @@ export class Scrypt {
     });
   }
 
-  verify(attempted, text, given) {
-    const [password, canMatch] = attempt(attempted);
-    const wanted = verifyOptions(optionsOf(given, 'verify'));
+  verify(...args) {
+    const { password, text, options, canMatch } = attempt(args);
+    const wanted = verifyOptions(optionsOf(options, 'verify'));
     if (isNone(text)) return this.#run({ password }, (it, slice) => ofNobody(it, slice, wanted));
     return this.#run({ password, text }, (it, ...slices) => {
       const limits = limitsOf(it, wanted);
@@ -89,10 +89,10 @@ export class Scrypt {
   }
 
   /** The same in steps; the event loop runs between them. */
-  async verifyAsync(attempted, text, given) {
-    const [password, canMatch] = attempt(attempted);
-    const { onProgress, signal, ...options } = optionsOf(given, 'verify', 'steps');
-    const wanted = verifyOptions(options);
+  async verifyAsync(...args) {
+    const { password, text, options, canMatch } = attempt(args);
+    const { onProgress, signal, ...others } = optionsOf(options, 'verify', 'steps');
+    const wanted = verifyOptions(others);
     const values = isNone(text) ? { password } : { password, text };
     return await this.#runInSteps(values, function* work(it, passwordSlice, textSlice) {
       if (textSlice === undefined) return yield* ofNobodyInSteps(it, passwordSlice, wanted);

@@ -32,7 +32,7 @@ export function errorOfHash(error, password = new Uint8Array()) {
   if (!REFUSALS.has(error.code)) return error;
   const isHash = /^\$(scrypt|7)\$/.test(new TextDecoder().decode(password.subarray(0, 8)));
   const isSwapped = isHash && error.code === 'ENCODING_INVALID';
-  const hint = isSwapped ? ': verify takes the password first, and then the text' : '';
+  const hint = isSwapped ? ': the password comes first, and then the hash' : '';
   return new RefusedHashError(error.code, error.message + hint);
 }
 

@@ -27,11 +27,11 @@ export async function hash(password, given) {
 
 /** Verifies a password against the text of a hash, in a worker. Without a text the result is false,
  * after the work of a new hash. */
-export async function verify(attempted, text, given) {
-  const [password, canMatch] = attempt(attempted);
-  const [how, options] = parted(optionsOf(given, 'verify', 'steps', 'worker'));
+export async function verify(...args) {
+  const { password, text, options, canMatch } = attempt(args);
+  const [how, limits] = parted(optionsOf(options, 'verify', 'steps', 'worker'));
   const [copy, textCopy] = copiesOf(isNone(text) ? { password } : { password, text });
-  return await call('verify', [copy, textCopy, options], how) && canMatch;
+  return await call('verify', [copy, textCopy, limits], how) && canMatch;
 }
 
 // Calls that only read a text take microseconds. The memory for a long text is not kept.

@@ -110,7 +110,8 @@ def javascript():
     yield from ("", "/** The name and the words of each status. */", "export const WORDS = new Map([")
     words = header.words_of(read("bindings/c/status.c"))
     for name in filter(proved.get, words):
-        yield f"  [{name}, ['{name}', '{words[name].replace('2^log_n', 'N')}']],"
+        in_n = words[name].replace("2^log_n", "N").replace("; log_n is the logarithm of N, 14 for 16384", "")
+        yield f"  [{name}, ['{name}', '{in_n}']],"
     yield "]);"
 
 

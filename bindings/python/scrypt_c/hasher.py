@@ -19,7 +19,16 @@ from .arguments import (
     raw_text,
     seconds,
 )
-from .declared import KEY_TOO_SHORT, NEEDS_REHASH, OUT_OF_MEMORY, SALT_INVALID, TIMEOUT, TOO_COSTLY
+from .declared import (
+    ENCODING_INVALID,
+    KEY_TOO_SHORT,
+    NEEDS_REHASH,
+    OK,
+    OUT_OF_MEMORY,
+    SALT_INVALID,
+    TIMEOUT,
+    TOO_COSTLY,
+)
 from .errors import InvalidParamsError, VerifyMismatchError, check
 from .params import Params, accepted, check_costs, cost_of
 
@@ -158,8 +167,10 @@ class PasswordHasher:
         raises VerifyMismatchError, so that its time does not reveal whether there is such a user.
         """
         raw, secret = None if hash is None else raw_text(hash), raw_password(password)
-        arguments = secret, len(secret), raw, len(raw or b"")
-        self._check(self._run(library.hasher_verify, *arguments), raw)
+        status = self._run(library.hasher_verify, secret, len(secret), raw, len(raw or b""))
+        is_swapped = status == ENCODING_INVALID and secret.startswith((b"$scrypt$", b"$7$"))
+        check(status if is_swapped else OK, "the hash comes first, and then the password")
+        self._check(status, raw)
         return True
 
     def verify_and_update(

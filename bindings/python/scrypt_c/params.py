@@ -19,8 +19,7 @@ def accepted(log_n: int, r: int, p: int) -> tuple[int, int, int]:
     never 0, which could mean the default in C."""
     log_n, r, p = number(log_n, "log_n"), number(r, "r"), number(p, "p")
     if not (0 <= log_n <= 63 and 0 < r < 1 << 32 and 0 < p < 1 << 32):
-        hint = "; log_n is the logarithm of N, and at most 63" if log_n > 63 else ""
-        check(INVALID_PARAMS, f"log_n={log_n}, r={r}, p={p}{hint}")
+        check(INVALID_PARAMS, f"log_n={log_n}, r={r}, p={p}")
     return log_n, r, p
 
 

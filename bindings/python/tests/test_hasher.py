@@ -33,7 +33,7 @@ REFUSED = [
     (InvalidParamsError, RANGES, made, [
         *each("log_n", 57, 260, 4 + B64, -252), *each("r", 0, 8 + B32, 8 - B32),
         *each("p", 1 + B32, -1, 1 << 27), {"log_n": 0, "r": 0, "p": 0}]),
-    (InvalidParamsError, "; log_n is the logarithm of N", made, each("log_n", 64, 1 << 17)),
+    (InvalidParamsError, "; log_n is the logarithm of N, 14 for 16384", made, each("log_n", 64, 1 << 17)),
     (InvalidParamsError, "10 to 64 bytes, not", made, each("key_len", 9, 65, 32 + B64, 32 - B64)),
     (InvalidParamsError, RANGES, lambda it: it.memory + it.cores + it.work,
      each("it", Params(260), Params(-1), Params(4, 8 + B32), Params(4, 8, -1))),

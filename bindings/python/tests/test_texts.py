@@ -61,6 +61,14 @@ class Texts(unittest.TestCase):
             for reads in (hasher.check_needs_rehash, params_of):
                 self.assertEqual(outcome(reads, text)[0], status if unread else "OK", text)
 
+    def test_swapped_arguments(self):
+        for text in ("$scrypt$ln=4", b"$7$"):
+            name, error = outcome(PasswordHasher().verify, "pw", text)
+            self.assertEqual((name, type(error)), ("ENCODING_INVALID", scrypt_c.InvalidHashError))
+            self.assertRegex(str(error), ": the hash comes first, and then the password$")
+        _, error = outcome(PasswordHasher().verify, "pw", "other")
+        self.assertNotIn("first", str(error))
+
     def test_no_key(self):
         """A damaged hash, whether its salt is there or not: for the log, and to be replaced."""
         hasher = PasswordHasher()

@@ -40,6 +40,8 @@ pub enum Error {
     Algorithm,
     /// The text does not have the grammar of its format.
     EncodingInvalid,
+    /// The same, and the password begins like a hash: the hash comes first, and then the password.
+    ArgumentsSwapped,
     /// The text has no key, or one that is too long.
     OutputSize,
     /// A parameter in the text is not a decimal in its range.
@@ -124,6 +126,7 @@ impl Error {
             Error::TooCostly(_) => TOO_COSTLY,
             Error::KeyTooShort { .. } => KEY_TOO_SHORT,
             Error::Status(status) => *status,
+            Error::ArgumentsSwapped => ENCODING_INVALID,
             plain => BY_STATUS.iter().find(|it| it.1 == *plain).map_or(OK, |it| it.0),
         }
     }
@@ -183,6 +186,9 @@ impl fmt::Display for Error {
         let words = words_of(self.status());
         match self {
             Error::NoParams => f.write_str("even log_n=10, r=8, p=1 take more time, or memory"),
+            Error::ArgumentsSwapped => {
+                write!(f, "{words}: the hash comes first, and then the password")
+            }
             Error::Cancelled => f.write_str("the caller left the derivation"),
             Error::Status(status) => write!(f, "status {status}: {words}"),
             Error::TooCostly(cost) => write!(f, "{words}: {cost}"),

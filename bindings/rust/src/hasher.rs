@@ -268,6 +268,11 @@ impl Hasher {
         };
         match (status, text) {
             (TOO_COSTLY | KEY_TOO_SHORT, Some(text)) => Err(self.refusal(status, text)),
+            (ENCODING_INVALID, _)
+                if password.starts_with(b"$scrypt$") || password.starts_with(b"$7$") =>
+            {
+                Err(Error::ArgumentsSwapped)
+            }
             _ => Error::check(status),
         }
     }

@@ -96,6 +96,11 @@ fn limits() {
     let costly = words(&PHC.replace("ln=4", "ln=19"));
     assert!(costly.ends_with(wanted), "{costly}");
     assert!(words(&text).ends_with(": its length is 15, and at least 16 is required"));
+    for text in [PHC, MCF] {
+        let swapped = Hasher::default().verify("pw", text).unwrap_err();
+        assert!(swapped.is_invalid_hash(), "{swapped:?}");
+        assert!(swapped.to_string().ends_with(": the hash comes first, and then the password"));
+    }
     for damaged in [PHC.split_at(20).0, PHC.rsplit_once('$').unwrap().0] {
         let verdict = Hasher::default().verify(damaged, "");
         assert_eq!(verdict, Err(Error::OutputSize), "{damaged} has no key");
