@@ -96,7 +96,7 @@ enum scrypt_status {
   SCRYPT_OUTPUT_SIZE = 7,         /* the text has no key, or one that is too long */
   SCRYPT_HASH_PARAM_INVALID = 8,  /* a parameter in the text is not a decimal in its range */
   SCRYPT_HASH_PARAMS_INVALID = 9, /* parameters in the text are not accepted, or not scrypt's */
-  SCRYPT_VERSION = 11,            /* the hash names a version, but scrypt has no versions */
+  SCRYPT_VERSION = 11,            /* the hash has a version field, which scrypt does not define */
   /* Others: */
   SCRYPT_SALT_INVALID = 10,       /* the salt has a length that is not allowed */
   SCRYPT_BUFFER_SIZE = 12,        /* the length of a buffer is wrong, or the text does not fit */
@@ -105,7 +105,7 @@ enum scrypt_status {
   SCRYPT_KEY_TOO_SHORT = 15,      /* the key in the text is shorter than the limits allow */
   SCRYPT_NULL_POINTER = 16,       /* a pointer that may not be NULL is NULL */
   SCRYPT_CLOSED = 17,             /* the hasher is closed */
-  SCRYPT_TIMEOUT = 18,            /* the call got no slot of the hasher before its timeout */
+  SCRYPT_TIMEOUT = 18,            /* timed out waiting for a free slot in the hasher */
   SCRYPT_OPTIONS_SIZE = 19,       /* the size in the options is not sizeof (scrypt_options) */
   SCRYPT_UNFINISHED = 20,         /* not all chunks of a derivation in steps are mixed */
   SCRYPT_INVALID_PROGRESS = 21,   /* of JavaScript's module: no derivation has this progress */

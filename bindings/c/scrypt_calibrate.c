@@ -26,7 +26,7 @@ int main(int argc, char **argv) {
   }
   status = scrypt_calibrate(seconds, (size_t)(mib * (1 << 20)), &log_n, &r, &p);
   if (status == SCRYPT_TOO_COSTLY) {
-    fprintf(stderr, "10 8 1 take more than %s seconds, or more than %s MiB\n", argv[1], argv[2]);
+    fprintf(stderr, "even 10 8 1 exceeds %s seconds or %s MiB\n", argv[1], argv[2]);
     return USAGE;
   }
   if (status != SCRYPT_OK) {

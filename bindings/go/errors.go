@@ -38,13 +38,13 @@ const (
 	ErrHashParamInvalid Error = C.SCRYPT_HASH_PARAM_INVALID
 	// ErrHashParamsInvalid: the parameters in the hash are not accepted, or are not scrypt's.
 	ErrHashParamsInvalid Error = C.SCRYPT_HASH_PARAMS_INVALID
-	// ErrVersion: the hash names a version, and scrypt has none.
+	// ErrVersion: the hash has a version field, which scrypt does not define.
 	ErrVersion Error = C.SCRYPT_VERSION
-	// ErrTooCostly: the parameters need more memory or more work than is allowed.
+	// ErrTooCostly: the hash or parameters exceed the limits on memory or work.
 	ErrTooCostly Error = C.SCRYPT_TOO_COSTLY
 	// ErrNoRandomBytes: the system has no random bytes for a salt.
 	ErrNoRandomBytes Error = C.SCRYPT_NO_RANDOM_BYTES
-	// ErrKeyTooShort: the key in the hash is shorter than is allowed.
+	// ErrKeyTooShort: the key in the hash is shorter than the limits allow.
 	ErrKeyTooShort Error = C.SCRYPT_KEY_TOO_SHORT
 	// ErrClosed: the Hasher is closed, or was not created by NewHasher.
 	ErrClosed Error = C.SCRYPT_CLOSED

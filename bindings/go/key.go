@@ -59,7 +59,7 @@ func made(N, r, p, keyLen int, derive func(C.scrypt_cost, []byte) error) ([]byte
 	cost, err := params.costs()
 	switch {
 	case N < 1 || N&(N-1) != 0:
-		return nil, fmt.Errorf("%w: N is %d, and has to be a power of two", ErrInvalidParams, N)
+		return nil, fmt.Errorf("%w: N must be a power of two: %d", ErrInvalidParams, N)
 	case err != nil:
 		return nil, fmt.Errorf("%w: N is %d, r is %d and p is %d", err, N, r, p)
 	}

@@ -29,7 +29,7 @@ func StoredText(salt, key []byte, N, r, p int) (string, error) {
 // storedText is like StoredText, but accepts N below 64.
 func storedText(salt, key []byte, N, r, p int) (string, error) {
 	if N < 1 || N&(N-1) != 0 {
-		return "", fmt.Errorf("%w: N is %d, and has to be a power of two", ErrInvalidParams, N)
+		return "", fmt.Errorf("%w: N must be a power of two: %d", ErrInvalidParams, N)
 	}
 	if len(key) == 0 {
 		return "", fmt.Errorf("%w: there is no key", ErrInvalidOutputLen)

@@ -194,8 +194,8 @@ func TestRejectedArguments(t *testing.T) {
 		{verify(huge, Options{MaxMem: most, MaxWork: most}), ErrOutOfMemory, ""},
 		{fault(hasher.HashWithSalt(ctx, nil, nil)), ErrSaltInvalid, ""},
 		{fault(hasher.Key(ctx, nil, nil, 0)), ErrInvalidOutputLen, ""},
-		{key(15, 8, 1, 32), ErrInvalidParams, "N is 15, and has to be a power of two"},
-		{key(-16, 8, 1, 32), ErrInvalidParams, "N is -16"},
+		{key(15, 8, 1, 32), ErrInvalidParams, "N must be a power of two: 15"},
+		{key(-16, 8, 1, 32), ErrInvalidParams, "N must be a power of two: -16"},
 		{key(16, 0, 1, 1<<36), ErrInvalidParams, "r and p at least 1"}, // before the key takes memory
 		{key(16, 1, 1+1<<32, 32), ErrInvalidParams, "p is 4294967297"},
 		{key(16, 8, 1, 137438953441), ErrInvalidOutputLen, "1 to 137438953440 bytes"},

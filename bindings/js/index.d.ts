@@ -120,7 +120,7 @@ export type ErrorCode =
   | 'ENCODING_INVALID'
   /** The text has PHC form, but names another algorithm, such as argon2id. */
   | 'ALGORITHM'
-  /** The hash in PHC form names a version. */
+  /** The hash in PHC form has a version field. */
   | 'VERSION'
   /** The hash has no key. */
   | 'OUTPUT_SIZE'

@@ -7,7 +7,7 @@ trap 'rm -f "$room"' EXIT
 "$@" 10.1 16 | grep -xE '1[0-9] 8 [1-9][0-9]*' > /dev/null
 while read -r words; do
   # shellcheck disable=SC2086 # several words
-  if "$@" $words > "$room" 2>&1 || [ $? != 2 ] || ! grep -qE '^usage|^10 8 1' "$room"; then
+  if "$@" $words > "$room" 2>&1 || [ $? != 2 ] || ! grep -qE '^usage|^even 10 8 1 exceeds' "$room"; then
     echo "scrypt_calibrate $words: not refused by name" >&2
     exit 1
   fi

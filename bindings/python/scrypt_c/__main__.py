@@ -31,7 +31,7 @@ def _options(arguments: Optional[Sequence[str]]) -> argparse.Namespace:
     parser.add_argument("--seconds", type=float, help=words)
     options = parser.parse_args(arguments)
     if options.n < 1:
-        parser.error(f"-n is positive, not {options.n}")
+        parser.error(f"-n must be at least 1: {options.n}")
     return options
 
 

@@ -20,13 +20,13 @@ def raw_bytes(data: Bytes, what: str, kinds: str = "bytes-like") -> bytes:
     try:
         return memoryview(data).tobytes()
     except TypeError:
-        raise TypeError(f"{what} is {kinds}, not {type(data).__name__}") from None
+        raise TypeError(f"{what} must be {kinds}, not {type(data).__name__}") from None
 
 
 def raw_password(password: Password) -> bytes:
     """Returns the bytes of a password; a str is encoded as UTF-8."""
     if not isinstance(password, str):
-        return raw_bytes(password, "a password", "a str or bytes-like")
+        return raw_bytes(password, "a password", "str or bytes-like")
     try:
         return str.encode(password)
     except UnicodeEncodeError:
@@ -41,7 +41,7 @@ def raw_text(text: Union[str, bytes]) -> bytes:
         return str.encode(text, errors="surrogatepass")
     if isinstance(text, bytes):
         return raw_bytes(text, "a hash")
-    raise TypeError(f"a hash is a str or bytes, not {type(text).__name__}")
+    raise TypeError(f"a hash must be str or bytes, not {type(text).__name__}")
 
 
 def number(value: int, what: str) -> int:
@@ -49,7 +49,7 @@ def number(value: int, what: str) -> int:
     try:
         return operator.index(value)
     except TypeError:
-        raise TypeError(f"{what} is an int, not {type(value).__name__}") from None
+        raise TypeError(f"{what} must be an int, not {type(value).__name__}") from None
 
 
 def in_64_bits(value: int, what: str) -> int:
@@ -63,7 +63,7 @@ def seconds(value: Optional[float], what: str) -> Optional[float]:
     if value is None:
         return None
     if not isinstance(value, (int, float)):
-        raise TypeError(f"{what} is a number of seconds, not {type(value).__name__}")
+        raise TypeError(f"{what} must be a number of seconds, not {type(value).__name__}")
     if not value >= 0:  # also if it is not a number
-        raise ValueError(f"{what} is not negative, as {value} is")
+        raise ValueError(f"{what} must not be negative: {value}")
     return min(value, threading.TIMEOUT_MAX)

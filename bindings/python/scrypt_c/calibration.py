@@ -25,9 +25,9 @@ def calibrate(seconds: float, max_mem: int = DEFAULT_MAX_MEM) -> Params:
     """
     time_of(seconds, "seconds")
     if not 0 < seconds <= MAX_SECONDS:
-        raise ValueError(f"seconds is positive and at most {MAX_SECONDS:g}, not {seconds}")
+        raise ValueError(f"seconds must be above 0 and at most {MAX_SECONDS:g}: {seconds}")
     log_n, r, p = ctypes.c_uint32(), ctypes.c_uint32(), ctypes.c_uint32()
     status = library.calibrate(float(seconds), in_64_bits(max_mem, "max_mem"), log_n, r, p)
-    least = f"even log_n=10, r=8, p=1 take more than {seconds} seconds, or {max_mem} bytes"
+    least = f"even log_n=10, r=8, p=1 exceeds {seconds} seconds or {max_mem} bytes"
     check(status, least if status == TOO_COSTLY else "")
     return Params(log_n.value, r.value, p.value)

@@ -90,13 +90,13 @@ class PasswordHasher:
     ) -> None:
         self._params = Params(*accepted(log_n, r, p), number(key_len, "key_len"))
         if not 10 <= self._params.key_len <= 64:
-            words = f"the key of a hash has 10 to 64 bytes, not {key_len}"
+            words = f"the key of a hash must have 10 to 64 bytes: key_len={key_len}"
             raise InvalidParamsError("SCRYPT_INVALID_PARAMS", words)
         salt_len = number(salt_len, "salt_len")
         if not 1 <= salt_len <= 64:
             check(SALT_INVALID, f"salt_len={salt_len}")
         if max_tables is not None and number(max_tables, "max_tables") < 1:
-            raise ValueError(f"max_tables is positive, not {max_tables}")
+            raise ValueError(f"max_tables must be at least 1: {max_tables}")
         self._timeout = seconds(timeout, "timeout")
         # As they were passed: None depends on the machine, and a copy may be on another machine.
         most = {"max_mem": max_mem, "max_work": max_work, "max_tables": max_tables}

@@ -39,7 +39,7 @@ def scrypt(
     n, maxmem, dklen = number(n, "n"), number(maxmem, "maxmem"), number(dklen, "dklen")
     params = Params(*accepted(log_of(n), r, p))
     if maxmem < 0:
-        raise ValueError(f"maxmem is not negative, as {maxmem} is")
+        raise ValueError(f"maxmem must not be negative: {maxmem}")
     max_work = NO_LIMIT if max_work is None else in_64_bits(max_work, "max_work")
     max_mem = in_64_bits(maxmem or NO_LIMIT, "maxmem")
     status, cost = cost_of(params, max_mem, max_work)  # raises if they are not accepted
@@ -55,7 +55,7 @@ def scrypt(
 def log_of(n: int) -> int:
     """Returns the logarithm of a power of two. Raises InvalidParamsError for other numbers."""
     if n < 1 or n & (n - 1):
-        raise InvalidParamsError("SCRYPT_INVALID_PARAMS", f"n is a power of two, not {n}")
+        raise InvalidParamsError("SCRYPT_INVALID_PARAMS", f"n must be a power of two: {n}")
     return n.bit_length() - 1
 
 

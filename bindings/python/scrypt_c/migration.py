@@ -54,7 +54,7 @@ def _text(salt: Bytes, key: Bytes, n: int, r: int, p: int, key_len: int = 0) -> 
     if key_len and len(key) != key_len:
         raise ValueError(f"the key has {len(key)} bytes, where the program writes {key_len}")
     if n < 1 or n & (n - 1):
-        raise ValueError(f"n is a power of two, which {n} is not")
+        raise ValueError(f"n must be a power of two: {n}")
     if not key:
         raise ValueError("there is no key")
     params = accepted(n.bit_length() - 1, r, p)

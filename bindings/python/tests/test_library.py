@@ -58,7 +58,7 @@ class Library(unittest.TestCase):
             ("-n 2 --log-n 4 -r 3 -p 2 -l 20", 0, f"^log_n=4, r=3, p=2, key_len=20: {measured}"),
             ("-n 2 --seconds 0.1", 0, r"^log_n=\d+, r=8, p=\d+, key_len=32: \d+ bytes\na hash: "),
             ("--log-n 131072", 1, "^python -m scrypt_c: invalid scrypt parameters"),
-            ("--seconds nan", 1, "^python -m scrypt_c: seconds is "),
-            ("-n 0", 2, "-n is positive, not 0"),
+            ("--seconds nan", 1, "^python -m scrypt_c: seconds must"),
+            ("-n 0", 2, "-n must be at least 1: 0"),
         ]:
             self.runs(code, words, "-m", "scrypt_c", *arguments.split())

@@ -18,7 +18,7 @@ pub enum DeriveError {
     InvalidOutputLen,
     /// The memory is not available.
     OutOfMemory,
-    /// The caller left the derivation.
+    /// The derivation was cancelled.
     Cancelled,
     /// A status of a newer library.
     Status(i32),
@@ -50,12 +50,12 @@ pub enum Error {
     ParamsInvalid,
     /// The salt has a length that is not allowed.
     SaltInvalid,
-    /// The hash names a version, and scrypt has none.
+    /// The hash has a version field, which scrypt does not define.
     Version,
-    /// The parameters need more memory or more work than is allowed. Nothing was derived.
+    /// The hash or parameters exceed the limits on memory or work. Nothing was derived.
     TooCostly(Cost),
-    /// The key in the hash is shorter than is allowed, so that too many wrong passwords match it.
-    /// Nothing was derived.
+    /// The key in the hash is shorter than the limits allow, so that too many wrong passwords match
+    /// it. Nothing was derived.
     KeyTooShort {
         /// The length of the key in bytes.
         len: usize,
@@ -70,7 +70,7 @@ pub enum Error {
     Closed,
     /// The call did not get a slot of the hasher before its timeout expired.
     Timeout,
-    /// The caller left the derivation.
+    /// The derivation was cancelled.
     Cancelled,
     /// A status of a newer library.
     Status(i32),
@@ -185,11 +185,13 @@ impl fmt::Display for Error {
     fn fmt(&self, f: &mut fmt::Formatter<'_>) -> fmt::Result {
         let words = words_of(self.status());
         match self {
-            Error::NoParams => f.write_str("even log_n=10, r=8, p=1 take more time, or memory"),
+            Error::NoParams => {
+                f.write_str("even log_n=10, r=8, p=1 exceeds the time or memory limit")
+            }
             Error::ArgumentsSwapped => {
                 write!(f, "{words}: the hash comes first, and then the password")
             }
-            Error::Cancelled => f.write_str("the caller left the derivation"),
+            Error::Cancelled => f.write_str("the derivation was cancelled"),
             Error::Status(status) => write!(f, "status {status}: {words}"),
             Error::TooCostly(cost) => write!(f, "{words}: {cost}"),
             Error::KeyTooShort { len, min } => {

@@ -91,7 +91,7 @@ fn errors() {
         (Error::from(InvalidParams), InvalidParams.to_string()),
         (DeriveError::InvalidOutputLen.into(), DeriveError::InvalidOutputLen.to_string()),
         (DeriveError::OutOfMemory.into(), "out of memory".to_string()),
-        (DeriveError::Cancelled.into(), "the caller left the derivation".to_string()),
+        (DeriveError::Cancelled.into(), "the derivation was cancelled".to_string()),
     ] {
         assert_eq!(error.to_string(), words);
     }
