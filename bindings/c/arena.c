@@ -34,12 +34,12 @@ size_t arena_reserve(struct arena *arena, const scrypt_cost *one, size_t max) {
 
 struct buffers arena_buffers(const struct arena *arena, const scrypt_cost *one, size_t tables,
                              size_t logins) {
-  struct buffers of;
-  of.table_len = tables * one->table_len;
-  of.scratch_len = tables * one->scratch_len;
-  of.chunks_len = logins * one->chunks_len;
-  of.table = (uint32_t *)(void *)front_of(arena);
-  of.scratch = of.table + of.table_len;
-  of.chunks = (uint8_t *)(of.scratch + of.scratch_len);
-  return of;
+  struct buffers buffers;
+  buffers.table_len = tables * one->table_len;
+  buffers.scratch_len = tables * one->scratch_len;
+  buffers.chunks_len = logins * one->chunks_len;
+  buffers.table = (uint32_t *)(void *)front_of(arena);
+  buffers.scratch = buffers.table + buffers.table_len;
+  buffers.chunks = (uint8_t *)(buffers.scratch + buffers.scratch_len);
+  return buffers;
 }

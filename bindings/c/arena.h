@@ -10,8 +10,9 @@ struct buffers {
   size_t chunks_len, table_len, scratch_len;
 };
 
-#define ALL_OF(it) \
-  it.chunks, it.chunks_len, it.table, it.table_len, it.scratch, it.scratch_len
+#define ALL_OF(buffers) \
+  buffers.chunks, buffers.chunks_len, buffers.table, buffers.table_len, buffers.scratch, \
+      buffers.scratch_len
 
 /* Its initial state is all zeros. */
 struct arena {

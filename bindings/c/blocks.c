@@ -50,15 +50,15 @@ void *clearing_malloc(size_t len);
 void *clearing_realloc(void *block, size_t len);
 
 void clearing_free(void *block) {
-  struct head is;
+  struct head head;
   if (block == NULL) return;
-  is = *head_of(block);
-  if (is.len >= LARGE) {
-    if (!unmap(is.start, is.len + BESIDE)) overwrite((uint8_t *)block, is.len);
+  head = *head_of(block);
+  if (head.len >= LARGE) {
+    if (!unmap(head.start, head.len + BESIDE)) overwrite((uint8_t *)block, head.len);
     return;
   }
-  overwrite((uint8_t *)block, is.len);
-  free(is.start);
+  overwrite((uint8_t *)block, head.len);
+  free(head.start);
 }
 
 static uint8_t *with_head(uint8_t *block, uint8_t *start, size_t len) {

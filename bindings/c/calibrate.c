@@ -13,10 +13,10 @@ static double now(void) { return (double)now_ns() * 1e-9; }
 /* Measures one derivation in one table, which a hasher keeps: the minimum of several times; the
  * first derivation maps it. */
 static int measure(uint32_t log_n, double *seconds) {
-  scrypt_options with = {sizeof with, log_n, R, 1, 0, 0, 0, SIZE_MAX, UINT64_MAX, 0, 1, 1};
+  scrypt_options options = {sizeof options, log_n, R, 1, 0, 0, 0, SIZE_MAX, UINT64_MAX, 0, 1, 1};
   uint8_t key[SCRYPT_KEY_LEN];
   int status, i;
-  scrypt_hasher *hasher = scrypt_hasher_new(&with, &status);
+  scrypt_hasher *hasher = scrypt_hasher_new(&options, &status);
   for (i = 0; i < TRIES && status == SCRYPT_OK; i++) {
     double begun = now(), taken;
     status = scrypt_hasher_key(hasher, "", 0, "", 0, key, sizeof key, -1);
@@ -29,15 +29,16 @@ static int measure(uint32_t log_n, double *seconds) {
 
 int scrypt_calibrate(double seconds, size_t max_mem, uint32_t *log_n, uint32_t *r, uint32_t *p) {
   double taken = 0, best_taken = 0;
-  uint32_t it, best = 0;
+  uint32_t next, best = 0;
   int status = SCRYPT_TOO_COSTLY;
   if (log_n == NULL || r == NULL || p == NULL) return SCRYPT_NULL_POINTER;
   /* Twice the N takes about twice the time: try it if that may be within the limit. */
-  for (it = MIN_LOG_N; it <= MAX_LOG_N && (size_t)128 * R <= max_mem >> it && 1.8 * taken <= seconds; it++) {
-    status = measure(it, &taken);
+  for (next = MIN_LOG_N; next <= MAX_LOG_N && (size_t)128 * R <= max_mem >> next; next++) {
+    if (1.8 * taken > seconds) break;
+    status = measure(next, &taken);
     if (status == SCRYPT_OK && !(taken <= seconds)) status = SCRYPT_TOO_COSTLY;
     if (status != SCRYPT_OK) break;
-    best = it;
+    best = next;
     best_taken = taken;
   }
   if (best == 0) return status;

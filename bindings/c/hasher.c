@@ -105,9 +105,9 @@ static void dequeue(struct queue *queue, struct call *call) {
 
 /* Returns the first free slot, or NULL: the first slots are the narrowest, and used most. */
 static struct slot *find_free_slot(const scrypt_hasher *hasher) {
-  struct slot *it = hasher->queue->slots, *end = it + hasher->slots;
-  while (it < end && it->is_taken) it++;
-  return it < end ? it : NULL;
+  struct slot *slot = hasher->queue->slots, *end = slot + hasher->slots;
+  while (slot < end && slot->is_taken) slot++;
+  return slot < end ? slot : NULL;
 }
 
 static void assign_slot(struct queue *queue, struct slot *slot, struct call *call) {
@@ -141,9 +141,9 @@ static void release_slot(struct queue *queue, struct slot *slot) {
   assign_slot(queue, slot, first);
 }
 
-static int are_compatible(const struct call *it, const struct call *leader) {
-  return it->kind == VERIFY && it->cost.log_n == leader->cost.log_n &&
-         it->cost.r == leader->cost.r && it->cost.p == leader->cost.p;
+static int are_compatible(const struct call *call, const struct call *leader) {
+  return call->kind == VERIFY && call->cost.log_n == leader->cost.log_n &&
+         call->cost.r == leader->cost.r && call->cost.p == leader->cost.p;
 }
 
 /* Adds compatible calls to a batch, in the order of the queue, until it has `max`, or a slot's
@@ -152,15 +152,15 @@ static size_t extend_batch(scrypt_hasher *hasher, struct call **batch, size_t co
   struct queue *queue = hasher->queue;
   size_t calls = queue->stats.waiting + queue->stats.deriving, scanned = 0;
   size_t share = (calls + hasher->slots - 1) / hasher->slots;
-  struct call *it = queue->first, *next;
+  struct call *call = queue->first, *next;
   if (max > share) max = share;
-  for (; it != NULL && count < max && scanned < MAX_SCANNED; it = next, scanned++) {
-    next = it->next;
-    if (!are_compatible(it, batch[0])) continue;
-    dequeue(queue, it);
-    it->state = FOLLOWING;
+  for (; call != NULL && count < max && scanned < MAX_SCANNED; call = next, scanned++) {
+    next = call->next;
+    if (!are_compatible(call, batch[0])) continue;
+    dequeue(queue, call);
+    call->state = FOLLOWING;
     queue->stats.deriving++;
-    batch[count++] = it;
+    batch[count++] = call;
   }
   return count;
 }
@@ -211,26 +211,30 @@ static size_t form_batch(scrypt_hasher *hasher, struct call **batch, size_t max)
   return extend_batch(hasher, batch, count, max);
 }
 
-static int write_hash(const scrypt_options *with, const struct call *it, struct buffers of) {
-  return scrypt_hash_with_buffers(it->login.password, it->login.password_len, it->salt, it->salt_len,
-                                  with->log_n, with->r, with->p, with->key_len, with->mcf,
-                                  (char *)it->output, it->output_len, ALL_OF(of));
+static int write_hash(const scrypt_options *options, const struct call *call,
+                      struct buffers buffers) {
+  return scrypt_hash_with_buffers(call->login.password, call->login.password_len, call->salt,
+                                  call->salt_len, options->log_n, options->r, options->p,
+                                  options->key_len, options->mcf, (char *)call->output,
+                                  call->output_len, ALL_OF(buffers));
 }
 
-static int write_key(const scrypt_options *with, const struct call *it, struct buffers of) {
-  int status = scrypt_key_with_buffers(it->login.password, it->login.password_len, it->salt,
-                                       it->salt_len, with->log_n, with->r, with->p,
-                                       (uint8_t *)it->output, it->output_len, ALL_OF(of));
-  scrypt_wipe(of.chunks, of.chunks_len, of.table, 0, of.scratch, of.scratch_len);
+static int write_key(const scrypt_options *options, const struct call *call,
+                     struct buffers buffers) {
+  int status = scrypt_key_with_buffers(call->login.password, call->login.password_len, call->salt,
+                                       call->salt_len, options->log_n, options->r, options->p,
+                                       (uint8_t *)call->output, call->output_len, ALL_OF(buffers));
+  scrypt_wipe(buffers.chunks, buffers.chunks_len, buffers.table, 0, buffers.scratch,
+              buffers.scratch_len);
   return status;
 }
 
-static void verify_batch(struct call **batch, size_t count, int *statuses, struct buffers of) {
+static void verify_batch(struct call **batch, size_t count, int *statuses, struct buffers buffers) {
   scrypt_login logins[SCRYPT_MAX_LOGINS];
   size_t i;
   int status;
   for (i = 0; i < count; i++) logins[i] = batch[i]->login;
-  status = scrypt_verify_batch_with_buffers(logins, count, statuses, ALL_OF(of));
+  status = scrypt_verify_batch_with_buffers(logins, count, statuses, ALL_OF(buffers));
   (void)status; /* no error: nothing is NULL, and a batch has no more than four calls */
 }
 
@@ -244,10 +248,10 @@ static void derive(scrypt_hasher *hasher, struct call **batch, size_t count, siz
   size_t most = tables > cost->p ? tables / cost->p : 1, done;
   for (done = 0; done < count && tables > 0; done += most) {
     size_t part = most < count - done ? most : count - done;
-    struct buffers of = arena_buffers(arena, cost, tables, part);
-    if (batch[0]->kind == VERIFY) verify_batch(batch + done, part, statuses + done, of);
-    else if (batch[0]->kind == HASH) statuses[0] = write_hash(&hasher->options, batch[0], of);
-    else statuses[0] = write_key(&hasher->options, batch[0], of);
+    struct buffers buffers = arena_buffers(arena, cost, tables, part);
+    if (batch[0]->kind == VERIFY) verify_batch(batch + done, part, statuses + done, buffers);
+    else if (batch[0]->kind == HASH) statuses[0] = write_hash(&hasher->options, batch[0], buffers);
+    else statuses[0] = write_key(&hasher->options, batch[0], buffers);
   }
 }
 
@@ -282,7 +286,7 @@ static int run(scrypt_hasher *hasher, struct call *call, int64_t timeout_ms) {
 int scrypt_hasher_verify(scrypt_hasher *hasher, const void *password, size_t password_len,
                          const char *text, size_t text_len, int64_t timeout_ms) {
   struct call call = {.kind = VERIFY, .login = {password, password_len, text, text_len}};
-  const scrypt_options *with = scrypt_hasher_options(hasher);
+  const scrypt_options *options = scrypt_hasher_options(hasher);
   int status;
   if (hasher == NULL || is_null(password, password_len) || is_null(text, text_len))
     return SCRYPT_NULL_POINTER;
@@ -290,8 +294,8 @@ int scrypt_hasher_verify(scrypt_hasher *hasher, const void *password, size_t pas
     call.login.text = hasher->decoy;
     call.login.text_len = strlen(hasher->decoy);
   }
-  status = scrypt_hash_cost(call.login.text, call.login.text_len, with->max_mem,
-                            with->max_work, with->min_key_len, &call.cost);
+  status = scrypt_hash_cost(call.login.text, call.login.text_len, options->max_mem,
+                            options->max_work, options->min_key_len, &call.cost);
   if (status == SCRYPT_MISMATCH) return SCRYPT_OUTPUT_SIZE; /* no key: the hash is damaged */
   if (status == SCRYPT_OK) status = run(hasher, &call, timeout_ms);
   return text == NULL && status == SCRYPT_OK ? SCRYPT_MISMATCH : status;
@@ -302,7 +306,7 @@ int scrypt_hasher_hash(scrypt_hasher *hasher, const void *password, size_t passw
                        int64_t timeout_ms) {
   struct call call = {.kind = HASH, .login = {.password = password, .password_len = password_len},
                       .salt = salt, .salt_len = salt_len, .output = text, .output_len = capacity};
-  const scrypt_options *with = scrypt_hasher_options(hasher);
+  const scrypt_options *options = scrypt_hasher_options(hasher);
   uint8_t random_salt[MAX_SALT_LEN];
   if (hasher == NULL || is_null(password, password_len) || is_null(salt, salt_len) ||
       is_null(text, capacity))
@@ -310,13 +314,13 @@ int scrypt_hasher_hash(scrypt_hasher *hasher, const void *password, size_t passw
   call.cost = hasher->cost;
   if (salt == NULL) {
     call.salt = random_salt;
-    call.salt_len = with->salt_len;
+    call.salt_len = options->salt_len;
   }
-  if (!with->mcf && (call.salt_len == 0 || call.salt_len > MAX_SALT_LEN))
+  if (!options->mcf && (call.salt_len == 0 || call.salt_len > MAX_SALT_LEN))
     return SCRYPT_SALT_INVALID;
   /* Otherwise a PHC string that doesn't fit would be detected only after the derivation. */
   if (call.salt_len > capacity ||
-      capacity < (with->mcf ? SCRYPT_MCF_CAPACITY(call.salt_len) : SCRYPT_PHC_CAPACITY))
+      capacity < (options->mcf ? SCRYPT_MCF_CAPACITY(call.salt_len) : SCRYPT_PHC_CAPACITY))
     return SCRYPT_BUFFER_SIZE;
   if (salt == NULL && !random_bytes(random_salt, call.salt_len)) return SCRYPT_NO_RANDOM_BYTES;
   return run(hasher, &call, timeout_ms);
@@ -336,9 +340,10 @@ int scrypt_hasher_key(scrypt_hasher *hasher, const void *password, size_t passwo
 }
 
 int scrypt_hasher_needs_rehash(const scrypt_hasher *hasher, const char *text, size_t text_len) {
-  const scrypt_options *with = scrypt_hasher_options(hasher);
-  if (with == NULL) return SCRYPT_NULL_POINTER;
-  return scrypt_needs_rehash(text, text_len, with->log_n, with->r, with->p, with->key_len);
+  const scrypt_options *options = scrypt_hasher_options(hasher);
+  if (options == NULL) return SCRYPT_NULL_POINTER;
+  return scrypt_needs_rehash(text, text_len, options->log_n, options->r, options->p,
+                             options->key_len);
 }
 
 int scrypt_hasher_stats(scrypt_hasher *hasher, scrypt_stats *stats) {

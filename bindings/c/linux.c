@@ -24,25 +24,25 @@ int64_t now_ns(void) {
 
 int can_sleep_briefly(void) { return 1; }
 
-void mutex_lock(mutex *it) { (void)pthread_mutex_lock(it); }
+void mutex_lock(mutex *lock) { (void)pthread_mutex_lock(lock); }
 
-void mutex_unlock(mutex *it) { (void)pthread_mutex_unlock(it); }
+void mutex_unlock(mutex *lock) { (void)pthread_mutex_unlock(lock); }
 
 /* A futex instead of pthread_cond_t, which needs glibc 2.34 to wait by the monotonic clock, and is
  * a cancellation point. */
-void condition_wait(condition *it, mutex *with, int64_t deadline_ns) {
+void condition_wait(condition *changed, mutex *lock, int64_t deadline_ns) {
   const struct timespec deadline = {.tv_sec = (time_t)(deadline_ns / NS_OF_SECOND),
                                     .tv_nsec = (long)(deadline_ns % NS_OF_SECOND)};
-  uint32_t signals = it->signals;
-  mutex_unlock(with);
-  (void)syscall(SYS_futex, &it->signals, FUTEX_WAIT_BITSET_PRIVATE, signals,
+  uint32_t signals = changed->signals;
+  mutex_unlock(lock);
+  (void)syscall(SYS_futex, &changed->signals, FUTEX_WAIT_BITSET_PRIVATE, signals,
                 deadline_ns == NO_DEADLINE ? NULL : &deadline, NULL, FUTEX_BITSET_MATCH_ANY);
-  mutex_lock(with);
+  mutex_lock(lock);
 }
 
-void condition_signal(condition *it) {
-  it->signals++;
-  (void)syscall(SYS_futex, &it->signals, FUTEX_WAKE_PRIVATE, 1);
+void condition_signal(condition *changed) {
+  changed->signals++;
+  (void)syscall(SYS_futex, &changed->signals, FUTEX_WAKE_PRIVATE, 1);
 }
 
 void yield_processor(void) { (void)sched_yield(); }

@@ -9,7 +9,7 @@
 #define MAX_SLOTS 8192 /* the maximum number of processors of Linux */
 
 #define DEFAULT(field, value) \
-  if (with->field == 0) with->field = (value)
+  if (completed->field == 0) completed->field = (value)
 
 static size_t usable_memory(void) {
   size_t memory = memory_of_process();
@@ -26,54 +26,55 @@ static size_t default_max_mem(size_t limit, const scrypt_cost *new) {
 
 /* Two tables for each processor, or the number that fits into 7/8 of the memory if that is less:
  * tables of the maximum size or, if none of that size fits, tables of new hashes. */
-static size_t default_max_tables(const scrypt_options *with, const scrypt_cost *new) {
+static size_t default_max_tables(const scrypt_options *options, const scrypt_cost *new) {
   size_t usable = usable_memory();
-  size_t fit = usable / with->max_mem;
-  size_t two = 2 * (with->processors < MAX_SLOTS ? with->processors : MAX_SLOTS);
+  size_t fit = usable / options->max_mem;
+  size_t two = 2 * (options->processors < MAX_SLOTS ? options->processors : MAX_SLOTS);
   if (fit == 0) fit = usable / new->bytes;
   return fit == 0 ? 1 : fit < two ? fit : two;
 }
 
-int complete_options(const scrypt_options *given, scrypt_options *with, scrypt_cost *cost) {
+int complete_options(const scrypt_options *options, scrypt_options *completed, scrypt_cost *cost) {
   size_t max_mem, min_key_len;
   uint64_t max_work;
   int status;
-  if (given != NULL && given->size != sizeof *with) return SCRYPT_OPTIONS_SIZE;
-  *with = given != NULL ? *given : (scrypt_options){.size = sizeof *with};
-  if (with->log_n == 0 && with->r == 0 && with->p == 0) {
-    with->log_n = SCRYPT_RECOMMENDED_LOG_N;
-    with->r = SCRYPT_RECOMMENDED_R;
-    with->p = SCRYPT_RECOMMENDED_P;
+  if (options != NULL && options->size != sizeof *completed) return SCRYPT_OPTIONS_SIZE;
+  *completed = options != NULL ? *options : (scrypt_options){.size = sizeof *completed};
+  if (completed->log_n == 0 && completed->r == 0 && completed->p == 0) {
+    completed->log_n = SCRYPT_RECOMMENDED_LOG_N;
+    completed->r = SCRYPT_RECOMMENDED_R;
+    completed->p = SCRYPT_RECOMMENDED_P;
   }
   DEFAULT(key_len, SCRYPT_KEY_LEN);
   DEFAULT(salt_len, SCRYPT_SALT_LEN);
   DEFAULT(processors, processors_of_process());
-  if (with->key_len < 10 || with->key_len > 64) return SCRYPT_INVALID_PARAMS;
-  status = scrypt_default_limits(with->log_n, with->r, with->p, with->key_len, &max_mem,
+  if (completed->key_len < 10 || completed->key_len > 64) return SCRYPT_INVALID_PARAMS;
+  status = scrypt_default_limits(completed->log_n, completed->r, completed->p, completed->key_len, &max_mem,
                                  &max_work, &min_key_len);
   if (status != SCRYPT_OK) return status;
-  status = scrypt_params_cost(with->log_n, with->r, with->p, SIZE_MAX, UINT64_MAX, cost);
+  status = scrypt_params_cost(completed->log_n, completed->r, completed->p, SIZE_MAX, UINT64_MAX, cost);
   if (status != SCRYPT_OK) return status;
   DEFAULT(max_mem, default_max_mem(max_mem, cost));
   DEFAULT(max_work, max_work);
   DEFAULT(min_key_len, min_key_len);
   /* Otherwise new hashes would be rejected. */
-  if (with->min_key_len > with->key_len) return SCRYPT_INVALID_PARAMS;
-  if (with->salt_len > MAX_SALT_LEN) return SCRYPT_SALT_INVALID;
-  status = scrypt_params_cost(with->log_n, with->r, with->p, with->max_mem, with->max_work,
+  if (completed->min_key_len > completed->key_len) return SCRYPT_INVALID_PARAMS;
+  if (completed->salt_len > MAX_SALT_LEN) return SCRYPT_SALT_INVALID;
+  status = scrypt_params_cost(completed->log_n, completed->r, completed->p, completed->max_mem, completed->max_work,
                               cost);
   if (status != SCRYPT_OK) return status;
-  DEFAULT(max_tables, default_max_tables(with, cost));
+  DEFAULT(max_tables, default_max_tables(completed, cost));
   return SCRYPT_OK;
 }
 
-size_t slots_of(const scrypt_options *with) {
-  size_t slots = with->max_tables < with->processors ? with->max_tables : with->processors;
+size_t slots_of(const scrypt_options *options) {
+  size_t tables = options->max_tables, processors = options->processors;
+  size_t slots = tables < processors ? tables : processors;
   return slots < MAX_SLOTS ? slots : MAX_SLOTS;
 }
 
-size_t width_of_slot(const scrypt_options *with, size_t slots, size_t place) {
-  size_t width = with->max_tables / slots + (place >= slots - with->max_tables % slots);
+size_t width_of_slot(const scrypt_options *options, size_t slots, size_t place) {
+  size_t width = options->max_tables / slots + (place >= slots - options->max_tables % slots);
   return width < max_interleave() ? width : max_interleave();
 }
 

@@ -6,15 +6,15 @@
 
 #define MAX_SALT_LEN 64
 
-/* Writes the given options, or none if NULL, with zeros replaced by defaults, and the cost of a new
+/* Writes the options, or none if NULL, with zeros replaced by defaults, and the cost of a new
  * hash. Returns the errors of scrypt_hasher_new. */
-int complete_options(const scrypt_options *given, scrypt_options *with, scrypt_cost *cost);
+int complete_options(const scrypt_options *options, scrypt_options *completed, scrypt_cost *cost);
 
 /* The number of slots. */
-size_t slots_of(const scrypt_options *with);
+size_t slots_of(const scrypt_options *options);
 
 /* The number of tables of a slot: the last slots have one more if they cannot all have the same. */
-size_t width_of_slot(const scrypt_options *with, size_t slots, size_t place);
+size_t width_of_slot(const scrypt_options *options, size_t slots, size_t place);
 
 /* Writes a hash that costs as much as a new one, for logins without a hash. */
 void write_decoy(char text[SCRYPT_PHC_CAPACITY], const scrypt_options *with);

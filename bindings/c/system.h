@@ -31,14 +31,14 @@ int64_t now_ns(void);
 int can_sleep_briefly(void);
 
 /* The initial state of a mutex and of a condition is all zeros. */
-void mutex_lock(mutex *it);
-void mutex_unlock(mutex *it);
+void mutex_lock(mutex *lock);
+void mutex_unlock(mutex *lock);
 
 /* Unlocks the mutex until a signal or until a time of the clock; may wake spuriously. Not a
  * cancellation point. Only one thread may wait for a condition, and the signalling thread must hold
  * the mutex. */
-void condition_wait(condition *it, mutex *with, int64_t deadline_ns);
-void condition_signal(condition *it);
+void condition_wait(condition *changed, mutex *lock, int64_t deadline_ns);
+void condition_signal(condition *changed);
 
 /* Yields the processor to threads that are ready. */
 void yield_processor(void);

@@ -19,18 +19,18 @@ int64_t now_ns(void) {
 /* A sleep ends with a tick of the system: 64 in a second, unless the process asks for more. */
 int can_sleep_briefly(void) { return 0; }
 
-void mutex_lock(mutex *it) { AcquireSRWLockExclusive(it); }
+void mutex_lock(mutex *lock) { AcquireSRWLockExclusive(lock); }
 
-void mutex_unlock(mutex *it) { ReleaseSRWLockExclusive(it); }
+void mutex_unlock(mutex *lock) { ReleaseSRWLockExclusive(lock); }
 
 /* For 1 ms to a day, in whole milliseconds: with 0 a thread would spin. */
-void condition_wait(condition *it, mutex *with, int64_t deadline_ns) {
+void condition_wait(condition *changed, mutex *lock, int64_t deadline_ns) {
   int64_t day = 86400000;
   int64_t ms = deadline_ns == NO_DEADLINE ? day : (deadline_ns - now_ns()) / NS_OF_MILLISECOND + 1;
-  (void)SleepConditionVariableSRW(it, with, (DWORD)(ms < 1 ? 1 : ms > day ? day : ms), 0);
+  (void)SleepConditionVariableSRW(changed, lock, (DWORD)(ms < 1 ? 1 : ms > day ? day : ms), 0);
 }
 
-void condition_signal(condition *it) { WakeConditionVariable(it); }
+void condition_signal(condition *changed) { WakeConditionVariable(changed); }
 
 void yield_processor(void) { (void)SwitchToThread(); }
 

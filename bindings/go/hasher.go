@@ -60,7 +60,7 @@ type Options struct {
 // until Close. Create a Hasher with NewHasher: all methods of the zero value that return an error
 // return ErrClosed, except Close.
 type Hasher struct {
-	of *hasher
+	shared *hasher
 }
 
 // A hasher is freed when no Hasher and no call refers to it.
@@ -96,32 +96,32 @@ func NewHasher(options Options) (*Hasher, error) {
 		with.mcf = 1
 	}
 	var status C.int
-	of := &hasher{c: C.scrypt_hasher_new(&with, &status)}
-	if of.c == nil {
+	shared := &hasher{c: C.scrypt_hasher_new(&with, &status)}
+	if shared.c == nil {
 		return nil, fmt.Errorf("%w: %v: %+v", Error(status), options.Params.cost(), options)
 	}
 	// Each slot derives a batch of up to four calls, and four more wait in C to form the next
 	// batch.
-	derive := C.scrypt_hasher_options(of.c).processors
-	if tables := C.scrypt_hasher_options(of.c).max_tables; tables < derive {
+	derive := C.scrypt_hasher_options(shared.c).processors
+	if tables := C.scrypt_hasher_options(shared.c).max_tables; tables < derive {
 		derive = tables
 	}
 	if derive > mostInside/8 {
 		derive = mostInside / 8
 	}
-	of.inside = make(chan struct{}, 8*derive)
-	runtime.SetFinalizer(of, func(of *hasher) { C.scrypt_hasher_free(of.c) })
-	return &Hasher{of}, nil
+	shared.inside = make(chan struct{}, 8*derive)
+	runtime.SetFinalizer(shared, func(shared *hasher) { C.scrypt_hasher_free(shared.c) })
+	return &Hasher{shared}, nil
 }
 
 // Options returns the options of the Hasher, with each default replaced by its value. For the zero
 // value of a Hasher all are zero.
 func (h *Hasher) Options() Options {
-	if h.of == nil {
+	if h.shared == nil {
 		return Options{}
 	}
-	defer runtime.KeepAlive(h.of)
-	with := C.scrypt_hasher_options(h.of.c)
+	defer runtime.KeepAlive(h.shared)
+	with := C.scrypt_hasher_options(h.shared.c)
 	return Options{
 		Params:  Params{LogN: int(with.log_n), R: int(with.r), P: int(with.p), KeyLen: int(with.key_len)},
 		MCF:     with.mcf != 0,
@@ -139,22 +139,22 @@ type Stats struct {
 // Stats returns the current statistics, for metrics. For the zero value of a Hasher all are zero.
 func (h *Hasher) Stats() Stats {
 	var now C.scrypt_stats
-	if h.of == nil || C.scrypt_hasher_stats(h.of.c, &now) != C.SCRYPT_OK {
+	if h.shared == nil || C.scrypt_hasher_stats(h.shared.c, &now) != C.SCRYPT_OK {
 		return Stats{}
 	}
-	waiting := h.of.calls.Load() - int64(now.deriving) // includes calls that are not in C
+	waiting := h.shared.calls.Load() - int64(now.deriving) // includes calls that are not in C
 	if waiting < 0 {
 		waiting = 0
 	}
-	return Stats{int(waiting), int(now.deriving), h.of.refused.Load()}
+	return Stats{int(waiting), int(now.deriving), h.shared.refused.Load()}
 }
 
 // Close frees the memory that the Hasher keeps; the memory of a running derivation is freed when it
 // ends. Waiting and later calls return ErrClosed. Close always returns nil.
 func (h *Hasher) Close() error {
-	if h.of != nil {
-		C.scrypt_hasher_close(h.of.c)
-		runtime.KeepAlive(h.of)
+	if h.shared != nil {
+		C.scrypt_hasher_close(h.shared.c)
+		runtime.KeepAlive(h.shared)
 	}
 	return nil
 }
@@ -179,7 +179,7 @@ func (h *Hasher) hash(ctx context.Context, password, salt []byte) (string, error
 	}
 	text := make([]byte, C.text_capacity(size(salt)))
 	err := h.run(ctx, password, func(password []byte, ms milliseconds) status {
-		return C.scrypt_hasher_hash(h.of.c, pointer(password), size(password), at, size(salt),
+		return C.scrypt_hasher_hash(h.shared.c, pointer(password), size(password), at, size(salt),
 			chars(text), size(text), ms)
 	})
 	if err != nil {
@@ -197,7 +197,7 @@ func (h *Hasher) Key(ctx context.Context, password, salt []byte, keyLen int) ([]
 	}
 	salt = append([]byte{}, salt...)
 	err = h.run(ctx, password, func(password []byte, ms milliseconds) status {
-		return C.scrypt_hasher_key(h.of.c, pointer(password), size(password), pointer(salt),
+		return C.scrypt_hasher_key(h.shared.c, pointer(password), size(password), pointer(salt),
 			size(salt), bytes(key), size(key), ms)
 	})
 	if err != nil {
@@ -215,7 +215,7 @@ func (h *Hasher) Key(ctx context.Context, password, salt []byte, keyLen int) ([]
 // ErrTooCostly if the hash exceeds the limits, or ErrKeyTooShort if its key has fewer than
 // DefaultMinKeyLen bytes, or fewer than new keys if that is less.
 func (h *Hasher) Verify(ctx context.Context, text string, password []byte) error {
-	if h.of == nil {
+	if h.shared == nil {
 		return ErrClosed
 	}
 	raw := []byte(text)
@@ -229,7 +229,7 @@ func (h *Hasher) Verify(ctx context.Context, text string, password []byte) error
 		if len(raw) == 0 {
 			at = nil
 		}
-		return C.scrypt_hasher_verify(h.of.c, pointer(password), size(password), at, size(raw), ms)
+		return C.scrypt_hasher_verify(h.shared.c, pointer(password), size(password), at, size(raw), ms)
 	})
 }
 
@@ -242,9 +242,9 @@ func (h *Hasher) refusal(text []byte) error {
 	if len(text) == 0 {
 		return nil
 	}
-	defer runtime.KeepAlive(h.of)
+	defer runtime.KeepAlive(h.shared)
 	var cost C.scrypt_cost
-	with := C.scrypt_hasher_options(h.of.c)
+	with := C.scrypt_hasher_options(h.shared.c)
 	status := C.scrypt_hash_cost(chars(text), size(text), with.max_mem, with.max_work,
 		with.min_key_len, &cost)
 	switch status {
@@ -262,12 +262,12 @@ func (h *Hasher) refusal(text []byte) error {
 // new hashes. Its errors match ErrInvalidHash (errors.Is), or ErrClosed for the zero Hasher. It
 // needs no memory, so it also works on a closed Hasher.
 func (h *Hasher) NeedsRehash(text string) (bool, error) {
-	if h.of == nil {
+	if h.shared == nil {
 		return false, ErrClosed
 	}
 	raw := []byte(text)
-	status := C.scrypt_hasher_needs_rehash(h.of.c, chars(raw), size(raw))
-	runtime.KeepAlive(h.of)
+	status := C.scrypt_hasher_needs_rehash(h.shared.c, chars(raw), size(raw))
+	runtime.KeepAlive(h.shared)
 	if status == C.SCRYPT_NEEDS_REHASH {
 		return true, nil
 	}
@@ -278,32 +278,32 @@ func (h *Hasher) NeedsRehash(text string) (bool, error) {
 // When the context is done, run returns, and the call continues with its own copy of the password.
 func (h *Hasher) run(ctx context.Context, password []byte,
 	call func(password []byte, ms milliseconds) status) error {
-	if h.of == nil {
+	if h.shared == nil {
 		return ErrClosed
 	}
 	if err := ctx.Err(); err != nil {
 		return err
 	}
 	// The context's methods, which can panic, are called before anything is acquired.
-	of, done := h.of, ctx.Done()
+	shared, done := h.shared, ctx.Done()
 	end, isBounded := ctx.Deadline()
-	of.calls.Add(1)
+	shared.calls.Add(1)
 	isInside := false
 	leave := func() {
 		if isInside {
-			<-of.inside
+			<-shared.inside
 		}
-		of.calls.Add(-1) // also keeps it alive
+		shared.calls.Add(-1) // also keeps it alive
 	}
 	select {
-	case of.inside <- struct{}{}:
+	case shared.inside <- struct{}{}:
 		isInside = true
 	case <-done:
 	}
 	select {
 	case <-done:
 		leave()
-		of.refused.Add(1)
+		shared.refused.Add(1)
 		return endOf(ctx)
 	default:
 	}
@@ -316,14 +316,14 @@ func (h *Hasher) run(ctx context.Context, password []byte,
 	select {
 	case got := <-ended:
 		if got == C.SCRYPT_TIMEOUT || got == C.SCRYPT_OUT_OF_MEMORY {
-			of.refused.Add(1)
+			shared.refused.Add(1)
 		}
 		if got == C.SCRYPT_TIMEOUT {
 			return context.DeadlineExceeded
 		}
 		return failed(got)
 	case <-done:
-		of.refused.Add(1)
+		shared.refused.Add(1)
 		return endOf(ctx)
 	}
 }

@@ -33,21 +33,21 @@ func KeyContext(ctx context.Context, password, salt []byte, N, r, p, keyLen int,
 func keyInSteps(ctx context.Context, password, salt []byte, N, r, p, keyLen int,
 	progress func(done float64), milliseconds uint32) ([]byte, error) {
 	return made(N, r, p, keyLen, func(cost C.scrypt_cost, key []byte) error {
-		var it *C.scrypt_derivation
+		var derivation *C.scrypt_derivation
 		status := C.scrypt_derivation_new(pointer(password), size(password), pointer(salt), size(salt),
-			cost.log_n, cost.r, cost.p, 0, size(key), &it)
-		defer C.scrypt_derivation_free(&it)
+			cost.log_n, cost.r, cost.p, 0, size(key), &derivation)
+		defer C.scrypt_derivation_free(&derivation)
 		for done := C.double(0); status == C.SCRYPT_OK && done < 1; {
 			if err := ctx.Err(); err != nil {
 				return err
 			}
-			status = C.scrypt_derivation_run(it, C.uint32_t(milliseconds), &done)
+			status = C.scrypt_derivation_run(derivation, C.uint32_t(milliseconds), &done)
 			if progress != nil && status == C.SCRYPT_OK {
 				progress(float64(done))
 			}
 		}
 		if status == C.SCRYPT_OK {
-			status = C.scrypt_derivation_finish(it, pointer(password), size(password), bytes(key), size(key))
+			status = C.scrypt_derivation_finish(derivation, pointer(password), size(password), bytes(key), size(key))
 		}
 		return failed(status)
 	})

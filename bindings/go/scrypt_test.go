@@ -146,7 +146,7 @@ func TestOptions(t *testing.T) {
 		{Params{4, 8, 1, 32}, false, 16, math.MaxInt64, math.MaxInt64, math.MaxUint64, math.MaxUint64}: 4096,
 	} {
 		hasher := newHasher(t, given)
-		check(t, hasher.Options() == given && cap(hasher.of.inside) == inside, given, cap(hasher.of.inside))
+		check(t, hasher.Options() == given && cap(hasher.shared.inside) == inside, given, cap(hasher.shared.inside))
 	}
 	memory, err := Params{27, 1<<30 - 1, 1, 32}.Memory()
 	check(t, memory == math.MaxUint64 && err == nil && Params{56, 1, 1 << 29, 32}.Work() == math.MaxUint64, memory, err)
@@ -285,16 +285,16 @@ func TestContexts(t *testing.T) {
 		"deriving at a deadline":        {false, false, costly, soon, late, context.DeadlineExceeded},
 	} {
 		hasher := newHasher(t, small)
-		inside := hasher.of.inside
+		inside := hasher.shared.inside
 		if it.isBusy {
 			busy(t, hasher)
 		} else if it.isFull {
-			hasher.of.inside = nil
+			hasher.shared.inside = nil
 		}
 		ctx, cancel := context.WithTimeout(ctx, it.deadline)
 		begun, _ := time.Now(), time.AfterFunc(it.canceled, cancel)
 		err := hasher.Verify(ctx, it.text, nil)
-		isEnded := it.deadline > 0 || hasher.of.calls.Load() == 0
+		isEnded := it.deadline > 0 || hasher.shared.calls.Load() == 0
 		check(t, errors.Is(err, it.want) && time.Since(begun) < time.Second/2 && isEnded, why, err)
 		cancel()
 		wait(func() bool { runtime.GC(); return len(inside) == 0 && runtime.NumGoroutine() <= goroutines })
@@ -312,7 +312,7 @@ func TestRun(t *testing.T) {
 			check(t, ms >= least && ms <= least+10001 && (ms < 0) == (least < 0), ms, least)
 			return 0
 		})
-		wait(func() bool { return hasher.of.calls.Load() == 0 })
+		wait(func() bool { return hasher.shared.calls.Load() == 0 })
 		check(t, err == nil && string(password) == "pw" && string(own) == "\x00\x00", err, password, own)
 	}
 	check(t, hasher.run(ctx, nil, func([]byte, milliseconds) status { return 18 }) == context.DeadlineExceeded, "TIMEOUT")

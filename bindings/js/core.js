@@ -43,10 +43,10 @@ export class Scrypt {
 
   scrypt(password, salt, given) {
     const wanted = keyOptions(optionsOf(given, 'scrypt'));
-    return this.#run({ password, salt }, (it, ...slices) => {
-      const [params, key, buffers] = keyPlaces(it, wanted);
-      it.call('scrypt_kdf_with_buffers', ...slices, ...params, key, ...buffers);
-      return copyOf(it.view(key));
+    return this.#run({ password, salt }, (instance, ...slices) => {
+      const [params, key, buffers] = keyPlaces(instance, wanted);
+      instance.call('scrypt_kdf_with_buffers', ...slices, ...params, key, ...buffers);
+      return copyOf(instance.view(key));
     });
   }
 
@@ -54,10 +54,10 @@ export class Scrypt {
   async scryptAsync(password, salt, given) {
     const { onProgress, signal, ...options } = optionsOf(given, 'scrypt', 'steps');
     const wanted = keyOptions(options);
-    return this.#runInSteps({ password, salt }, function* work(it, ...slices) {
-      const [params, key, buffers] = keyPlaces(it, wanted);
-      yield* keyInSteps(it, ...slices, params, key, buffers);
-      return copyOf(it.view(key));
+    return this.#runInSteps({ password, salt }, function* work(instance, ...slices) {
+      const [params, key, buffers] = keyPlaces(instance, wanted);
+      yield* keyInSteps(instance, ...slices, params, key, buffers);
+      return copyOf(instance.view(key));
     }, onProgress, signal);
   }
 
@@ -67,24 +67,26 @@ export class Scrypt {
     const params = withDefaults(options);
     const keyLen = BigInt(lengthOf(options.dkLen));
     const maxMem = limit(options.maxmem, 'maxmem', MAX_MEMORY);
-    return this.#run({ password, salt }, (it, ...slices) => {
-      const text = it.take(TEXT_CAPACITY + 2 * slices[1].length);
-      const [textLen] = it.words(1);
-      const buffers = it.buffersFor(params, maxMem, NO_LIMIT);
+    return this.#run({ password, salt }, (instance, ...slices) => {
+      const text = instance.take(TEXT_CAPACITY + 2 * slices[1].length);
+      const [textLen] = instance.words(1);
+      const buffers = instance.buffersFor(params, maxMem, NO_LIMIT);
       const places = [text, textLen.at, ...buffers];
-      it.call(`scrypt_hash_${format}_with_buffers`, ...slices, ...params, keyLen, ...places);
-      return new TextDecoder().decode(it.view(text).subarray(0, it.number(textLen)));
+      instance.call(`scrypt_hash_${format}_with_buffers`, ...slices, ...params, keyLen, ...places);
+      return new TextDecoder().decode(instance.view(text).subarray(0, instance.number(textLen)));
     });
   }
 
   verify(...args) {
     const { password, text, options, canMatch } = attempt(args);
     const wanted = verifyOptions(optionsOf(options, 'verify'));
-    if (isNone(text)) return this.#run({ password }, (it, slice) => ofNobody(it, slice, wanted));
-    return this.#run({ password, text }, (it, ...slices) => {
-      const limits = limitsOf(it, wanted);
-      const buffers = it.buffersOf(slices[1], limits);
-      return it.isOk('scrypt_verify_limited_with_buffers', ...slices, ...limits, ...buffers);
+    if (isNone(text)) {
+      return this.#run({ password }, (instance, slice) => ofNobody(instance, slice, wanted));
+    }
+    return this.#run({ password, text }, (instance, ...slices) => {
+      const limits = limitsOf(instance, wanted);
+      const buffers = instance.buffersOf(slices[1], limits);
+      return instance.isOk('scrypt_verify_limited_with_buffers', ...slices, ...limits, ...buffers);
     }) && canMatch;
   }
 
@@ -94,25 +96,26 @@ export class Scrypt {
     const { onProgress, signal, ...others } = optionsOf(options, 'verify', 'steps');
     const wanted = verifyOptions(others);
     const values = isNone(text) ? { password } : { password, text };
-    return await this.#runInSteps(values, function* work(it, passwordSlice, textSlice) {
-      if (textSlice === undefined) return yield* ofNobodyInSteps(it, passwordSlice, wanted);
-      const limits = limitsOf(it, wanted);
-      const buffers = it.buffersOf(textSlice, limits);
-      return yield* verdictInSteps(it, passwordSlice, textSlice, limits, buffers);
+    return await this.#runInSteps(values, function* work(instance, passwordSlice, textSlice) {
+      if (textSlice === undefined) return yield* ofNobodyInSteps(instance, passwordSlice, wanted);
+      const limits = limitsOf(instance, wanted);
+      const buffers = instance.buffersOf(textSlice, limits);
+      return yield* verdictInSteps(instance, passwordSlice, textSlice, limits, buffers);
     }, onProgress, signal) && canMatch;
   }
 
   needsRehash(text, given) {
     const options = optionsOf(given, 'needsRehash');
     const wanted = [...withDefaults(options), BigInt(lengthOf(options.dkLen))];
-    return this.#run({ text }, (it, slice) => !it.isOk('scrypt_needs_rehash', slice, ...wanted));
+    const call = 'scrypt_needs_rehash';
+    return this.#run({ text }, (instance, slice) => !instance.isOk(call, slice, ...wanted));
   }
 
   params(text) {
-    return this.#run({ text }, (it, slice) => {
-      const read = it.words(4);
-      it.call('scrypt_hash_params', slice, ...places(read));
-      const [logN, r, p, dkLen] = read.map((word) => it.number(word));
+    return this.#run({ text }, (instance, slice) => {
+      const read = instance.words(4);
+      instance.call('scrypt_hash_params', slice, ...places(read));
+      const [logN, r, p, dkLen] = read.map((word) => instance.number(word));
       return { N: 2 ** logN, r, p, dkLen };
     });
   }
@@ -141,19 +144,19 @@ export class Scrypt {
   // other call uses the instance until it returns; and if the engine ended the call inside of the
   // module, by a stack overflow or a timeout, the instance is dropped with its memory.
   *#steps(values, work) {
-    const given = Object.entries(values).map(([name, value]) => bytesOf(value, name));
-    const it = this.#instance ?? new Instance(this.#another());
+    const slices = Object.entries(values).map(([name, value]) => bytesOf(value, name));
+    const instance = this.#instance ?? new Instance(this.#another());
     this.#instance = undefined;
     try {
-      return yield* work(it, ...given.map((bytes) => it.put(bytes)));
+      return yield* work(instance, ...slices.map((bytes) => instance.put(bytes)));
     } catch (cause) {
       const message = `the module was ended: ${cause.message}`;
       const error = cause instanceof ScryptError ? cause : errorFor(cause, 'INTERNAL', message);
       if (values.text === undefined) throw error;
-      throw errorOfHash(error, values.password === undefined ? undefined : given[0]);
+      throw errorOfHash(error, values.password === undefined ? undefined : slices[0]);
     } finally {
-      it.wipe();
-      if (!it.isInside) this.#instance = it;
+      instance.wipe();
+      if (!instance.isInside) this.#instance = instance;
     }
   }
 }
@@ -165,9 +168,9 @@ function keyOptions(options) {
 }
 
 // The buffers come first, because the limits do not cover the key.
-function keyPlaces(it, { params, length, limits }) {
-  const buffers = it.buffersFor(params, ...limits);
-  return [params, it.take(length), buffers];
+function keyPlaces(instance, { params, length, limits }) {
+  const buffers = instance.buffersFor(params, ...limits);
+  return [params, instance.take(length), buffers];
 }
 
 const verifyOptions = (options) =>
@@ -175,10 +178,10 @@ const verifyOptions = (options) =>
 
 // The limits, with defaults for those that are left out. The defaults admit hashes that are made
 // with the same options.
-function limitsOf(it, { options, params, length }) {
-  const usual = it.words(3);
-  it.call('scrypt_default_limits', ...params, BigInt(length), ...places(usual));
-  const [bytes, work, keyLen] = usual.map((word) => it.big(word));
+function limitsOf(instance, { options, params, length }) {
+  const usual = instance.words(3);
+  instance.call('scrypt_default_limits', ...params, BigInt(length), ...places(usual));
+  const [bytes, work, keyLen] = usual.map((word) => instance.big(word));
   const { maxmem, maxwork, minKeyLength } = options;
   return [
     limit(maxmem, 'maxmem', ofMachine(bytes)), limit(maxwork, 'maxwork', work),
@@ -187,18 +190,18 @@ function limitsOf(it, { options, params, length }) {
 }
 
 // Without a hash: does the work of a wrong password for a new hash.
-function nobodyPlaces(it, wanted) {
-  const limits = limitsOf(it, wanted).slice(0, 2);
-  return [it.take(SALT_LEN), ...keyPlaces(it, { ...wanted, limits })];
+function nobodyPlaces(instance, wanted) {
+  const limits = limitsOf(instance, wanted).slice(0, 2);
+  return [instance.take(SALT_LEN), ...keyPlaces(instance, { ...wanted, limits })];
 }
 
-function ofNobody(it, password, wanted) {
-  const [salt, params, key, buffers] = nobodyPlaces(it, wanted);
-  it.call('scrypt_kdf_with_buffers', password, salt, ...params, key, ...buffers);
+function ofNobody(instance, password, wanted) {
+  const [salt, params, key, buffers] = nobodyPlaces(instance, wanted);
+  instance.call('scrypt_kdf_with_buffers', password, salt, ...params, key, ...buffers);
   return false;
 }
 
-function* ofNobodyInSteps(it, password, wanted) {
-  yield* keyInSteps(it, password, ...nobodyPlaces(it, wanted));
+function* ofNobodyInSteps(instance, password, wanted) {
+  yield* keyInSteps(instance, password, ...nobodyPlaces(instance, wanted));
   return false;
 }

@@ -13,25 +13,25 @@ const parted = ({ onProgress, signal, timeout, ...options }) =>
   [{ onProgress, signal, timeout }, options];
 
 /** Derives a key, in a worker. */
-export async function scrypt(password, salt, given) {
-  const [how, options] = parted(optionsOf(given, 'scrypt', 'steps', 'worker'));
-  return call('scrypt', [...copiesOf({ password, salt }), options], how);
+export async function scrypt(password, salt, options) {
+  const [how, others] = parted(optionsOf(options, 'scrypt', 'steps', 'worker'));
+  return call('scrypt', [...copiesOf({ password, salt }), others], how);
 }
 
 /** Makes the text of a hash with a random salt, in a worker. */
-export async function hash(password, given) {
-  const [how, { salt, ...options }] = parted(optionsOf(given, 'hash', 'worker'));
+export async function hash(password, options) {
+  const [how, { salt, ...others }] = parted(optionsOf(options, 'hash', 'worker'));
   const [copy, saltCopy] = copiesOf(salt === undefined ? { password } : { password, salt });
-  return call('hash', [copy, { ...options, salt: saltCopy }], how);
+  return call('hash', [copy, { ...others, salt: saltCopy }], how);
 }
 
 /** Verifies a password against the text of a hash, in a worker. Without a text the result is false,
  * after the work of a new hash. */
 export async function verify(...args) {
   const { password, text, options, canMatch } = attempt(args);
-  const [how, limits] = parted(optionsOf(options, 'verify', 'steps', 'worker'));
+  const [how, others] = parted(optionsOf(options, 'verify', 'steps', 'worker'));
   const [copy, textCopy] = copiesOf(isNone(text) ? { password } : { password, text });
-  return await call('verify', [copy, textCopy, limits], how) && canMatch;
+  return await call('verify', [copy, textCopy, others], how) && canMatch;
 }
 
 // Calls that only read a text take microseconds. The memory for a long text is not kept.
@@ -56,8 +56,8 @@ async function reading(name, text, ...options) {
 }
 
 /** Whether a hash is weaker than a new hash with these options. */
-export async function needsRehash(text, given) {
-  return reading('needsRehash', text, optionsOf(given, 'needsRehash'));
+export async function needsRehash(text, options) {
+  return reading('needsRehash', text, optionsOf(options, 'needsRehash'));
 }
 
 /** The parameters of a hash, and the length of its key. */

@@ -43,9 +43,10 @@ export class Instance {
 
   // For the module a slice is a pointer and a length.
   #status(name, args) {
-    const given = args.flatMap((it) => (typeof it === 'object' ? [it.at, BigInt(it.length)] : it));
+    const isSlice = (arg) => typeof arg === 'object';
+    const numbers = args.flatMap((arg) => (isSlice(arg) ? [arg.at, BigInt(arg.length)] : arg));
     this.#isInside = true;
-    const status = this.#calls[name](...given);
+    const status = this.#calls[name](...numbers);
     this.#isInside = false;
     return status;
   }
@@ -119,20 +120,20 @@ export class Instance {
   buffersFor(params, maxMem, maxWork) {
     const [cost, , ...sizes] = this.#takeCost();
     const status = this.#status('scrypt_params_cost', [...params, maxMem, maxWork, cost]);
-    this.#cost = inWords(sizes.slice(4).map((it) => this.big(it)), [maxMem, maxWork]);
+    this.#cost = inWords(sizes.slice(4).map((size) => this.big(size)), [maxMem, maxWork]);
     if (status !== OK) throw this.#refusal(status);
     return this.buffers(sizes);
   }
 
   /**
    * The buffers for verifying a hash, or empty ones if it is rejected: the call that verifies it
-   * returns the error before it checks the buffers. A hash without a key is damaged: the proved calls
-   * return that no password matches it.
+   * returns the error before it checks the buffers. A hash without a key is damaged: the proved
+   * calls return that no password matches it.
    */
   buffersOf(text, limits) {
     const [cost, keyLength, ...sizes] = this.#takeCost();
     const status = this.#status('scrypt_hash_cost', [text, ...limits, cost]);
-    this.#cost = inWords([...sizes.slice(4), keyLength].map((it) => this.big(it)), limits);
+    this.#cost = inWords([...sizes.slice(4), keyLength].map((size) => this.big(size)), limits);
     if (status === MISMATCH) throw this.#refusal(OUTPUT_SIZE);
     return status === OK ? this.buffers(sizes) : [1, 4, 4].map((size) => this.take(0, size));
   }
@@ -142,7 +143,7 @@ export class Instance {
    * the memory allows.
    */
   buffers(sizes) {
-    const [tables, chunks, table, scratch] = sizes.map((it) => this.number(it));
+    const [tables, chunks, table, scratch] = sizes.map((size) => this.number(size));
     const top = this.#top;
     for (let atOnce = Math.min(tables, AT_ONCE); ; atOnce -= 1) {
       try {
@@ -165,11 +166,11 @@ export class Instance {
 
 // The cost of a call, for a hash if there is a key, and its limits.
 function inWords([bytes, work, key], limits) {
-  const [most, maxWork, least] = limits.map((it) => (it === NO_LIMIT ? Infinity : it));
+  const [most, maxWork, least] = limits.map((limit) => (limit === NO_LIMIT ? Infinity : limit));
   const ofHash = key === undefined ? '' : `, a key of ${key} bytes (minKeyLength is ${least})`;
   const ofWork = `a work of ${work} (maxwork is ${maxWork})`;
   return `: ${bytes} bytes (maxmem is ${most}), ${ofWork}${ofHash}`;
 }
 
 /** The addresses of words. */
-export const places = (words) => words.map((it) => it.at);
+export const places = (words) => words.map((word) => word.at);

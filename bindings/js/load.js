@@ -23,8 +23,8 @@ function checkSupported() {
     + 'Chrome 91, Firefox 89, Safari 16.4 and Node 18 have');
 }
 
-let given = Promise.resolve(); // the module of the last source that was loaded, if there was one
-let own; // the module of this package's file
+let lastLoaded = Promise.resolve(); // the module of the last source, if there was one
+let packaged; // the module of this package's file
 
 /**
  * The module that calls use: once a source is being loaded, its module if it can be loaded,
@@ -32,16 +32,16 @@ let own; // the module of this package's file
  */
 export async function compile() {
   checkSupported();
-  return (await given) ?? ownModule();
+  return (await lastLoaded) ?? ownModule();
 }
 
 async function ownModule() {
-  own ??= compileFrom(new URL('./scrypt.wasm', import.meta.url));
-  const found = own;
+  packaged ??= compileFrom(new URL('./scrypt.wasm', import.meta.url));
+  const found = packaged;
   try {
     return await found;
   } catch (error) {
-    if (own === found) own = undefined; // the next call tries again
+    if (packaged === found) packaged = undefined; // the next call tries again
     throw error;
   }
 }
@@ -93,7 +93,7 @@ export async function load(source) {
   checkSupported();
   if (source === undefined) return Scrypt.of(await compile());
   const loaded = opened(source);
-  const before = given;
-  given = loaded.then(({ module }) => module, () => before);
+  const before = lastLoaded;
+  lastLoaded = loaded.then(({ module }) => module, () => before);
   return (await loaded).scrypt;
 }

@@ -14,23 +14,23 @@ export const turn = () => new Promise((resolve) => {
 });
 
 // Takes memory for a scrypt_progress.
-function takeProgress(it) {
-  const { at } = it.take(24);
+function takeProgress(instance) {
+  const { at } = instance.take(24);
   const [chunks, width, mixes] = [0n, 8n, 16n].map((i) => ({ at: at + i }));
   return { at, chunks, width, mixes };
 }
 
 // Mixes all chunks, and yields the fraction that is done, from 0 to 1.
-function* mixedInSteps(it, params, buffers, progress) {
+function* mixedInSteps(instance, params, buffers, progress) {
   const [logN, r, p] = params;
   const inChunk = 2 ** (logN + 1);
   const all = p * inChunk;
-  const number = (name) => it.number(progress[name]);
+  const number = (name) => instance.number(progress[name]);
   const mixed = () => number('chunks') * inChunk + number('width') * number('mixes');
   let [count, shown] = [Math.ceil(512 / r), performance.now()];
   for (let before = 0; before < all;) {
     const [begun, width] = [performance.now(), number('width')];
-    it.call('scrypt_key_step', ...params, BigInt(count), ...buffers, progress.at);
+    instance.call('scrypt_key_step', ...params, BigInt(count), ...buffers, progress.at);
     const [done, ended] = [mixed(), performance.now()];
     // A step ends with its chunk, so it may be shorter. A page's clock may stand still during it.
     const inTime = Math.floor(((done - before) * STEP_MS) / (width * (ended - begun)));
@@ -43,19 +43,19 @@ function* mixedInSteps(it, params, buffers, progress) {
 }
 
 /** Derives a key. Nothing else may change the buffers between its steps. */
-export function* keyInSteps(it, password, salt, params, key, buffers) {
-  const progress = takeProgress(it);
-  it.call('scrypt_key_begin', password, salt, ...params, ...buffers, progress.at);
-  yield* mixedInSteps(it, params, buffers, progress);
-  it.call('scrypt_key_finish', password, ...params, buffers[0], progress.at, key);
+export function* keyInSteps(instance, password, salt, params, key, buffers) {
+  const progress = takeProgress(instance);
+  instance.call('scrypt_key_begin', password, salt, ...params, ...buffers, progress.at);
+  yield* mixedInSteps(instance, params, buffers, progress);
+  instance.call('scrypt_key_finish', password, ...params, buffers[0], progress.at, key);
 }
 
 /** Verifies a password against a text. Nothing else may change the buffers between its steps. */
-export function* verdictInSteps(it, password, text, limits, buffers) {
-  const [words, progress] = [it.words(3), takeProgress(it)];
-  const given = [password, text, ...limits, ...places(words), ...buffers, progress.at];
-  if (!it.isOk('scrypt_verify_begin', ...given)) return false;
-  const params = [it.number(words[0]), it.number(words[1]), it.number(words[2])];
-  yield* mixedInSteps(it, params, buffers, progress);
-  return it.isOk('scrypt_verify_finish', password, text, buffers[0], progress.at);
+export function* verdictInSteps(instance, password, text, limits, buffers) {
+  const [words, progress] = [instance.words(3), takeProgress(instance)];
+  const args = [password, text, ...limits, ...places(words), ...buffers, progress.at];
+  if (!instance.isOk('scrypt_verify_begin', ...args)) return false;
+  const params = [instance.number(words[0]), instance.number(words[1]), instance.number(words[2])];
+  yield* mixedInSteps(instance, params, buffers, progress);
+  return instance.isOk('scrypt_verify_finish', password, text, buffers[0], progress.at);
 }

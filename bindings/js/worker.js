@@ -5,7 +5,7 @@ import { outOfMemory } from './errors.js';
 import { host } from './host.js';
 
 const port = host.port ?? globalThis;
-let own; // the last module that was received
+let lastModule; // that was received
 let scrypt;
 let controller; // of the last call
 
@@ -18,14 +18,14 @@ async function answer({ module, name, args, isReporting }) {
   const { signal } = controller;
   const options = { ...args.at(-1), signal, onProgress: isReporting ? onProgress : undefined };
   try {
-    if (module !== undefined) [own, scrypt] = [module, undefined];
-    scrypt ??= await Scrypt.of(own);
+    if (module !== undefined) [lastModule, scrypt] = [module, undefined];
+    scrypt ??= await Scrypt.of(lastModule);
     const method = scrypt[`${name}Async`] ?? scrypt[name]; // in steps, if the call has steps
     return { value: await method.call(scrypt, ...args.slice(0, -1), options), error: undefined };
   } catch (error) {
     return refusal(error);
   } finally {
-    for (const it of bytesAmong(args)) it.fill(0);
+    for (const bytes of bytesAmong(args)) bytes.fill(0);
   }
 }
 
@@ -36,11 +36,11 @@ port.onmessage = async ({ data }) => {
     controller.abort();
     return;
   }
-  const given = await answer(data);
-  const { value } = given;
+  const reply = await answer(data);
+  const { value } = reply;
   try {
     // A key is transferred, so that no copy of it is left here.
-    port.postMessage(given, ArrayBuffer.isView(value) ? [value.buffer] : []);
+    port.postMessage(reply, ArrayBuffer.isView(value) ? [value.buffer] : []);
   } catch (cause) {
     port.postMessage(refusal(outOfMemory(cause)));
   }

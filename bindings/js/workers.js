@@ -101,13 +101,15 @@ function rest(worker) {
   idle.push(worker);
 }
 
-const starting = () => [...workers].filter((it) => !it.isReady).length;
+const starting = () => [...workers].filter((worker) => !worker.isReady).length;
 
-// FIFO. But of the calls that only a signal ends, those that have waited long in an overload are about
-// to be aborted, and then their work is lost: while more than two calls wait for each worker, the
-// newest starts first (LIFO) if it is such a call. A timeout ends no call that has started.
-const isOverloaded = () => waiting.length > 2 * workers.size;
-const next = () => (isOverloaded() && waiting.at(-1).isEndedBySignal ? waiting.pop() : waiting.shift());
+// FIFO. But of the calls that only a signal ends, those that have waited long in an overload are
+// about to be aborted, and then their work is lost: while more than two calls wait for each worker,
+// the newest starts first (LIFO) if it is such a call. A timeout ends no call that has started.
+function next() {
+  const isOverloaded = waiting.length > 2 * workers.size;
+  return isOverloaded && waiting.at(-1).isEndedBySignal ? waiting.pop() : waiting.shift();
+}
 
 // Gives waiting calls to idle workers, and starts more workers.
 function assign() {
@@ -125,7 +127,7 @@ function give(worker, call) {
   const message = { name, args, isReporting: call.onProgress !== undefined };
   if (worker.module !== module) message.module = module;
   try {
-    worker.postMessage(message, bytesAmong(args).map((it) => it.buffer));
+    worker.postMessage(message, bytesAmong(args).map((bytes) => bytes.buffer));
     worker.module = module;
   } catch (cause) {
     rest(worker);
@@ -186,9 +188,9 @@ async function answer(call, signal, timeout) {
 export async function call(name, args, { signal, timeout, onProgress }) {
   try {
     signal?.throwIfAborted();
-    const it = { name, args, onProgress, isOver: false };
-    return await answer(it, signal, amount(timeout, 'timeout'));
+    const request = { name, args, onProgress, isOver: false };
+    return await answer(request, signal, amount(timeout, 'timeout'));
   } finally {
-    for (const it of bytesAmong(args)) if (it.length > 0) it.fill(0); // bytes that no worker got
+    for (const bytes of bytesAmong(args)) if (bytes.length > 0) bytes.fill(0); // that no worker got
   }
 }

@@ -38,8 +38,8 @@ def _options(arguments: Optional[Sequence[str]]) -> argparse.Namespace:
 def main(arguments: Optional[Sequence[str]] = None) -> None:
     options = _options(arguments)
     try:
-        given = options.log_n, options.r, options.p, options.l
-        params = Params(*given) if options.seconds is None else calibrate(options.seconds)
+        costs = options.log_n, options.r, options.p, options.l
+        params = Params(*costs) if options.seconds is None else calibrate(options.seconds)
         with PasswordHasher(*params) as hasher:
             text = hasher.hash(PASSWORD)
             costs = ", ".join(f"{name}={value}" for name, value in params._asdict().items())

@@ -107,10 +107,10 @@ class ScryptPasswordHasher(BasePasswordHasher):
         return {"algorithm": algorithm, "salt": salt, "hash": key, **numbers}
 
     def verify(self, password: str, encoded: str) -> bool:
-        it = self.decode(encoded)
-        costs = it["work_factor"], it["block_size"], it["parallelism"]
+        parts = self.decode(encoded)
+        costs = parts["work_factor"], parts["block_size"], parts["parallelism"]
         try:
-            made = self.encode(password, it["salt"], *costs)
+            made = self.encode(password, parts["salt"], *costs)
         except InvalidParamsError as error:
             raise _invalid(str(error)) from None
         return constant_time_compare(encoded, made)
@@ -121,20 +121,20 @@ class ScryptPasswordHasher(BasePasswordHasher):
         return False
 
     def must_update(self, encoded: str) -> bool:
-        it = self.decode(encoded)
+        parts = self.decode(encoded)
         costs = "work_factor", "block_size", "parallelism"
-        weaker = any(it[name] < getattr(self, name) for name in costs)
-        return weaker or must_update_salt(it["salt"], self.salt_entropy)
+        weaker = any(parts[name] < getattr(self, name) for name in costs)
+        return weaker or must_update_salt(parts["salt"], self.salt_entropy)
 
     def safe_summary(self, encoded: str) -> dict[str, Any]:
-        it = self.decode(encoded)
+        parts = self.decode(encoded)
         return {
-            _("algorithm"): it["algorithm"],
-            _("work factor"): it["work_factor"],
-            _("block size"): it["block_size"],
-            _("parallelism"): it["parallelism"],
-            _("salt"): mask_hash(it["salt"]),
-            _("hash"): mask_hash(it["hash"]),
+            _("algorithm"): parts["algorithm"],
+            _("work factor"): parts["work_factor"],
+            _("block size"): parts["block_size"],
+            _("parallelism"): parts["parallelism"],
+            _("salt"): mask_hash(parts["salt"]),
+            _("hash"): mask_hash(parts["hash"]),
         }
 
     def harden_runtime(self, password: str, encoded: str) -> None:
@@ -193,12 +193,12 @@ class PHCPasswordHasher(BasePasswordHasher):
         return weaker or must_update_salt(self.decode(encoded)["salt"], self.salt_entropy)
 
     def safe_summary(self, encoded: str) -> dict[str, Any]:
-        it = self.decode(encoded)
+        parts = self.decode(encoded)
         return {
-            _("algorithm"): it["algorithm"],
-            _("parameters"): it["params"],
-            _("salt"): mask_hash(it["salt"]),
-            _("hash"): mask_hash(it["hash"]),
+            _("algorithm"): parts["algorithm"],
+            _("parameters"): parts["params"],
+            _("salt"): mask_hash(parts["salt"]),
+            _("hash"): mask_hash(parts["hash"]),
         }
 
     def harden_runtime(self, password: str, encoded: str) -> None:

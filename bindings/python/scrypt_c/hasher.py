@@ -99,12 +99,13 @@ class PasswordHasher:
             raise ValueError(f"max_tables must be at least 1: {max_tables}")
         self._timeout = seconds(timeout, "timeout")
         # As they were passed: None depends on the machine, and a copy may be on another machine.
-        most = {"max_mem": max_mem, "max_work": max_work, "max_tables": max_tables}
-        own = {"salt_len": salt_len, "mcf": bool(mcf), "timeout": timeout}
-        self._options: dict[str, Any] = {**own, **most}
-        given = {name: in_64_bits(value, name) for name, value in most.items() if value is not None}
+        limits = {"max_mem": max_mem, "max_work": max_work, "max_tables": max_tables}
+        others = {"salt_len": salt_len, "mcf": bool(mcf), "timeout": timeout}
+        self._options: dict[str, Any] = {**others, **limits}
+        set_limits = {name: limit for name, limit in limits.items() if limit is not None}
+        most = {name: in_64_bits(limit, name) for name, limit in set_limits.items()}
         first = ctypes.sizeof(declared.Options), *self._params[:3], bool(mcf)
-        options = declared.Options(*first, self._params.key_len, salt_len, **given)
+        options = declared.Options(*first, self._params.key_len, salt_len, **most)
         status = ctypes.c_int()
         self._c = library.hasher_new(options, status)
         check_costs(status.value, cost_of(self._params)[1], max_mem, max_work)
@@ -117,14 +118,14 @@ class PasswordHasher:
     @property
     def options(self) -> Options:
         """The options, with each default replaced by its value."""
-        it = library.hasher_options(self._c).contents
-        return Options(bool(it.mcf), *(getattr(it, name) for name in Options._fields[1:]))
+        options = library.hasher_options(self._c).contents
+        return Options(bool(options.mcf), *(getattr(options, name) for name in Options._fields[1:]))
 
     def stats(self) -> Stats:
         """Returns the current statistics, for metrics."""
-        it = declared.Stats()
-        check(library.hasher_stats(self._c, it))
-        return Stats(it.waiting, it.deriving, it.failed)
+        stats = declared.Stats()
+        check(library.hasher_stats(self._c, stats))
+        return Stats(stats.waiting, stats.deriving, stats.failed)
 
     def __repr__(self) -> str:
         log_n, r, p, key_len = self._params
@@ -151,10 +152,10 @@ class PasswordHasher:
     def hash(self, password: Password, *, salt: Optional[Bytes] = None) -> str:
         """Returns a new hash, with this salt or with a random salt from the system."""
         secret = raw_password(password)
-        given = None if salt is None else raw_bytes(salt, "a salt")
-        salt_len = len(given or b"")
+        raw_salt = None if salt is None else raw_bytes(salt, "a salt")
+        salt_len = len(raw_salt or b"")
         text = ctypes.create_string_buffer(library.text_capacity(salt_len))
-        arguments = secret, len(secret), given, salt_len, text, len(text)
+        arguments = secret, len(secret), raw_salt, salt_len, text, len(text)
         self._check(self._run(library.hasher_hash, *arguments))
         return text.value.decode("ascii")
 
@@ -162,9 +163,10 @@ class PasswordHasher:
         """Returns True if the password matches the hash, in either format.
 
         Otherwise raises VerifyMismatchError. If the hash is rejected, raises a RefusedHashError
-        without waiting: InvalidHashError if it is not a scrypt hash, or has no key, TooCostlyError if
-        it exceeds the limits, KeyTooShortError if its key is too short. For a user who does not exist, pass None: the call derives as for a new hash, and
-        raises VerifyMismatchError, so that its time does not reveal whether there is such a user.
+        without waiting: InvalidHashError if it is not a scrypt hash, or has no key, TooCostlyError
+        if it exceeds the limits, KeyTooShortError if its key is too short. For a user who does not
+        exist, pass None: the call derives as for a new hash, and raises VerifyMismatchError, so
+        that its time does not reveal whether there is such a user.
         """
         raw, secret = None if hash is None else raw_text(hash), raw_password(password)
         status = self._run(library.hasher_verify, secret, len(secret), raw, len(raw or b""))
@@ -198,10 +200,10 @@ class PasswordHasher:
     def _run(self, call: Callable[..., int], *arguments: object) -> int:
         """Makes a call, which waits for at most `timeout` seconds, and returns its status. Python
         runs signal handlers after it has returned."""
-        most = threading.TIMEOUT_MAX
+        timeout = threading.TIMEOUT_MAX
         if self._timeout is not None:
-            most = min(self._timeout, most)
-        return call(self._c, *arguments, math.ceil(1000 * most))
+            timeout = min(self._timeout, timeout)
+        return call(self._c, *arguments, math.ceil(1000 * timeout))
 
     def _check(self, status: int, text: Optional[bytes] = None) -> None:
         """Raises the error of a status for this hash, or for a new one. The hash is only read for a
@@ -209,15 +211,15 @@ class PasswordHasher:
         if status not in (KEY_TOO_SHORT, OUT_OF_MEMORY, TOO_COSTLY):
             check(status, f"timeout={self._timeout}" if status == TIMEOUT else "")
             return
-        most = self.options
-        limits = most.max_mem, most.max_work, most.min_key_len
+        options = self.options
+        limits = options.max_mem, options.max_work, options.min_key_len
         cost = cost_of(self._params)[1]
         if text is not None:  # the text is a valid hash, so this writes its cost
             library.hash_cost(text, len(text), *limits, cost)
         if status == KEY_TOO_SHORT:
-            least = f"at least {most.min_key_len} is required"
+            least = f"at least {options.min_key_len} is required"
             check(status, f"its length is {cost.key_len}, and {least}")
-        check_costs(status, cost, most.max_mem, most.max_work)
+        check_costs(status, cost, options.max_mem, options.max_work)
 
 
 def _copied(kind: type[PasswordHasher], params: Params, options: dict[str, Any]) -> PasswordHasher:

@@ -123,7 +123,7 @@ impl Hasher {
             return Err(Error::SaltInvalid);
         }
         // 0 would mean the default; no derivation has a cost of 1 or less.
-        let limits = limits.map_or((0, 0), |it| (it.max_mem.max(1), it.max_work.max(1)));
+        let limits = limits.map_or((0, 0), |most| (most.max_mem.max(1), most.max_work.max(1)));
         let raw = RawOptions {
             size: std::mem::size_of::<RawOptions>(),
             log_n: params.log_n().into(),
@@ -156,16 +156,16 @@ impl Hasher {
 
     // The timeout in milliseconds; -1 means no timeout.
     fn timeout_ms(&self) -> i64 {
-        let ms = |it: Duration| (it.as_nanos() + 999_999) / 1_000_000;
-        self.0.options.timeout.map_or(-1, |it| i64::try_from(ms(it)).unwrap_or(i64::MAX))
+        let ms = |time: Duration| (time.as_nanos() + 999_999) / 1_000_000;
+        self.0.options.timeout.map_or(-1, |time| i64::try_from(ms(time)).unwrap_or(i64::MAX))
     }
 
     /// Returns the options, with each default replaced by its value.
     pub fn options(&self) -> Options {
         // SAFETY: the hasher lives until this returns, and its options do not change.
-        let of = unsafe { &*scrypt_hasher_options(self.raw()) };
-        let limits = Some(Limits { max_mem: of.max_mem, max_work: of.max_work });
-        Options { max_tables: of.max_tables, processors: of.processors, limits, ..self.0.options }
+        let raw = unsafe { &*scrypt_hasher_options(self.raw()) };
+        let limits = Some(Limits { max_mem: raw.max_mem, max_work: raw.max_work });
+        Options { max_tables: raw.max_tables, processors: raw.processors, limits, ..self.0.options }
     }
 
     /// Returns the current statistics, for metrics.
@@ -282,16 +282,16 @@ impl Hasher {
         let mut cost = RawCost::default();
         // SAFETY: the hasher lives until this returns, its options do not change, and the pointer
         // and the length are from one `str`.
-        let of = unsafe {
-            let of = &*scrypt_hasher_options(self.raw());
-            let (bytes, work, min) = (of.max_mem, of.max_work, of.min_key_len);
+        let options = unsafe {
+            let options = &*scrypt_hasher_options(self.raw());
+            let (bytes, work, min) = (options.max_mem, options.max_work, options.min_key_len);
             scrypt_hash_cost(text.as_ptr().cast(), text.len(), bytes, work, min, &mut cost);
-            of
+            options
         };
-        let limits = Limits { max_mem: of.max_mem, max_work: of.max_work };
+        let limits = Limits { max_mem: options.max_mem, max_work: options.max_work };
         match Params::of_library(cost.log_n, cost.r, cost.p) {
             Ok(params) if status == TOO_COSTLY => Error::TooCostly(Cost::of(params, limits)),
-            Ok(_) => Error::KeyTooShort { len: cost.key_len, min: of.min_key_len },
+            Ok(_) => Error::KeyTooShort { len: cost.key_len, min: options.min_key_len },
             Err(why) => why.into(),
         }
     }

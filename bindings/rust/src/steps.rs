@@ -46,7 +46,7 @@ fn by_steps(
     mut progress: impl FnMut(f64) -> ControlFlow<()>,
     milliseconds: u32,
 ) -> Result<(), DeriveError> {
-    let (mut it, mut done) = (Derivation(null_mut()), 0.0);
+    let (mut derivation, mut done) = (Derivation(null_mut()), 0.0);
     let (log_n, r, p) = (params.log_n().into(), params.r(), params.p());
     let (password_at, len) = (password.as_ptr().cast(), output.len());
     // SAFETY: here and below each pointer and the length after it are from one slice, and the
@@ -63,19 +63,25 @@ fn by_steps(
             p,
             max_mem,
             len,
-            &mut it.0,
+            &mut derivation.0,
         )
     })?;
     while done < 1.0 {
         // SAFETY: as above; `it` is a derivation of the library's, which only this thread has.
-        check(unsafe { scrypt_derivation_run(it.0, milliseconds, &mut done) })?;
+        check(unsafe { scrypt_derivation_run(derivation.0, milliseconds, &mut done) })?;
         if progress(done).is_break() {
             return Err(DeriveError::Cancelled);
         }
     }
     // SAFETY: as above.
     check(unsafe {
-        scrypt_derivation_finish(it.0, password_at, password.len(), output.as_mut_ptr(), len)
+        scrypt_derivation_finish(
+            derivation.0,
+            password_at,
+            password.len(),
+            output.as_mut_ptr(),
+            len,
+        )
     })
 }
 
