@@ -2,6 +2,7 @@
 # others; `tools/gate/run.sh` runs them. Two groups are useful separately: `make documents` needs nothing
 # built, and `make suites` calls the files that `make lib`, `make js` and `make run` have built (with BUILT=1).
 TASK = @NICE=$(or $(NICE),10) tools/gate/step.sh $@ $(NEEDS)
+NEEDS =
 PY = python3 -B -m
 
 # The proofs that building the crate scrypt_c keeps.

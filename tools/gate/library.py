@@ -7,6 +7,10 @@ x86-64-v3/libscrypt_c.a. Next to each is a folder `given` with clang's input, fr
 bindings/bitcode.py compiles the library for Windows. KEPT has the kept proofs, and can be empty.
 BACKEND is llvm, or rattle, the kit's own compiler. With a LEVEL, only this one is built. The libraries
 below the crate have to be proved.
+
+`rt ci` has proved the crate too, but leaves nothing of a static library that a build could begin with. So it is proved
+once more here, in about four processor minutes, and the proofs in KEPT are shared: with the other level,
+the kit's own compiler, arm64 and WebAssembly. A checked crate (`rattle check -o`) would be for one level alone.
 """
 
 import os
