@@ -51,6 +51,8 @@ if [ "${NO_INSTALL:-}" != 1 ] && command -v apt-get > /dev/null && command -v dp
 fi
 absent=$(needed)
 if [ -n "$absent" ]; then
-  echo "make $1 needs these packages of Debian, and nothing was proved: apt-get install ${absent% }" >&2
+  foreign=$(sed -nE 's/.*:([^ ]*).*/\1/p' <<< "$absent") # another machine's architecture
+  echo "make $1 needs these packages of Debian, and nothing was proved:" \
+    "${foreign:+dpkg --add-architecture $foreign && apt-get update && }apt-get install ${absent% }" >&2
   exit 1
 fi
