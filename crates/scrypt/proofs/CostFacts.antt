@@ -1,9 +1,11 @@
-use Rattle.std.proofs.Common.{◌≡◌, ℕ, zero, suc, ◌<◌, ◌≤◌, ◌+◌, ◌*◌, ◌/◌, ◌^◌, List, refl, ap, ◌∙◌, arith, lit≤, add-one, ◌↔◌, IsTrue}
+use Rattle.std.proofs.Common.{◌≡◌, ℕ, zero, suc, ◌<◌, ◌≤◌, ◌+◌, ◌-◌, ◌*◌, ◌/◌, ◌%◌, ◌^◌, List, refl, ap, ◌∙◌, arith, lit≤, add-one, pow_pos, ◌↔◌, IsTrue}
 use Rattle.std.proofs.Math.Nat.{div-eq_of_eq-mul_left, div-mul-le_self, mul-div_left, mul-le-mul_right, one-le-pow}
 use Rattle.std.proofs.lemmas.Nat.{le-div, mul-le}
 use Rattle.scrypt_kernel.specs.Pbkdf2Cost.{end_cost}
 use Rattle.std.proofs.lemmas.Bool.Decides.{nat_tests}
 use Rattle.scrypt_kernel.specs.Words.{part, words_of}
+use Rattle.scrypt_kernel.specs.RoMix.{integerify, walk}
+use Rattle.scrypt_kernel.specs.Table.{extra_rows, recomputed_rows}
 use Rattle.scrypt_kernel.proofs.WalkFacts.{extra_rows-whole, whole_cost}
 use Rattle.scrypt.specs.Accepted.{Parameters}
 use Rattle.scrypt.specs.Limits.{are_within, work}
@@ -87,3 +89,13 @@ unfolding are_within
 both_within limits c password_len salt_len n fits =
     let most : work c.log_n c.r c.p ≤ limits.max_work = grind (arith, nat_tests) in
     omega (arith, most, both_bounded password_len salt_len c.log_n c.r c.p n)
+
+-- k steps of the walk recompute at most 2 ^ s - 1 rows each
+pub extra_rows_at_most : (b : List ℕ) (log_n s k : ℕ) → extra_rows b log_n s k ≤ k * (2 ^ s - 1)
+unfolding extra_rows
+extra_rows_at_most b log_n s zero = omega arith
+extra_rows_at_most b log_n s (suc k) =
+    let before = extra_rows_at_most b log_n s k in
+    let some = pow_pos s in
+    let next : recomputed_rows s (integerify (walk b log_n k) % 2 ^ log_n) ≤ 2 ^ s - 1 = omega arith in
+    omega arith

@@ -16,7 +16,6 @@ ghost use Rattle.scrypt.specs.Hashing.{key_len_or_default};
 ghost use Rattle.scrypt.specs.KeyOfParams.{key_by};
 ghost use Rattle.scrypt_kernel.specs.Diagonal.{AreInverse, IsBlockMixBy, diagonal_core, diagonal_order, inverse_pivot, pivot, standard_order};
 ghost use Rattle.scrypt.specs.Key.{derived_key, mixed_chunks};
-ghost use Rattle.scrypt.specs.ThinKey.{thin_key};
 ghost use Rattle.scrypt.specs.Cost.{chunks_bytes, cost, extra_rows, hash_cost, lengths_cost, scratch_words, table_words, thin_cost};
 ghost use Rattle.scrypt.specs.InBuffers.{are_enough};
 ghost use Rattle.scrypt.specs.Limits.{are_within, buffers_bytes, limits_for_new, work};
@@ -220,16 +219,9 @@ pub fn letters_of_parameters_are_injective()
         ↔ ((log_n ≡ other_log_n) × (r ≡ other_r) × (p ≡ other_p)) }
 {}
 
-/// A table that keeps one row in `2^s` gives the same key, for every `s`.
-#[tactic(auto, using(crate::proofs::ThinKeyFacts::thin_key_is))]
-pub fn thin_key_is_the_key()
-    ensures same { (password salt : List ℕ) (log_n r p s n : ℕ)
-        → thin_key password salt log_n r p s n ≡ derived_key password salt log_n r p n }
-{}
-
 /// With a table that keeps one row in `2^s`, the `N` steps of the walk together recompute at most
 /// `N * (2^s - 1)` rows. With `s` of 0 the work is the work with the whole table.
-#[tactic(auto, using(crate::proofs::ThinKeyFacts::extra_rows_at_most, crate::proofs::CostFacts::whole_table_cost))]
+#[tactic(auto, using(crate::proofs::CostFacts::extra_rows_at_most, crate::proofs::CostFacts::whole_table_cost))]
 pub fn extra_rows_are_bounded()
     ensures bound { (b : List ℕ) (log_n s : ℕ) → extra_rows b log_n s (2 ^ log_n) ≤ 2 ^ log_n * (2 ^ s - 1) }
     ensures whole { (password salt : List ℕ) (log_n r p : ℕ) → thin_cost password salt log_n r p 0 ≡ cost log_n r p }
