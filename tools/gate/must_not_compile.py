@@ -6,7 +6,8 @@ count. A count could also be wrong by one of the following, which are errors her
 - a library function with a counter argument that makes another count, or that reaches, by its
   calls, a function that makes one and drops it, as `hmac_sha256` and `StoredHash::verify` do: what
   that one hashes and derives would not be counted. Calls are followed by the last name alone, so a
-  call counts as a call of each function with that name
+  call counts as a call of each function with that name in its crate and below, and `x.f()` as one
+  of each method
 - a file that names the trait `Digest` or all of `sha2`, through which SHA-256 is called, except the
   file that counts the blocks that it compresses
 - a handwritten proof other than the counter's
@@ -32,8 +33,8 @@ from tools.generate import sources
 
 # Crate, file, what is replaced by what, and the error.
 RAISED = [
-    ("scrypt", "derivation.rt", "let derived = scrypt_in_prefix::<Simd>(",
-     "*cores = CoreCount::after_core(cores, &[0u32; 16], &[0u32; 16]); let derived = scrypt_in_prefix::<Simd>(",
+    ("scrypt", "derivation.rt", "    derived.ok_or(",
+     "*cores = CoreCount::after_core(cores, &[0u32; 16], &[0u32; 16]); derived.ok_or(",
      "no function or constant named `after_core` found for struct `CoreCount`"),
     ("scrypt", "hashing.rt", "CoreCount::new()", "CoreCount { seal: () }", "private-"),
     ("scrypt_kernel", "order/standard.rt", "salsa::core(&mut words, cores);",
@@ -43,8 +44,9 @@ RAISED = [
 LIBRARIES = ["crates/scrypt_kernel", "crates/scrypt"]
 NEW = re.compile(r"\bCoreCount\s*>?\s*::\s*new\b")
 PASSED = re.compile(r"\b(?:CoreCount|ActiveBuffers)\b")
-# A call by its last name, `x::f(..)` or `x.f::<T>(..)`, or a path to a function as an argument, `x::f`.
-CALL = re.compile(r"\b(\w+)\s*(?:::\s*<[^;{}()]*>\s*)?\(|::\s*(\w+)")
+# A call by its last name, `f(..)` or `x.f::<T>(..)`, or a path to a function or a method, `x::f`.
+CALL = re.compile(r"(\.?\b\w+)\s*(?:::\s*<[^;{}()]*>\s*)?\(|::\s*(\w+)")
+METHOD = re.compile(r"\(\s*&?(?:'\w+ )?(?:mut )?self\b")
 
 HASHING, HASHING_SOURCE = re.compile(r"\bDigest\b|\bsha2\s*::\s*\*"), "crates/scrypt_kernel/src/cores/sha256.rt"
 HANDWRITTEN = ["crates/scrypt_kernel/proofs/cores/count/CoreCount/of/Proof.antt"]
@@ -64,25 +66,25 @@ def bare(path):
 
 
 def functions(source):
-    """The functions of a source: name, whether it has a counter argument, and the names in its calls."""
+    """The functions of a source: name, with a dot before a method's, whether it has a counter argument, and the names in its calls."""
     lines = source.text.splitlines()
     for it in source.items:
         if it.kind == "fn":
             head = re.split(r"\n *(?:requires|ensures) ", "\n".join(lines[it.line - 1 : it.opened]))[0]
             body = "\n".join(lines[it.opened : it.last])
-            calls = {first or second for first, second in CALL.findall(body)}
-            yield it.name, bool(PASSED.search(head)), bool(NEW.search(body)), calls
+            calls = {name for called, path in CALL.findall(body) for name in ([called] if called else [path, f".{path}"])}
+            yield "." * bool(METHOD.search(head)) + it.name, bool(PASSED.search(head)), bool(NEW.search(body)), calls
 
 
-def uncounted(those):
-    """Library functions with a counter argument that make a count, or reach what makes its own."""
-    found = [(source.path, *it) for source in those if source.path.startswith(tuple(f"{it}/" for it in LIBRARIES)) for it in functions(source)]
+def uncounted(those, libraries):
+    """Functions of the last library with a counter argument that make a count, or reach what makes its own."""
+    found = [(source.path, *it) for source in those if source.path.startswith(tuple(f"{it}/" for it in libraries)) for it in functions(source)]
     dropping = more = {name for _, name, is_passed, makes, _ in found if makes and not is_passed}
     while more:
         more = {name for _, name, is_passed, _, calls in found if calls & dropping and not is_passed} - dropping
         dropping = dropping | more
     for path, name, is_passed, makes, calls in found:
-        if is_passed and (makes or calls & dropping):
+        if path.startswith(f"{libraries[-1]}/") and is_passed and (makes or calls & dropping):
             yield f"{path}: {name} is passed a count, and makes another, or calls what makes its own: {', '.join(sorted(calls & dropping))}"
 
 
@@ -102,7 +104,8 @@ def wrong_in(source):
 def wrong_sources():
     paths = glob.glob("crates/*/src/**/*.rt", recursive=True)
     those = [bare(path) for path in sorted(paths) if not path.split("/")[1].endswith("_tests")]
-    yield from uncounted(those)
+    for count in range(len(LIBRARIES)):
+        yield from uncounted(those, LIBRARIES[: count + 1])
     for source in those:
         yield from wrong_in(source)
     if sorted(glob.glob("crates/*/proofs/**/Proof.antt", recursive=True)) != HANDWRITTEN:

@@ -4,26 +4,28 @@
 use crate::failing_allocations::{CallEnd, failing_allocations};
 use crate::holds;
 use scrypt::{
-    CoreCount, DeriveError, Kdf, Params, Scrypt, kdf, scrypt, scrypt_counted, scrypt_with_max_mem,
+    BufferLens, Buffers, CoreCount, DeriveError, Kdf, Params, Scrypt, Simd, kdf, scrypt,
+    scrypt_counted, scrypt_with_max_mem,
 };
 use std::alloc::Global;
 use std::test::Fail;
 
-// The calls that derive a key in memory that they allocate, the last one within a size for this
-// number of tables.
+// The calls that derive a key in memory that they allocate, the last one of these within a size for
+// this number of tables; and the call that only allocates.
 #[derive(Clone, Copy)]
 enum Call {
     Scrypt,
     ScryptCounted,
     DeriveKey,
     InGroups(usize),
+    Allocate,
 }
 
 // A call, p, the sizes of its allocations at (4, 1, p), how many of them it needs, and the reason
 // for the row. The allocations are the chunks, the table and the scratch. A call for several tables
 // that cannot allocate their scratches falls back to one table, which fits with its scratch where
 // the several tables were. `memory.rt` tests how many tables a call allocates.
-static CALLS: [(Call, u32, [usize; 3], usize, &str); 10] = [
+static CALLS: [(Call, u32, [usize; 3], usize, &str); 11] = [
     (Call::Scrypt, 1, [128, 2048, 256], 3, "the three buffers"),
     (
         Call::ScryptCounted,
@@ -38,6 +40,13 @@ static CALLS: [(Call, u32, [usize; 3], usize, &str); 10] = [
         [128, 2048, 256],
         3,
         "the trait adds none",
+    ),
+    (
+        Call::Allocate,
+        1,
+        [128, 2048, 256],
+        3,
+        "`Buffers` of the same lengths",
     ),
     (
         Call::Scrypt,
@@ -113,14 +122,19 @@ fn ended(call: Call, alloc: Global, params: &Params) -> CallEnd {
             &mut cores,
         )),
         Call::DeriveKey => end_of_trait(alloc, params, &mut output),
-        Call::InGroups(tables) => end_of(scrypt_with_max_mem(
+        Call::InGroups(tables) => end_of(scrypt_with_max_mem::<Simd>(
             alloc,
             b"",
             b"",
             params,
             tables.min(4) * (2048 + 256) + 512,
             &mut output,
+            &mut cores,
         )),
+        Call::Allocate => match Buffers::allocate(alloc, &BufferLens::of(params)) {
+            Ok(_) => CallEnd::Done,
+            Err(_) => CallEnd::OutOfMemory,
+        },
     };
     match end {
         CallEnd::OutOfMemory if output != BEFORE => CallEnd::Otherwise,

@@ -3,7 +3,7 @@
 use crate::holds;
 use scrypt::{
     Backend, BufferLens, Buffers, CoreCount, LimitedError, Login, Params, Scalar, Simd, SimdPairs,
-    StoredHash, scrypt_with_max_mem_counted,
+    StoredHash, scrypt_with_max_mem,
 };
 use std::alloc::{AllocError, Global};
 use std::test::Fail;
@@ -36,7 +36,7 @@ fn keys_in_groups(rt: HostRuntime) -> Result<(), Fail> {
 fn keys_with_backend<W: Backend>(alloc: Global) -> Result<(), Fail> {
     for &(p, wanted, reason) in &KEYS {
         let (params, mut key) = (Params::new(4, 2, p)?, [0u8; 16]);
-        scrypt_with_max_mem_counted::<W>(
+        scrypt_with_max_mem::<W>(
             alloc,
             b"pw",
             b"NaCl",

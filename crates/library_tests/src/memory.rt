@@ -6,7 +6,7 @@ use crate::verdicts::{is_mcf_verdict, is_phc_verdict};
 use crate::{holds, is};
 use password_hash::mcf::Base64;
 use password_hash::{PasswordHasher, PasswordVerifier, mcf, phc};
-use scrypt::{Kdf, Params, Scrypt, scrypt, scrypt_with_max_mem};
+use scrypt::{CoreCount, Kdf, Params, Scrypt, Simd, scrypt, scrypt_with_max_mem};
 use std::alloc::Global;
 use std::fs;
 use std::test::Fail;
@@ -59,7 +59,15 @@ fn tables(rt: HostRuntime) -> Result<(), Fail> {
         "verified",
     )?;
     for &(max_mem, tables, reason) in &TABLES {
-        scrypt_with_max_mem(alloc, b"", b"", &params, max_mem, &mut key)?;
+        scrypt_with_max_mem::<Simd>(
+            alloc,
+            b"",
+            b"",
+            &params,
+            max_mem,
+            &mut key,
+            &mut CoreCount::new(),
+        )?;
         let taken = peak_memory(&rt)?.saturating_sub(before);
         holds(
             taken.saturating_add(TABLE / 2048) / (TABLE / 1024) == tables,

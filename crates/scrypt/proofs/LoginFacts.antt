@@ -1,5 +1,7 @@
 use Rattle.std.proofs.Common.{◌≡◌, ◌∙◌, ◌<◌, ◌≤◌, ◌+◌, ◌*◌, ◌^◌, ◌++◌, ℕ, List, length, take, drop, get_or, zero, suc, false, refl, sym, ap, ap₂, add-one, arith, append_assoc, length-append, Option, None, Some, Ok, Err, [], ◌∷◌, map, MatchBool, MatchOption, option_and_then, slice_set, IsTrue, sum, sum_by, mul-le-mul_right, take-suc-set}
 use Rattle.std.proofs.Math.ListN.{get_or-map}
+use Rattle.std.specs.Prelude.{All, IsOk, Result}
+use Rattle.std.proofs.lemmas.List.Elements.{All-head, All-tail}
 use Rattle.std.proofs.lemmas.List.{drop_all, drop_more, length-map, map-append, take_all}
 use Rattle.std.proofs.lemmas.List.Sums.{sum-map, sum_by-cons}
 use Rattle.std.proofs.lemmas.Slice.{take-put_mid}
@@ -13,13 +15,18 @@ use Rattle.password_hash.specs.Refusal.{Refusal}
 use Rattle.scrypt.specs.Accepted.{Parameters}
 use Rattle.scrypt.specs.Cost.{AreHashed, chunks_bytes}
 use Rattle.scrypt.specs.Key.{mixed_chunks}
-use Rattle.scrypt.specs.Logins.{Attempt, AreLeft, IsAlone, all_cost, all_of, attempt_of, attempts, chunks_cost, compare_cost, count_of, hashed_on, own_cost, shared, verdict_on, with_more}
-use Rattle.scrypt.specs.Reading.{Stored, chunks_of, mixed_of, verdict, verify_cost}
+use Rattle.scrypt.specs.Limits.{SufficeFor}
+use Rattle.scrypt.specs.Logins.{Attempt, AreLeft, IsAlone, all_cost, all_of, attempt_of, attempts, chunks_cost, compare_cost, count_of, hashed_on, own_cost, reading_of, shared, verdict_on, with_more}
+use Rattle.scrypt.specs.Reading.{◌and_then◌, Stored, chunks_of, mixed_of, verdict, verify_cost}
+use Rattle.scrypt.specs.StoredHash.{reading}
+use Rattle.scrypt.specs.WithinLimits.{with_limited_refusal, within}
+use Rattle.scrypt.specs.declared.limits.Limits.{Limits}
 use Rattle.scrypt.specs.InBuffers.{are_enough}
 use Rattle.scrypt.specs.Workspace.{IsDone, IsLeft, Workspace}
 use Rattle.scrypt.specs.declared.logins.Login.{Login}
 use Rattle.scrypt.proofs.KeyFacts.{both_mixed, length-mixed_chunks}
 use Rattle.scrypt.proofs.ReadingFacts.{enough_decided}
+use Rattle.scrypt.proofs.StoredHashFacts.{enough_read}
 
 -- n chunks, which are those of d and others
 pub record AreMore (c d : Parameters) (others : Option ℕ) (n : ℕ) : Type 0 where
@@ -127,6 +134,31 @@ same_verdicts w v long these = each_alike _ _ (same_verdict w v long) these
 
 pub same_costs : (w v : Workspace) → AreAsLong w v → (these : List Attempt) → sum_by (hashed_on w) these ≡ sum_by (hashed_on v) these
 same_costs w v long these = sums_alike _ _ these (each_alike _ _ (same_hashed w v long) these)
+
+-- In buffers that suffice for limits, and with hashes within them or errors, each verdict is that
+-- of its password, and never `OutOfMemory`.
+
+one_within : (limits : Limits) (w : Workspace) (password : List ℕ) (found : Result (List ℕ) Refusal)
+    → SufficeFor limits w.chunks w.table w.scratch → within limits (found and_then reading) ≡ found and_then reading
+    → verdict_on w (password, found and_then reading) ≡ verdict password (found and_then reading)
+one_within limits w password (Err why) suffice fits = refl
+one_within limits w password (Ok text) suffice fits = at (reading text) refl
+  where
+    at : (read : Result Stored Refusal) → reading text ≡ read → verdict_on w (password, read) ≡ verdict password read
+    at (Err why) is = refl
+    at (Ok s) is =
+        let ok : IsOk (within limits (reading text)) = rw (fits, is) refl in
+        rw (enough_read limits text s w.chunks w.table w.scratch suffice is ok) refl
+
+pub all_within : (limits : Limits) (w : Workspace) (logins : List Login) → SufficeFor limits w.chunks w.table w.scratch
+    → All (λ login. within limits (reading_of login) ≡ reading_of login) logins
+    → map (verdict_on w) (attempts logins) ≡ map (λ (a : Attempt). verdict a.0 a.1) (attempts logins)
+all_within limits w [] suffice fits = refl
+all_within limits w (login ∷ rest) suffice fits =
+    let Fits = λ (login : Login). within limits (reading_of login) ≡ reading_of login in
+    ap₂ (λ out outs. out ∷ outs)
+    (one_within limits w login.password.now (with_limited_refusal login.hash) suffice (All-head Fits login rest fits))
+    (all_within limits w rest suffice (All-tail Fits login rest fits))
 
 -- what SHA-256 compresses for all
 

@@ -1,10 +1,10 @@
-use Rattle.std.proofs.Common.{◌≡◌, ℕ, ◌^◌, ◌<◌, ◌≤◌, List, [], ◌∷◌, refl, rules, arith, Ok, Some, None, ◌≢◌, false, true, length, codes, sym, ◌∙◌, lit<, length-append, lit≤, IfErr, Option, decimal, ok_or, IsTrue, bytes_eq}
+use Rattle.std.proofs.Common.{◌≡◌, ℕ, ◌^◌, ◌<◌, ◌≤◌, List, [], ◌∷◌, refl, rules, arith, Ok, Some, None, ◌≢◌, false, true, length, codes, sym, ◌∙◌, lit<, length-append, lit≤, IfErr, Option, decimal, ok_or, IsTrue, bytes_eq, IfOk}
 use Rattle.std.proofs.lemmas.Bool.Decides.{nat_tests}
 use Rattle.password_hash.specs.Decimal.{decimal_below}
 use Rattle.password_hash.proofs.DecimalFacts.{decimal_exact, IsValue-decimal}
 use Rattle.scrypt.specs.Accepted.{are_accepted, Parameters, without_len, is_stored_len}
 use Rattle.scrypt.proofs.AcceptedFacts.{checked_is, small_params, key_len_stored}
-use Rattle.scrypt.proofs.ReadingFacts.{IsFault, checked_fault, faults, made_right, made_stored, made_strong, no_password}
+use Rattle.scrypt.proofs.ReadingFacts.{AreGood, IsFault, checked_fault, checked_good, faults, if_good, made_right, made_stored, made_strong, no_password, then_good}
 use Rattle.scrypt.specs.PhcParams.{params_of_pairs, read_pairs, written_pairs}
 use Rattle.std.proofs.lemmas.Bool.{false≢true}
 use Rattle.std.proofs.lemmas.Fmt.{length-decimal-le}
@@ -58,6 +58,12 @@ pairs_fault log_n r p [] = checked_fault log_n r p
 pairs_fault log_n r p (pair ∷ pairs) =
     let after = λ (log_n r p : ℕ). pairs_fault log_n r p pairs in search (rules, faults, after)
 
+pub pairs_good : (log_n r p : ℕ) (pairs : List (List ℕ × List ℕ)) → IfOk (read_pairs log_n r p pairs) AreGood
+unfolding read_pairs
+pairs_good log_n r p [] = checked_good log_n r p
+pairs_good log_n r p (pair ∷ pairs) =
+    let after = λ (log_n r p : ℕ). pairs_good log_n r p pairs in search (rules, if_good, then_good, after)
+
 differ : (name other : List ℕ) → bytes_eq name other ≡ false → name ≢ other
 differ name other apart same = false≢true (sym apart ∙ (bytes_eq-Decides name other).1 same)
 
@@ -100,6 +106,10 @@ pub ruleset pairs_of_params = (one_pair, three_pairs, two_pairs)
 pub params_fault : (hash : PasswordHash) → IfErr (phc_params hash) IsFault
 unfolding phc_params
 params_fault hash = search (rules, faults, pairs_fault)
+
+pub params_good : (hash : PasswordHash) → IfOk (phc_params hash) AreGood
+unfolding phc_params
+params_good hash = search (rules, if_good, pairs_good)
 
 pub params_none : (hash : PasswordHash) → NamesNoPassword (phc_params hash)
 params_none hash = no_password (phc_params hash) (params_fault hash)

@@ -1,13 +1,13 @@
 use Rattle.std.proofs.Common.{◌≡◌, ◌↔◌, ◌≢◌, ◌⊎◌, ◌∙◌, ℕ, ◌<◌, ◌≤◌, ◌-◌, ◌^◌, List, length, Ok, Err, inl, inr, true, false, refl, sym, ap, arith, Decides}
-use Rattle.std.specs.Prelude.{Bool, IfErr, IsOk, None, Option, Result, Some, if◌then◌else◌, max, min, ok_or, ⊤, IsTrue}
+use Rattle.std.specs.Prelude.{Bool, IfErr, IfOk, IsOk, None, Option, Result, Some, if◌then◌else◌, max, min, ok_or, ⊤, IsTrue}
 use Rattle.std.proofs.lemmas.Bool.Decides.{Decides-and, same_from_decides}
 use Rattle.std.proofs.lemmas.Slice.Eq.{bytes_eq-Decides}
-use Rattle.password_hash.specs.Refusal.{Refusal, KeyTooShort, OutOfMemory, PasswordInvalid, TooCostly}
+use Rattle.password_hash.specs.Refusal.{Refusal, KeyTooShort, OutOfMemory, ParamsInvalid, PasswordInvalid, TooCostly}
 use Rattle.scrypt.specs.Accepted.{Parameters, are_accepted, without_len}
 use Rattle.scrypt.specs.Cost.{chunks_bytes, scratch_words, table_words}
 use Rattle.scrypt.specs.Hashing.{key_len_or_default}
 use Rattle.scrypt.specs.KeyOfParams.{key_by}
-use Rattle.scrypt.proofs.AcceptedFacts.{leb_decided, ok_if}
+use Rattle.scrypt.proofs.AcceptedFacts.{leb_decided, numbers, ok_if}
 use Rattle.scrypt.proofs.KeyFacts.{length-key_by}
 use Rattle.std.proofs.lemmas.Bool.{false_from_ne_true, le-ltb}
 use Rattle.std.proofs.lemmas.Nat.{mul-le}
@@ -60,6 +60,29 @@ pub checked_fault : (log_n r p : ℕ) → IfErr (checked log_n r p) IsFault
 unfolding checked
 checked_fault log_n r p = if_fault (are_accepted log_n r p) _ _ tt tt
 
+-- parameters that are read are accepted
+
+abbrev pub AreGood : Parameters → Type 0
+AreGood c = IsTrue (are_accepted c.log_n c.r c.p)
+
+pub then_good : {A : Type 0} (reading : Result A Refusal) (rest : A → Result Parameters Refusal) → ((x : A) → IfOk (rest x) AreGood)
+    → IfOk (reading and_then rest) AreGood
+then_good (Ok x) rest after = after x
+then_good (Err why) rest after = tt
+
+pub if_good : (test : Bool) (first second : Result Parameters Refusal) → IfOk first AreGood → IfOk second AreGood
+    → IfOk (if test then first else second) AreGood
+if_good true first second good other = good
+if_good false first second good other = other
+
+pub checked_good : (log_n r p : ℕ) → IfOk (checked log_n r p) AreGood
+unfolding checked
+checked_good log_n r p = at (are_accepted log_n r p) refl
+  where
+    at : (test : Bool) → are_accepted log_n r p ≡ test → IfOk (if test then Ok (numbers log_n r p) else Err ParamsInvalid) AreGood
+    at true is = is
+    at false is = tt
+
 pub ruleset faults = (checked_fault, if_fault, part_fault, some_fault, then_fault)
 
 pub no_password : {A : Type 0} (reading : Result A Refusal) → IfErr reading IsFault → NamesNoPassword reading
@@ -73,10 +96,6 @@ right_decided password s = bytes_eq-Decides s.key (key_by s.params password s.sa
 pub told_right : (password : List ℕ) (s : Stored) (same : Bool) → (same ≡ true → s.key ≡ key_by s.params password s.salt (length s.key))
     × (s.key ≡ key_by s.params password s.salt (length s.key) → same ≡ true) → same ≡ is_right password s
 told_right password s same tells = same_from_decides same (is_right password s) tells (right_decided password s)
-
--- the verdict, if it is known whether the password is right
-abbrev pub by_right : Bool → Result ⊤ Refusal
-by_right right = if right then Ok tt else Err PasswordInvalid
 
 -- the keys that a verdict compared
 
@@ -129,16 +148,22 @@ pub within_decided : (limits : Limits) (c : Parameters) → Decides (are_within 
 unfolding are_within
 within_decided limits c = Decides-and _ _ (leb_decided _ _) (leb_decided _ _)
 
--- a hash within limits has enough room in buffers that suffice for them
-pub enough_within : (limits : Limits) (s : Stored) (chunks table scratch : List ℕ) → SufficeFor limits chunks table scratch
-    → 0 < s.params.p → IsOk (within limits (Ok s)) → are_enough s.params chunks table scratch ≡ true
-enough_within limits s chunks table scratch suffice some within_is =
-    let fits = (within_decided limits s.params).0 (allowed (are_within limits s.params) _ _ within_is) in
-    let more = mul-le s.params.r 1 s.params.r s.params.p (omega arith) some in
-    (enough_decided s.params chunks table scratch).1 (
+-- parameters within limits have enough room in buffers that suffice for them
+pub enough_for : (limits : Limits) (c : Parameters) (chunks table scratch : List ℕ) → SufficeFor limits chunks table scratch
+    → 0 < c.p → IsTrue (are_within limits c) → IsTrue (are_enough c chunks table scratch)
+enough_for limits c chunks table scratch suffice some within_is =
+    let fits = (within_decided limits c).0 within_is in
+    let more = mul-le c.r 1 c.r c.p (omega arith) some in
+    (enough_decided c chunks table scratch).1 (
       omega (arith, fits, suffice.chunks_fit),
       (omega (arith, fits, suffice.table_fits), omega (arith, fits, more, suffice.scratch_fits)),
     )
+
+-- and so has a hash
+pub enough_within : (limits : Limits) (s : Stored) (chunks table scratch : List ℕ) → SufficeFor limits chunks table scratch
+    → 0 < s.params.p → IsOk (within limits (Ok s)) → are_enough s.params chunks table scratch ≡ true
+enough_within limits s chunks table scratch suffice some within_is =
+    enough_for limits s.params chunks table scratch suffice some (allowed (are_within limits s.params) _ _ within_is)
   where
     allowed : (test : Bool) (first : Result Stored Refusal) (why : Refusal) → IsOk (if test then first else Err why) → test ≡ true
     allowed true first why is = refl

@@ -1,4 +1,5 @@
-use Rattle.std.proofs.Common.{◌≡◌, List, ℕ, [], ◌∷◌, Bool, true, false, Ok, Err, refl, sym, ap, arith, lit<, ◌||◌, IfErr, Option, Some, None, Result, codes, is_some, length, ok_or, IsTrue}
+use Rattle.std.proofs.Common.{◌≡◌, List, ℕ, [], ◌∷◌, Bool, true, false, Ok, Err, refl, sym, ap, arith, lit<, ◌||◌, IfErr, Option, Some, None, Result, codes, is_some, length, ok_or, IsTrue, ◌<◌}
+use Rattle.std.specs.Prelude.{IfOk, IsOk}
 use Rattle.std.proofs.lemmas.Bool.{false≢true}
 use Rattle.std.proofs.lemmas.Bool.Decides.{nat_tests}
 use Rattle.password_hash.proofs.McfFacts.{IsMcfText-from_parts}
@@ -14,8 +15,14 @@ use Rattle.scrypt.specs.Accepted.{are_accepted, is_stored_len, Parameters}
 use Rattle.scrypt.specs.Reading.{◌and_then◌, IsOfText, NamesNoPassword, Stored, mapped}
 use Rattle.scrypt.specs.StoredHash.{Formatted, McfText, PhcHash, formatted, is_mcf_text, is_stored_text, key_len_or_zero, params_and_len, params_reading, reading, whole}
 use Rattle.scrypt.proofs.McfHashFacts.{is_mcf, mcf_fault, mcf_none, read_seven}
-use Rattle.scrypt.proofs.PhcFacts.{made_is_text, made_read, params_fault, params_none}
-use Rattle.scrypt.proofs.ReadingFacts.{IsFault, made_stored, mapped_refused, no_password, part_fault, some_fault, then_fault}
+use Rattle.scrypt.specs.InBuffers.{are_enough}
+use Rattle.scrypt.specs.Limits.{SufficeFor}
+use Rattle.scrypt.specs.WithinLimits.{within}
+use Rattle.scrypt.specs.declared.limits.Limits.{Limits}
+use Rattle.scrypt.proofs.AcceptedFacts.{bounds}
+use Rattle.scrypt.proofs.McfTextFacts.{read_is_text}
+use Rattle.scrypt.proofs.PhcFacts.{made_is_text, made_read, params_fault, params_good, params_none}
+use Rattle.scrypt.proofs.ReadingFacts.{AreGood, IsFault, enough_within, made_stored, mapped_refused, no_password, part_fault, some_fault, then_fault}
 
 or_true : (b : Bool) → (b || true) ≡ true
 or_true true = refl
@@ -84,6 +91,38 @@ params_refused text why is = at (formatted text) is
     at (Some (McfText text)) is = mapped_refused _ (read_mcf text) why is
     at (Some (PhcHash hash)) is = rw (mapped_refused _ (phc_params hash) why is) refl
     at None is = cc
+
+-- the parameters are accepted
+
+phc_good : (params : Result Parameters Refusal) (salt key : Option (List ℕ)) (s : Stored) → IfOk params AreGood
+    → (params and_then λ c. ok_or salt PasswordInvalid and_then λ salt. ok_or key PasswordInvalid
+    and_then λ key. Ok (record { params = c; salt = salt; key = key })) ≡ Ok s
+    → AreGood s.params
+phc_good (Ok c) (Some salt) (Some key) s good is =
+    let read : Stored = record { params = c; salt = salt; key = key } in
+    let same : read ≡ s = cc in
+    rw (← same) good
+phc_good (Ok c) (Some salt) None s good is = absurd cc
+phc_good (Ok c) None key s good is = absurd cc
+phc_good (Err why) salt key s good is = absurd cc
+
+pub reading_accepted : (text : List ℕ) (s : Stored) → reading text ≡ Ok s → IsTrue (are_accepted s.params.log_n s.params.r s.params.p)
+unfolding reading
+reading_accepted text s is = at (formatted text) is
+  where
+    at : (found : Option Formatted) → (ok_or found EncodingInvalid and_then whole) ≡ Ok s → AreGood s.params
+    at (Some (McfText text)) is = (read_is_text text s is).params
+    at (Some (PhcHash hash)) is = phc_good (phc_params hash) hash.salt hash.hash s (params_good hash) is
+    at None is = absurd cc
+
+pub some_read : (text : List ℕ) (s : Stored) → reading text ≡ Ok s → 0 < s.params.p
+some_read text s is = (bounds s.params.log_n s.params.r s.params.p (reading_accepted text s is)).1
+
+-- a hash within limits has enough room in buffers that suffice for them
+pub enough_read : (limits : Limits) (text : List ℕ) (s : Stored) (chunks table scratch : List ℕ) → SufficeFor limits chunks table scratch
+    → reading text ≡ Ok s → IsOk (within limits (reading text)) → IsTrue (are_enough s.params chunks table scratch)
+enough_read limits text s chunks table scratch suffice is fits =
+    enough_within limits s chunks table scratch suffice (some_read text s is) (rw is at fits)
 
 -- the error of its parameters, and of the whole, which may lack the salt or the key
 

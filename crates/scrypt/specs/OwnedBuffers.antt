@@ -28,18 +28,17 @@ pub record KeepContents (before after : Buffers) : Type 0 where
   pub table : after.table.items ≡ before.table.items
   pub scratch : after.scratch.items ≡ before.scratch.items
 
--- The buffers have the lengths for a derivation with these parameters: the chunks exactly, the table
--- and the scratch at least.
+-- the buffers have at least the lengths for a derivation with these parameters
 pub record AreFor (c : Parameters) (own : Buffers) : Type 0 where
-  pub chunks : length own.chunks.items ≡ chunks_bytes c.r c.p
+  pub chunks : chunks_bytes c.r c.p ≤ length own.chunks.items
   pub table : table_words c.log_n c.r ≤ length own.table.items
   pub scratch : scratch_words c.r ≤ length own.scratch.items
 
 -- a derivation with this progress can go on in these buffers, with the backend of x86-64
 pub record CanStep (c : Parameters) (at : Progress) (own : Buffers) : Type 0 where
   pub going : CanGoOn 4 false c at own.table.items own.scratch.items
-  pub chunks : length own.chunks.items ≡ chunks_bytes c.r c.p
+  pub chunks : chunks_bytes c.r c.p ≤ length own.chunks.items
 
--- these buffers hold the derivation for this password and this salt at this progress
+-- the front of these buffers holds the derivation for this password and this salt at this progress
 abbrev pub Hold : List ℕ → List ℕ → Parameters → Progress → Buffers → Type 0
 Hold password salt c at own = IsUnderWay password salt c at own.chunks.items own.table.items own.scratch.items

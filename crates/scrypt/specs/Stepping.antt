@@ -54,7 +54,7 @@ first_b password salt c = pbkdf2 password salt (chunks_bytes c.r c.p)
 abbrev pub words_from : List ℕ → ℕ → ℕ → ℕ → List ℕ
 words_from b r i k = words_of (part (128 * r) b (i + k))
 
--- these buffers hold the derivation for this password and this salt at this progress
+-- the front of these buffers holds the derivation for this password and this salt at this progress
 pub record IsUnderWay (password salt : List ℕ) (c : Parameters) (at : Progress) (chunks table scratch : List ℕ) : Type 0 where
-  pub mixed : AreMixed (first_b password salt c) c.log_n c.r at.chunks chunks
+  pub mixed : AreMixed (first_b password salt c) c.log_n c.r at.chunks (take (chunks_bytes c.r c.p) chunks)
   pub next : IsMixing pivot at.interleaved (words_from (first_b password salt c) c.r at.chunks) (32 * c.r) c.log_n at.mixes table scratch

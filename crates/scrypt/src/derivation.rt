@@ -12,7 +12,7 @@ ghost use Rattle.scrypt.specs.declared.errors.DeriveError.TheVariants.{InvalidOu
 
 pub(crate) mod mixing;
 
-use crate::buffers::{ActiveBuffers, OwnBuffers, with_prefix};
+use crate::buffers::{ActiveBuffers, OwnBuffers, interleaved_chunks, with_prefix};
 use crate::derivation::mixing::mix_all;
 use crate::{Backend, CoreCount, DeriveError, InvalidOutputLen, Params, Simd};
 use scrypt_kernel::memory::{Allocated, Buffer, TableMemory};
@@ -78,34 +78,16 @@ pub fn scrypt_counted(
     ensures uncounted { OnErr result (cores.new ≡ cores.old) }
 {
     // A limit of 0 bytes selects one table.
-    scrypt_with_max_mem_counted::<Simd>(alloc, password, salt, params, 0, output, cores)
+    scrypt_with_max_mem::<Simd>(alloc, password, salt, params, 0, output, cores)
 }
 
-/// Derives the key as [`scrypt`] does, in buffers that may have `max_mem` bytes together: it
-/// allocates [`BufferLens::tables_within`] tables and interleaves that many chunks. If this
-/// allocation fails, it uses one table.
+/// Derives the key as [`scrypt_counted`] does, by the backend `W`, in buffers that may have
+/// `max_mem` bytes together: it allocates [`BufferLens::tables_within`] tables and interleaves that
+/// many chunks. If this allocation fails, it uses one table.
 ///
 /// Returns `OutOfMemory` if an allocation for one table fails.
-pub fn scrypt_with_max_mem(
-    alloc: Global,
-    password: &[u8],
-    salt: &[u8],
-    params: &Params,
-    max_mem: usize,
-    output: &mut [u8],
-) -> Result<(), DeriveError>
-    ensures length { IsErrOf result BadLength ↔ ¬ IsTrue (is_output_len (length output.old)) }
-    ensures value { OnOk result (output.new ≡ key_by params.now password.now salt.now (length output.old)) }
-    ensures refused { OnErr result (output.new ≡ output.old) }
-{
-    let cores = &mut CoreCount::new();
-    scrypt_with_max_mem_counted::<Simd>(alloc, password, salt, params, max_mem, output, cores)
-}
-
-/// Derives the key as [`scrypt_with_max_mem`] does, by the backend `W`, and counts as
-/// [`scrypt_counted`] does.
 #[tactic(auto, using(crate::proofs::AcceptedFacts::output_len_bound))]
-pub fn scrypt_with_max_mem_counted<W: Backend>(
+pub fn scrypt_with_max_mem<W: Backend>(
     alloc: Global,
     password: &[u8],
     salt: &[u8],
@@ -142,6 +124,7 @@ pub fn scrypt_with_max_mem_counted<W: Backend>(
 ///
 /// Returns `InvalidOutputLen`, and changes nothing, exactly if the length of `output` is
 /// not allowed ([`output_len_ok`](crate::output_len_ok)).
+#[tactic(auto, using(crate::proofs::AcceptedFacts::output_len_bound))]
 pub fn scrypt_with_buffers(
     password: &[u8],
     salt: &[u8],
@@ -164,14 +147,15 @@ pub fn scrypt_with_buffers(
     ensures unchanged { OnErr result (workspace_of chunks.new table.new scratch.new cores.new
         ≡ workspace_of chunks.old table.old scratch.old cores.old) }
 {
-    let derived = scrypt_in_prefix::<Simd>(
-        password, salt, params, chunks, table, scratch, output, cores,
-    );
-    match derived {
-        Ok(()) => Ok(()),
-        Err(DeriveError::InvalidOutputLen) => Err(InvalidOutputLen),
-        Err(DeriveError::OutOfMemory) => unreachable!(),
+    if !output_len_ok(output.len()) {
+        return Err(InvalidOutputLen);
     }
+    params.expose_invariant();
+    let width = interleaved_chunks(params, params.p() as usize, table.len(), scratch.len());
+    let mut rows = Buffer::new(table);
+    let mut used = ActiveBuffers::new(width, chunks, &mut rows, scratch, cores);
+    derive_in::<Buffer<'_>, Simd>(password, salt, params, 0, &mut used, output);
+    Ok(())
 }
 
 /// Derives the key as [`scrypt_with_buffers`] does, by the backend `W`, in buffers of any length.

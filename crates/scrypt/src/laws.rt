@@ -1,6 +1,6 @@
 //! Laws of the definitions. Each function does nothing at run time: its contract is the law.
 
-ghost use Rattle.std.specs.Prelude.{◌≡◌, ◌≢◌, ◌⊎◌, ◌↔◌, true, false, ℕ, ◌+◌, ◌-◌, ◌*◌, ◌%◌, ◌^◌, ◌<◌, ◌≤◌, List, [], ◌∷◌, ◌++◌, IsTrue, length, take, Option, Result, Ok, Err, IsSome, Some, All};
+ghost use Rattle.std.specs.Prelude.{◌≡◌, ◌≢◌, ◌⊎◌, ◌↔◌, true, false, ℕ, ◌+◌, ◌-◌, ◌*◌, ◌%◌, ◌^◌, ◌<◌, ◌≤◌, List, [], ◌∷◌, ◌++◌, IsTrue, length, take, Option, Result, Ok, Err, IsOk, IsSome, Some, All};
 ghost use Rattle.sha2.specs.Sha256.{sha256};
 ghost use Rattle.password_hash.specs.Crypt64.{Crypt64, letter_value, letters_of};
 ghost use Rattle.password_hash.specs.Mcf.{IsMcfText, fields_of};
@@ -18,14 +18,16 @@ ghost use Rattle.scrypt_kernel.specs.Diagonal.{AreInverse, IsBlockMixBy, diagona
 ghost use Rattle.scrypt.specs.Key.{derived_key, mixed_chunks};
 ghost use Rattle.scrypt.specs.Cost.{chunks_bytes, cost, extra_rows, hash_cost, lengths_cost, scratch_words, table_words, thin_cost};
 ghost use Rattle.scrypt.specs.InBuffers.{are_enough};
-ghost use Rattle.scrypt.specs.Limits.{are_within, buffers_bytes, limits_for_new, work};
+ghost use Rattle.scrypt.specs.Limits.{SufficeFor, are_within, buffers_bytes, limits_for_new, work};
 ghost use Rattle.scrypt.specs.McfParams.{params_letters, five_letter_number};
 ghost use Rattle.scrypt.specs.McfHash.{HashIsRefused as McfHashIsRefused, IsMadeHash as IsMadeMcf, IsMcfHashText, made_hash, mcf_text, read_fields, read_mcf};
+ghost use Rattle.scrypt.specs.OwnedBuffers.{AreFor};
 ghost use Rattle.scrypt.specs.PhcParams.{params_of_pairs, written_pairs};
 ghost use Rattle.scrypt.specs.PhcHash.{HashIsRefused, IsMadeHash, phc_params, read_phc};
 ghost use Rattle.scrypt.specs.Reading.{IsOfText, NamesNoPassword, Stored, verdict, weaker};
 ghost use Rattle.scrypt.specs.StoredHash.{is_mcf_text, is_stored_text, params_reading, reading};
 ghost use Rattle.scrypt.specs.WithinLimits.{within};
+ghost use Rattle.scrypt.specs.declared.buffers.owned.Buffers.{Buffers};
 ghost use Rattle.scrypt.specs.declared.limits.Limits.{Limits};
 
 /// A shorter key is the beginning of a longer one, for any two lengths.
@@ -270,6 +272,20 @@ pub fn hashers_are_accepted(hasher: &crate::Scrypt)
     let params = hasher.params();
     params.expose_invariant();
 }
+
+/// The parameters of a stored hash that can be read are accepted. The buffers of
+/// [`Buffers::for_limits`](crate::Buffers::for_limits) are long enough for parameters within the
+/// limits, and for a stored hash within them.
+pub fn buffers_for_limits_are_enough()
+    ensures accepted { (text : List ℕ) (s : Stored) → reading text ≡ Ok s
+        → IsTrue (are_accepted s.params.log_n s.params.r s.params.p) }
+    ensures parameters { (limits : Limits) (c : Parameters) (own : Buffers)
+        → SufficeFor limits own.chunks.items own.table.items own.scratch.items → 0 < c.p
+        → IsTrue (are_within limits c) → AreFor c own }
+    ensures hash { (limits : Limits) (text : List ℕ) (s : Stored) (own : Buffers)
+        → SufficeFor limits own.chunks.items own.table.items own.scratch.items → reading text ≡ Ok s
+        → IsOk (within limits (reading text)) → AreFor s.params own }
+{}
 
 /// Each computed condition, as the inequalities that it means: the preconditions of calls on
 /// parameters, lengths, buffers and limits. With this law a caller shows them by arithmetic, also

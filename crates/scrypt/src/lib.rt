@@ -42,7 +42,7 @@ pub use buffers::owned::Buffers;
 pub use buffers::{BufferLens, wipe};
 pub use derivation::{
     output_len_ok, scrypt, scrypt_counted, scrypt_in_prefix, scrypt_thin, scrypt_thin_with_backend,
-    scrypt_with_buffers, scrypt_with_max_mem, scrypt_with_max_mem_counted,
+    scrypt_with_buffers, scrypt_with_max_mem,
 };
 pub use errors::{DeriveError, InvalidOutputLen, InvalidParams, LimitedError};
 pub use limits::Limits;
@@ -53,7 +53,7 @@ pub use password_hash::kdf;
 pub use password_hash::kdf::{Kdf, Pbkdf};
 pub use scrypt_kernel::{CoreCount, block_mix, hmac, pbkdf2, romix, salsa};
 pub use stepping::{
-    Cancelled, FinishError, Progress, begin, cores_done, finish, is_within, scrypt_in_steps, step,
+    Progress, StepsError, begin, cores_done, finish, is_within, scrypt_in_steps, step,
 };
 pub use stored_hash::StoredHash;
 pub use texts::hash_text;

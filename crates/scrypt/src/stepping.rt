@@ -1,7 +1,7 @@
 //! A derivation in steps, in the caller's buffers: between two steps the caller can show the
 //! progress, or abandon the derivation.
 
-ghost use Rattle.std.specs.Prelude.{◌≡◌, ◌↔◌, ℕ, ◌+◌, ◌-◌, ◌*◌, ◌<◌, ◌≤◌, List, length, min, false, true, IsErrOf, IsTrue, OnErr, OnOk};
+ghost use Rattle.std.specs.Prelude.{◌≡◌, ◌↔◌, ℕ, ◌+◌, ◌-◌, ◌*◌, ◌<◌, ◌≤◌, List, length, min, false, true, IsErrOf, IsOk, IsTrue, OnErr, OnOk};
 ghost use Rattle.scrypt_kernel.specs.Diagonal.{pivot};
 ghost use Rattle.scrypt_kernel.specs.Pbkdf2.{pbkdf2};
 ghost use Rattle.scrypt_kernel.specs.Steps.{IsMixing, all_mixes};
@@ -9,13 +9,15 @@ ghost use Rattle.scrypt.specs.Accepted.{is_output_len};
 ghost use Rattle.scrypt.specs.Cost.{AreCountedAs, AreHashed, chunks_bytes, pbkdf2_cost, scratch_words, table_words};
 ghost use Rattle.scrypt.specs.Key.{derived_key};
 ghost use Rattle.scrypt.specs.KeyOfParams.{IsDerived, cost_by};
+ghost use Rattle.scrypt.specs.Mixing.{group_by};
 ghost use Rattle.scrypt.specs.Stepping.{AreMixable, CanGoOn, AreMixed, IsUnderWay, IsWithin, first_b, lacking, mixes_done, words_from};
-ghost use Rattle.scrypt.specs.declared.stepping.FinishError.TheVariants.{InvalidOutputLen as BadLength, Unfinished};
+ghost use Rattle.scrypt.specs.Workspace.{interleaved_chunks, workspace_of};
+ghost use Rattle.scrypt.specs.declared.stepping.StepsError.TheVariants.{Cancelled, InvalidOutputLen as BadLength};
 
 use crate::buffers::interleaved_chunks;
 use crate::derivation::mixing::group_by;
 use crate::derivation::{derive_chunks, output_len_ok};
-use crate::{Backend, CoreCount, Params};
+use crate::{Backend, BufferLens, CoreCount, InvalidOutputLen, Params};
 use scrypt_kernel::order::diagonal::{Both, Diagonal, Scalars};
 use scrypt_kernel::pbkdf2::pbkdf2_counted;
 use scrypt_kernel::steps::{begin_chunks, end_chunks, step_chunks};
@@ -35,26 +37,21 @@ pub struct Progress {
     pub mixes: usize,
 }
 
-/// An error from finishing a derivation in steps.
+/// An error from a derivation in steps.
 #[derive(Clone, Copy, Debug, PartialEq, Eq)]
-pub enum FinishError {
-    /// Not all chunks are mixed.
-    Unfinished,
+pub enum StepsError {
     /// The output is empty, or has more than 137438953440 bytes.
     InvalidOutputLen,
+    /// The caller's function returned `false`.
+    Cancelled,
 }
-
-/// A derivation in steps was cancelled before its end.
-#[derive(Clone, Copy, Debug, PartialEq, Eq)]
-pub struct Cancelled;
 
 /// Begins a derivation in steps: step 1 (RFC 7914, section 6). No core is run yet.
 ///
-/// `chunks` has exactly the length of [`BufferLens::of`](crate::BufferLens::of) in bytes, and
-/// `table` and `scratch` have at least its lengths in words. Up to four chunks are interleaved,
-/// each with its own part of the table and of the scratch, if these are long enough
-/// ([`BufferLens::for_tables`](crate::BufferLens::for_tables)). The contents of the buffers before
-/// the call do not matter. From then on they are only for [`step`] and [`finish`]; to abandon the
+/// Each buffer has at least its length of [`BufferLens::of`], and only its front is used. Up to
+/// four chunks are interleaved, each with its own part of the table and of the scratch, if these
+/// are long enough ([`BufferLens::for_tables`]). The contents of the buffers before the call do not
+/// matter. From then on they are only for [`step`] and [`finish`]; to abandon the
 /// derivation, the caller only has to wipe them.
 pub fn begin<W: Backend>(
     password: &[u8],
@@ -65,7 +62,7 @@ pub fn begin<W: Backend>(
     scratch: &mut [u32],
     cores: &mut CoreCount,
 ) -> Progress
-    requires chunks { length chunks.old ≡ chunks_bytes params.now.r params.now.p }
+    requires chunks { chunks_bytes params.now.r params.now.p ≤ length chunks.old }
     requires table { table_words params.now.log_n params.now.r ≤ length table.old }
     requires scratch { scratch_words params.now.r ≤ length scratch.old }
     ensures start { (result.chunks ≡ 0) × (result.mixes ≡ 0) }
@@ -75,6 +72,7 @@ pub fn begin<W: Backend>(
         (length salt.now) (chunks_bytes params.now.r params.now.p)) cores.old cores.new }
 {
     params.expose_invariant();
+    let (chunks, _) = chunks.split_at_mut(BufferLens::of(params).chunks);
     derive_chunks(password, salt, params, chunks, cores);
     begin_group::<W>(params, 0, chunks, table, scratch)
 }
@@ -95,7 +93,7 @@ pub fn step<W: Backend>(
     cores: &mut CoreCount,
 ) -> Progress
     requires going { CanGoOn W.most W.scalar params.now at table.old scratch.old }
-    requires chunks { length chunks.old ≡ chunks_bytes params.now.r params.now.p }
+    requires chunks { chunks_bytes params.now.r params.now.p ≤ length chunks.old }
     ensures going { CanGoOn W.most W.scalar params.now result table.new scratch.new }
     ensures under_way { (password : List ℕ) → (salt : List ℕ)
         → IsUnderWay password salt params.now at chunks.old table.old scratch.old
@@ -115,6 +113,7 @@ pub fn step<W: Backend>(
     if mixes < 2usize << params.log_n() {
         return Progress { mixes, ..at };
     }
+    let (chunks, _) = chunks.split_at_mut(BufferLens::of(params).chunks);
     end_group(params, at.chunks, n, chunks, scratch);
     begin_group::<W>(params, at.chunks + n, chunks, table, scratch)
 }
@@ -154,11 +153,11 @@ pub fn cores_done(params: &Params, at: Progress) -> u128
     mixes * (2 * u128::from(params.r()))
 }
 
-/// Finishes a derivation in steps: step 3, which writes the key to `output`.
+/// Finishes a derivation in steps, once all chunks are mixed: step 3, which writes the key to
+/// `output`. The buffers are the caller's to wipe.
 ///
-/// Returns `Unfinished` exactly if not all chunks are mixed, and otherwise `InvalidOutputLen`
-/// exactly if the length of `output` is not allowed. On an error nothing has changed. The buffers
-/// are the caller's to wipe.
+/// Returns `InvalidOutputLen`, and changes nothing, exactly if the length of `output` is not
+/// allowed ([`output_len_ok`](crate::output_len_ok)).
 #[tactic(auto, using(crate::proofs::AcceptedFacts::output_len_bound))]
 pub fn finish(
     password: &[u8],
@@ -167,11 +166,10 @@ pub fn finish(
     chunks: &mut [u8],
     output: &mut [u8],
     cores: &mut CoreCount,
-) -> Result<(), FinishError>
-    requires chunks { length chunks.old ≡ chunks_bytes params.now.r params.now.p }
-    ensures unfinished { IsErrOf result Unfinished ↔ ¬ (at.chunks ≡ params.now.p) }
-    ensures length { IsErrOf result BadLength
-        ↔ ((at.chunks ≡ params.now.p) × ¬ IsTrue (is_output_len (length output.old))) }
+) -> Result<(), InvalidOutputLen>
+    requires ended { at.chunks ≡ params.now.p }
+    requires chunks { chunks_bytes params.now.r params.now.p ≤ length chunks.old }
+    ensures allowed { IsOk result ↔ IsTrue (is_output_len (length output.old)) }
     ensures value { OnOk result ((salt : List ℕ) → (table : List ℕ) → (scratch : List ℕ)
         → IsUnderWay password.now salt params.now at chunks.old table scratch → output.new
         ≡ derived_key password.now salt params.now.log_n params.now.r params.now.p (length output.old)) }
@@ -182,23 +180,22 @@ pub fn finish(
     ensures uncounted { OnErr result (cores.new ≡ cores.old) }
 {
     params.expose_invariant();
-    if at.chunks != params.p() as usize {
-        return Err(FinishError::Unfinished);
-    }
     if !output_len_ok(output.len()) {
-        return Err(FinishError::InvalidOutputLen);
+        return Err(InvalidOutputLen);
     }
     // B is borrowed mutably, because the prover does not support a second shared borrow besides the
     // borrow of the count.
-    pbkdf2_counted(password, chunks, output, cores);
+    let (mixed, _) = chunks.split_at_mut(BufferLens::of(params).chunks);
+    pbkdf2_counted(password, mixed, output, cores);
     Ok(())
 }
 
-/// Derives the key as [`scrypt_with_buffers`](crate::scrypt_with_buffers) does, by the backend `W`,
-/// in steps of `count` block mixes of each chunk of a group. After each step it calls `go_on` with
+/// Derives the key as [`scrypt_in_prefix`](crate::scrypt_in_prefix) does, by the backend `W`, in
+/// steps of `count` block mixes of each chunk of a group. After each step it calls `go_on` with
 /// the number of cores that are done, of `4 * N * r * p` in all.
 ///
-/// Returns `Cancelled` as soon as `go_on` returns `false`, and then `output` is unchanged. The
+/// Returns `InvalidOutputLen`, and changes nothing, exactly if the length of `output` is not
+/// allowed, and `Cancelled` as soon as `go_on` returns `false`, and then `output` is unchanged. The
 /// caller has to wipe the buffers.
 pub fn scrypt_in_steps<W: Backend, F: FnMut(u128) -> bool>(
     password: &[u8],
@@ -211,24 +208,30 @@ pub fn scrypt_in_steps<W: Backend, F: FnMut(u128) -> bool>(
     scratch: &mut [u32],
     output: &mut [u8],
     cores: &mut CoreCount,
-) -> Result<(), Cancelled>
+) -> Result<(), StepsError>
     requires some { 0 < count }
     requires callable { F.IsAlwaysCallable go_on }
-    requires length { IsTrue (is_output_len (length output.old)) }
-    requires chunks { length chunks.old ≡ chunks_bytes params.now.r params.now.p }
+    requires chunks { chunks_bytes params.now.r params.now.p ≤ length chunks.old }
     requires table { table_words params.now.log_n params.now.r ≤ length table.old }
     requires scratch { scratch_words params.now.r ≤ length scratch.old }
+    ensures length { IsErrOf result BadLength ↔ ¬ IsTrue (is_output_len (length output.old)) }
     ensures derived { OnOk result (IsDerived params.now password.now salt.now
         (cost_by params.now) output.old output.new cores.old cores.new) }
-    ensures cancelled { OnErr result ((state : F) × (done : ℕ) × (left : F) × F.step state done false left) }
+    ensures cancelled { IsErrOf result Cancelled
+        → (state : F) × (done : ℕ) × (left : F) × F.step state done false left }
     ensures refused { OnErr result (output.new ≡ output.old) }
+    ensures unchanged { IsErrOf result BadLength → workspace_of chunks.new table.new scratch.new cores.new
+        ≡ workspace_of chunks.old table.old scratch.old cores.old }
 {
+    if !output_len_ok(output.len()) {
+        return Err(StepsError::InvalidOutputLen);
+    }
     params.expose_invariant();
     let mut at = begin::<W>(password, salt, params, chunks, table, scratch, cores);
     'steps: while at.chunks < params.p() as usize {
         at = step::<W>(params, at, count, chunks, table, scratch, cores);
         if !go_on(cores_done(params, at)) {
-            return Err(Cancelled);
+            return Err(StepsError::Cancelled);
         }
     }
     let Ok(()) = finish(password, params, at, chunks, output, cores) else {
@@ -297,6 +300,9 @@ fn begin_group<W: Backend>(
     requires table { table_words params.now.log_n params.now.r ≤ length table.old }
     requires scratch { scratch_words params.now.r ≤ length scratch.old }
     ensures start { (result.chunks ≡ i) × (result.mixes ≡ 0) }
+    ensures interleaved { i < params.now.p → result.interleaved ≡ group_by W.most W.scalar
+        (interleaved_chunks params.now.log_n params.now.r params.now.p (length table.old) (length scratch.old))
+        (params.now.p - i) }
     ensures going { CanGoOn W.most W.scalar params.now result table.new scratch.new }
     ensures under_way { (password : List ℕ) → (salt : List ℕ)
         → AreMixed (first_b password salt params.now) params.now.log_n params.now.r i chunks.now

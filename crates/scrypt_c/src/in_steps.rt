@@ -19,7 +19,8 @@ use crate::statuses::{
 use crate::target::Target;
 use crate::texts::{limited_hash, stored_hash, whole_params};
 use scrypt::{
-    Backend, BufferLens, CoreCount, FinishError, Params, Progress, begin, finish, is_within, step,
+    Backend, BufferLens, CoreCount, InvalidOutputLen, Params, Progress, begin, finish, is_within,
+    step,
 };
 
 /// Begins a key in steps. It runs no core yet: `scrypt_key_step` does, and `scrypt_key_finish`
@@ -155,11 +156,13 @@ pub extern "C" fn scrypt_key_finish(
     if chunks.len() != BufferLens::of(&params).chunks {
         return BUFFER_SIZE;
     }
+    if at.chunks != params.p() as usize {
+        return UNFINISHED;
+    }
     let mut cores = CoreCount::new();
     match finish(password, &params, *at, chunks, output, &mut cores) {
         Ok(()) => OK,
-        Err(FinishError::Unfinished) => UNFINISHED,
-        Err(FinishError::InvalidOutputLen) => INVALID_OUTPUT_LEN,
+        Err(InvalidOutputLen) => INVALID_OUTPUT_LEN,
     }
 }
 
@@ -258,7 +261,7 @@ pub extern "C" fn scrypt_verify_finish(
         return UNFINISHED;
     }
     let mut cores = CoreCount::new();
-    match hash.finish(password, *at, chunks, &mut cores) {
+    match hash.finish_verify(password, *at, chunks, &mut cores) {
         Ok(()) => OK,
         Err(error) => status_of(error),
     }

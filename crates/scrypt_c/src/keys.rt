@@ -14,7 +14,7 @@ use crate::statuses::{BUFFER_SIZE, INVALID_OUTPUT_LEN, INVALID_PARAMS, OK, OUT_O
 use crate::target::Target;
 use scrypt::{
     BufferLens, CoreCount, DeriveError, Params, output_len_ok, scrypt_in_prefix,
-    scrypt_thin_with_backend, scrypt_with_max_mem_counted,
+    scrypt_thin_with_backend, scrypt_with_max_mem,
 };
 use std::alloc::Global;
 
@@ -54,7 +54,7 @@ pub extern "C" fn scrypt_kdf(
     };
     let max_mem = bytes_that_pay(&params, max_tables, max_mem);
     let mut cores = CoreCount::new();
-    match scrypt_with_max_mem_counted::<Target>(
+    match scrypt_with_max_mem::<Target>(
         alloc, password, salt, &params, max_mem, output, &mut cores,
     ) {
         Ok(()) => OK,

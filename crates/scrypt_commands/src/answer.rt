@@ -19,8 +19,8 @@ use crate::limit_options::LimitOptions;
 use password_hash::Error;
 use scrypt::laws::mcf_texts_are_read;
 use scrypt::{
-    Backend, BufferLens, Buffers, Cancelled, CoreCount, DeriveError, LimitedError, Limits, Params,
-    StoredHash, mcf, output_len_ok, phc, scrypt_in_steps, scrypt_with_max_mem_counted,
+    Backend, BufferLens, Buffers, CoreCount, DeriveError, LimitedError, Limits, Params,
+    StoredHash, mcf, output_len_ok, phc, scrypt_in_steps, scrypt_with_max_mem,
 };
 use std::alloc::Global;
 
@@ -239,7 +239,7 @@ fn derive<M: Backend>(
     ensures { OnOk result (key.new ≡ key_by params.now password.now salt.now (length key.old)) }
 {
     let mut cores = CoreCount::new();
-    scrypt_with_max_mem_counted::<M>(alloc, password, salt, params, 0, key, &mut cores)
+    scrypt_with_max_mem::<M>(alloc, password, salt, params, 0, key, &mut cores)
 }
 
 // Does the same in steps, each of at most about a hundredth of the work or a whole chunk, and shows
@@ -281,7 +281,7 @@ fn derive_shown<M: Machine>(
     );
     match derived {
         Ok(()) => Ok(()),
-        Err(Cancelled) => unreachable!(),
+        Err(_) => unreachable!(),
     }
 }
 

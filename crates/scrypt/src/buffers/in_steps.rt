@@ -1,6 +1,6 @@
 // A derivation in steps, in buffers that a caller reuses.
 
-ghost use Rattle.std.specs.Prelude.{◌≡◌, ◌↔◌, ◌+◌, ◌*◌, ◌<◌, ℕ, List, length, min, false, IfOk, IsErrOf, IsTrue, OnErr, OnOk};
+ghost use Rattle.std.specs.Prelude.{◌≡◌, ◌↔◌, ◌+◌, ◌*◌, ◌<◌, ◌≤◌, ℕ, List, length, min, false, IfOk, IsErrOf, IsOk, IsTrue, OnErr, OnOk};
 ghost use Rattle.scrypt.specs.Accepted.{is_output_len};
 ghost use Rattle.scrypt.specs.Cost.{chunks_bytes};
 ghost use Rattle.scrypt.specs.KeyOfParams.{key_by};
@@ -8,20 +8,20 @@ ghost use Rattle.scrypt.specs.OwnedBuffers.{AreFor, CanStep, Hold, KeepContents,
 ghost use Rattle.scrypt.specs.Reading.{verdict, with_refusal};
 ghost use Rattle.scrypt.specs.Stepping.{lacking, mixes_done};
 ghost use Rattle.scrypt.specs.StoredHash.{reading};
-ghost use Rattle.scrypt.specs.declared.stepping.FinishError.TheVariants.{InvalidOutputLen as BadLength, Unfinished};
+ghost use Rattle.scrypt.specs.declared.stepping.StepsError.TheVariants.{Cancelled, InvalidOutputLen as BadLength};
 
 use crate::buffers::owned::Buffers;
 use crate::{
-    Cancelled, CoreCount, FinishError, Params, Progress, Simd, StoredHash, begin, finish,
+    CoreCount, InvalidOutputLen, Params, Progress, Simd, StepsError, StoredHash, begin, finish,
     scrypt_in_steps, step,
 };
 
 impl Buffers {
     /// Writes the same key as [`Buffers::derive_key`], in steps, as [`scrypt_in_steps`] does. The
-    /// buffers have the lengths of [`BufferLens::of`](crate::BufferLens::of), the table and the
-    /// scratch at least.
+    /// buffers have at least the lengths of [`BufferLens::of`](crate::BufferLens::of).
     ///
-    /// Returns `Cancelled` as soon as `go_on` returns `false`, and then `output` is unchanged.
+    /// Returns `InvalidOutputLen` exactly if the length of `output` is not allowed, and `Cancelled`
+    /// as soon as `go_on` returns `false`. On an error `output` is unchanged.
     pub fn derive_key_in_steps<F: FnMut(u128) -> bool>(
         &mut self,
         password: &[u8],
@@ -30,13 +30,14 @@ impl Buffers {
         count: usize,
         go_on: F,
         output: &mut [u8],
-    ) -> Result<(), Cancelled>
+    ) -> Result<(), StepsError>
         requires some { 0 < count }
         requires callable { F.IsAlwaysCallable go_on }
-        requires length { IsTrue (is_output_len (length output.old)) }
-        requires buffers { AreFor params.now self.old }
+        requires enough { AreFor params.now self.old }
+        ensures length { IsErrOf result BadLength ↔ ¬ IsTrue (is_output_len (length output.old)) }
         ensures value { OnOk result (output.new ≡ key_by params.now password.now salt.now (length output.old)) }
-        ensures cancelled { OnErr result ((state : F) × (done : ℕ) × (left : F) × F.step state done false left) }
+        ensures cancelled { IsErrOf result Cancelled
+            → (state : F) × (done : ℕ) × (left : F) × F.step state done false left }
         ensures refused { OnErr result (output.new ≡ output.old) }
         ensures lens { KeepLens self.old self.new }
     {
@@ -47,10 +48,10 @@ impl Buffers {
         )
     }
 
-    /// Begins a derivation in steps, as [`begin`] does. The buffers have the lengths of
-    /// [`BufferLens::of`](crate::BufferLens::of), the table and the scratch at least.
-    pub fn begin_steps(&mut self, password: &[u8], salt: &[u8], params: &Params) -> Progress
-        requires buffers { AreFor params.now self.old }
+    /// Begins a derivation in steps, as [`begin`] does. The buffers have at least the lengths of
+    /// [`BufferLens::of`].
+    pub fn begin(&mut self, password: &[u8], salt: &[u8], params: &Params) -> Progress
+        requires enough { AreFor params.now self.old }
         ensures start { (result.chunks ≡ 0) × (result.mixes ≡ 0) }
         ensures going { CanStep params.now result self.new }
         ensures under_way { Hold password.now salt.now params.now result self.new }
@@ -63,7 +64,7 @@ impl Buffers {
 
     /// Continues a derivation in steps by `count` block mixes of each chunk of the current group, as
     /// [`step`] does, and returns the new progress.
-    pub fn do_steps(&mut self, params: &Params, at: Progress, count: usize) -> Progress
+    pub fn step(&mut self, params: &Params, at: Progress, count: usize) -> Progress
         requires going { CanStep params.now at self.old }
         ensures going { CanStep params.now result self.new }
         ensures under_way { (password : List ℕ) → (salt : List ℕ) → Hold password salt params.now at self.old
@@ -78,21 +79,21 @@ impl Buffers {
         step::<Simd>(params, at, count, chunks, table, scratch, cores)
     }
 
-    /// Finishes a derivation in steps, as [`finish`] does: writes the key to `output`.
+    /// Finishes a derivation in steps, once all chunks are mixed, as [`finish`] does: writes the key
+    /// to `output`.
     ///
-    /// Returns `Unfinished` exactly if not all chunks are mixed, and otherwise `InvalidOutputLen`
-    /// exactly if the length of `output` is not allowed. On an error nothing has changed.
-    pub fn finish_key(
+    /// Returns `InvalidOutputLen` exactly if the length of `output` is not allowed, and then nothing
+    /// has changed.
+    pub fn finish(
         &mut self,
         password: &[u8],
         params: &Params,
         at: Progress,
         output: &mut [u8],
-    ) -> Result<(), FinishError>
-        requires chunks { length self.old.chunks.items ≡ chunks_bytes params.now.r params.now.p }
-        ensures unfinished { IsErrOf result Unfinished ↔ ¬ (at.chunks ≡ params.now.p) }
-        ensures length { IsErrOf result BadLength
-            ↔ ((at.chunks ≡ params.now.p) × ¬ IsTrue (is_output_len (length output.old))) }
+    ) -> Result<(), InvalidOutputLen>
+        requires ended { at.chunks ≡ params.now.p }
+        requires chunks { chunks_bytes params.now.r params.now.p ≤ length self.old.chunks.items }
+        ensures allowed { IsOk result ↔ IsTrue (is_output_len (length output.old)) }
         ensures value { OnOk result ((salt : List ℕ) → Hold password.now salt params.now at self.old
             → output.new ≡ key_by params.now password.now salt (length output.old)) }
         ensures refused { OnErr result (output.new ≡ output.old) }
@@ -108,8 +109,8 @@ impl Buffers {
         )
     }
 
-    /// Finishes a verification in steps, as [`StoredHash::finish`] does, once all chunks are mixed.
-    /// [`Buffers::begin_steps`] began it with the parameters and the salt of the hash.
+    /// Finishes a verification in steps, once all chunks are mixed, as [`StoredHash::finish_verify`]
+    /// does. [`Buffers::begin`] began it with the parameters and the salt of the hash.
     pub fn finish_verify(
         &mut self,
         hash: &StoredHash<'_>,
@@ -118,11 +119,11 @@ impl Buffers {
     ) -> password_hash::Result<()>
         requires ended { IfOk (reading hash.now) (λ s. at.chunks ≡ s.params.p) }
         requires chunks { IfOk
-            (reading hash.now) (λ s. length self.old.chunks.items ≡ chunks_bytes s.params.r s.params.p) }
+            (reading hash.now) (λ s. chunks_bytes s.params.r s.params.p ≤ length self.old.chunks.items) }
         ensures verdict { IfOk (reading hash.now) (λ s. Hold password.now s.salt s.params at self.old)
             → with_refusal result ≡ verdict password.now (reading hash.now) }
         ensures kept { KeepContents self.old self.new }
     {
-        hash.finish(password, at, &mut self.chunks, &mut CoreCount::new())
+        hash.finish_verify(password, at, &mut self.chunks, &mut CoreCount::new())
     }
 }

@@ -1,17 +1,19 @@
 // Buffers that a caller reuses from call to call.
 
-ghost use Rattle.std.specs.Prelude.{◌≡◌, ◌↔◌, ◌-◌, ◌≤◌, None, length, map, replicate, take, IfErr, IfOk, IsAscii, IsErrOf, IsOk, IsTrue, OnErr, OnOk};
+ghost use Rattle.std.specs.Prelude.{◌≡◌, ◌↔◌, ◌-◌, ◌/◌, ◌≤◌, All, None, Ok, false, length, map, min, replicate, take, IfErr, IfOk, IsAscii, IsErrOf, IsOk, IsTrue, OnErr, OnOk};
+ghost use Rattle.password_hash.specs.Phc.{hash_text};
 ghost use Rattle.password_hash.specs.Refusal.{refusal};
-ghost use Rattle.scrypt.specs.Accepted.{is_output_len};
+ghost use Rattle.scrypt.specs.Accepted.{is_output_len, without_len};
 ghost use Rattle.scrypt.specs.Cost.{chunks_bytes, table_words, thin_scratch_words};
+ghost use Rattle.scrypt.specs.Hashing.{key_len_or_default};
 ghost use Rattle.scrypt.specs.InBuffers.{IsCopiedTo};
 ghost use Rattle.scrypt.specs.KeyOfParams.{key_by};
 ghost use Rattle.scrypt.specs.Limits.{SufficeFor};
-ghost use Rattle.scrypt.specs.Logins.{attempts, verdict_on};
+ghost use Rattle.scrypt.specs.Logins.{attempts, reading_of, verdict_on};
 ghost use Rattle.scrypt.specs.McfHash.{HashIsRefused as McfIsRefused, IsMadeHash as IsMadeMcf, made_text_len};
 ghost use Rattle.scrypt.specs.OwnedBuffers.{KeepLens, are_long_enough, workspace_in};
 ghost use Rattle.scrypt.specs.PhcHash.{HashIsRefused, IsMadeHash, IsSaltLen};
-ghost use Rattle.scrypt.specs.Reading.{verdict, with_refusal};
+ghost use Rattle.scrypt.specs.Reading.{let_in, verdict, weaker, with_refusal};
 ghost use Rattle.scrypt.specs.StoredHash.{reading};
 ghost use Rattle.scrypt.specs.WithinLimits.{with_limited_refusal, within};
 ghost use Rattle.scrypt.specs.Workspace.{verdict_in};
@@ -23,13 +25,12 @@ use crate::{
     BufferLens, CoreCount, DeriveError, InvalidOutputLen, LimitedError, Limits, Login, Params,
     Simd, StoredHash, mcf, phc, scrypt_in_prefix, scrypt_thin, verify_logins,
 };
-use password_hash::Result as HashResult;
 use password_hash::phc::PasswordHash;
+use password_hash::{Error, Result as HashResult};
 use std::alloc::{AllocError, Global};
 
-/// The three buffers of derivations, allocated once. Except with a smaller table and in steps, each
-/// call uses the front of each buffer, and accepts any parameters if the buffers are long enough for
-/// them. Only [`Buffers::allocate`] and [`Buffers::for_limits`] allocate.
+/// The three buffers of derivations, allocated once. Except with a smaller table, each call uses the
+/// front of each buffer, and accepts any parameters if the buffers are long enough for them. Only [`Buffers::allocate`] and [`Buffers::for_limits`] allocate.
 #[derive(Drop)]
 pub struct Buffers {
     /// The chunks, in bytes.
@@ -57,6 +58,11 @@ impl Buffers {
     /// Allocates buffers that are long enough for every derivation within these limits: for the
     /// default limits 16 MiB of chunks, 257 MiB of table and 32 MiB of scratch.
     pub fn for_limits(alloc: Global, limits: &Limits) -> Result<Buffers, AllocError>
+        ensures chunks { IfOk result
+            (λ own. length own.chunks.items ≡ min limits.now.max_mem limits.now.max_work) }
+        ensures table { IfOk result (λ own. length own.table.items ≡ limits.now.max_mem / 4) }
+        ensures scratch { IfOk result (λ own. length own.scratch.items
+            ≡ min (limits.now.max_mem / 4) (limits.now.max_work / 2)) }
         ensures enough { IfOk result (λ own. SufficeFor limits.now own.chunks.items own.table.items own.scratch.items) }
     {
         let words = limits.max_mem / 4;
@@ -135,8 +141,16 @@ impl Buffers {
         ensures made { IfOk result (λ hash. IsMadeHash params.now password.now salt.now hash) }
         ensures err { IfErr result (λ e. HashIsRefused salt.now None None (refusal e)) }
         ensures exact { IsOk result ↔ (IsSaltLen (length salt.now) × IsTrue (are_long_enough params.now self.old)) }
+        ensures read { IfOk result (λ hash. reading (hash_text hash) ≡ Ok (record {
+          params = without_len params.now;
+          salt = salt.now;
+          key = key_by params.now password.now salt.now (key_len_or_default params.now);
+        })) }
+        ensures accepts { IfOk result (λ hash. verdict password.now (reading (hash_text hash)) ≡ Ok tt) }
+        ensures strong { IfOk result (λ hash. weaker params.now (reading (hash_text hash)) ≡ Ok false) }
         ensures lens { KeepLens self.old self.new }
     {
+        params.expose_invariant();
         let (chunks, table, scratch) = (&mut self.chunks, &mut self.table, &mut self.scratch);
         let cores = &mut CoreCount::new();
         phc::hash_with_buffers::<Simd>(password, salt, params, chunks, table, scratch, cores)
@@ -193,9 +207,29 @@ impl Buffers {
         }
     }
 
+    /// Returns whether the hash accepts `password`, as [`StoredHash::accepts`] does.
+    ///
+    /// Returns the other errors of [`Buffers::verify`].
+    pub fn accepts(&mut self, hash: &StoredHash<'_>, password: &[u8]) -> HashResult<bool>
+        ensures value { with_refusal result
+            ≡ let_in (verdict_in (workspace_in self.old) password.now (reading hash.now)) }
+        ensures within { (limits : Limits)
+            → SufficeFor limits self.old.chunks.items self.old.table.items self.old.scratch.items
+            → IsOk (within limits (reading hash.now))
+            → with_refusal result ≡ let_in (verdict password.now (reading hash.now)) }
+        ensures lens { KeepLens self.old self.new }
+    {
+        match self.verify(hash, password) {
+            Ok(()) => Ok(true),
+            Err(Error::PasswordInvalid) => Ok(false),
+            Err(error) => Err(error),
+        }
+    }
+
     /// Verifies each password, in one batch if possible, as
     /// [`verify_logins`](crate::verify_logins) does: `verdicts` has the length of `logins`, and gets
-    /// the verdict of each login at the same index.
+    /// the verdict of each login at the same index. No verdict is `OutOfMemory` if each hash is
+    /// within limits, in the buffers of [`Buffers::for_limits`].
     pub fn verify_logins(
         &mut self,
         logins: &[Login<'_, '_>],
@@ -204,6 +238,10 @@ impl Buffers {
         requires len { length verdicts.old ≡ length logins.now }
         ensures verdicts { map with_limited_refusal verdicts.new
             ≡ map (verdict_on (workspace_in self.old)) (attempts logins.now) }
+        ensures within { (limits : Limits)
+            → SufficeFor limits self.old.chunks.items self.old.table.items self.old.scratch.items
+            → All (λ login. within limits (reading_of login) ≡ reading_of login) logins.now
+            → map with_limited_refusal verdicts.new ≡ map (λ a. verdict a.0 a.1) (attempts logins.now) }
         ensures lens { KeepLens self.old self.new }
     {
         let (chunks, table, scratch) = (&mut self.chunks, &mut self.table, &mut self.scratch);

@@ -1,6 +1,6 @@
 // Verifying in steps.
 
-ghost use Rattle.std.specs.Prelude.{◌≡◌, ℕ, List, length, IfOk, OnErr};
+ghost use Rattle.std.specs.Prelude.{◌≡◌, ◌≤◌, ℕ, List, length, IfOk, OnErr};
 ghost use Rattle.scrypt.specs.Cost.{AreHashed, chunks_bytes, pbkdf2_cost};
 ghost use Rattle.scrypt.specs.Reading.{mapped, verdict, with_refusal};
 ghost use Rattle.scrypt.specs.StoredHash.{reading};
@@ -9,7 +9,7 @@ ghost use Rattle.scrypt.specs.Stepping.{IsUnderWay};
 use super::StoredHash;
 use crate::comparing::is_derived_key;
 use crate::verifying::verdict;
-use crate::{CoreCount, Progress};
+use crate::{BufferLens, CoreCount, Progress};
 use password_hash::Result;
 
 impl<'a> StoredHash<'a> {
@@ -29,7 +29,7 @@ impl<'a> StoredHash<'a> {
     /// Finishes a verification in steps, which [`begin`](crate::begin) began with
     /// [`StoredHash::params`] and [`StoredHash::salt`]: the verdict of [`StoredHash::verify`], once
     /// all chunks are mixed. The buffers are the caller's to wipe.
-    pub fn finish(
+    pub fn finish_verify(
         &self,
         password: &[u8],
         at: Progress,
@@ -37,7 +37,7 @@ impl<'a> StoredHash<'a> {
         cores: &mut CoreCount,
     ) -> Result<()>
         requires ended { IfOk (reading self.now) (λ s. at.chunks ≡ s.params.p) }
-        requires chunks { IfOk (reading self.now) (λ s. length chunks.old ≡ chunks_bytes s.params.r s.params.p) }
+        requires chunks { IfOk (reading self.now) (λ s. chunks_bytes s.params.r s.params.p ≤ length chunks.old) }
         ensures verdict { (table : List ℕ) → (scratch : List ℕ)
             → IfOk (reading self.now)
             (λ s. IsUnderWay password.now s.salt s.params at chunks.old table scratch)
@@ -48,7 +48,10 @@ impl<'a> StoredHash<'a> {
         ensures uncounted { OnErr (reading self.now) (cores.new ≡ cores.old) }
     {
         match self.parts() {
-            Ok(parts) => verdict(is_derived_key(password, chunks, parts, cores)),
+            Ok(parts) => {
+                let (mixed, _) = chunks.split_at_mut(BufferLens::of(&parts.params).chunks);
+                verdict(is_derived_key(password, mixed, parts, cores))
+            }
             Err(refused) => Err(refused),
         }
     }

@@ -1,4 +1,4 @@
-use Rattle.std.proofs.Common.{◌≡◌, ap, ◌∙◌, length, arith}
+use Rattle.std.proofs.Common.{ap, ◌∙◌, length}
 use Rattle.scrypt_kernel.specs.Pbkdf2.{pbkdf2}
 use Rattle.scrypt.specs.Key.{derived_key}
 use Rattle.scrypt.specs.Stepping.{first_b}
@@ -9,6 +9,6 @@ pub returns-clause-value : goal.returns-clause-value
 unfolding derived_key
 returns-clause-value c salt table scratch at =
     let params = c.args.params.now in
-    let all : c.args.at.chunks ≡ params.p = omega (arith, c.if-at-p.false, c.p.ensures.value) in
     c.pbkdf2_counted.ensures.value ∙ ap (λ b. pbkdf2 c.args.password.now b (length c.args.output.now))
-    (all_chunks_mixed (first_b c.args.password.now salt params) c.args.chunks.now params.log_n params.r c.args.at.chunks params.p all c.requires.chunks at.mixed)
+    (all_chunks_mixed (first_b c.args.password.now salt params) c.split_at_mut-mixed.result.0.now params.log_n params.r c.args.at.chunks params.p c.requires.ended
+    (c.split_at_mut-mixed.ensures.front_len ∙ c.of.ensures.chunks) (rw (c.split_at_mut-mixed.ensures.front, c.of.ensures.chunks) at.mixed))

@@ -14,13 +14,13 @@ under_way : (password : List ℕ) (at : Progress) (chunks table scratch : List �
 under_way password at chunks table scratch (Ok s) come = record { mixed = come.mixed; next = come.next }
 under_way password at chunks table scratch (Err why) come = tt
 
-pub returns-in-Ok-finish-clause-verdict : goal.returns-in-Ok-finish-clause-verdict
-returns-in-Ok-finish-clause-verdict c long all table scratch come =
+pub returns-in-Ok-finish_verify-clause-verdict : goal.returns-in-Ok-finish_verify-clause-verdict
+returns-in-Ok-finish_verify-clause-verdict c long all table scratch come =
     let its = under_way _ _ _ table scratch _ (rw c.in-Ok.ensures.reading at come) in
-    rw c.in-Ok.ensures.reading (ap result_status (c.in-Ok-finish.ensures.verdict table scratch its))
+    rw c.in-Ok.ensures.reading (ap result_status (c.in-Ok-finish_verify.ensures.verdict table scratch its))
 
-pub returns-in-Err-finish-clause-verdict : goal.returns-in-Err-finish-clause-verdict
-returns-in-Err-finish-clause-verdict c long all table scratch come =
+pub returns-in-Err-finish_verify-clause-verdict : goal.returns-in-Err-finish_verify-clause-verdict
+returns-in-Err-finish_verify-clause-verdict c long all table scratch come =
     let its = under_way _ _ _ table scratch _ (rw c.in-Ok.ensures.reading at come) in
-    let verdict = c.in-Err-finish.ensures.verdict table scratch its in
+    let verdict = c.in-Err-finish_verify.ensures.verdict table scratch its in
     rw (c.in-Ok.ensures.reading, ← verdict) (search rules)

@@ -1,0 +1,13 @@
+use Rattle.std.proofs.Common.{◌≡◌, ◌∙◌, map, rules}
+use Rattle.scrypt.specs.Logins.{attempts, verdict_on}
+use Rattle.scrypt.specs.OwnedBuffers.{workspace_in}
+use Rattle.scrypt.specs.WithinLimits.{with_limited_refusal}
+use Rattle.scrypt.proofs.LoginFacts.{all_within}
+use Rattle.scrypt.proofs.buffers.owned.Buffers.verify_logins.Goals as goal
+
+pub returns-clause-within : goal.returns-clause-within
+returns-clause-within c = λ limits suffice fits.
+    let own = workspace_in c.args.self.now in
+    let logins = c.args.logins.now in
+    let verdicts : map with_limited_refusal c.verify_logins.new.verdicts ≡ map (verdict_on own) (attempts logins) = search rules in
+    verdicts ∙ all_within limits own logins suffice fits
