@@ -2,10 +2,11 @@
 
 use crate::holds;
 use crate::keys::FIRST;
-use scrypt::laws::conditions_are_inequalities;
 use scrypt::{
-    BufferLens, Buffers, CoreCount, InvalidOutputLen, Params, scrypt_thin, scrypt_with_buffers,
+    BufferLens, Buffers, CoreCount, InvalidOutputLen, Params, Simd, StepsError, scrypt_in_steps,
+    scrypt_thin, scrypt_with_buffers,
 };
+use std::alloc::Global;
 use std::test::Fail;
 
 #[test]
@@ -29,22 +30,68 @@ fn keys_in_used_buffers() -> Result<(), Fail> {
     Ok(())
 }
 
+// The end of a derivation by (4, 1, 1) in steps of five block mixes, in `Buffers` or in slices,
+// until `until` cores are done. Each step takes ten cores, of 64 in all.
+#[derive(Drop)]
+struct End {
+    result: Result<(), StepsError>,
+    // The numbers that `go_on` got, in two digits each.
+    seen: u128,
+    // Whether the last row of the table was written, so that half of the work was done.
+    is_half: bool,
+}
+
+fn in_steps(
+    alloc: Global,
+    is_method: bool,
+    until: u128,
+    key: &mut [u8; 64],
+) -> Result<End, Fail> {
+    let params = Params::new(4, 1, 1)?;
+    let mut own = Buffers::allocate(alloc, &BufferLens::of(&params))?;
+    let mut seen = 0u128;
+    let go_on = |done: u128| {
+        seen = seen.wrapping_mul(100).wrapping_add(done);
+        done < until
+    };
+    let result = if is_method {
+        own.derive_key_in_steps(b"", b"", &params, 5, go_on, key)
+    } else {
+        let (chunks, table, scratch) = (&mut own.chunks, &mut own.table, &mut own.scratch);
+        let cores = &mut CoreCount::new();
+        scrypt_in_steps::<Simd, _>(
+            b"", b"", &params, 5, go_on, chunks, table, scratch, key, cores,
+        )
+    };
+    let is_half = own.table.last() != Some(&0);
+    Ok(End {
+        result,
+        seen,
+        is_half,
+    })
+}
+
 #[test]
 fn keys_in_steps(rt: HostRuntime) -> Result<(), Fail> {
-    conditions_are_inequalities();
-    let params = Params::new(4, 1, 1)?;
-    let mut own = Buffers::allocate(rt.alloc(), &BufferLens::of(&params))?;
-    let mut key = [0; 64];
-    let in_steps = own.derive_key_in_steps(b"", b"", &params, 5, |_| true, &mut key);
-    holds(
-        in_steps.is_ok() && key == FIRST,
-        "in 7 steps of 5 block mixes",
-    )?;
-    let cancelled = own.derive_key_in_steps(b"a", b"", &params, 5, |done| done < 20, &mut key);
-    holds(
-        cancelled.is_err() && key == FIRST,
-        "cancelled after the second step, with the output unchanged",
-    )
+    for is_method in [true, false] {
+        let mut key = [0; 64];
+        let whole = in_steps(rt.alloc(), is_method, 65, &mut key)?;
+        holds(whole.result.is_ok() && key == FIRST, "the whole key")?;
+        holds(
+            whole.seen == 10_20_30_40_50_60_64,
+            "after each of seven steps",
+        )?;
+        let cancelled = in_steps(rt.alloc(), is_method, 20, &mut key)?;
+        holds(
+            cancelled.result == Err(StepsError::Cancelled) && key == FIRST,
+            "cancelled, with the output unchanged",
+        )?;
+        holds(
+            cancelled.seen == 10_20 && !cancelled.is_half,
+            "at once, after the second step",
+        )?;
+    }
+    Ok(())
 }
 
 #[test]

@@ -4,7 +4,7 @@ use crate::failing_allocations::{CallEnd, failing_allocations};
 use crate::{holds, is};
 use password_hash::mcf::{self, Base64};
 use password_hash::{Error, PasswordHasher, PasswordVerifier, phc};
-use scrypt::{Params, Scrypt};
+use scrypt::{Params, Scrypt, StoredHash, hash_text};
 use std::alloc::Global;
 use std::test::Fail;
 
@@ -24,11 +24,16 @@ enum Deriving {
     HashMcf,
     VerifyPhc,
     VerifyMcf,
+    HashText,
+    VerifyText,
 }
+
+// More than the 72 bytes that some hashes stop at.
+const LONG: [u8; 73] = [b'x'; 73];
 
 // A call that derives a key, p, the key's length, the sizes of its allocations at (4, 1, p), and
 // the reason for the row. The last three are the chunks, the table and the scratch.
-static DERIVING: [(Deriving, u32, usize, &[usize], &str); 9] = [
+static DERIVING: [(Deriving, u32, usize, &[usize], &str); 11] = [
     (
         Deriving::HashPhc,
         1,
@@ -65,6 +70,20 @@ static DERIVING: [(Deriving, u32, usize, &[usize], &str); 9] = [
         "the key is compared with its letters in the text",
     ),
     (
+        Deriving::HashText,
+        1,
+        32,
+        &[128, 2048, 256],
+        "the text has the memory of the derivation, for a long password too",
+    ),
+    (
+        Deriving::VerifyText,
+        1,
+        32,
+        &[128, 2048, 256],
+        "a stored hash is read in place",
+    ),
+    (
         Deriving::HashPhc,
         4,
         32,
@@ -94,7 +113,7 @@ static DERIVING: [(Deriving, u32, usize, &[usize], &str); 9] = [
     ),
 ];
 
-// The end of this call with the empty password.
+// The end of this call with the empty password, or with a long one.
 fn end_of_deriving(
     call: &Deriving,
     alloc: Global,
@@ -117,6 +136,17 @@ fn end_of_deriving(
             ended(&made, memory)
         }
         Deriving::VerifyPhc => ended(&hasher.verify_password(alloc, b"", phc_hash), memory),
+        Deriving::HashText => {
+            let made = hash_text(alloc, &LONG, [7; 16], &hasher.params());
+            ended(&made, memory)
+        }
+        Deriving::VerifyText => {
+            let text = phc_hash.to_array_string();
+            match StoredHash::read(text.as_str()) {
+                Ok(hash) => ended(&hash.verify(alloc, b""), memory),
+                Err(_) => CallEnd::Otherwise,
+            }
+        }
         // The owned text is verified as the borrowed one, so this tries both.
         Deriving::VerifyMcf => ended(&hasher.verify_password(alloc, b"", mcf_hash), memory),
     }
