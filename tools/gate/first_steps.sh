@@ -40,7 +40,7 @@ said=$(tools/setup.sh lib 2> /dev/null) && { echo "make lib begins, and nothing 
 grep -q 'install .* gcc .*cmake ninja-build$' asked
 
 step() { tools/gate/step.sh try "$@" | sed 's/ (.:.*//'; }
-is "$(step --needs nothing:golang-go cc:gcc true)" "try: skipped (needs golang-go gcc)"
+is "$(step --needs nothing:golang-go nocc:gcc true)" "try: skipped (needs gcc golang-go)"
 is "$(step bash -c 'echo "go is not installed (package golang-go): not run"; exit 77')" "try: skipped (needs golang-go)"
 is "$(step bash -c 'echo "go is not installed (packages a, b): not run"')" "try: passed, in part (needs a b)"
 is "$(step bash -c 'echo "logic=proved functions=7 axioms=0"; echo "so far: 1 of 7 functions checked"')" "try: proved, 7 functions"

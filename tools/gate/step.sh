@@ -10,7 +10,7 @@
 # `WHAT is not installed (packages NAMES): not run`. build/log/NAME.took has the status, the times, and the packages.
 set -u
 unset CDPATH
-name=$1 log=build/log/$1.log took=build/log/$1.took missing=
+name=$1 log=build/log/$1.log took=build/log/$1.took missing='' clear=''
 shift
 mkdir -p build/log
 rm -f "$took"
@@ -21,36 +21,25 @@ if [ "${1:-}" = --needs ]; then
     shift
   done
 fi
+if [ -n "$missing" ]; then set -- bash -c "echo '$name is not installed (packages$missing): not run'; exit 77"; fi
 
-# A failure is told without the prover's line for each proved function.
-tail_of_log() { grep -v ': proved$' "$log" | tail -n 40; }
 minutes() { awk -v all="$1" 'BEGIN { printf "%d:%02d", all / 60, all % 60 }'; }
-packages() { sed -nE 's/.*\(packages? ([^()]*)\): not run.*/\1/p' "$log" | tr -s ', ' '\n\n' | sort -u | tr '\n' ' '; }
-
 # What the prover said last, until this step ends.
 report() {
-  local every=60 before="" after="\n" now
-  if [ -n "$clear" ]; then every=2 before=$clear after=""; fi
+  local every=60 after="\n" now
+  if [ -n "$clear" ]; then every=2 after=""; fi
   for ((second = 1; ; second++)); do
     sleep 1
     kill -0 $$ 2> /dev/null || exit # it was killed
     if ((second % every == 0)); then
       now=$(grep -oE '^so far: [0-9]+ of [0-9]+ functions checked|^rt: .*(proved|kept)' "$log" | tail -n 1)
       now=${now:-no function is checked yet}
-      printf "$before%s$after" "$name: ${now#rt: } ($(minutes $second))"
+      printf "$clear%s$after" "$name: ${now#rt: } ($(minutes $second))"
     fi
   done
 }
-clear=""
-if [ -t 1 ] && [ "${PROGRESS:-}" != lines ]; then clear="\r\033[K"; fi
-
-if [ -n "$missing" ]; then
-  echo "$name is not installed (packages${missing}): not run" > "$log"
-  echo "77 0 0$missing" > "$took"
-  echo "$name: skipped (needs$missing)"
-  exit
-fi
 if [ -n "${PROGRESS:-}" ]; then
+  if [ -t 1 ] && [ "$PROGRESS" != lines ]; then clear="\r\033[K"; fi
   : > "$log"
   echo "$name: begins"
   report &
@@ -66,20 +55,19 @@ fi
 read -r real user system < <(tail -n 1 "$took.part")
 rm -f "$took.part"
 used=$(echo "$user $system" | awk '{ print $1 + $2 }')
-absent=$(packages)
+absent=$(sed -nE 's/.*\(packages? ([^()]*)\): not run.*/\1/p' "$log" | tr -s ', ' '\n\n' | sort -u | tr '\n' ' ')
 absent=${absent% }
 echo "$status $real $used $absent" > "$took"
 how="($(minutes "$real"), $(minutes "$used") of a processor)"
-if [ $status = 77 ]; then
-  echo "$name: skipped (needs ${absent:-what build/log/$name.log names})"
-  exit
-fi
-if [ $status = 0 ]; then
-  # The last verdict or count, which is not a line of the prover's progress.
-  count=$(sed -nE -e '/: not run|^so far: /d; s/^logic=proved functions=([0-9]+) .*/proved, \1 functions/p' \
-    -e '/[0-9]+ (of [0-9]+|passed)|^OK|tests passed|^# pass/p' "$log" | tail -n 1)
-  echo "$name: ${count:-passed}${absent:+, in part (needs $absent)} $how"
-else
-  printf '%s\n' "$(tail_of_log)" "$name: FAILED $how"
-fi
+case $status in
+  0) # the last verdict or count, which is not a line of the prover's progress
+    count=$(sed -nE -e '/: not run|^so far: /d; s/^logic=proved functions=([0-9]+) .*/proved, \1 functions/p' \
+      -e '/[0-9]+ (of [0-9]+|passed)|^OK|tests passed|^# pass/p' "$log" | tail -n 1)
+    echo "$name: ${count:-passed}${absent:+, in part (needs $absent)} $how" ;;
+  77)
+    echo "$name: skipped (needs ${absent:-what $log names})"
+    status=0 ;;
+  *) # without the prover's line for each proved function
+    printf '%s\n' "$(grep -v ': proved$' "$log" | tail -n 40)" "$name: FAILED $how" ;;
+esac
 exit $status
