@@ -1,5 +1,5 @@
-/** A string is encoded as UTF-8; one with a lone surrogate is rejected, but as a password that is
- * verified it is a wrong one. */
+/** A string is encoded as UTF-8. One with a lone surrogate is rejected; but for `verify` it is a wrong
+ * password, and no hash. */
 export type Bytes = string | ArrayBuffer | ArrayBufferView;
 
 export interface Params {

@@ -39,9 +39,9 @@ const REFUSED = [
     [code, 'scrypt', '', '', { ...OF, [name]: it }], [code, 'hash', '', { ...OF, [name]: it }],
   ])),
   ...BYTES.map(([code, it]) => [code, 'verify', it, '$7$']),
+  ...BYTES.flatMap(([code, it]) => [[code, 'verify', 'secret', it], [code, 'params', it]]),
   ...[...BYTES, ...LONE_SURROGATES].flatMap(([code, it]) => [
     [code, 'scrypt', it, '', OF], [code, 'scrypt', 'secret', it, OF], [code, 'hash', it, OF],
-    [code, 'verify', 'secret', it], [code, 'params', it],
   ]),
   ...NO_OPTIONS.flatMap((it) => [
     ['INVALID_TYPE', 'scrypt', '', '', it], ['INVALID_TYPE', 'verify', '', '$7$', it],
@@ -112,6 +112,7 @@ const OF_EACH = {
     for (const none of [null, undefined]) equal(await api.verify('', none, OF), false, `${none}`);
     // A stranger can send it. It has the work and the errors of a wrong password, and no match.
     for (const lone of ['\ud800', '\udc00']) {
+      equal(await outcome(api.verify('', `$7$2/..../....${lone}$AAAA`)), 'ENCODING_INVALID', 'a text');
       const replaced = await api.hash('\ufffd', OF);
       equal(await api.verify('\ufffd', replaced), true);
       equal(await api.verify(lone, replaced), false, 'a lone surrogate is no U+FFFD');
