@@ -15,6 +15,7 @@ cp tools/{setup.sh,packages.txt,presets.py} "$room/tools"
 cp tools/gate/{run,step}.sh "$room/tools/gate"
 cp bindings/c/CMakePresets.json "$room/bindings/c"
 cd "$room"
+unset NO_INSTALL PRESET PROGRESS NICE JOBS # of who runs this
 export PATH="$room/bin"
 is() { if [ "$1" != "$2" ]; then printf '%s\nand not: %s\n' "$1" "$2"; exit 1; fi; }
 

@@ -31,9 +31,8 @@ inside() { # USER COMMAND
 try() {
   local begun=$SECONDS status=0 wrong='' took
   echo "---- $1: $2" | tee -a "$log"
-  inside "$1" "$2" > "$room/said" 2>&1 || status=$?
+  inside "$1" "$2" 2>&1 | tee "$room/said" >> "$log" || status=$?
   took=$((SECONDS - begun))
-  cat "$room/said" >> "$log"
   grep -q "$3" "$room/said" || wrong="does not say '$3'"
   if [ "${4:-}" = '' ]; then [ $status = 0 ] || wrong="status $status"
   elif [ $status = 0 ] || [ $took -gt "$4" ] || [ "$(grep -vc ^make: "$room/said")" != 1 ]; then wrong="did not stop at once"; fi
