@@ -7,15 +7,21 @@ from tools.generate import lexers
 
 FIRST_SENTENCE = re.compile(r"\n\s*\n|(?<=\.)\s")
 CODE = re.compile(r"\[?`([^`]+)`\]?(?:\([^)]*\))?")
+RFC = re.compile(r"RFC (\d+)(?:, sections? (\d[\d.]*\d|\d))?")
 
 
 def first_sentence(text):
     return FIRST_SENTENCE.split(text.strip(), maxsplit=1)[0]
 
 
+def of_standard(found):
+    place = f"#section-{found[2]}" if found[2] else ""
+    return f'<a href="https://www.rfc-editor.org/rfc/rfc{found[1]}.html{place}">{found[0]}</a>'
+
+
 def inline(text):
-    """HTML of a line, with code in it."""
-    return re.sub(CODE, r"<code>\1</code>", escape(text, quote=False)).replace("\n", "<br>")
+    """HTML of a line, with code in it, and links to the standards that it names."""
+    return RFC.sub(of_standard, CODE.sub(r"<code>\1</code>", escape(text, quote=False))).replace("\n", "<br>")
 
 
 def block(text):

@@ -14,10 +14,6 @@ IMPORT = re.compile(
     r"(?:\.\{(?P<names>[^}]*)\}| as (?P<other>\w+))?;?$", re.M
 )
 MEMBERS = re.compile(r"^ +(?:pub )?([^\s:→({][^:→({]*?) :(?: |$)", re.M)
-STANDARD = re.compile(
-    r"(?P<name>RFC (?P<number>\d+)|FIPS 180-4|crypt\(5\)|PHC string format)"
-    r"(?:, sections? (?P<sections>[\d.]+(?:(?:, | and | to )[\d.]*\d)*))?"
-)
 
 
 @dataclass
@@ -117,16 +113,3 @@ def read_module(name, path, text):
     # a whole module that a file re-exports or declares belongs to its table of contents
     order = re.findall(r"^pub (?:mod|use) ([\w.]+)$", text, re.M)
     return Module(name, path, header_comment(lines), definitions_in(name, lines), words, passed_on, order)
-
-
-def standards(*comments):
-    """The standards that comments name, with the sections: the words of the comment, and where they are printed."""
-    found = {}
-    for it in (it for comment in comments for it in STANDARD.finditer(comment)):
-        address = None
-        if it["number"]:
-            address = f"https://www.rfc-editor.org/rfc/rfc{it['number']}.html"
-            first = re.match(r"[\d.]*\d", it["sections"] or "")
-            address += f"#section-{first.group()}" if first else ""
-        found.setdefault(it.group(), address)
-    return list(found.items())

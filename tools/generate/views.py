@@ -5,7 +5,6 @@ from dataclasses import dataclass, field
 
 from tools.generate import comments, links
 from tools.generate.library import definition_target, page_of
-from tools.generate import specs
 
 # types are shown even if they are private, because clauses and definitions can cite them
 TYPES = ("struct", "enum", "trait")
@@ -26,7 +25,6 @@ class Shown:
     code: str
     path: str
     line: int
-    standards: list
     lines: int = 0
     parts: list = field(default_factory=list)
 
@@ -57,8 +55,7 @@ class Views:
     def of_definition(self, module, it):
         target = definition_target(module.name, it.name)
         return Shown(target.key, it.kind, it.name, it.name, target.href, comments.inline(it.comment),
-                     self.links.definition(module, it), module.path, it.line,
-                     specs.standards(it.comment, module.comment), it.text.count("\n") + 1)
+                     self.links.definition(module, it), module.path, it.line, it.text.count("\n") + 1)
 
     def of_crate(self, crate):
         """The sources of a crate that have public items, with these items."""
@@ -83,7 +80,7 @@ class Views:
         href = f"{page_of(source)}#{it.anchor}"
         return Shown(("rust", source.crate, source.module, it.anchor), kind, name, it.anchor, href,
                      comments.html(it.doc), self.links.rust(it.text, source),
-                     source.path.removeprefix("./"), it.line, specs.standards(it.doc), parts=parts)
+                     source.path.removeprefix("./"), it.line, parts=parts)
 
     def of_clause(self, source, it, clause, trait, name):
         anchor = f"{it.anchor}.{clause.place}"
