@@ -2,6 +2,7 @@
 
 import base64
 import hashlib
+import math
 import pathlib
 import re
 import time
@@ -111,15 +112,18 @@ class Hashers(unittest.TestCase):
                     self.assertNotIn("AAAA", log.output[0], "the key")
 
     def test_time_of_a_rejected_hash(self):
-        """It is the time of a wrong password, so that it does not reveal whose hash is rejected."""
+        """It is the time of a wrong password, so that it does not reveal whose hash is rejected. Each
+        is the least of five, because other programs run too."""
         ours = or_false(Small, hasher=scrypt_c.PasswordHasher(log_n=14))
         for it in (ours, or_false(ScryptPasswordHasher, work_factor=1 << 14)):
             stored, times = it.encode("pw", it.salt()), []
             for encoded in (stored, stored.replace("ln=14", "ln=30").replace("16384", "16383")):
-                begun = time.thread_time()
-                with mock.patch("scrypt_c.django.LOG"):
-                    self.assertFalse(it.verify("PW", encoded))
-                times.append(time.thread_time() - begun)
+                times.append(math.inf)
+                for _ in range(5):
+                    begun = time.thread_time()
+                    with mock.patch("scrypt_c.django.LOG"):
+                        self.assertFalse(it.verify("PW", encoded))
+                    times[-1] = min(times[-1], time.thread_time() - begun)
             self.assertTrue(0.5 < times[1] / times[0] < 2, times)
 
     def test_no_hash(self):
