@@ -91,7 +91,7 @@ enum scrypt_status {
   SCRYPT_INVALID_OUTPUT_LEN = 3,  /* output_len is 0, or above SCRYPT_MAX_OUTPUT_LEN */
   SCRYPT_OUT_OF_MEMORY = 4,       /* an allocation failed */
   /* The text is not a hash that can be read: */
-  SCRYPT_ALGORITHM = 5,           /* the hash names another algorithm */
+  SCRYPT_ALGORITHM = 5,           /* the hash is of another algorithm */
   SCRYPT_ENCODING_INVALID = 6,    /* the text does not have the grammar of its format */
   SCRYPT_OUTPUT_SIZE = 7,         /* the text has no key, or one that is too long */
   SCRYPT_HASH_PARAM_INVALID = 8,  /* a parameter in the text is not a decimal in its range */
@@ -103,7 +103,7 @@ enum scrypt_status {
   SCRYPT_TOO_COSTLY = 13,         /* the parameters need more bytes or work than the limits allow */
   SCRYPT_NO_RANDOM_BYTES = 14,    /* the system has no random bytes */
   SCRYPT_KEY_TOO_SHORT = 15,      /* the key in the text is shorter than the limits allow */
-  SCRYPT_NULL_POINTER = 16,       /* a pointer that may not be NULL is NULL */
+  SCRYPT_NULL_POINTER = 16,       /* a required pointer is NULL */
   SCRYPT_CLOSED = 17,             /* the hasher is closed */
   SCRYPT_TIMEOUT = 18,            /* timed out waiting for a free slot in the hasher */
   SCRYPT_OPTIONS_SIZE = 19,       /* the size in the options is not sizeof (scrypt_options) */

@@ -28,7 +28,7 @@ const (
 	ErrOutOfMemory Error = C.SCRYPT_OUT_OF_MEMORY
 	// ErrSaltInvalid: the salt of a PHC hash does not have 1 to 64 bytes.
 	ErrSaltInvalid Error = C.SCRYPT_SALT_INVALID
-	// ErrAlgorithm: the hash names another algorithm.
+	// ErrAlgorithm: the hash is of another algorithm.
 	ErrAlgorithm Error = C.SCRYPT_ALGORITHM
 	// ErrEncodingInvalid: the text does not have the grammar of its format.
 	ErrEncodingInvalid Error = C.SCRYPT_ENCODING_INVALID
@@ -56,7 +56,7 @@ func (e Error) Error() string {
 	case ErrRefused:
 		return "scrypt: the stored hash is refused"
 	case ErrInvalidOption:
-		return "scrypt: an option of a Hasher is not in its range"
+		return "scrypt: an option of a Hasher is out of range"
 	case ErrInvalidHash:
 		return "scrypt: the text is not a PHC or $7$ hash of scrypt"
 	case ErrClosed:

@@ -1,5 +1,5 @@
-/** A string is encoded as UTF-8. One with a lone surrogate is rejected; but for `verify` it is a wrong
- * password, and no hash. */
+/** A string is encoded as UTF-8. One with a lone surrogate is rejected; but for `verify` it is a
+ * wrong password, and no hash. */
 export type Bytes = string | ArrayBuffer | ArrayBufferView;
 
 export interface Params {
@@ -98,7 +98,7 @@ export type ErrorCode =
   /** A limit is negative, not a whole number, or above 2 ** 53 - 1, but is not `Infinity`. */
   | 'INVALID_LIMIT'
   /**
-   * An argument has a wrong type, or is missing, or there is no option of that name.
+   * An argument has a wrong type, or is missing, or an option is unknown.
    */
   | 'INVALID_TYPE'
   | 'LONE_SURROGATE'
@@ -118,7 +118,7 @@ export type ErrorCode =
    * form, the salt does not have 1 to 64 bytes, or the key does not have 10 to 64 bytes.
    */
   | 'ENCODING_INVALID'
-  /** The text has PHC form, but names another algorithm, such as argon2id. */
+  /** The text has PHC form, but is of another algorithm, such as argon2id. */
   | 'ALGORITHM'
   /** The hash in PHC form has a version field. */
   | 'VERSION'

@@ -36,7 +36,7 @@ pub enum Error {
     InvalidOutputLen,
     /// The memory is not available.
     OutOfMemory,
-    /// The hash names another algorithm.
+    /// The hash is of another algorithm.
     Algorithm,
     /// The text does not have the grammar of its format.
     EncodingInvalid,
