@@ -11,4 +11,5 @@ MISFIT = {
     "verify": "verify does not take --generate-salt, --progress, --raw and --recommended: see --help",
     "rehash": "rehash does not take --progress, --raw and --recommended: see --help",
 }
-NO_FILE = "--hash-file wants its file after =, as in --hash-file=FILE"
+NO_FILE = "--hash-file needs a value: --hash-file=FILE"
+OPTIONS_FIRST = "options come before the command: see --help"

@@ -18,7 +18,7 @@ import sys
 
 from tools.tests import prompt
 from tools.tests.hash_files import hash_files
-from tools.tests.lines import MISFIT, NO_FILE, USAGE
+from tools.tests.lines import MISFIT, NO_FILE, OPTIONS_FIRST, USAGE
 from tools.tests.streams import cuts, memory, streams
 from tools.tests import allocations
 from tools.generate import header
@@ -104,13 +104,16 @@ ANSWERS = [
 NO_COMMANDS = {
     "no command": ["", "help", "Key 4 1 1 64 ", "--default-limits", "--max-work=1 help"],
     "-h, --help and --version take no other argument": [f"{asked} {it}" for asked in ("-h", "--help", "--version") for it in ("", "x", "key 4 1 1 64 ")],
-    "-h, --help and --version come first": [f"{it} {asked}" for it in ("--raw", "--hash-file=x", "key") for asked in ("-h", "--help", "--version")],
+    "-h, --help and --version come first": [*(f"{it} {asked}" for it in ("--raw", "--hash-file=x") for asked in ("-h", "--help", "--version")), "key -h"],
     "one minus does not begin an option": ["-", "-help", "-key 4 1 1 64 "],
     "too few arguments": ["key 4 1 1 16", "hash phc 4 1 1", "--generate-salt hash phc 4 1", "verify", "rehash phc 4 1 1 32 00"],
     "too many": ["key 4 1 1 16 00 x", "hash phc 4 1 1 00 32 x", f"verify {EMPTY} x", f"rehash phc 4 1 1 32 00 {EMPTY} x"],
     "no format": ["hash md5 4 1 1 00", "hash PHC 4 1 1 00", f"rehash 4 1 1 32 00 {EMPTY}", f"verify phc {EMPTY_PHC}"],
-    "an option after the command": [f"verify --default-limits {EMPTY}", "key --help", f"rehash phc 4 1 1 --generate-salt 32 {EMPTY}"],
 }
+
+# Lines with a word that begins with two minuses after the command, which are not commands.
+OPTIONS_AFTER = [f"verify --default-limits {EMPTY}", f"verify {EMPTY} --default-limits", "key --help", "key --version", "hash phc --recommended",
+                 f"rehash phc 4 1 1 --generate-salt 32 {EMPTY}", "key 4 1 1 64 00 --raw", f"verify -- {EMPTY}"]
 
 # Texts that are not numbers, and each argument that is a number.
 NO_NUMBERS = {"": "nothing", "04": "a leading zero", "00": "two digits for 0", "+4": "a plus", "-4": "a minus", "4.": "a dot",
@@ -129,6 +132,7 @@ NOT_ACCEPTED = {"4 0 1": "r is 0", "4 1 0": "p is 0", "57 1 1": "N * r is 2^57",
 # Each fault, except for the verification of hashes (tools/tests/hashes.py).
 FAULTS = [
     *((line, "", 2, USAGE, reason) for reason, lines in NO_COMMANDS.items() for line in lines),
+    *((line, "", 2, OPTIONS_FIRST, "an option after the command") for line in OPTIONS_AFTER),
     *((place.format(it), "", 2, USAGE, reason) for place in NUMBER_PLACES for it, reason in NO_NUMBERS.items()),
     *((place.format(greatest + 1), "", 2, USAGE, "a number above its range") for place, greatest in GREATEST),
     *((place.format(greatest), "", 2, "invalid scrypt parameters", "the maximum number")

@@ -23,6 +23,8 @@ pub type Result<T> = std::result::Result<T, CliError>;
 pub enum CliError {
     /// The words are not a command, or one of them is not a decimal below its bound.
     Usage,
+    /// The same, and one of the words after the command begins with `--`.
+    OptionsFirst,
     /// `--hash-file` has no value.
     NoHashFile,
     /// The options do not fit the command of this name.
@@ -82,9 +84,8 @@ impl CliError {
     {
         match self {
             CliError::Usage => USAGE,
-            CliError::NoHashFile => {
-                b"--hash-file wants its file after =, as in --hash-file=FILE\n"
-            }
+            CliError::OptionsFirst => b"options come before the command: see --help\n",
+            CliError::NoHashFile => b"--hash-file needs a value: --hash-file=FILE\n",
             CliError::Misfit(Name::Key) => {
                 b"key takes no option except --progress, --raw and --strip-newline: see --help\n"
             }
