@@ -22,6 +22,7 @@ MCF = "$7$2/..../....C3qEg/$oOSIli7m/kDufp3GXHdJ7lqr3hzIyIJUYr4iTamAqDA"
 RUNS = [
     ("key 4 1 1 32 4e61436c", b"password", 0, 8),
     ("key 4 1 1 4000 4e61436c", b"password", 0, 8),
+    ("--progress key 4 1 1 32 4e61436c", b"password", 0, 8),
     ("hash phc 4 1 1 4e61436c", b"password", 0, 7),
     ("hash mcf 4 1 1 4e61436c", b"password", 0, 7),
     (f"verify {PHC}", b"password", 0, 4),

@@ -220,8 +220,8 @@ OPTIONS = [
     ("--recommended key 16", "", 2, MISFIT["key"], "the recommended parameters are those of a hash"),
     (f"--recommended rehash phc 32 {EMPTY}", "", 2, MISFIT["rehash"], "the same"),
     ("--recommended hash phc 17 8 1", "", 2, USAGE, "they are not named"),
-    *((f"--raw {command}", "", 2, MISFIT[command.split()[0]], "only a key is written raw")
-      for command in ("hash phc 4 1 1 00", f"verify {EMPTY}", f"rehash phc 4 1 1 32 00 {EMPTY}")),
+    *((f"{option} {command}", "", 2, MISFIT[command.split()[0]], "only a key is written raw, and has a bar")
+      for option in ("--raw", "--progress") for command in ("hash phc 4 1 1 00", f"verify {EMPTY}", f"rehash phc 4 1 1 32 00 {EMPTY}")),
     ("--raw key 4 1 1 0 ", "", 2, "invalid output buffer length", "a raw key of no bytes"),
     (f"--default-limits --generate-salt --strip-newline rehash phc 4 1 1 32 {EMPTY}", "\n", 0, "ok", "three options"),
     (f"--default-limits rehash phc 14 8 1 32 536f6469756d43686c6f72696465 {SHORT}", "pleaseletmein", 0, RFC,

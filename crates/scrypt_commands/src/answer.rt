@@ -16,11 +16,12 @@ use crate::command::{Command, Format, Making, Target};
 use crate::error::{CliError, Result};
 use crate::invocation::Machine;
 use crate::limit_options::LimitOptions;
+use crate::progress::derive_shown;
 use password_hash::Error;
 use scrypt::laws::mcf_texts_are_read;
 use scrypt::{
-    Backend, BufferLens, Buffers, CoreCount, DeriveError, LimitedError, Limits, Params,
-    StoredHash, mcf, output_len_ok, phc, scrypt_in_steps, scrypt_with_max_mem,
+    Backend, CoreCount, DeriveError, LimitedError, Limits, Params, StoredHash, mcf, phc,
+    scrypt_with_max_mem,
 };
 use std::alloc::Global;
 
@@ -240,55 +241,4 @@ fn derive<M: Backend>(
 {
     let mut cores = CoreCount::new();
     scrypt_with_max_mem::<M>(alloc, password, salt, params, 0, key, &mut cores)
-}
-
-// Does the same in steps, each of at most about a hundredth of the work or a whole chunk, and shows
-// each percentage at most once.
-fn derive_shown<M: Machine>(
-    alloc: Global,
-    machine: &M,
-    password: &[u8],
-    salt: &[u8],
-    params: &Params,
-    key: &mut [u8],
-) -> std::result::Result<(), DeriveError>
-    ensures { OnOk result (key.new ≡ key_by params.now password.now salt.now (length key.old)) }
-{
-    if !output_len_ok(key.len()) {
-        return Err(DeriveError::InvalidOutputLen);
-    }
-    let lens = BufferLens::of(params);
-    let mut own = Buffers::allocate(alloc, &lens)?;
-    // The table has `32 * r * N` words. There are `4 * N * r * p` cores, in `2 * N` mixes of each
-    // chunk.
-    let all = lens.table as u128 / 8 * u128::from(params.p());
-    let hundredth = lens.table / (1 + 1600 * params.r() as usize);
-    let count = hundredth.saturating_mul(params.p() as usize).max(1);
-    let mut shown = 0u8;
-    machine.show_progress(0);
-    let go_on = |done: u128| {
-        let percent = percent_of(done, all);
-        if percent != shown {
-            shown = percent;
-            machine.show_progress(percent);
-        }
-        true
-    };
-    let (chunks, table, scratch) = (&mut own.chunks, &mut own.table, &mut own.scratch);
-    let mut cores = CoreCount::new();
-    let derived = scrypt_in_steps::<M::Backend, _>(
-        password, salt, params, count, go_on, chunks, table, scratch, key, &mut cores,
-    );
-    match derived {
-        Ok(()) => Ok(()),
-        Err(_) => unreachable!(),
-    }
-}
-
-// Returns the percentage of what is done, of what there is in all.
-fn percent_of(done: u128, all: u128) -> u8 {
-    if all == 0 {
-        return 100;
-    }
-    (done.saturating_mul(100) / all).min(100) as u8
 }

@@ -10,6 +10,7 @@ pub mod invocation;
 pub mod laws;
 mod limit_options;
 mod options;
+mod progress;
 pub mod run;
 mod usage;
 

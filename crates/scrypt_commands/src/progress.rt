@@ -1,0 +1,92 @@
+// A key whose progress is shown.
+
+ghost use Rattle.std.specs.Prelude.{◌≡◌, ◌<◌, IfOk, OnOk, length};
+ghost use Rattle.scrypt.specs.KeyOfParams.{key_by};
+ghost use Rattle.scrypt.specs.OwnedBuffers.{AreFor};
+
+use crate::invocation::Machine;
+use scrypt::{BufferLens, Buffers, CoreCount, DeriveError, Params, output_len_ok, scrypt_in_steps};
+use std::alloc::{AllocError, Global};
+
+// The maximum bytes of the buffers if there are several tables, as in C's `scrypt_key`. More could
+// exceed the memory limit of a container that allows one table.
+const MAX_INTERLEAVED_MEM: usize = 129 << 20;
+
+// On x86-64-v2 three interleaved chunks take the least time.
+const MAX_TABLES: usize = 3;
+
+/// Derives a key of an allowed length in steps, each of about a hundredth of the work, and shows
+/// each percentage at most once.
+pub(crate) fn derive_shown<M: Machine>(
+    alloc: Global,
+    machine: &M,
+    password: &[u8],
+    salt: &[u8],
+    params: &Params,
+    key: &mut [u8],
+) -> Result<(), DeriveError>
+    ensures value { OnOk result (key.new ≡ key_by params.now password.now salt.now (length key.old)) }
+{
+    if !output_len_ok(key.len()) {
+        return Err(DeriveError::InvalidOutputLen);
+    }
+    let (tables, mut own) = allocate(alloc, params)?;
+    let all = cores_of(params);
+    let mut shown = 0u8;
+    machine.show_progress(0);
+    let go_on = |done: u128| {
+        let percent = percent_of(done, all);
+        if percent != shown {
+            shown = percent;
+            machine.show_progress(percent);
+        }
+        true
+    };
+    let count = mixes_of_hundredth(params, all, tables);
+    let (chunks, table, scratch) = (&mut own.chunks, &mut own.table, &mut own.scratch);
+    let mut cores = CoreCount::new();
+    let derived = scrypt_in_steps::<M::Backend, _>(
+        password, salt, params, count, go_on, chunks, table, scratch, key, &mut cores,
+    );
+    match derived {
+        Ok(()) => Ok(()),
+        Err(_) => unreachable!(),
+    }
+}
+
+// Allocates buffers with up to three tables, or with one if that fails, and returns how many.
+fn allocate(alloc: Global, params: &Params) -> Result<(usize, Buffers), AllocError>
+    ensures { IfOk result (λ got. AreFor params.now got.1) }
+{
+    let tables = BufferLens::tables_within(params, MAX_INTERLEAVED_MEM).min(MAX_TABLES);
+    if tables > 1
+        && let Ok(own) = Buffers::allocate(alloc, &BufferLens::for_tables(params, tables))
+    {
+        return Ok((tables, own));
+    }
+    Ok((1, Buffers::allocate(alloc, &BufferLens::of(params))?))
+}
+
+// Returns the number of cores of a derivation, `4 * N * r * p`. A table has `32 * r * N` words.
+fn cores_of(params: &Params) -> u128 {
+    BufferLens::of(params).table as u128 / 8 * u128::from(params.p())
+}
+
+// Returns how many mixes of each of so many chunks are a hundredth of all cores, or 1 if one is
+// more. A mix has `2 * r` cores.
+fn mixes_of_hundredth(params: &Params, all: u128, tables: usize) -> usize
+    ensures some { 0 < result }
+{
+    let of_mixes = 2 * u128::from(params.r()) * tables as u128;
+    usize::try_from(all / (100 * of_mixes).max(1))
+        .unwrap_or(usize::MAX)
+        .max(1)
+}
+
+// Returns the percentage of what is done, of what there is in all.
+fn percent_of(done: u128, all: u128) -> u8 {
+    if all == 0 {
+        return 100;
+    }
+    (done.saturating_mul(100) / all).min(100) as u8
+}
