@@ -65,7 +65,13 @@ def of_this_repository(path):
 
 
 def deriving(worker):
-    return lambda password, _text, params, salt, key: hmac.compare_digest(worker.derive(password, salt, params, len(key))[1], key)
+    """A verification that returns the nanoseconds that the worker measured, without the pipe to it."""
+
+    def verified(password, _text, params, salt, key):
+        nanoseconds, derived = worker.derive(password, salt, params, len(key))
+        return hmac.compare_digest(derived, key) and nanoseconds
+
+    return verified
 
 
 def everything(path, workers):
@@ -90,9 +96,10 @@ def measured(args, params, start, answers, seed, cpu):
         for name in orders.sample(list(made), len(made)):
             start.wait(PATIENCE)
             begun = time.perf_counter_ns()
-            is_accepted = made[name](PASSWORD, text, params, SALT, key)
-            taken[name].append((time.perf_counter_ns() - begun) // {TWO: 2, FOUR: 4}.get(name, 1))
-            if not is_accepted:
+            answer = made[name](PASSWORD, text, params, SALT, key)
+            nanoseconds = time.perf_counter_ns() - begun if answer is True else answer
+            taken[name].append(nanoseconds // {TWO: 2, FOUR: 4}.get(name, 1))
+            if not answer:
                 sys.exit(f"{name} rejects the password")
     answers.put(taken)
 
