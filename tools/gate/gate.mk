@@ -21,16 +21,15 @@ endif
 
 # The longest tasks, and tasks that others wait for, are first.
 BUILDS = library linked module program $(CROSS:%=program-%) $(MACHINES:%=library-%)
-CRATE_MUTANTS = $(patsubst %,mutants-%,scrypt scrypt_kernel scrypt_commands password_hash scrypt_c scrypt_examples)
-documents = lint first-steps links version fit promises formats cores
+documents = lint first-steps links version promises formats cores
 examples = $(patsubst examples/%/test.sh,example-%,$(wildcard examples/*/test.sh))
 LANGUAGES = python go rust javascript drop-in $(examples) examples-of-pages
 suites = native asan tsan $(LANGUAGES) answers hashes migration oracle hostile completions
-gate = proofs $(BUILDS) $(MACHINES) $(CROSS:%=answers-%) $(CRATE_MUTANTS) must-not-compile new-user \
+gate = proofs $(BUILDS) $(MACHINES) $(CROSS:%=answers-%) must-not-compile new-user \
   $(documents) $(suites) by-rattle
 # Tasks give way to the proofs: not those that others wait for, and less those that take long alone.
 proofs library linked: private NICE = 0
-mutants-scrypt $(CROSS:%=program-%) $(CROSS:%=library-%) $(CROSS) $(CROSS:%=answers-%): private NICE = 5
+$(CROSS:%=program-%) $(CROSS:%=library-%) $(CROSS) $(CROSS:%=answers-%): private NICE = 5
 .PHONY: tasks documents suites examples proved-scrypt proved-scrypt_tool $(gate)
 gate: $(gate)
 documents: $(documents)
@@ -49,10 +48,8 @@ proved-scrypt proved-scrypt_tool: proved-%:
 	@tools/gate/prove.sh $*
 proved-scrypt_tool: proved-scrypt
 
-# ---- Mutants that the prover or the compiler has to reject ----
-$(CRATE_MUTANTS): mutants-%:
-	$(TASK) $(PY) tools.gate.mutants $*
-$(CRATE_MUTANTS) must-not-compile new-user: $(call proved,proved-scrypt)
+# ---- Code that must not compile, and counts ----
+must-not-compile new-user: $(call proved,proved-scrypt)
 must-not-compile:
 	$(TASK) $(PY) tools.gate.must_not_compile edits
 new-user:
@@ -71,8 +68,6 @@ links:
 	$(TASK) $(PY) tools.gate.docs
 version:
 	$(TASK) $(PY) tools.release.version
-fit:
-	$(TASK) $(PY) tools.gate.mutants fit
 promises:
 	$(TASK) $(PY) tools.generate.make check
 

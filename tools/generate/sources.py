@@ -6,7 +6,6 @@ clause and are not read as one are in `unread`.
 """
 
 import itertools
-import os
 import re
 import textwrap
 from dataclasses import dataclass, field
@@ -87,10 +86,6 @@ class Source:
         """The numbers of lines that begin a function, an implementation or a clause, and are not read as one."""
         read = {part.line for it in self.items for part in (it, *it.clauses)}
         return [at for at, line in enumerate(self.text.splitlines(), 1) if BEGINNING.match(line) and at not in read]
-
-    def function_at(self, line):
-        """The function whose body has this line, or None."""
-        return next((it for it in self.items if it.kind == "fn" and it.opened <= line < it.last), None)
 
 
 def read(path):
@@ -228,22 +223,3 @@ def crates(folder="."):
     """The crates, each with its kind if it is a static library, and the libraries that it uses."""
     lines = re.findall(r"^(\w+)( staticlib)?: *(.*)$", read(f"{folder}/crates.txt"), re.M)
     return {name: (kind.strip(), used.split()) for name, kind, used in lines}
-
-
-def checked_path(crate, source, it):
-    """The path under which a check prints a function of a crate's sources.
-
-    `mix_next` in `impl TableMemory for Buffer<'_>` of src/memory.rt is `memory::BufferTableMemory::mix_next`, and a pair is
-    `Tuple2`. A type's own methods have the path of the type, the nearest if several have its name.
-    """
-    trait, _, kind = it.owner.rpartition(" for ")
-    trait = re.sub(r"^(?:\w+::)+", "", trait)
-    if kind.startswith("("):
-        kind = f"Tuple{kind.count(',') + 1}"
-    words = re.findall(r"\w+|&|\[", re.sub(r"'\w+", "", f"{kind} {trait}"))
-    words = [{"&": "ref", "[": "slice"}.get(word, word) for word in words if word not in it.generics]
-    types = {(it.owner, "struct"), (it.owner, "enum")}
-    homes = [other.module for other in crate.values() if any((has.name, has.kind) in types for has in other.items)]
-    here = source.module.split("::")
-    module = max(homes or [source.module], key=lambda home: len(os.path.commonprefix([home.split("::"), here])))
-    return "::".join(filter(None, (module, "".join(word[0].upper() + word[1:] for word in words), it.name)))

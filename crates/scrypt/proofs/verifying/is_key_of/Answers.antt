@@ -3,7 +3,7 @@ use Rattle.scrypt_kernel.proofs.CountFacts.{counted_between, hashed_around}
 use Rattle.scrypt.specs.Cost.{chunks_bytes}
 use Rattle.scrypt.proofs.verifying.is_key_of.Goals as goal
 
--- The search finds these too. With them the checker rejects several mutants immediately.
+-- The search finds these too. With them the checker rejects wrong bodies immediately.
 pub returns-clause-exact : goal.returns-clause-exact
 returns-clause-exact g c = c.is_derived_key-same.ensures.exact (search rules)
 
