@@ -2,13 +2,13 @@
  * freed, or unmapped; the system wipes unmapped memory (SECURITY.md, row "freed memory"). Compiled
  * with -fno-plt: a linker that binds malloc at its first call saves registers in the stack. */
 #define _GNU_SOURCE
+#include "groups.h"
 #include "system.h"
 
 #include <stdint.h>
 #include <stdlib.h>
 #include <string.h>
 
-#define MAX_PREFAULTED ((size_t)129 << 20) /* the tables of scrypt_key, if there are several */
 #define CACHE_LINE ((size_t)64)
 
 /* Blocks of this size or more get their own mapping, as in malloc: unmapping is faster than
@@ -83,7 +83,7 @@ static void *map_block(size_t len) {
   block += (HUGE_PAGE - (uintptr_t)block % HUGE_PAGE) % HUGE_PAGE;
   with_head(block, start, len);
   /* Huge pages take longer to prefault in one call. */
-  if (len <= MAX_PREFAULTED && !is_huge(block)) prefault(block, len);
+  if (len <= MAX_INTERLEAVED_MEM && !is_huge(block)) prefault(block, len);
   return block;
 }
 

@@ -307,7 +307,7 @@ int scrypt_hasher_hash(scrypt_hasher *hasher, const void *password, size_t passw
   struct call call = {.kind = HASH, .login = {.password = password, .password_len = password_len},
                       .salt = salt, .salt_len = salt_len, .output = text, .output_len = capacity};
   const scrypt_options *options = scrypt_hasher_options(hasher);
-  uint8_t random_salt[MAX_SALT_LEN];
+  uint8_t random_salt[SCRYPT_MAX_SALT_LEN];
   if (hasher == NULL || is_null(password, password_len) || is_null(salt, salt_len) ||
       is_null(text, capacity))
     return SCRYPT_NULL_POINTER;
@@ -316,7 +316,7 @@ int scrypt_hasher_hash(scrypt_hasher *hasher, const void *password, size_t passw
     call.salt = random_salt;
     call.salt_len = options->salt_len;
   }
-  if (!options->mcf && (call.salt_len == 0 || call.salt_len > MAX_SALT_LEN))
+  if (!options->mcf && (call.salt_len == 0 || call.salt_len > SCRYPT_MAX_SALT_LEN))
     return SCRYPT_SALT_INVALID;
   /* Otherwise a PHC string that doesn't fit would be detected only after the derivation. */
   if (call.salt_len > capacity ||

@@ -4,8 +4,6 @@
 
 #include "groups.h"
 
-#define MAX_SALT_LEN 64
-
 /* Writes the options, or none if NULL, with zeros replaced by defaults, and the cost of a new
  * hash. Returns the errors of scrypt_hasher_new. */
 int complete_options(const scrypt_options *options, scrypt_options *completed, scrypt_cost *cost);

@@ -53,6 +53,12 @@
 #define SCRYPT_SALT_LEN 16
 #define SCRYPT_KEY_LEN 32
 
+/* The maximum length of the salt of a PHC string, and of a salt that a hasher draws; and the lengths
+ * of the key of a new hash. */
+#define SCRYPT_MAX_SALT_LEN 64
+#define SCRYPT_MIN_KEY_LEN 10
+#define SCRYPT_MAX_KEY_LEN 64
+
 /* The maximum output_len: 32 * (2^32 - 1). */
 #define SCRYPT_MAX_OUTPUT_LEN UINT64_C(137438953440)
 

@@ -11,9 +11,6 @@
 void *clearing_malloc(size_t len);
 void clearing_free(void *block);
 
-/* As in scrypt_key: the minimum words of a table that make interleaving faster. */
-enum { MIN_WORDS = 1 << 14 };
-
 /* Half the number of cores of each chunk in the first proved step, which takes less than 1 ms. */
 enum { FIRST_CORES = 1 << 12 };
 
@@ -80,7 +77,7 @@ int scrypt_derivation_new(const void *password, size_t password_len, const void 
   if (status != SCRYPT_OK && (status != SCRYPT_TOO_COSTLY || max_mem > 0)) return status;
   if (output_len == 0 || output_len > SCRYPT_MAX_OUTPUT_LEN) return SCRYPT_INVALID_OUTPUT_LEN;
   tables = cost.tables < max_interleave() ? cost.tables : max_interleave();
-  if (cost.table_len < MIN_WORDS) tables = 1;
+  if (cost.table_len < MIN_INTERLEAVED_WORDS) tables = 1;
   it = (scrypt_derivation *)clearing_malloc(sizeof *it);
   if (it == NULL) return SCRYPT_OUT_OF_MEMORY;
   *it = (scrypt_derivation){.steps = {.log_n = (uint8_t)log_n, .r = r, .p = p}, .output_len = output_len,

@@ -160,6 +160,8 @@ def proved_calls():
     yield from (f"/* {NOTE}crates/scrypt_c/src: the proved calls, each as PROVED_CALL(name, parameters, arguments)",
                 " * if it returns a status, and else as PROVED_PROCEDURE, which whoever includes this list defines: clearing.c chooses one of",
                 " * each level, calls it, and clears after it. */")
+    words = re.search(r"^const MIN_INTERLEAVED_WORDS: usize = (.*);", read("crates/scrypt_c/src/keys.rt"), re.M)
+    yield f"#define MIN_INTERLEAVED_WORDS ({words[1]}) /* of a table that makes interleaving faster */"
     for kind, name, arguments in proved():
         if name != "scrypt_wipe":
             names = ", ".join(map(header.name_of, arguments))

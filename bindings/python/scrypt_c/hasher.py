@@ -22,6 +22,9 @@ from .arguments import (
 from .declared import (
     ENCODING_INVALID,
     KEY_TOO_SHORT,
+    MAX_KEY_LEN,
+    MAX_SALT_LEN,
+    MIN_KEY_LEN,
     NEEDS_REHASH,
     OK,
     OUT_OF_MEMORY,
@@ -89,11 +92,12 @@ class PasswordHasher:
         timeout: Optional[float] = None,
     ) -> None:
         self._params = Params(*accepted(log_n, r, p), number(key_len, "key_len"))
-        if not 10 <= self._params.key_len <= 64:
-            words = f"the key of a hash must have 10 to 64 bytes: key_len={key_len}"
+        if not MIN_KEY_LEN <= self._params.key_len <= MAX_KEY_LEN:
+            lengths = f"{MIN_KEY_LEN} to {MAX_KEY_LEN} bytes"
+            words = f"the key of a hash must have {lengths}: key_len={key_len}"
             raise InvalidParamsError("SCRYPT_INVALID_PARAMS", words)
         salt_len = number(salt_len, "salt_len")
-        if not 1 <= salt_len <= 64:
+        if not 1 <= salt_len <= MAX_SALT_LEN:
             check(SALT_INVALID, f"salt_len={salt_len}")
         if max_tables is not None and number(max_tables, "max_tables") < 1:
             raise ValueError(f"max_tables must be at least 1: {max_tables}")

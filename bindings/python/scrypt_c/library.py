@@ -69,6 +69,7 @@ def _declared(name: str, library: ctypes.CDLL = _lib) -> Any:
     return call
 
 
+key = _declared("scrypt_key")
 params_cost = _declared("scrypt_params_cost")
 hash_cost = _declared("scrypt_hash_cost")
 default_limits = _declared("scrypt_default_limits")

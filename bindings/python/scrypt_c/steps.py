@@ -11,6 +11,10 @@ from .params import Params, cost_of
 
 STEP_MS = 10
 
+# A key of fewer Salsa20/8 cores, which take about 40 ms, is derived in one call, which is faster
+# than several.
+LONG = 3 << 18
+
 
 def derived(
     password: bytes,
@@ -22,19 +26,25 @@ def derived(
 ) -> bytes:
     """Derives a key in tables of up to `max_mem` bytes, or of the library's default if it is 0. An
     exception of a signal handler or of `progress` ends the derivation, and its memory is freed."""
-    derivation, done = library.Derivation(), ctypes.c_double()
     key = ctypes.create_string_buffer(dklen)
-    try:
-        arguments = password, len(password), salt, len(salt), *params[:3], max_mem, dklen
-        status = library.derivation_new(*arguments, derivation)
-        check(status, f"{cost_of(params)[1]}, and the key {dklen}" if status else "")
-        while done.value < 1:
-            check(library.derivation_run(derivation, STEP_MS, done))
-            if progress is not None:
-                progress(done.value)
-        check(library.derivation_finish(derivation, password, len(password), key, dklen))
-    finally:
-        library.derivation_free(derivation)
+    arguments = password, len(password), salt, len(salt), *params[:3]
+    if progress is None and params.cores < LONG and (max_mem == 0 or params.p == 1):
+        _check(library.key(*arguments, key, dklen), params, dklen)
+    else:
+        derivation, done = library.Derivation(), ctypes.c_double()
+        try:
+            _check(library.derivation_new(*arguments, max_mem, dklen, derivation), params, dklen)
+            while done.value < 1:
+                check(library.derivation_run(derivation, STEP_MS, done))
+                if progress is not None:
+                    progress(done.value)
+            check(library.derivation_finish(derivation, password, len(password), key, dklen))
+        finally:
+            library.derivation_free(derivation)
     made = key.raw
     ctypes.memset(key, 0, dklen)
     return made
+
+
+def _check(status: int, params: Params, dklen: int) -> None:
+    check(status, f"{cost_of(params)[1]}, and the key {dklen}" if status else "")

@@ -206,7 +206,7 @@ impl Hasher {
             scrypt_hasher_hash(self.raw(), password.as_ptr().cast(), password.len(),
                 salt.cast(), salt_len, text.as_mut_ptr().cast(), text.len(), self.timeout_ms())
         };
-        text_by(write, salt_len.max(64))
+        text_by(write, salt_len.max(MAX_SALT_LEN as usize))
     }
 
     /// Writes the key of a password and a salt, with the parameters of new hashes, to `output`.

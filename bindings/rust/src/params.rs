@@ -69,7 +69,7 @@ impl Params {
         len: usize,
     ) -> Result<Params, InvalidParams> {
         let params = Params::new(log_n, r, p)?;
-        if (10..=64).contains(&len) {
+        if (MIN_KEY_LEN as usize..=MAX_KEY_LEN as usize).contains(&len) {
             Ok(Params { len: Some(len), ..params })
         } else {
             Err(InvalidParams)
