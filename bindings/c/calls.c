@@ -89,6 +89,16 @@ int scrypt_hash_with_buffers(INPUTS, TEXT, BUFFERS) {
   END_TEXT;
 }
 
+int scrypt_stored_text(const void *salt, size_t salt_len, const void *key, size_t key_len, uint32_t log_n, uint32_t r,
+                       uint32_t p, int mcf, char *text, size_t capacity) {
+  TAKE_TEXT;
+  TAKE(salt);
+  TAKE(key);
+  status = (mcf ? cleared_scrypt_stored_mcf : cleared_scrypt_stored_phc)(salt, salt_len, key, key_len, in_8_bits(log_n),
+                                                                         r, p, text, capacity, &text_len);
+  END_TEXT;
+}
+
 int scrypt_verify_limited(STORED, size_t max_mem, uint64_t max_work, size_t min_key_len) {
   TAKE(password);
   TAKE(text);

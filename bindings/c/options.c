@@ -78,16 +78,13 @@ size_t width_of_slot(const scrypt_options *options, size_t slots, size_t place) 
   return width < max_interleave() ? width : max_interleave();
 }
 
-/* A $7$ hash, whose salt is dots and whose key is zeros, written into zeros. */
+/* A $7$ hash of new hashes' parameters. */
 void write_decoy(char text[SCRYPT_PHC_CAPACITY], const scrypt_options *with) {
-  static const char LETTERS[] = "./0123456789ABCDEFGHIJKLMNOPQRSTUVWXYZabcdefghijklmnopqrstuvwxyz";
-  size_t key_letters = (8 * with->key_len + 5) / 6, i;
-  memcpy(text, "$7$", 3);
-  text[3] = LETTERS[with->log_n];
-  for (i = 0; i < 5; i++) {
-    text[4 + i] = LETTERS[with->r >> 6 * i & 63];
-    text[9 + i] = LETTERS[with->p >> 6 * i & 63];
-  }
-  memset(text + 14, '.', with->salt_len + 1 + key_letters);
-  text[14 + with->salt_len] = '$';
+  static const uint8_t KEY[SCRYPT_MAX_KEY_LEN];
+  char salt[SCRYPT_MAX_SALT_LEN];
+  int status;
+  memset(salt, '.', sizeof salt);
+  status = scrypt_stored_text(salt, with->salt_len, KEY, with->key_len, with->log_n, with->r, with->p, 1, text,
+                              SCRYPT_PHC_CAPACITY);
+  (void)status; /* no error: these parameters make hashes */
 }

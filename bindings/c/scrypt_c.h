@@ -9,6 +9,7 @@
  *   the lengths of buffers; wiping them              scrypt_buffer_lens; scrypt_wipe          yes
  *   a password hash to store                         scrypt_hash_password                     no
  *   the same with your salt and parameters           scrypt_hash_with_salt; .._with_buffers   yes
+ *   a hash of another program's salt and key         scrypt_stored_text                       yes
  *   to verify a password against a stored hash       scrypt_verify                            yes
  *   the same within your limits; without limits      scrypt_verify_limited; .._unlimited      yes
  *   to verify with no allocation, in your buffers    scrypt_verify_limited_with_buffers       yes
@@ -245,6 +246,18 @@ int scrypt_hash_with_buffers(const void *password, size_t password_len, const vo
                              uint32_t r, uint32_t p, size_t key_len, int mcf, char *text, size_t capacity,
                              uint8_t *chunks, size_t chunks_len, uint32_t *table, size_t table_len, uint32_t *scratch,
                              size_t scratch_len);
+
+/* Writes the hash of a salt and a key that another program has derived with these parameters,
+ * NUL-terminated, to text: a PHC string if mcf is 0, and otherwise a $7$ hash. The text is read as
+ * exactly these parts. For a PHC string the salt has 1 to 64 bytes and the key 10 to 64; a shorter
+ * key is a prefix of a longer one. The salt of a $7$ hash is UTF-8 without a $, and stands in the
+ * text as it is. A capacity of SCRYPT_PHC_CAPACITY + 2 * (salt_len + key_len) is enough. Nothing is
+ * allocated.
+ * SCRYPT_NULL_POINTER, SCRYPT_INVALID_PARAMS, SCRYPT_SALT_INVALID, SCRYPT_INVALID_OUTPUT_LEN for the
+ * length of the key, SCRYPT_BUFFER_SIZE. */
+SCRYPT_NODISCARD
+int scrypt_stored_text(const void *salt, size_t salt_len, const void *key, size_t key_len, uint32_t log_n, uint32_t r,
+                       uint32_t p, int mcf, char *text, size_t capacity);
 
 /* Verifies a password against the text of a hash: returns SCRYPT_OK if the derived key is the key
  * of the hash, and SCRYPT_MISMATCH if it is not, or if the hash has no salt or no key.

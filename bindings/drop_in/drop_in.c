@@ -130,11 +130,6 @@ API int crypto_pwhash_scryptsalsa208sha256(unsigned char *output, unsigned long 
 /* The alphabet of $7$ hashes, in the order of the values. */
 static const char LETTERS[] = "./0123456789ABCDEFGHIJKLMNOPQRSTUVWXYZabcdefghijklmnopqrstuvwxyz";
 
-static void put_letters(char *to, int count, uint32_t number) {
-  int i;
-  for (i = 0; i < count; i++) to[i] = LETTERS[number >> (6 * i) & 63];
-}
-
 /* Whether the text has the length of a hash of .._str, and eleven letters for its parameters. */
 static int has_costs(const char *text) {
   if (strnlen(text, TEXT_LEN + 1) != TEXT_LEN) return 0;
@@ -169,13 +164,11 @@ API int crypto_pwhash_scryptsalsa208sha256_str_verify(const char text[TEXT_LEN +
 /* Whether the parameters of the hash differ from the choice for these limits, even if larger. */
 API int crypto_pwhash_scryptsalsa208sha256_str_needs_rehash(const char text[TEXT_LEN + 1],
                                                             unsigned long long work, size_t memory) {
-  char costs[14] = {'$', '7', '$'};
+  char costs[SCRYPT_PHC_CAPACITY];
   uint8_t log_n;
   uint32_t r, p;
   if (!has_costs(text)) return refused(EINVAL);
   choose(work, memory, &log_n, &r, &p);
-  put_letters(costs + 3, 1, log_n);
-  put_letters(costs + 4, 5, r);
-  put_letters(costs + 9, 5, p);
-  return memcmp(text, costs, sizeof costs) != 0;
+  if (scrypt_stored_text("", 0, "", 1, log_n, r, p, 1, costs, sizeof costs) != SCRYPT_OK) return 1;
+  return strncmp(text, costs, 3 + 11) != 0;
 }

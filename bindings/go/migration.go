@@ -2,14 +2,15 @@
 
 package scrypt
 
+// #include "library.h"
+import "C"
+
 import (
-	"encoding/base64"
 	"encoding/hex"
 	"fmt"
 	"math/bits"
 	"strconv"
 	"strings"
-	"unicode/utf8"
 )
 
 // StoredText returns a hash that Verify reads, from the salt and the key of another program: a PHC
@@ -38,38 +39,23 @@ func storedText(salt, key []byte, N, r, p int) (string, error) {
 	if _, err := params.Memory(); err != nil {
 		return "", fmt.Errorf("%w: N is %d, r is %d and p is %d", err, N, r, p)
 	}
-	if len(salt) >= 1 && len(salt) <= 64 && len(key) >= 10 {
-		if len(key) > 64 {
-			key = key[:64]
-		}
-		letters := base64.RawStdEncoding.EncodeToString
-		costs := fmt.Sprintf("ln=%d,r=%d,p=%d", params.LogN, r, p)
-		return strings.Join([]string{"$scrypt", costs, letters(salt), letters(key)}, "$"), nil
+	text := make([]byte, C.SCRYPT_PHC_CAPACITY+2*(len(salt)+len(key)))
+	store := func(key []byte, mcf C.int) C.int {
+		return C.scrypt_stored_text(pointer(salt), size(salt), pointer(key), size(key), number(params.LogN),
+			number(r), number(p), mcf, chars(text), size(text))
 	}
-	if !utf8.Valid(salt) || strings.Contains(string(salt), "$") {
-		const words = "%w: neither format can store this one of %d bytes"
-		return "", fmt.Errorf(words, ErrSaltInvalid, len(salt))
+	short := key
+	if len(short) > C.SCRYPT_MAX_KEY_LEN {
+		short = short[:C.SCRYPT_MAX_KEY_LEN]
 	}
-	text := "$7$" + mcfDigits(params.LogN, 1) + mcfDigits(r, 5) + mcfDigits(p, 5) + string(salt) + "$"
-	for ; len(key) >= 3; key = key[3:] {
-		text += mcfDigits(int(key[0])|int(key[1])<<8|int(key[2])<<16, 4)
+	status := store(short, 0)
+	if status == C.SCRYPT_SALT_INVALID || status == C.SCRYPT_INVALID_OUTPUT_LEN {
+		status = store(key, 1)
 	}
-	if len(key) == 1 {
-		text += mcfDigits(int(key[0]), 2)
-	} else if len(key) == 2 {
-		text += mcfDigits(int(key[0])|int(key[1])<<8, 3)
+	if err := failed(status); err != nil {
+		return "", fmt.Errorf("%w: neither format can store this one of %d bytes", err, len(salt))
 	}
-	return text, nil
-}
-
-// mcfDigits encodes a number in the alphabet of $7$ hashes, the least significant digit first.
-func mcfDigits(number, count int) string {
-	const letters = "./0123456789ABCDEFGHIJKLMNOPQRSTUVWXYZabcdefghijklmnopqrstuvwxyz"
-	text := make([]byte, count)
-	for i := range text {
-		text[i] = letters[number>>(6*i)&63]
-	}
-	return string(text)
+	return strings.TrimRight(string(text), "\x00"), nil
 }
 
 // FromSimpleScrypt converts a hash of github.com/elithrar/simple-scrypt, N$r$p$salt$key with the

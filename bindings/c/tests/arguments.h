@@ -9,7 +9,7 @@
 #include <string.h>
 
 static __thread struct {
-  const void *password, *salt;
+  const void *password, *salt, *key;
   const char *text;
   const scrypt_login *logins;
   scrypt_hasher *hasher;
@@ -54,6 +54,7 @@ static void take_arguments(const void *password, size_t password_len, const void
   given.salt = salt, given.salt_len = salt_len;
   given.log_n = log_n, given.r = r, given.p = p;
   given.key_len = key_len, given.output_len = key_len, given.min_key_len = key_len;
+  given.key = made.key;
   given.capacity = sizeof made.text, given.len = sizeof made.salt;
   given.max_mem = SIZE_MAX, given.max_work = UINT64_MAX;
   given.timeout_ms = -1;

@@ -111,6 +111,7 @@ static void several_tables_are_used(size_t tables) {
 static int write_hash(int i, char *text, size_t capacity) {
   static uint8_t chunks[128];
   static uint32_t table[32 * 64], scratch[64];
+  if (i >= 4) return scrypt_stored_text("saltsalt", 8, "a key of other parts", 20, 6, 1, 1, i - 4, text, capacity);
   if (i < 2) return scrypt_hash_with_salt(INPUTS, 1, 32, i, text, capacity);
   return scrypt_hash_with_buffers(INPUTS, 1, 32, i - 2, text, capacity, chunks, sizeof chunks, table, 32 * 64, scratch, 64);
 }
@@ -119,7 +120,7 @@ static void capacities(void) {
   char text[SCRYPT_PHC_CAPACITY];
   size_t len;
   int i;
-  for (i = 0; i < 4; i++) {
+  for (i = 0; i < 6; i++) {
     check(write_hash(i, text, sizeof text) == SCRYPT_OK, "a hash");
     len = strlen(text);
     memset(text, '!', sizeof text);

@@ -11,6 +11,9 @@
  * $7$ hash the salt is the letters in its text. */
 static const uint8_t KEY[20] = {0x94, 0x1e, 0xd0, 0x24, 0x78, 0x9a, 0xbd, 0xd7, 0x17, 0x96,
                                 0x66, 0x34, 0x27, 0x71, 0xb1, 0xa0, 0x55, 0xdc, 0x53, 0x3e};
+/* The same of the letters of the salt. */
+static const uint8_t MCF_KEY[20] = {0xa5, 0x52, 0x11, 0xe7, 0xaa, 0xc2, 0x03, 0xff, 0x8c, 0x54,
+                                    0xd2, 0xb7, 0x3a, 0x42, 0x3e, 0xd0, 0xd9, 0x86, 0x31, 0x54};
 static char PHC[] = "$scrypt$ln=4,r=2,p=3$c2FsdHNhbHQ$lB7QJHiavdcXlmY0J3GxoFXcUz4";
 static char MCF[] = "$7$20....1....n34PoBLMgF5$Z8J2bfek1wDXI7xhu6YDEbhVlE3";
 
@@ -87,6 +90,8 @@ static const struct {
     {"scrypt_hash_with_salt, $7$", an_mcf, SCRYPT_OK},
     {"scrypt_hash_with_buffers", a_phc, SCRYPT_OK},
     {"scrypt_hash_with_buffers, $7$", an_mcf, SCRYPT_OK},
+    {"scrypt_stored_text", a_phc, SCRYPT_OK},
+    {"scrypt_stored_text, $7$", an_mcf, SCRYPT_OK},
     {"scrypt_verify", nothing, SCRYPT_OK},
     {"scrypt_verify_limited", nothing, SCRYPT_OK},
     {"scrypt_verify_unlimited", nothing, SCRYPT_OK},
@@ -141,7 +146,7 @@ static void *arguments(void *text) {
   take_arguments(SECRETS, PARAMS, 20, 1);
   take_text((const char *)text, LOGINS, 4);
   given.hasher = scrypt_hasher_new(&options, NULL);
-  given.max_mem = 5376, given.max_work = 1152;
+  given.max_mem = 5376, given.max_work = 1152, given.key = KEY;
   forget();
 #define CALL(name, arguments) check_call(#name, name arguments);
 #include "each_call.h"
@@ -153,6 +158,8 @@ static void *arguments(void *text) {
   check_call("scrypt_hash_with_salt, $7$", scrypt_hash_with_salt(SECRETS, PARAMS, 20, 1, made.text, given.capacity));
   check_call("scrypt_hash_with_buffers, $7$",
              scrypt_hash_with_buffers(SECRETS, PARAMS, 20, 1, made.text, given.capacity, BUFFERS_MADE));
+  check_call("scrypt_stored_text, $7$",
+             scrypt_stored_text("n34PoBLMgF5", 11, MCF_KEY, 20, PARAMS, 1, made.text, given.capacity));
   check_call("scrypt_params_cost, of two tables", scrypt_params_cost(PARAMS, 9984, 1152, made.cost));
   check_call("scrypt_default_limits, of short keys",
              scrypt_default_limits(PARAMS, 10, made.max_mem, made.max_work, made.min_key_len));
@@ -238,6 +245,21 @@ static void hashes(void) {
         SCRYPT_BUFFER_SIZE);
 }
 
+static void stored_texts(void) {
+  static const char SALTS[] = "saltsaltsaltsaltsaltsaltsaltsaltsaltsaltsaltsaltsaltsaltsaltsalt$";
+#define STORED(...) scrypt_stored_text(__VA_ARGS__)
+  meets("stored phc: p, salt, key, text", STORED("", 0, "", 0, 4, 2, 0, 0, NO_ROOM), SCRYPT_INVALID_PARAMS);
+  meets("stored phc: no salt, key, text", STORED("", 0, "", 0, PARAMS, 0, NO_ROOM), SCRYPT_SALT_INVALID);
+  meets("stored phc: a salt of 65 bytes", STORED(SALTS, 65, KEY, 20, PARAMS, 0, TEXT), SCRYPT_SALT_INVALID);
+  meets("stored phc: key, text", STORED(SALTS, 64, KEY, 9, PARAMS, 0, NO_ROOM), SCRYPT_INVALID_OUTPUT_LEN);
+  meets("stored phc: text", STORED("saltsalt", 8, KEY, 20, PARAMS, 0, text, sizeof PHC - 1), SCRYPT_BUFFER_SIZE);
+  meets("stored mcf: p, salt, key, text", STORED("$", 1, "", 0, 4, 2, 0, 1, NO_ROOM), SCRYPT_INVALID_PARAMS);
+  meets("stored mcf: a $, key, text", STORED(SALTS, 65, "", 0, PARAMS, 1, NO_ROOM), SCRYPT_SALT_INVALID);
+  meets("stored mcf: half a letter", STORED("s\xc3lt", 4, KEY, 20, PARAMS, 1, TEXT), SCRYPT_SALT_INVALID);
+  meets("stored mcf: no key, text", STORED("", 0, "", 0, PARAMS, 1, NO_ROOM), SCRYPT_INVALID_OUTPUT_LEN);
+  meets("stored mcf: text", STORED("n34PoBLMgF5", 11, KEY, 20, PARAMS, 1, text, sizeof MCF - 1), SCRYPT_BUFFER_SIZE);
+}
+
 /* Each buffer is too short by one, before a wrong password. */
 static void buffers(void) {
   int i;
@@ -291,6 +313,7 @@ int main(void) {
   keys();
   derivations();
   hashes();
+  stored_texts();
   buffers();
   texts();
   return failed;

@@ -7,34 +7,21 @@ write, that no password matches, or that neither format can store. `n` is N, a p
 from __future__ import annotations
 
 import base64
+import ctypes
 import re
 
+from . import library
 from .arguments import Bytes, number, raw_bytes
-from .params import Params, accepted, params_of
+from .declared import INVALID_OUTPUT_LEN, MAX_KEY_LEN, PHC_CAPACITY, SALT_INVALID
+from .errors import check
+from .params import accepted
 
 # The alphabet of `$7$` hashes, in the order of the values.
 _LETTERS = "./0123456789ABCDEFGHIJKLMNOPQRSTUVWXYZabcdefghijklmnopqrstuvwxyz"
 
 
-def _digits(value: int, count: int) -> str:
-    return "".join(_LETTERS[value >> 6 * place & 63] for place in range(count))
-
-
 def _value(letters: str) -> int:
     return sum(_LETTERS.index(it) << 6 * place for place, it in enumerate(letters))
-
-
-def _phc_text(salt: bytes, key: bytes, log_n: int, r: int, p: int) -> str:
-    letters = [base64.b64encode(it).decode().rstrip("=") for it in (salt, key)]
-    return "$".join([f"$scrypt$ln={log_n},r={r},p={p}", *letters])
-
-
-def _mcf_text(salt: bytes, key: bytes, log_n: int, r: int, p: int) -> str:
-    if b"$" in salt:
-        raise ValueError("the salt of a $7$ hash cannot have a $")
-    parts = [key[at : at + 3] for at in range(0, len(key), 3)]
-    letters = "".join(_digits(int.from_bytes(it, "little"), len(it) + 1) for it in parts)
-    return f"$7${_digits(log_n, 1)}{_digits(r, 5)}{_digits(p, 5)}{salt.decode()}${letters}"
 
 
 def stored_text(salt: Bytes, key: Bytes, n: int, r: int, p: int) -> str:
@@ -55,17 +42,15 @@ def _text(salt: Bytes, key: Bytes, n: int, r: int, p: int, key_len: int = 0) -> 
         raise ValueError(f"the key has {len(key)} bytes, where the program writes {key_len}")
     if n < 1 or n & (n - 1):
         raise ValueError(f"n must be a power of two: {n}")
-    if not key:
-        raise ValueError("there is no key")
     params = accepted(n.bit_length() - 1, r, p)
-    if 1 <= len(salt) <= 64 and len(key) >= 10:
-        key = key[:64]
-        text = _phc_text(salt, key, *params)
-    else:
-        text = _mcf_text(salt, key, *params)
-    if params_of(text) != Params(*params, len(key)):  # such as an r above 2^30 - 1
-        raise ValueError("neither format can store it")
-    return text
+    room = ctypes.create_string_buffer(PHC_CAPACITY + 2 * (len(salt) + len(key)))
+    for mcf, part in (0, key[:MAX_KEY_LEN]), (1, key):
+        parts = salt, len(salt), part, len(part), *params, mcf
+        status = library.stored_text(*parts, room, len(room))
+        if status not in (SALT_INVALID, INVALID_OUTPUT_LEN):
+            break
+    check(status)
+    return room.raw.rstrip(b"\0").decode()
 
 
 def _matched(pattern: str, stored: str, program: str) -> list[str]:
@@ -93,6 +78,8 @@ def from_django(stored: str) -> str:
     pattern = r"scrypt\$(\d+)\$([^$]+)\$(\d+)\$(\d+)\$([^$]*)"
     n, salt, r, p, letters = _matched(pattern, stored, "Django")
     key = base64.b64decode(letters, validate=True)
+    if base64.b64encode(key).decode() != letters:
+        raise ValueError("the last letter of the key encodes more than its bytes")
     return _text(salt.encode(), key, int(n), int(r), int(p), 64)
 
 

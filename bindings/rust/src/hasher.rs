@@ -330,7 +330,7 @@ pub(crate) fn text_by(
     text.try_reserve_exact(capacity).map_err(|_| Error::OutOfMemory)?;
     text.resize(capacity, 0);
     Error::check(write(&mut text))?;
-    text.truncate(text.iter().position(|it| *it == 0).unwrap_or(0));
+    text.truncate(text.iter().rposition(|it| *it != 0).map_or(0, |last| last + 1));
     text.shrink_to_fit();
     String::from_utf8(text).map_err(|_| Error::EncodingInvalid)
 }

@@ -1,11 +1,9 @@
 //! Converts hashes of other programs to hashes that a [`Hasher`](crate::Hasher) verifies, without
 //! the passwords.
 
-use crate::{params_of, Error, Params};
-
-const BASE64: &[u8; 64] = b"ABCDEFGHIJKLMNOPQRSTUVWXYZabcdefghijklmnopqrstuvwxyz0123456789+/";
-// The alphabet of `$7$` hashes.
-const LETTERS: &[u8; 64] = b"./0123456789ABCDEFGHIJKLMNOPQRSTUVWXYZabcdefghijklmnopqrstuvwxyz";
+use crate::calls::{scrypt_stored_text, MAX_KEY_LEN};
+use crate::hasher::text_by;
+use crate::{Error, Params};
 
 /// Returns a hash from a salt and a key: a PHC string if the lengths allow it, otherwise a `$7$`
 /// hash. A PHC string keeps only the first 64 bytes of the key, which are the key of that length.
@@ -13,27 +11,19 @@ const LETTERS: &[u8; 64] = b"./0123456789ABCDEFGHIJKLMNOPQRSTUVWXYZabcdefghijklm
 ///
 /// # Errors
 ///
-/// `InvalidOutputLen` if there is no key, and `SaltInvalid` if neither format can store the salt.
+/// `SaltInvalid` if neither format can store the salt, and `InvalidOutputLen` if there is no key.
 pub fn stored_text(salt: &[u8], key: &[u8], params: &Params) -> Result<String, Error> {
-    if key.is_empty() {
-        return Err(Error::InvalidOutputLen);
+    let (log_n, r, p) = (params.log_n().into(), params.r(), params.p());
+    // SAFETY: each pointer and the length after it are from one slice.
+    #[rustfmt::skip]
+    let store = |key: &[u8], mcf| text_by(|text| unsafe {
+        scrypt_stored_text(salt.as_ptr().cast(), salt.len(), key.as_ptr().cast(), key.len(), log_n, r, p,
+            mcf, text.as_mut_ptr().cast(), text.len())
+    }, salt.len() + key.len());
+    match store(&key[..key.len().min(MAX_KEY_LEN as usize)], 0) {
+        Err(Error::SaltInvalid | Error::InvalidOutputLen) => store(key, 1),
+        made => made,
     }
-    let (log_n, r, p) = (params.log_n(), params.r(), params.p());
-    if (1..=64).contains(&salt.len()) && key.len() >= 10 {
-        let (salt, key) = (to_base64(salt), to_base64(&key[..key.len().min(64)]));
-        return Ok(format!("$scrypt$ln={log_n},r={r},p={p}${salt}${key}"));
-    }
-    let salt = std::str::from_utf8(salt).map_err(|_| Error::SaltInvalid)?;
-    if salt.contains('$') {
-        return Err(Error::SaltInvalid);
-    }
-    let mut text = format!("$7${}{}{}{salt}$", digits(log_n.into(), 1), digits(r, 5), digits(p, 5));
-    for group in key.chunks(3) {
-        let number = group.iter().rev().fold(0, |number, byte| number << 8 | u32::from(*byte));
-        text += &digits(number, group.len() + 1);
-    }
-    params_of(&text)?;
-    Ok(text)
 }
 
 /// Converts `N$r$p$salt$key`, with the last two in hexadecimal: a hash of Go's `simple-scrypt`.
@@ -62,22 +52,6 @@ fn decimal<T: std::str::FromStr>(digits: &str) -> Result<T, Error> {
         return Err(Error::EncodingInvalid);
     }
     digits.parse().map_err(|_| Error::EncodingInvalid)
-}
-
-// The number in the alphabet of `$7$` hashes, the least significant digit first.
-fn digits(number: u32, count: usize) -> String {
-    (0..count).map(|place| char::from(LETTERS[(number >> (6 * place) & 63) as usize])).collect()
-}
-
-// Without padding.
-fn to_base64(bytes: &[u8]) -> String {
-    let mut text = String::new();
-    for group in bytes.chunks(3) {
-        let number =
-            (0..3).fold(0, |number, at| number << 8 | *group.get(at).unwrap_or(&0) as usize);
-        text.extend((0..=group.len()).map(|at| char::from(BASE64[number >> (18 - 6 * at) & 63])));
-    }
-    text
 }
 
 fn from_hex(text: &str) -> Result<Vec<u8>, Error> {

@@ -23,6 +23,8 @@ pub mod McfHashFacts
 pub mod McfTextFacts
 -- Facts on stored hashes of either format: how their texts are read.
 pub mod StoredHashFacts
+-- The texts of salts and keys.
+pub mod TextOfKeyFacts
 -- The errors of hashing, in every format: there is one at a time.
 pub mod HashingFacts
 -- Texts of stored hashes, read by the definitions alone, so that a wrong bound, order or refusal in a definition does not check.

@@ -46,6 +46,8 @@ pub mod McfParams
 pub mod McfHash
 -- stored hashes of either format, by their texts
 pub mod StoredHash
+-- the texts of salts and keys
+pub mod TextOfKey
 -- verifying within limits
 pub mod WithinLimits
 -- verifying several passwords in one workspace

@@ -7,6 +7,6 @@ pub(crate) mod reading;
 mod verifying;
 
 pub use five_letters::{decode64_uint32, encode64_uint32};
-pub use hashing::{hash, hash_len, hash_with_buffers};
+pub use hashing::{hash, hash_len, hash_with_buffers, write_hash_of_key};
 pub use params::decode_params_and_salt;
 pub use password_hash::mcf::{PasswordHash, PasswordHashRef};

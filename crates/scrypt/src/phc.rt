@@ -5,7 +5,7 @@ mod params;
 pub(crate) mod reading;
 mod verifying;
 
-pub use hashing::{hash, hash_with_buffers};
+pub use hashing::{hash, hash_of_key, hash_with_buffers};
 pub use password_hash::phc::{Ident, Output, PasswordHash, Salt};
 
 /// The name of the algorithm in a PHC string.

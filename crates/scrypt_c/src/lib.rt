@@ -10,6 +10,7 @@ pub mod hashes;
 pub mod in_steps;
 pub mod keys;
 pub mod statuses;
+pub mod stored_text;
 mod target;
 mod texts;
 pub mod with_buffers;

@@ -1,13 +1,16 @@
 // Making `$7$` hashes.
 
-ghost use Rattle.std.specs.Prelude.{◌≡◌, ◌↔◌, ◌+◌, ◌<◌, ◌≤◌, ℕ, List, None, length, IfOk, IfErr, take, IsErrOf, IsOk, OnErr, OnOk, IsTrue, IsAscii};
+ghost use Rattle.std.specs.Prelude.{◌≡◌, ◌↔◌, ◌⊎◌, ◌+◌, ◌<◌, ◌≤◌, true, ℕ, List, None, length, IfOk, IfErr, take, IsErrOf, IsOk, OnErr, OnOk, IsTrue, IsAscii};
+ghost use Rattle.std.specs.Str.{IsUtf8};
 ghost use Rattle.password_hash.specs.Crypt64.{crypt64_of, encoded_len};
-ghost use Rattle.password_hash.specs.Mcf.{IsMcf};
-ghost use Rattle.password_hash.specs.declared.error.Error.TheVariants.{OutOfMemory};
+ghost use Rattle.password_hash.specs.Mcf.{IsField, IsMcf};
+ghost use Rattle.password_hash.specs.declared.error.Error.TheVariants.{OutOfMemory, OutputSize, SaltInvalid};
 ghost use Rattle.scrypt.specs.McfParams.{params_text};
 ghost use Rattle.scrypt.specs.Cost.{hash_cost};
 ghost use Rattle.scrypt.specs.Hashing.{key_len_or_default};
-ghost use Rattle.scrypt.specs.McfHash.{HashIsRefused, IsMadeHash, IsMcfOrNone, made_key, made_text_len};
+ghost use Rattle.scrypt.specs.Accepted.{is_output_len};
+ghost use Rattle.scrypt.specs.TextOfKey.{IsTextOfKey, parts_of_key};
+ghost use Rattle.scrypt.specs.McfHash.{HashIsRefused, IsMadeHash, IsMcfOrNone, made_key, made_text_len, mcf_text};
 ghost use Rattle.password_hash.specs.Refusal.{refusal};
 ghost use Rattle.scrypt.specs.InBuffers.{are_enough, IsCopiedTo};
 ghost use Rattle.scrypt.specs.Mixing.{IsReady, IsSpent};
@@ -18,7 +21,7 @@ use crate::buffers::{ActiveBuffers, with_prefix};
 use crate::hashing::{check_call, key_allocating, stored_key};
 use crate::mcf::five_letters::five_letters;
 use crate::mcf::reading::is_mcf;
-use crate::{Backend, CoreCount, Params, Scrypt, Simd};
+use crate::{Backend, CoreCount, Params, Scrypt, Simd, output_len_ok};
 use password_hash::mcf::alphabet::letter;
 use password_hash::mcf::{Base64, PasswordHash};
 use password_hash::phc::Output;
@@ -261,4 +264,55 @@ fn fill_with_hash<W: Backend>(
     encode(salt, letters);
     let key = stored_key::<Buffer<'_>, W>(password, letters, params, used);
     write_text(text, params, salt, &key);
+}
+
+/// Writes the text of the hash of this salt and this key, which any program has derived with these
+/// parameters, to the front of `text`, and returns its length. The salt is that of the derivation,
+/// and stands in the text as it is. The length in `params` is ignored. Does not allocate.
+///
+/// Returns the first of these errors, and then changes nothing: `SaltInvalid` if `salt` has a `$`,
+/// `OutputSize` if the length of `key` is not allowed, and `OutOfMemory` if `text` is too short.
+pub fn write_hash_of_key(
+    params: &Params,
+    salt: &str,
+    key: &[u8],
+    text: &mut [u8],
+) -> Result<usize>
+    ensures read { IfOk result (IsCopiedTo
+        (λ made. IsUtf8 made × IsTextOfKey true params.now salt.now key.now made) text.old text.new) }
+    ensures salt { IsErrOf result SaltInvalid ↔ (¬ IsField salt.now) }
+    ensures key { IsErrOf result OutputSize ↔ (IsField salt.now × ¬ IsTrue (is_output_len (length key.now))) }
+    ensures short { IsErrOf result OutOfMemory → (made : List ℕ)
+        × IsTextOfKey true params.now salt.now key.now made × (length text.old < length made) }
+    ensures err { IfErr result (λ e. (e ≡ SaltInvalid) ⊎ (e ≡ OutputSize) ⊎ (e ≡ OutOfMemory)) }
+    ensures refused { OnErr result (text.new ≡ text.old) }
+{
+    params.expose_invariant();
+    if salt.as_bytes().contains(&b'$') {
+        return Err(Error::SaltInvalid);
+    }
+    if !output_len_ok(key.len()) {
+        return Err(Error::OutputSize);
+    }
+    let around = PARAMS_LEN + 1 + Base64::Crypt.encoded_len(key.len());
+    let len = around.saturating_add(salt.len());
+    if len > text.len() {
+        return Err(Error::OutOfMemory);
+    }
+    write_parts(&mut text[..len], params, salt.as_bytes(), key);
+    Ok(len)
+}
+
+// Writes the text of these parts, which fills `out`.
+fn write_parts(out: &mut [u8], params: &Params, salt: &[u8], key: &[u8])
+    requires { length out.old ≡ 14 + length salt.now + (1 + encoded_len (length key.now)) }
+    ensures { out.new ≡ mcf_text (parts_of_key params.now salt.now key.now) }
+{
+    let (front, rest) = out.split_at_mut(PARAMS_LEN);
+    front.copy_from_slice(&params_letters(params));
+    let (field, rest) = rest.split_at_mut(salt.len());
+    field.copy_from_slice(salt);
+    let (sign, last) = rest.split_at_mut(1);
+    sign.copy_from_slice(b"$");
+    encode(key, last);
 }

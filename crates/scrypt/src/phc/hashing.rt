@@ -1,12 +1,15 @@
 // Making PHC hashes.
 
-ghost use Rattle.std.specs.Prelude.{◌≡◌, ◌↔◌, ◌+◌, ℕ, List, length, None, Some, IfErr, IfOk, IsErrOf, IsOk, OnErr, OnOk, IsTrue};
+ghost use Rattle.std.specs.Prelude.{◌≡◌, ◌↔◌, ◌⊎◌, ◌+◌, ℕ, List, length, None, Some, false, IfErr, IfOk, IsErrOf, IsOk, OnErr, OnOk, IsTrue};
 ghost use Rattle.scrypt.specs.Cost.{hash_cost};
 ghost use Rattle.scrypt.specs.Hashing.{key_len_or_default};
 ghost use Rattle.scrypt.specs.KeyOfParams.{key_by};
 ghost use Rattle.scrypt.specs.PhcHash.{HashIsRefused, IsMadeHash, IsScryptOrNone, IsSaltLen};
+ghost use Rattle.scrypt.specs.Accepted.{is_stored_len};
+ghost use Rattle.scrypt.specs.TextOfKey.{IsTextOfKey, phc_hash};
+ghost use Rattle.password_hash.specs.Phc.{hash_text};
 ghost use Rattle.password_hash.specs.Refusal.{refusal};
-ghost use Rattle.password_hash.specs.declared.error.Error.TheVariants.{OutOfMemory, SaltInvalid};
+ghost use Rattle.password_hash.specs.declared.error.Error.TheVariants.{OutOfMemory, OutputSize, SaltInvalid};
 ghost use Rattle.scrypt.specs.Workspace.{IsDone, are_enough, workspace_of};
 
 use crate::buffers::{ActiveBuffers, with_prefix};
@@ -91,6 +94,7 @@ pub fn hash<W: Backend>(
 fn hash_of(params: &Params, salt: Salt, key: Output) -> PasswordHash
     ensures made { (password : List ℕ) → key ≡ key_by params.now password salt (key_len_or_default params.now)
         → IsMadeHash params.now password salt result }
+    ensures parts { result ≡ phc_hash params.now salt key }
 {
     PasswordHash {
         algorithm: ALG_ID,
@@ -99,6 +103,29 @@ fn hash_of(params: &Params, salt: Salt, key: Output) -> PasswordHash
         salt: Some(salt),
         hash: Some(key),
     }
+}
+
+/// Returns the hash of this salt and this key, which any program has derived with these parameters.
+/// The length in `params` is ignored.
+///
+/// Returns `SaltInvalid` if `salt` does not have 1 to 64 bytes, and otherwise `OutputSize` if `key`
+/// does not have 10 to 64.
+#[tactic(auto, using(std::proofs::lemmas::Bool::Decides::nat_tests), unfolding(crate::specs::Accepted::is_stored_len))]
+pub fn hash_of_key(params: &Params, salt: &[u8], key: &[u8]) -> Result<PasswordHash>
+    ensures read { IfOk result (λ hash. IsTextOfKey false params.now salt.now key.now (hash_text hash)) }
+    ensures salt { IsErrOf result SaltInvalid ↔ (¬ IsSaltLen (length salt.now)) }
+    ensures key { IsErrOf result OutputSize
+        ↔ (IsSaltLen (length salt.now) × ¬ IsTrue (is_stored_len (Some (length key.now)))) }
+    ensures err { IfErr result (λ e. (e ≡ SaltInvalid) ⊎ (e ≡ OutputSize)) }
+{
+    params.expose_invariant();
+    let Ok(salt) = Salt::new(salt) else {
+        return Err(Error::SaltInvalid);
+    };
+    let Ok(key) = Output::new(key) else {
+        return Err(Error::OutputSize);
+    };
+    Ok(hash_of(params, salt, key))
 }
 
 /// Hashes `password` as `Scrypt::hash_password_with_params` does, in the caller's buffers. Does not

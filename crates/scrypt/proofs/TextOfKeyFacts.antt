@@ -1,0 +1,92 @@
+use Rattle.std.proofs.Common.{◌≡◌, ℕ, ◌+◌, ◌<◌, ◌≤◌, List, ◌∷◌, ◌++◌, length, Ok, true, false, refl, arith, lit<, lit≤, length-append, All, codes, IsTrue}
+use Rattle.std.proofs.lemmas.Str.{IsUtf8-append, IsUtf8-from_ascii}
+use Rattle.std.proofs.lemmas.Str.Ascii.{IsAscii-from_all}
+use Rattle.std.proofs.lemmas.List.Elements.{All-cons, All-append, All-from_recursion, All-weaker}
+use Rattle.std.specs.Str.{IsUtf8}
+use Rattle.password_hash.specs.Crypt64.{crypt64_of, encoded_len, letter, letters_of}
+use Rattle.password_hash.specs.Mcf.{IsField}
+use Rattle.password_hash.specs.Parts.{dollar}
+use Rattle.password_hash.specs.Phc.{IsHashText, IsKey, IsSalt, hash_text}
+use Rattle.password_hash.proofs.Crypt64Facts.{IsPlain, crypt64_of-plain, length-letters_of, letter-ascii, letters_of-plain}
+use Rattle.password_hash.proofs.GroupFacts.{length-crypt64_of}
+use Rattle.password_hash.proofs.PhcReadingFacts.{hash_is_read}
+use Rattle.scrypt.specs.Accepted.{Parameters, are_accepted, is_output_len}
+use Rattle.scrypt.specs.McfHash.{mcf_text}
+use Rattle.scrypt.specs.McfParams.{params_letters, params_text}
+use Rattle.scrypt.specs.PhcHash.{phc_params, read_phc}
+use Rattle.scrypt.specs.StoredHash.{formatted, reading}
+use Rattle.scrypt.specs.TextOfKey.{IsTextOfKey, parts_of_key, phc_hash}
+use Rattle.scrypt.proofs.AcceptedFacts.{small_params}
+use Rattle.scrypt.proofs.McfHashFacts.{is_mcf}
+use Rattle.scrypt.proofs.McfTextFacts.{text_read}
+use Rattle.scrypt.proofs.PhcFacts.{three_pairs, written_read}
+use Rattle.scrypt.proofs.StoredHashFacts.{made_mcf, mcf_is_seven, scrypt_is_phc}
+
+-- a PHC string
+
+has_text : (c : Parameters) (salt key : List ℕ) → IsTrue (are_accepted c.log_n c.r c.p) → IsSalt salt → IsKey key
+    → IsHashText (hash_text (phc_hash c salt key)) (phc_hash c salt key)
+has_text c salt key fits salted keyed =
+    let small = small_params c.log_n c.r c.p fits in
+    record {
+      whole = refl;
+      algorithm = record { some = lit≤ tt; short = lit≤ tt; letters = refl };
+      version = tt;
+      params = three_pairs c.log_n c.r c.p (omega (arith, small.0)) (omega (arith, small.1)) (omega (arith, small.2));
+      salt = salted;
+      key = keyed;
+      key_after_salt = refl;
+    }
+
+is_read : (c : Parameters) (salt key : List ℕ) → IsTrue (are_accepted c.log_n c.r c.p)
+    → read_phc (phc_hash c salt key) ≡ Ok (parts_of_key c salt key)
+unfolding phc_params
+is_read c salt key fits = rw (written_read c fits) refl
+
+pub phc_of_key : (c : Parameters) (salt key : List ℕ) → IsTrue (are_accepted c.log_n c.r c.p) → IsSalt salt → IsKey key
+    → IsTextOfKey false c salt key (hash_text (phc_hash c salt key))
+unfolding reading formatted
+phc_of_key c salt key fits salted keyed =
+    let is = has_text c salt key fits salted keyed in
+    let form = scrypt_is_phc is refl in
+    (form, rw (form, hash_is_read (hash_text (phc_hash c salt key)) (phc_hash c salt key) is) (is_read c salt key fits))
+
+-- a `$7$` hash
+
+pub mcf_of_key : (c : Parameters) (salt key : List ℕ) → IsTrue (are_accepted c.log_n c.r c.p) → IsField salt
+    → All (λ byte. byte < 256) key → IsTrue (is_output_len (length key)) → IsTextOfKey true c salt key (mcf_text (parts_of_key c salt key))
+mcf_of_key c salt key fits field bytes len =
+    let s = parts_of_key c salt key in
+    let read = text_read (mcf_text s) s (record { whole = refl; params = fits; no_len = refl; salt = field; key = bytes; key_len = len }) in
+    (mcf_is_seven (is_mcf read).1, made_mcf (mcf_text s) read)
+
+pub length-mcf_of_key : (c : Parameters) (salt key : List ℕ)
+    → length (mcf_text (parts_of_key c salt key)) ≡ 14 + length salt + (1 + encoded_len (length key))
+length-mcf_of_key c salt key =
+    omega (
+      arith,
+      length-append (letters_of 5 c.r) (letters_of 5 c.p),
+      length-letters_of 5 c.r,
+      length-letters_of 5 c.p,
+      length-append (params_text c) (salt ++ dollar ∷ crypt64_of key),
+      length-append salt (dollar ∷ crypt64_of key),
+      length-crypt64_of key,
+    )
+
+pub mcf_of_key_is_utf8 : (c : Parameters) (salt key : List ℕ) → IsTrue (are_accepted c.log_n c.r c.p) → IsUtf8 salt
+    → IsUtf8 (mcf_text (parts_of_key c salt key))
+mcf_of_key_is_utf8 c salt key good is =
+    let ascii : ℕ → Type 0 = λ byte. byte < 128 in
+    let plain = λ (letters : List ℕ) (each : All IsPlain letters). All-weaker IsPlain ascii (λ byte is. is.0) letters each in
+    let small : c.log_n ≤ 56 = (small_params c.log_n c.r c.p good).0 in
+    let front : All ascii (codes "$7$") = All-from_recursion ascii (codes "$7$") (lit< tt, (lit< tt, (lit< tt, tt))) in
+    let letters = params_letters c.log_n c.r c.p in
+    let each : All IsPlain letters = All-cons IsPlain (letter c.log_n) (letters_of 5 c.r ++ letters_of 5 c.p)
+    (letter-ascii c.log_n (omega arith))
+    (All-append IsPlain (letters_of 5 c.r) (letters_of 5 c.p) (letters_of-plain 5 c.r) (letters_of-plain 5 c.p)) in
+    let last = dollar ∷ crypt64_of key in
+    let first = IsUtf8-from_ascii (params_text c)
+    (IsAscii-from_all (params_text c) (All-append ascii (codes "$7$") letters front (plain letters each))) in
+    let end = IsUtf8-from_ascii last
+    (IsAscii-from_all last (All-cons ascii dollar (crypt64_of key) (lit< tt) (plain (crypt64_of key) (crypt64_of-plain key)))) in
+    IsUtf8-append (params_text c) (salt ++ last) first (IsUtf8-append salt last is end)
