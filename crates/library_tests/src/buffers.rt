@@ -41,12 +41,7 @@ struct End {
     is_half: bool,
 }
 
-fn in_steps(
-    alloc: Global,
-    is_method: bool,
-    until: u128,
-    key: &mut [u8; 64],
-) -> Result<End, Fail> {
+fn in_steps(alloc: Global, is_method: bool, until: u128, key: &mut [u8; 64]) -> Result<End, Fail> {
     let params = Params::new(4, 1, 1)?;
     let mut own = Buffers::allocate(alloc, &BufferLens::of(&params))?;
     let mut seen = 0u128;

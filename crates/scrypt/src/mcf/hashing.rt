@@ -272,12 +272,7 @@ fn fill_with_hash<W: Backend>(
 ///
 /// Returns the first of these errors, and then changes nothing: `SaltInvalid` if `salt` has a `$`,
 /// `OutputSize` if the length of `key` is not allowed, and `OutOfMemory` if `text` is too short.
-pub fn write_hash_of_key(
-    params: &Params,
-    salt: &str,
-    key: &[u8],
-    text: &mut [u8],
-) -> Result<usize>
+pub fn write_hash_of_key(params: &Params, salt: &str, key: &[u8], text: &mut [u8]) -> Result<usize>
     ensures read { IfOk result (IsCopiedTo
         (λ made. IsUtf8 made × IsTextOfKey true params.now salt.now key.now made) text.old text.new) }
     ensures salt { IsErrOf result SaltInvalid ↔ (¬ IsField salt.now) }
