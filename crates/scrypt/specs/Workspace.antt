@@ -24,8 +24,8 @@ workspace_of chunks table scratch cores =
 abbrev pub buffers : List ℕ → List ℕ → List ℕ → Workspace
 buffers chunks table scratch = workspace_of chunks table scratch (record { seal = tt; all = 0; lanes = 0; compressions = 0 })
 
--- the property holds for these buffers with some count: the call discards its own count, so nothing
--- is stated about the cores that it runs
+-- the property holds for these buffers and some final count: callers that pass no counter learn
+-- nothing about the work
 abbrev pub LeftIn : (Workspace → Type 0) → List ℕ → List ℕ → List ℕ → Type 0
 LeftIn IsLeft chunks table scratch = (w : Workspace) × IsLeft (workspace_of chunks table scratch w.cores)
 

@@ -13,7 +13,7 @@ pub trait Backend {
     // the maximum number of interleaved chunks
     ghost most: { ℕ };
 
-    // whether one chunk, and two one after the other, are mixed by scalar code
+    // whether groups of one or two chunks are mixed by scalar code, two then one after the other
     ghost scalar: { Bool };
 
     /// Returns the maximum number of interleaved chunks, from one to four.

@@ -12,8 +12,8 @@ use crate::errors::LimitedError;
 use crate::{BufferLens, Limits, Params};
 
 impl<'a> StoredHash<'a> {
-    /// Returns this hash if no call on it needs more memory or work than `limits` allow and its key
-    /// is long enough. Does not allocate.
+    /// Checks the hash against `limits`, and returns it if verifying it stays within them. Does not
+    /// allocate.
     ///
     /// Returns the first of these errors: the errors of [`StoredHash::verify`] for a hash that
     /// cannot be read, including `PasswordInvalid` if it has no salt or no key; `TooCostly` if its
