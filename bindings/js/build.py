@@ -28,7 +28,7 @@ MODULE = TOP / "bindings/js/scrypt.wasm"
 CALLS = set("""
 scrypt_hash_mcf_with_buffers scrypt_hash_cost scrypt_hash_params scrypt_hash_phc_with_buffers scrypt_kdf_with_buffers
 scrypt_key_begin scrypt_key_finish scrypt_key_step scrypt_default_limits scrypt_needs_rehash scrypt_params_cost
-scrypt_verify_begin scrypt_verify_finish scrypt_verify_limited_with_buffers
+scrypt_stored_mcf scrypt_stored_phc scrypt_verify_begin scrypt_verify_finish scrypt_verify_limited_with_buffers
 """.split())
 
 # The kit compiles for the oldest processor of this target, which has no vectors. Every engine has

@@ -1,8 +1,9 @@
 // The proved calls, in memory that is wiped after each of them.
 import {
   NO_LIMIT, attempt, bytesOf, copyOf, isNone, lengthOf, limit, optionsOf, parameters, withDefaults,
+  wrong,
 } from './arguments.js';
-import { SALT_LEN } from './declared.js';
+import { MAX_KEY_LEN, SALT_LEN } from './declared.js';
 import { ScryptError, errorFor, errorOfHash } from './errors.js';
 import { host } from './host.js';
 import { Instance, places } from './instance.js';
@@ -117,6 +118,26 @@ export class Scrypt {
       instance.call('scrypt_hash_params', slice, ...places(read));
       const [logN, r, p, dkLen] = read.map((word) => instance.number(word));
       return { N: 2 ** logN, r, p, dkLen };
+    });
+  }
+
+  storedText(salt, key, given) {
+    const options = optionsOf(given, 'stored');
+    const params = parameters(options);
+    const { N } = options;
+    if (N < 64) wrong(`N of ${N} may be its logarithm: ${2 ** N} is N = 2 ** ${N}`, 'INVALID_PARAMS');
+    return this.#run({ salt, key }, (it, ...slices) => {
+      const text = it.take(TEXT_CAPACITY + 2 * (slices[0].length + slices[1].length));
+      const [textLen] = it.words(1);
+      const places = [...params, text, textLen.at];
+      const [saltSlice, { at, length }] = slices;
+      try {
+        it.call('scrypt_stored_phc', saltSlice, { at, length: Math.min(length, MAX_KEY_LEN) }, ...places);
+      } catch (error) {
+        if (!['SALT_INVALID', 'INVALID_OUTPUT_LEN'].includes(error.code)) throw error;
+        it.call('scrypt_stored_mcf', ...slices, ...places);
+      }
+      return new TextDecoder().decode(it.view(text).subarray(0, it.number(textLen)));
     });
   }
 

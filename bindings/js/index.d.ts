@@ -186,7 +186,7 @@ export function params(text: Bytes): Promise<ReadParams>;
  */
 export function storedText(
   salt: Bytes, key: Bytes, options: { N: number; r: number; p: number },
-): string;
+): Promise<string>;
 /**
  * Sets the maximum number of workers, and of calls that wait for one. Defaults: one worker for each
  * processor, up to four and, in Node, up to the number that fits into 7/8 of the memory of the
@@ -213,6 +213,7 @@ export interface Scrypt {
     password: Bytes, text: Bytes | null | undefined, options?: VerifyOptions & StepOptions,
   ): Promise<boolean>;
   needsRehash(text: Bytes, options?: PartialParams): boolean;
+  storedText(salt: Bytes, key: Bytes, options: { N: number; r: number; p: number }): string;
   params(text: Bytes): ReadParams;
   /**
    * The number of bytes of memory of the module, all zero between calls, except for less than 1 KiB

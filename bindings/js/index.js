@@ -3,10 +3,9 @@ import { attempt, copiesOf, isNone, optionsOf } from './arguments.js';
 import { Scrypt } from './core.js';
 import { RefusedHashError, ScryptError } from './errors.js';
 import { compile, isSupported, load } from './load.js';
-import { storedText } from './stored.js';
 import { call, configure } from './workers.js';
 
-export { RefusedHashError, ScryptError, configure, isSupported, load, storedText };
+export { RefusedHashError, ScryptError, configure, isSupported, load };
 
 // Separates the options for this thread from the options for the worker.
 const parted = ({ onProgress, signal, timeout, ...options }) =>
@@ -52,6 +51,17 @@ async function reading(name, text, ...options) {
   } finally {
     copy.fill(0);
     if (reader.scrypt?.memory > MAX_KEPT) reader = {};
+  }
+}
+
+/** Makes a hash for `verify` from a salt and a key of another program. */
+export async function storedText(salt, key, given) {
+  const options = optionsOf(given, 'stored');
+  const copies = copiesOf({ salt, key });
+  try {
+    return (await read()).storedText(...copies, options);
+  } finally {
+    for (const copy of copies) copy.fill(0);
   }
 }
 

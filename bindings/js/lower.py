@@ -30,7 +30,7 @@ def simd(*codes):
 COPY, FILL = bulk(10), bulk(11)
 LANES = simd(*range(84, 88))
 ACCESSES = {
-    **dict.fromkeys([0x28, 0x29, *range(0x2C, 0x36), *simd(0, 92, 93)], ()),
+    **dict.fromkeys([0x28, 0x29, *range(0x2C, 0x36), *simd(*range(11), 92, 93)], ()),
     **dict.fromkeys([0x36, 0x3A, 0x3B], (I32,)),
     **dict.fromkeys([0x37, 0x3C, 0x3D, 0x3E], (I64,)),
     **dict.fromkeys([*simd(11), *LANES], (V128,)),

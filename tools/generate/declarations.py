@@ -105,7 +105,7 @@ def javascript():
             sys.exit(f"crates/scrypt_c/src/statuses.rt: {name} is {number}, and {STATUSES.get(name)} in the header")
     yield f"// {NOTE}bindings/c: the recommended parameters, the statuses and their words. DO NOT EDIT."
     yield from (f"export const {name} = {NUMBERS[name]};" for name in
-                ("RECOMMENDED_LOG_N", "RECOMMENDED_R", "RECOMMENDED_P", "SALT_LEN", "KEY_LEN"))
+                ("RECOMMENDED_LOG_N", "RECOMMENDED_R", "RECOMMENDED_P", "SALT_LEN", "KEY_LEN", "MAX_KEY_LEN"))
     yield from ("", *(f"export const {name} = {number};" for name, number in proved.items()))
     yield from ("", "/** The name and the words of each status. */", "export const WORDS = new Map([")
     words = header.words_of(read("bindings/c/status.c"))

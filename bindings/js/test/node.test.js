@@ -1,6 +1,6 @@
 // Runs the checks with KEYS random keys of node:crypto, which is OpenSSL's, and writes these for
 // in_browser.py.
-import { deepStrictEqual, throws } from 'node:assert';
+import { deepStrictEqual, rejects } from 'node:assert';
 import { spawnSync } from 'node:child_process';
 import { randomBytes, randomInt, scryptSync } from 'node:crypto';
 import { readFileSync, writeFileSync } from 'node:fs';
@@ -26,13 +26,13 @@ const cases = { keys, lines: read('bindings/cases.tsv') };
 writeFileSync(at('build/wasm/cases.json'), JSON.stringify(cases));
 for (const [name, check] of Object.entries(checks(cases))) test(name, check);
 
-test('the texts of bindings/stored.tsv', () => {
+test('the texts of bindings/stored.tsv', async () => {
   for (const line of read('bindings/stored.tsv').trimEnd().split('\n').slice(1)) {
     const [salt, key, N, r, p, wanted] = line.split('\t');
     const bytes = [salt, key].map((it) => Buffer.from(it, 'hex'));
     const stored = () => storedText(...bytes, { N: Number(N), r: Number(r), p: Number(p) });
-    if (wanted) deepStrictEqual(stored(), wanted);
-    else throws(stored, ScryptError, line);
+    if (wanted) deepStrictEqual(await stored(), wanted);
+    else await rejects(stored, ScryptError, line);
   }
 });
 

@@ -17,7 +17,7 @@ KINDS = [
     (b"", b"", "29:8 30:1 31:1 32:2 33:2 34:4 35:4", "37:8 3c:1 3d:2 3e:4"),
     (I32, b"\xad", "28:4 2c:1 2d:1 2e:2 2f:2", "36:4 3a:1 3b:2"),  # i64.extend_i32_u
     # i64x2.splat; both lanes: the second one, rotated, xored to the first
-    (b"\xfd\x12", b"\x22\x03\xfd\x1d\x00\x20\x03\xfd\x1d\x01\x42\x01\x89\x85", "fd00:16 fd5c:4 fd5d:8", "fd0b:16"),
+    (b"\xfd\x12", b"\x22\x03\xfd\x1d\x00\x20\x03\xfd\x1d\x01\x42\x01\x89\x85", "fd00:16 fd01:8 fd02:8 fd03:8 fd04:8 fd05:8 fd06:8 fd07:1 fd08:2 fd09:4 fd0a:8 fd5c:4 fd5d:8", "fd0b:16"),
 ]
 LANES = "fd54:1:15 fd55:2:7 fd56:4:3 fd57:8:1"  # and the last lane
 ADDRESS, VALUE, LENGTH, NONE = b"\x20\x00", b"\x20\x01", b"\x20\x02", b"\x42\x00"

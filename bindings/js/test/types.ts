@@ -13,7 +13,7 @@ export async function calls(password: Bytes): Promise<unknown> {
   configure({ maxWorkers: 1, maxQueue: Infinity });
   const own: Scrypt = await load(new URL('./scrypt.wasm', 'https://example.org/'));
   await own.scryptAsync('', '', { N: 2, r: 8, p: 1, signal, onProgress: (fraction) => fraction.toFixed() });
-  const { N, r, p, dkLen } = own.params(storedText('salt', key, { N: 64, r: 8, p: 1 }));
+  const { N, r, p, dkLen } = own.params(await storedText('salt', key, { N: 64, r: 8, p: 1 }));
   const same: typeof own.params extends (text: Bytes) => infer R ? R : never = await params(text);
   const needs: boolean = own.needsRehash(text) && (await needsRehash(text, { N, r, p, dkLen }));
   try {
