@@ -125,14 +125,16 @@ export class Scrypt {
     const options = optionsOf(given, 'stored');
     const params = parameters(options);
     const { N } = options;
-    if (N < 64) wrong(`N of ${N} may be its logarithm: ${2 ** N} is N = 2 ** ${N}`, 'INVALID_PARAMS');
+    const hint = `N of ${N} may be its logarithm: ${2 ** N} is N = 2 ** ${N}`;
+    if (N < 64) wrong(hint, 'INVALID_PARAMS');
     return this.#run({ salt, key }, (it, ...slices) => {
       const text = it.take(TEXT_CAPACITY + 2 * (slices[0].length + slices[1].length));
       const [textLen] = it.words(1);
       const places = [...params, text, textLen.at];
       const [saltSlice, { at, length }] = slices;
       try {
-        it.call('scrypt_stored_phc', saltSlice, { at, length: Math.min(length, MAX_KEY_LEN) }, ...places);
+        const prefix = { at, length: Math.min(length, MAX_KEY_LEN) };
+        it.call('scrypt_stored_phc', saltSlice, prefix, ...places);
       } catch (error) {
         if (!['SALT_INVALID', 'INVALID_OUTPUT_LEN'].includes(error.code)) throw error;
         it.call('scrypt_stored_mcf', ...slices, ...places);
