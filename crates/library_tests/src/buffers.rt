@@ -11,20 +11,11 @@ use std::test::Fail;
 
 #[test]
 fn keys_in_used_buffers() -> Result<(), Fail> {
-    let (params, mut cores) = (Params::new(4, 1, 1)?, CoreCount::new());
-    let (mut chunks, mut table, mut scratch) = ([0xff; 128], [u32::MAX; 512], [u32::MAX; 64]);
+    let (params, cores) = (Params::new(4, 1, 1)?, &mut CoreCount::new());
+    let (mut b, mut v, mut t) = ([0xff; 128], [u32::MAX; 512], [u32::MAX; 64]);
     for _ in 0..2 {
         let mut key = [0; 64];
-        scrypt_with_buffers(
-            b"",
-            b"",
-            &params,
-            &mut chunks,
-            &mut table,
-            &mut scratch,
-            &mut key,
-            &mut cores,
-        )?;
+        scrypt_with_buffers(b"", b"", &params, &mut b, &mut v, &mut t, &mut key, cores)?;
         holds(key == FIRST, "both times")?;
     }
     Ok(())
@@ -52,11 +43,9 @@ fn in_steps(alloc: Global, is_method: bool, until: u128, key: &mut [u8; 64]) -> 
     let result = if is_method {
         own.derive_key_in_steps(b"", b"", &params, 5, go_on, key)
     } else {
-        let (chunks, table, scratch) = (&mut own.chunks, &mut own.table, &mut own.scratch);
+        let (b, v, t) = (&mut own.chunks, &mut own.table, &mut own.scratch);
         let cores = &mut CoreCount::new();
-        scrypt_in_steps::<Simd, _>(
-            b"", b"", &params, 5, go_on, chunks, table, scratch, key, cores,
-        )
+        scrypt_in_steps::<Simd, _>(b"", b"", &params, 5, go_on, b, v, t, key, cores)
     };
     let is_half = own.table.last() != Some(&0);
     Ok(End {
@@ -72,26 +61,20 @@ fn keys_in_steps(rt: HostRuntime) -> Result<(), Fail> {
         let mut key = [0; 64];
         let whole = in_steps(rt.alloc(), is_method, 65, &mut key)?;
         holds(whole.result.is_ok() && key == FIRST, "the whole key")?;
-        holds(
-            whole.seen == 10_20_30_40_50_60_64,
-            "after each of seven steps",
-        )?;
+        let is_so = whole.seen == 10_20_30_40_50_60_64;
+        holds(is_so, "after each of seven steps")?;
         let cancelled = in_steps(rt.alloc(), is_method, 20, &mut key)?;
-        holds(
-            cancelled.result == Err(StepsError::Cancelled) && key == FIRST,
-            "cancelled, with the output unchanged",
-        )?;
-        holds(
-            cancelled.seen == 10_20 && !cancelled.is_half,
-            "at once, after the second step",
-        )?;
+        let is_so = cancelled.result == Err(StepsError::Cancelled) && key == FIRST;
+        holds(is_so, "cancelled, with the output unchanged")?;
+        let is_so = cancelled.seen == 10_20 && !cancelled.is_half;
+        holds(is_so, "at once, after the second step")?;
     }
     Ok(())
 }
 
 #[test]
 fn an_empty_key_by_a_thin_table() -> Result<(), Fail> {
-    let (params, mut cores) = (Params::new(4, 1, 1)?, CoreCount::new());
+    let (params, cores) = (Params::new(4, 1, 1)?, &mut CoreCount::new());
     let lens = BufferLens {
         chunks: 128,
         table: 32,
@@ -99,21 +82,9 @@ fn an_empty_key_by_a_thin_table() -> Result<(), Fail> {
     };
     holds(BufferLens::thin(&params, 4) == Some(lens), "one row")?;
     holds(BufferLens::thin(&params, 5).is_none(), "s is above log_n")?;
-    let (mut chunks, mut table, mut scratch) = ([0xff; 128], [7; 32], [7; 96]);
-    let refused = scrypt_thin(
-        b"",
-        b"",
-        &params,
-        4,
-        &mut chunks,
-        &mut table,
-        &mut scratch,
-        &mut [],
-        &mut cores,
-    );
+    let (mut b, mut v, mut t) = ([0xff; 128], [7; 32], [7; 96]);
+    let refused = scrypt_thin(b"", b"", &params, 4, &mut b, &mut v, &mut t, &mut [], cores);
     holds(refused == Err(InvalidOutputLen), "which is refused")?;
-    holds(
-        chunks == [0xff; 128] && table == [7; 32] && scratch == [7; 96],
-        "and changes no buffer",
-    )
+    let is_same = b == [0xff; 128] && v == [7; 32] && t == [7; 96];
+    holds(is_same, "and changes no buffer")
 }

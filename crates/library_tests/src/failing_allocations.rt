@@ -1,5 +1,6 @@
 // Runs calls whose allocations fail, one after another.
 
+use crate::holds;
 use std::alloc::{AllocError, Global};
 use std::test::Fail;
 
@@ -12,6 +13,15 @@ pub enum CallEnd {
     Done,
     OutOfMemory,
     Otherwise,
+}
+
+// The end of a call that returned this.
+pub fn ended<T, E: PartialEq + Drop>(answer: &Result<T, E>, out_of_memory: E) -> CallEnd {
+    match answer {
+        Ok(_) => CallEnd::Done,
+        Err(refused) if *refused == out_of_memory => CallEnd::OutOfMemory,
+        Err(_) => CallEnd::Otherwise,
+    }
 }
 
 // One block of each size, the last size first.
@@ -65,4 +75,12 @@ pub fn failing_allocations<F: Fn() -> CallEnd>(
         }
     }
     Err("more allocations than sizes".into())
+}
+
+// Fails unless a call needs all allocations of these sizes.
+pub fn check<F: Fn() -> CallEnd>(alloc: Global, sizes: &[usize], call: F) -> Result<(), Fail>
+    requires callable { F.IsAlwaysCallable call }
+{
+    let needed = failing_allocations(alloc, sizes, call)?;
+    holds(needed == sizes.len(), "fewer allocations than sizes")
 }

@@ -1,21 +1,13 @@
 // Each allocation of a call is made to fail, one per run, and the exact number of them is asserted.
 
-use crate::failing_allocations::{CallEnd, failing_allocations};
+use crate::derivation_allocations::{OF_FOUR, OF_ONE};
+use crate::failing_allocations::{CallEnd, check, ended, failing_allocations};
 use crate::{holds, is};
 use password_hash::mcf::{self, Base64};
 use password_hash::{Error, PasswordHasher, PasswordVerifier, phc};
 use scrypt::{Params, Scrypt, StoredHash, hash_text};
 use std::alloc::Global;
 use std::test::Fail;
-
-// The end of a call that returned this.
-fn ended<T, E: PartialEq + Drop>(answer: &Result<T, E>, out_of_memory: E) -> CallEnd {
-    match answer {
-        Ok(_) => CallEnd::Done,
-        Err(refused) if *refused == out_of_memory => CallEnd::OutOfMemory,
-        Err(_) => CallEnd::Otherwise,
-    }
-}
 
 // The calls that derive a key.
 #[derive(Clone, Copy)]
@@ -34,83 +26,17 @@ const LONG: [u8; 73] = [b'x'; 73];
 // A call that derives a key, p, the key's length, the sizes of its allocations at (4, 1, p), and
 // the reason for the row. The last three are the chunks, the table and the scratch.
 static DERIVING: [(Deriving, u32, usize, &[usize], &str); 11] = [
-    (
-        Deriving::HashPhc,
-        1,
-        32,
-        &[128, 2048, 256],
-        "a PHC hash has its key in place",
-    ),
-    (
-        Deriving::VerifyPhc,
-        1,
-        32,
-        &[128, 2048, 256],
-        "a PHC hash is read in place",
-    ),
-    (
-        Deriving::HashMcf,
-        1,
-        32,
-        &[58, 128, 2048, 256],
-        "the whole text comes first",
-    ),
-    (
-        Deriving::HashMcf,
-        1,
-        64,
-        &[101, 128, 2048, 256],
-        "the text of a longer key, and nothing after the derivation",
-    ),
-    (
-        Deriving::VerifyMcf,
-        1,
-        32,
-        &[128, 2048, 256],
-        "the key is compared with its letters in the text",
-    ),
-    (
-        Deriving::HashText,
-        1,
-        32,
-        &[128, 2048, 256],
-        "the text has the memory of the derivation, for a long password too",
-    ),
-    (
-        Deriving::VerifyText,
-        1,
-        32,
-        &[128, 2048, 256],
-        "a stored hash is read in place",
-    ),
-    (
-        Deriving::HashPhc,
-        4,
-        32,
-        &[512, 2048, 256],
-        "one table for four chunks",
-    ),
-    (
-        Deriving::VerifyPhc,
-        4,
-        32,
-        &[512, 2048, 256],
-        "the same for a verdict",
-    ),
-    (
-        Deriving::HashMcf,
-        4,
-        32,
-        &[58, 512, 2048, 256],
-        "and for a hash of the other format",
-    ),
-    (
-        Deriving::VerifyMcf,
-        4,
-        32,
-        &[512, 2048, 256],
-        "and its verdict",
-    ),
+    (Deriving::HashPhc, 1, 32, &OF_ONE, "its key is in place"),
+    (Deriving::HashPhc, 4, 32, &OF_FOUR, "one table"),
+    (Deriving::VerifyPhc, 1, 32, &OF_ONE, "it is read in place"),
+    (Deriving::VerifyPhc, 4, 32, &OF_FOUR, "one table"),
+    (Deriving::HashMcf, 1, 32, &[58, 128, 2048, 256], "a text"),
+    (Deriving::HashMcf, 1, 64, &[101, 128, 2048, 256], "longer"),
+    (Deriving::HashMcf, 4, 32, &[58, 512, 2048, 256], "one table"),
+    (Deriving::VerifyMcf, 1, 32, &OF_ONE, "its letters are read"),
+    (Deriving::VerifyMcf, 4, 32, &OF_FOUR, "one table"),
+    (Deriving::HashText, 1, 32, &OF_ONE, "none for the text"),
+    (Deriving::VerifyText, 1, 32, &OF_ONE, "it is read in place"),
 ];
 
 // The end of this call with the empty password, or with a long one.
@@ -172,73 +98,7 @@ const LETTERS: usize = 2000;
 
 const BYTES: usize = 1500;
 
-// The calls that make texts, letters and bytes.
-#[derive(Clone, Copy)]
-enum Making {
-    New,
-    FromId,
-    PushStr,
-    PushBase64,
-    EncodeString,
-    DecodeVec,
-    DecodeBase64,
-}
-
-// A call, the sizes of its allocations, and the reason for the row. A call that pushes first makes
-// the text to push to, by the first allocation; a push that fails leaves this text unchanged.
-static MAKING: [(Making, &[usize], &str); 7] = [
-    (Making::New, &[LETTERS], "a copy of the text"),
-    (Making::FromId, &[LETTERS], "a dollar and the id"),
-    (
-        Making::PushStr,
-        &[LETTERS, 2 * LETTERS + 1],
-        "the text grows once",
-    ),
-    (
-        Making::PushBase64,
-        &[LETTERS, LETTERS, 2 * LETTERS + 1],
-        "the letters of the bytes, and then the text grows",
-    ),
-    (Making::EncodeString, &[LETTERS], "the letters"),
-    (Making::DecodeVec, &[BYTES], "the bytes"),
-    (Making::DecodeBase64, &[BYTES], "the bytes of a field"),
-];
-
-// The end of this call. The text is `$` and letters, 2000 characters in all; the bytes are encoded
-// in the same number of letters of crypt Base64, which are the field.
-fn end_of_making(
-    call: &Making,
-    alloc: Global,
-    text: &str,
-    bytes: &[u8],
-    field: &mcf::Field<'_>,
-) -> CallEnd {
-    let memory = mcf::Error::OutOfMemory;
-    let id = text.get(1..).unwrap_or("");
-    match call {
-        Making::New => ended(&mcf::PasswordHash::new(alloc, text), memory),
-        Making::FromId => ended(&mcf::PasswordHash::from_id(alloc, id), memory),
-        Making::EncodeString => ended(&Base64::Crypt.encode_string(alloc, bytes), memory),
-        Making::DecodeVec => {
-            let read = Base64::Crypt.decode_vec(alloc, field.as_str());
-            ended(&read, memory)
-        }
-        Making::DecodeBase64 => ended(&field.decode_base64(alloc, Base64::Crypt), memory),
-        Making::PushStr | Making::PushBase64 => match mcf::PasswordHash::from_id(alloc, id) {
-            Ok(mut hash) => {
-                let pushed = match call {
-                    Making::PushStr => hash.push_str(field.as_str()),
-                    _ => hash.push_base64(bytes, Base64::Crypt),
-                };
-                if pushed.is_err() && !is(hash.as_str(), text) {
-                    return CallEnd::Otherwise;
-                }
-                ended(&pushed, memory)
-            }
-            Err(_) => CallEnd::OutOfMemory,
-        },
-    }
-}
+const GROWN: usize = 2 * LETTERS + 1;
 
 // A text with `count` copies of a letter after it.
 pub fn followed(alloc: Global, text: &str, letter: &str, count: usize) -> Result<String, Fail> {
@@ -246,24 +106,54 @@ pub fn followed(alloc: Global, text: &str, letter: &str, count: usize) -> Result
     Ok(format!(in alloc; "{text}{}", letters.as_str())?)
 }
 
-// Tries each call on this text, these bytes and their letters.
-fn try_each(alloc: Global, text: &str, bytes: &[u8], field: &mcf::Field<'_>) -> Result<(), Fail> {
-    for &(call, sizes, reason) in &MAKING {
-        let allocations = failing_allocations(alloc, sizes, || {
-            end_of_making(&call, alloc, text, bytes, field)
-        })?;
-        holds(allocations == sizes.len(), reason)?;
+// Makes a text and pushes this field, or these bytes if it is empty. A push that fails leaves the
+// text unchanged.
+fn end_of_push(alloc: Global, text: &str, field: &str, bytes: &[u8]) -> CallEnd {
+    let Ok(mut hash) = mcf::PasswordHash::from_id(alloc, text.get(1..).unwrap_or("")) else {
+        return CallEnd::OutOfMemory;
+    };
+    let pushed = if field.is_empty() {
+        hash.push_base64(bytes, Base64::Crypt)
+    } else {
+        hash.push_str(field)
+    };
+    if pushed.is_err() && !is(hash.as_str(), text) {
+        return CallEnd::Otherwise;
     }
-    Ok(())
+    ended(&pushed, mcf::Error::OutOfMemory)
 }
 
+// The text is `$` and letters, 2000 characters in all; the bytes are encoded in the same number of
+// letters of crypt Base64, which are the field. The letters of bytes are made before the text
+// grows.
 #[test]
 fn texts_letters_and_bytes(rt: HostRuntime) -> Result<(), Fail> {
-    let alloc = rt.alloc();
+    let (alloc, memory, crypt) = (rt.alloc(), mcf::Error::OutOfMemory, Base64::Crypt);
     let text = followed(alloc, "$", "a", LETTERS - 1)?;
     let bytes = vec![in alloc; 0xffu8; BYTES]?;
     let letters = followed(alloc, "$7$", "z", LETTERS)?;
     let hash = mcf::PasswordHashRef::new(letters.as_str())?;
     let field = hash.fields().next().ok_or("no field")?;
-    try_each(alloc, text.as_str(), &bytes, &field)
+    check(alloc, &[LETTERS], || {
+        ended(&mcf::PasswordHash::new(alloc, text.as_str()), memory)
+    })?;
+    check(alloc, &[LETTERS], || {
+        let id = text.get(1..).unwrap_or("");
+        ended(&mcf::PasswordHash::from_id(alloc, id), memory)
+    })?;
+    check(alloc, &[LETTERS], || {
+        ended(&crypt.encode_string(alloc, &bytes), memory)
+    })?;
+    check(alloc, &[BYTES], || {
+        ended(&crypt.decode_vec(alloc, field.as_str()), memory)
+    })?;
+    check(alloc, &[BYTES], || {
+        ended(&field.decode_base64(alloc, crypt), memory)
+    })?;
+    check(alloc, &[LETTERS, GROWN], || {
+        end_of_push(alloc, text.as_str(), field.as_str(), &bytes)
+    })?;
+    check(alloc, &[LETTERS, LETTERS, GROWN], || {
+        end_of_push(alloc, text.as_str(), "", &bytes)
+    })
 }

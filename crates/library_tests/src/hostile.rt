@@ -2,9 +2,9 @@
 // more.
 
 use crate::hash_allocations::followed;
+use crate::hashes::{EMPTY, PHC};
 use crate::holds;
-use crate::refused::PHC;
-use crate::verdicts::{is_mcf_verdict, is_phc_verdict};
+use crate::verdicts::{Verdict, is_mcf_verdict, is_phc_verdict};
 use password_hash::mcf::alphabet::value;
 use password_hash::{Error, mcf};
 use scrypt::laws::texts_have_one_reading;
@@ -12,23 +12,16 @@ use std::alloc::Global;
 use std::str;
 use std::test::Fail;
 
-// libxcrypt's, of the empty password.
-const HASH: &str = "$7$2/..../....$rNxJWVHNv/mCNcgE/f6/L4zO6Fos5c2uTzhyzoisI62";
-
 // The position of the key.
 const KEY_AT: usize = 15;
 
-// The lengths of the prefixes of a `$7$` hash that are hashes of shorter keys.
-const SHORTER_KEYS: [usize; 14] = [19, 23, 25, 27, 31, 34, 35, 39, 43, 46, 47, 51, 55, 58];
-
-// The verdict by a prefix of this length.
-fn wanted_of_beginning(len: usize) -> Result<(), Error> {
-    if len == KEY_AT {
-        Err(Error::OutputSize)
-    } else if SHORTER_KEYS.contains(&len) {
-        Ok(())
-    } else {
-        Err(Error::EncodingInvalid)
+// The verdict by the prefix of this length of a `$7$` hash. One that ends in the key is the hash of
+// a shorter key.
+fn wanted_of_beginning(len: usize) -> Verdict {
+    match len {
+        KEY_AT => Err(Error::OutputSize),
+        19 | 23 | 25 | 27 | 31 | 34 | 35 | 39 | 43 | 46 | 47 | 51 | 55 | 58 => Ok(()),
+        _ => Err(Error::EncodingInvalid),
     }
 }
 
@@ -36,23 +29,18 @@ fn wanted_of_beginning(len: usize) -> Result<(), Error> {
 fn beginnings(rt: HostRuntime) -> Result<(), Fail> {
     texts_have_one_reading();
     for len in 0..=58 {
-        let beginning = HASH.get(..len).unwrap_or("");
-        holds(
-            mcf::PasswordHashRef::new(beginning).is_ok() == (len > 1),
-            "whether it is an MCF string",
-        )?;
-        let wanted = wanted_of_beginning(len);
-        holds(
-            is_mcf_verdict(rt.alloc(), beginning, b"", wanted),
-            "its verdict",
-        )?;
+        let beginning = EMPTY.get(..len).unwrap_or("");
+        let is_mcf = mcf::PasswordHashRef::new(beginning).is_ok();
+        holds(is_mcf == (len > 1), "whether it is an MCF string")?;
+        let is_wanted = is_mcf_verdict(rt.alloc(), beginning, b"", wanted_of_beginning(len));
+        holds(is_wanted, "its verdict")?;
     }
     Ok(())
 }
 
 // The verdict on its password by the prefix of this length of a PHC hash. Without the whole salt
 // there is no key, and a prefix that ends in the key is the hash of a shorter key.
-fn wanted_of_phc_beginning(len: usize) -> Result<(), Error> {
+fn wanted_of_phc_beginning(len: usize) -> Verdict {
     match len {
         2..=6 => Err(Error::Algorithm),
         7 | 12 | 13 | 17 | 21 | 26 | 30 | 33 | 34 | 38 | 42 | 44 => Err(Error::PasswordInvalid),
@@ -66,16 +54,14 @@ fn beginnings_of_a_phc_hash(rt: HostRuntime) -> Result<(), Fail> {
     for len in 0..=88 {
         let beginning = PHC.get(..len).unwrap_or("");
         let wanted = wanted_of_phc_beginning(len);
-        holds(
-            is_phc_verdict(rt.alloc(), beginning, b"password", wanted),
-            "its verdict",
-        )?;
+        let is_wanted = is_phc_verdict(rt.alloc(), beginning, b"password", wanted);
+        holds(is_wanted, "its verdict")?;
     }
     Ok(())
 }
 
 // The verdict by the hash with this byte at this position.
-fn wanted_of_replaced(at: usize, by: u8) -> Result<(), Error> {
+fn wanted_of_replaced(at: usize, by: u8) -> Verdict {
     match value(by) {
         Some(value) if at < 57 || value < 16 => Err(Error::PasswordInvalid),
         _ => Err(Error::EncodingInvalid),
@@ -83,7 +69,7 @@ fn wanted_of_replaced(at: usize, by: u8) -> Result<(), Error> {
 }
 
 // Whether these bytes are a text with this verdict.
-fn is_verdict_of(alloc: Global, bytes: &[u8], wanted: Result<(), Error>) -> bool {
+fn is_verdict_of(alloc: Global, bytes: &[u8], wanted: Verdict) -> bool {
     match str::from_utf8(bytes) {
         Ok(text) => is_mcf_verdict(alloc, text, b"", wanted),
         Err(_) => false,
@@ -94,7 +80,7 @@ fn is_verdict_of(alloc: Global, bytes: &[u8], wanted: Result<(), Error>) -> bool
 fn each_character_of_a_key_replaced(rt: HostRuntime) -> Result<(), Fail> {
     texts_have_one_reading();
     let mut letters = [0; 58];
-    letters.copy_from_slice(HASH.as_bytes().get(..58).ok_or("too short")?);
+    letters.copy_from_slice(EMPTY.as_bytes().get(..58).ok_or("too short")?);
     let mut texts = 0u32;
     for at in KEY_AT..58 {
         let letter = letters[at];
@@ -112,25 +98,14 @@ fn each_character_of_a_key_replaced(rt: HostRuntime) -> Result<(), Fail> {
     holds(texts == 5461, "43 places with 127 characters each")
 }
 
-// A `$7$` hash, a text that is repeated a million times after it, the number of fields, their total
-// length, the verdict, and the reason for the row.
+// A `$7$` hash without a key.
+const LEAST: &str = "$7$2/..../....$";
+
+// An MCF string, a text that is repeated a million times after it, the number of fields, their
+// total length, the verdict, and the reason for the row.
 static MILLIONS: [(&str, &str, usize, usize, Error, &str); 2] = [
-    (
-        "$7$2/..../....$",
-        ".",
-        2,
-        1_000_011,
-        Error::PasswordInvalid,
-        "a key of 750000 bytes",
-    ),
-    (
-        "$7",
-        "$",
-        1_000_000,
-        0,
-        Error::EncodingInvalid,
-        "empty fields",
-    ),
+    (LEAST, ".", 2, 1_000_011, Error::PasswordInvalid, "a key"),
+    ("$7", "$", 1_000_000, 0, Error::EncodingInvalid, "fields"),
 ];
 
 // Whether a text has this number of fields, with this total length.

@@ -1,7 +1,6 @@
-// The keys of the standards, by the call for each.
+// The keys of the standard.
 
 use crate::holds;
-use scrypt::hmac::hmac_sha256;
 use scrypt::{Params, scrypt};
 use std::test::Fail;
 
@@ -30,21 +29,11 @@ const THIRD: [u8; 64] = [
 // A password, a salt, log_n, r and p, the key, and the reason for the row.
 static KEYS: [(&[u8], &[u8], (u8, u32, u32), [u8; 64], &str); 3] = [
     (b"", b"", (4, 1, 1), FIRST, "the first"),
-    (
-        b"password",
-        b"NaCl",
-        (10, 8, 16),
-        SECOND,
-        "sixteen chunks, which share a table",
-    ),
-    (
-        b"pleaseletmein",
-        b"SodiumChloride",
-        (14, 8, 1),
-        THIRD,
-        "a table of 16 MiB",
-    ),
+    (b"password", b"NaCl", (10, 8, 16), SECOND, "16 chunks"),
+    (LETMEIN, b"SodiumChloride", (14, 8, 1), THIRD, "16 MiB"),
 ];
+
+const LETMEIN: &[u8] = b"pleaseletmein";
 
 #[test]
 fn keys_of_the_standard(rt: HostRuntime) -> Result<(), Fail> {
@@ -52,57 +41,6 @@ fn keys_of_the_standard(rt: HostRuntime) -> Result<(), Fail> {
         let (params, mut key) = (Params::new(log_n, r, p)?, [0; 64]);
         scrypt(rt.alloc(), password, salt, &params, &mut key)?;
         holds(key == wanted, reason)?;
-    }
-    Ok(())
-}
-
-// RFC 4231, sections 4.3 and 4.7.
-const OF_JEFE: [u8; 32] = [
-    0x5b, 0xdc, 0xc1, 0x46, 0xbf, 0x60, 0x75, 0x4e, 0x6a, 0x04, 0x24, 0x26, 0x08, 0x95, 0x75, 0xc7,
-    0x5a, 0x00, 0x3f, 0x08, 0x9d, 0x27, 0x39, 0x83, 0x9d, 0xec, 0x58, 0xb9, 0x64, 0xec, 0x38, 0x43,
-];
-
-const OF_LONG_KEY: [u8; 32] = [
-    0x60, 0xe4, 0x31, 0x59, 0x1e, 0xe0, 0xb6, 0x7f, 0x0d, 0x8a, 0x26, 0xaa, 0xcb, 0xf5, 0xb7, 0x7f,
-    0x8e, 0x0b, 0xc6, 0x21, 0x37, 0x28, 0xc5, 0x14, 0x05, 0x46, 0x04, 0x0f, 0x0e, 0xe3, 0x7f, 0x54,
-];
-
-// A key, a text in two parts, their HMAC, and the reason for the row.
-static MACS: [(&[u8], &[u8], &[u8], [u8; 32], &str); 4] = [
-    (
-        b"Jefe",
-        b"what do ya want for nothing?",
-        b"",
-        OF_JEFE,
-        "a text",
-    ),
-    (
-        b"Jefe",
-        b"what do ya want ",
-        b"for nothing?",
-        OF_JEFE,
-        "its two halves",
-    ),
-    (
-        b"Jefe",
-        b"",
-        b"what do ya want for nothing?",
-        OF_JEFE,
-        "a tail alone",
-    ),
-    (
-        &[0xaa; 131],
-        b"Test Using Larger Than Block-Size Key",
-        b" - Hash Key First",
-        OF_LONG_KEY,
-        "a key above 64 bytes",
-    ),
-];
-
-#[test]
-fn macs() -> Result<(), Fail> {
-    for &(key, text, tail, wanted, reason) in &MACS {
-        holds(hmac_sha256(key, text, tail) == wanted, reason)?;
     }
     Ok(())
 }

@@ -16,8 +16,6 @@ mod derivation_allocations;
 #[cfg(test)]
 mod failing_allocations;
 #[cfg(test)]
-mod groups;
-#[cfg(test)]
 mod hash_allocations;
 #[cfg(test)]
 mod hashes;
@@ -30,6 +28,8 @@ mod lanes;
 #[cfg(test)]
 mod laws;
 #[cfg(test)]
+mod logins;
+#[cfg(test)]
 mod mcf_texts;
 #[cfg(test)]
 mod memory;
@@ -37,8 +37,6 @@ mod memory;
 mod parameters;
 #[cfg(test)]
 mod phc_texts;
-#[cfg(test)]
-mod refused;
 #[cfg(test)]
 mod romix;
 #[cfg(test)]

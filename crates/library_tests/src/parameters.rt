@@ -8,7 +8,8 @@ use std::test::Fail;
 #[test]
 fn the_greatest() -> Result<(), Fail> {
     holds(Params::new(0, 1, 0x3fff_ffff).is_ok(), "r * p")?;
-    holds(Params::new(1, 0x3fff_ffff, 1).is_ok(), "r")
+    holds(Params::new(1, 0x3fff_ffff, 1).is_ok(), "r")?;
+    holds(Params::new(27, 0x3fff_ffff, 1).is_ok(), "N * r")
 }
 
 // A length of a key, whether one of this length can be derived, and the reason for the row.

@@ -1,9 +1,12 @@
 // PHC strings, their decimals and their parameters.
 
+use crate::hash_allocations::followed;
+use crate::hashes::PHC;
 use crate::{holds, is};
 use password_hash::Error::{self, EncodingInvalid, ParamsInvalid};
 use password_hash::phc::{ParamsString, PasswordHash};
 use scrypt::Params;
+use std::alloc::Global;
 use std::test::Fail;
 
 // Parameters, the number that is read from `a`, and the reason for the row.
@@ -25,118 +28,75 @@ fn decimals() -> Result<(), Fail> {
     Ok(())
 }
 
-// Parameters, the name that is added with the number 1, the parameters afterwards, the result, and
-// the reason for the row.
-static ADDED: [(&str, &str, &str, Result<(), Error>, &str); 6] = [
-    ("x=0", "ln", "x=0,ln=1", Ok(()), "another name"),
-    ("ln=1", "ln", "ln=1", Err(ParamsInvalid), "the same name"),
-    (
-        "ln=1",
-        "v",
-        "ln=1",
-        Err(ParamsInvalid),
-        "the name of the version",
-    ),
-    ("ln=1", "LN", "ln=1", Err(ParamsInvalid), "no name"),
-    (
-        "x=0000000000000000000000000000000000000000000000000000000000000000000000000000000000000000000000000000000000000000000000000",
-        "a",
-        "x=0000000000000000000000000000000000000000000000000000000000000000000000000000000000000000000000000000000000000000000000000,a=1",
-        Ok(()),
-        "127 bytes",
-    ),
-    (
-        "x=00000000000000000000000000000000000000000000000000000000000000000000000000000000000000000000000000000000000000000000000000",
-        "a",
-        "x=00000000000000000000000000000000000000000000000000000000000000000000000000000000000000000000000000000000000000000000000000",
-        Err(ParamsInvalid),
-        "128 bytes",
-    ),
+// Parameters, the number of zeros after them, a name that is added with the number 1, whether it
+// is, and the reason for the row.
+static ADDED: [(&str, usize, &str, bool, &str); 5] = [
+    ("ln=1", 0, "ln", false, "the same name"),
+    ("ln=1", 0, "v", false, "the name of the version"),
+    ("ln=1", 0, "LN", false, "no name"),
+    ("x=", 121, "a", true, "127 bytes"),
+    ("x=", 122, "a", false, "128 bytes"),
 ];
 
 #[test]
-fn added_parameters() -> Result<(), Fail> {
-    for &(old, name, new, wanted, reason) in &ADDED {
-        let mut params = ParamsString::parse(old)?;
-        let added = params.add_decimal(name, 1);
-        holds(added == wanted && is(params.as_str(), new), reason)?;
+fn added_parameters(rt: HostRuntime) -> Result<(), Fail> {
+    for &(first, zeros, name, is_added, reason) in &ADDED {
+        let old = followed(rt.alloc(), first, "0", zeros)?;
+        let mut params = ParamsString::parse(old.as_str())?;
+        let wanted = if is_added { Ok(()) } else { Err(ParamsInvalid) };
+        holds(params.add_decimal(name, 1) == wanted, reason)?;
+        let end = if is_added { ",a=1" } else { "" };
+        let new = followed(rt.alloc(), old.as_str(), end, 1)?;
+        holds(is(params.as_str(), new.as_str()), reason)?;
     }
     Ok(())
 }
 
-// passlib's, of `password`.
-pub const HASH: &str =
-    "$scrypt$ln=16,r=8,p=1$aM15713r3Xsvxbi31lqr1Q$nFNh2CVHVjNldFVKDHDlm4CbdRSCdEBsjjJxD+iCs5E";
-
-// Texts that print as they were read, and the reason for the row. `tools/tests/hostile.py` has
-// more texts, which are rejected.
-static PRINTED: [(&str, &str); 6] = [
-    (HASH, "a whole one"),
-    ("$scrypt", "the algorithm alone"),
-    ("$scrypt$v=0", "the least version"),
-    (
-        "$scrypt$v=1$ln=1$aA$AAAAAAAAAAAAAA",
-        "the shortest salt and key",
-    ),
-    (
-        "$scrypt$x=00000000000000000000000000000000000000000000000000000000000000000000000000000000000000000000000000000000000000000000000000000",
-        "127 bytes of parameters",
-    ),
-    (
-        "$aaaaaaaaaaaaaaaaaaaaaaaaaaaaaaaa",
-        "an algorithm of 32 letters",
-    ),
+// The beginning of a text, a letter that follows it some times, whether the text is read, and the
+// reason for the row. `tools/tests/hostile.py` has more texts that are rejected.
+static TEXTS: [(&str, &str, usize, bool, &str); 20] = [
+    ("$scrypt", "", 0, true, "the algorithm alone"),
+    ("$scrypt$v=0", "", 0, true, "the least version"),
+    ("$scrypt$v=1$ln=1$aA$", "A", 14, true, "the shortest parts"),
+    ("$scrypt$x=", "0", 125, true, "127 bytes of parameters"),
+    ("$", "a", 32, true, "an algorithm of 32 letters"),
+    ("", "", 0, false, "the empty text"),
+    ("$", "", 0, false, "no algorithm"),
+    ("scrypt", "", 0, false, "no dollar"),
+    ("$Scrypt", "", 0, false, "a capital"),
+    ("$scrypt$", "", 0, false, "an empty part"),
+    ("$scrypt$v=01", "", 0, false, "a leading zero"),
+    ("$scrypt$v=4294967296", "", 0, false, "a version of 2^32"),
+    ("$scrypt$ln=", "", 0, false, "an empty value"),
+    ("$scrypt$ln=1,ln=2", "", 0, false, "a name twice"),
+    ("$scrypt$aM", "", 0, false, "spare bits of the salt"),
+    ("$scrypt$aA==", "", 0, false, "padding"),
+    ("$scrypt$aA$", "A", 12, false, "a key of 9 bytes"),
+    ("$scrypt$aA$", "A", 87, false, "a key of 65 bytes"),
+    ("$scrypt$x=", "0", 126, false, "128 bytes of parameters"),
+    ("$", "a", 33, false, "an algorithm of 33 letters"),
 ];
 
-#[test]
-fn printed_texts(rt: HostRuntime) -> Result<(), Fail> {
-    for &(text, reason) in &PRINTED {
-        let printed = PasswordHash::new(text)?.to_string(rt.alloc())?;
-        holds(is(printed.as_str(), text), reason)?;
+// Whether a text is printed as it was read, or fails to be read.
+fn is_printed(alloc: Global, text: &str, is_read: bool) -> Result<bool, Fail> {
+    match PasswordHash::new(text) {
+        Ok(hash) => Ok(is_read && is(hash.to_string(alloc)?.as_str(), text)),
+        Err(refused) => Ok(!is_read && refused == EncodingInvalid),
     }
-    Ok(())
 }
 
-// Texts that are rejected, and the reason for the row.
-static UNREAD: [(&str, &str); 15] = [
-    ("", "the empty text"),
-    ("$", "no algorithm"),
-    ("scrypt", "no dollar"),
-    ("$Scrypt", "a capital"),
-    ("$scrypt$", "an empty part"),
-    ("$scrypt$v=01", "a version with a leading zero"),
-    ("$scrypt$v=4294967296", "a version of 2^32"),
-    ("$scrypt$ln=", "an empty value"),
-    ("$scrypt$ln=1,ln=2", "a name twice"),
-    ("$scrypt$aM", "spare bits of the salt"),
-    ("$scrypt$aA==", "padding"),
-    ("$scrypt$aA$AAAAAAAAAAAA", "a key of 9 bytes"),
-    (
-        "$scrypt$aA$AAAAAAAAAAAAAAAAAAAAAAAAAAAAAAAAAAAAAAAAAAAAAAAAAAAAAAAAAAAAAAAAAAAAAAAAAAAAAAAAAAAAAAA",
-        "a key of 65 bytes",
-    ),
-    (
-        "$scrypt$x=000000000000000000000000000000000000000000000000000000000000000000000000000000000000000000000000000000000000000000000000000000",
-        "128 bytes of parameters",
-    ),
-    (
-        "$aaaaaaaaaaaaaaaaaaaaaaaaaaaaaaaaa",
-        "an algorithm of 33 letters",
-    ),
-];
-
 #[test]
-fn texts_that_are_refused() -> Result<(), Fail> {
-    for &(text, reason) in &UNREAD {
-        let refused = PasswordHash::new(text).err();
-        holds(refused == Some(EncodingInvalid), reason)?;
+fn texts(rt: HostRuntime) -> Result<(), Fail> {
+    for &(first, letter, count, is_read, reason) in &TEXTS {
+        let text = followed(rt.alloc(), first, letter, count)?;
+        holds(is_printed(rt.alloc(), text.as_str(), is_read)?, reason)?;
     }
     Ok(())
 }
 
 #[test]
 fn parameters_of_a_hash() -> Result<(), Fail> {
-    let hash = PasswordHash::new(HASH)?;
+    let hash = PasswordHash::new(PHC)?;
     let params = Params::new_with_output_len(16, 8, 1, 32)?;
     holds(Params::try_from(&hash) == Ok(params), "with its length")?;
     holds(params != Params::new(16, 8, 1)?, "which is compared")?;

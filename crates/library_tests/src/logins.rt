@@ -1,54 +1,9 @@
-// Derivations with interleaved chunks, and batches of logins.
+// Batches of logins.
 
 use crate::holds;
-use scrypt::{
-    Backend, BufferLens, Buffers, CoreCount, LimitedError, Login, Params, Scalar, Simd, SimdPairs,
-    StoredHash, scrypt_with_max_mem,
-};
+use scrypt::{BufferLens, Buffers, LimitedError, Login, StoredHash};
 use std::alloc::{AllocError, Global};
 use std::test::Fail;
-
-// p, the key of 16 bytes by (4, 2, p) of the password `pw` and the salt `NaCl`, by Python's
-// hashlib, and the number of chunks that are interleaved.
-static KEYS: [(u32, u128, &str); 5] = [
-    (1, 0x9acfeb5ab60a631cf80523789174c12d, "one chunk"),
-    (2, 0xed83cb4dd2f9d3b27f51ac358ac58092, "two interleaved"),
-    (3, 0x681203aa00d52909a06faabccfacfa55, "three interleaved"),
-    (4, 0x8c8b7220048051259a087bb6cabb6e36, "four interleaved"),
-    (
-        5,
-        0x886db4ddffb1094c4d8e91a830b6afda,
-        "four interleaved, and then one",
-    ),
-];
-
-// The size of four tables and scratches, and of the chunks of p up to 5.
-const MAX_MEM: usize = 4 * (4096 + 512) + 5 * 256;
-
-#[test]
-fn keys_in_groups(rt: HostRuntime) -> Result<(), Fail> {
-    keys_with_backend::<Simd>(rt.alloc())?;
-    keys_with_backend::<Scalar>(rt.alloc())?;
-    keys_with_backend::<SimdPairs>(rt.alloc())
-}
-
-// Each processor needs only one backend, but every backend computes the same on every processor.
-fn keys_with_backend<W: Backend>(alloc: Global) -> Result<(), Fail> {
-    for &(p, wanted, reason) in &KEYS {
-        let (params, mut key) = (Params::new(4, 2, p)?, [0u8; 16]);
-        scrypt_with_max_mem::<W>(
-            alloc,
-            b"pw",
-            b"NaCl",
-            &params,
-            MAX_MEM,
-            &mut key,
-            &mut CoreCount::new(),
-        )?;
-        holds(u128::from_be_bytes(key) == wanted, reason)?;
-    }
-    Ok(())
-}
 
 // The hash of `pw` by (4, 1, 1), by Python's hashlib.
 const HASH: &str =
@@ -62,13 +17,7 @@ const MANY: usize = 100_000;
 static LOGINS: [(&str, &str, bool, bool, &str); 3] = [
     ("", "", false, false, "each is rejected separately"),
     (HASH, "", true, false, "one batch, with one derivation"),
-    (
-        "",
-        HASH,
-        false,
-        true,
-        "the first separately, and the others in a batch",
-    ),
+    ("", HASH, false, true, "the others in a batch"),
 ];
 
 // Logins with the same password.
