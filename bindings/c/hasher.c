@@ -296,7 +296,6 @@ int scrypt_hasher_verify(scrypt_hasher *hasher, const void *password, size_t pas
   }
   status = scrypt_hash_cost(call.login.text, call.login.text_len, options->max_mem,
                             options->max_work, options->min_key_len, &call.cost);
-  if (status == SCRYPT_MISMATCH) return SCRYPT_OUTPUT_SIZE; /* no key: the hash is damaged */
   if (status == SCRYPT_OK) status = run(hasher, &call, timeout_ms);
   return text == NULL && status == SCRYPT_OK ? SCRYPT_MISMATCH : status;
 }

@@ -276,8 +276,7 @@ int scrypt_stored_text(const void *salt, size_t salt_len, const void *key, size_
 SCRYPT_NODISCARD
 int scrypt_verify(const void *password, size_t password_len, const char *text, size_t text_len);
 
-/* The same, within these limits: if scrypt_hash_cost returns an error for them, returns that error,
- * before anything is allocated. */
+/* The same, within these limits. */
 SCRYPT_NODISCARD
 int scrypt_verify_limited(const void *password, size_t password_len, const char *text, size_t text_len, size_t max_mem,
                           uint64_t max_work, size_t min_key_len);
@@ -353,8 +352,8 @@ typedef struct scrypt_cost {
 } scrypt_cost;
 
 /* Checks a hash against limits, and writes what it costs to verify it. Nothing is allocated. The
- * errors of scrypt_verify for a text that cannot be read (SCRYPT_MISMATCH without a salt or a key);
- * then SCRYPT_TOO_COSTLY if the bytes exceed max_mem, or the work exceeds max_work; then
+ * errors of scrypt_verify for a text that cannot be read, but SCRYPT_OUTPUT_SIZE without a salt or a
+ * key: such a hash is damaged, whatever the password. Then SCRYPT_TOO_COSTLY if the bytes exceed max_mem, or the work exceeds max_work; then
  * SCRYPT_KEY_TOO_SHORT if the key has fewer than min_key_len bytes. With these two the cost is
  * written too; with any other error nothing is written. */
 SCRYPT_NODISCARD
@@ -455,8 +454,7 @@ const scrypt_options *scrypt_hasher_options(const scrypt_hasher *hasher);
  * For a login whose name doesn't exist, pass NULL with text_len 0: the call derives with the
  * parameters of new hashes, and returns SCRYPT_MISMATCH after the time of a wrong password, so that
  * a timing attack doesn't tell which names exist.
- * SCRYPT_NULL_POINTER; the errors of scrypt_hash_cost, without waiting, but SCRYPT_OUTPUT_SIZE for a
- * hash without a key, which is damaged; SCRYPT_CLOSED, SCRYPT_TIMEOUT, SCRYPT_OUT_OF_MEMORY, and
+ * SCRYPT_NULL_POINTER; the errors of scrypt_hash_cost, without waiting; SCRYPT_CLOSED, SCRYPT_TIMEOUT, SCRYPT_OUT_OF_MEMORY, and
  * last SCRYPT_MISMATCH if the password is wrong. */
 SCRYPT_NODISCARD
 int scrypt_hasher_verify(scrypt_hasher *hasher, const void *password, size_t password_len, const char *text,

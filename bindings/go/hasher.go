@@ -247,10 +247,7 @@ func (h *Hasher) refusal(text []byte) error {
 	with := C.scrypt_hasher_options(h.shared.c)
 	status := C.scrypt_hash_cost(chars(text), size(text), with.max_mem, with.max_work,
 		with.min_key_len, &cost)
-	switch status {
-	case C.SCRYPT_MISMATCH: // no key: damaged, as scrypt_hasher_verify says
-		return Error(C.SCRYPT_OUTPUT_SIZE)
-	case C.SCRYPT_TOO_COSTLY, C.SCRYPT_KEY_TOO_SHORT:
+	if status == C.SCRYPT_TOO_COSTLY || status == C.SCRYPT_KEY_TOO_SHORT {
 		const limits = "MaxMem is %d, MaxWork is %d, and the minimum key length is %d"
 		return fmt.Errorf("%w: %v, and a key of %d bytes; "+limits, Error(status), inWords(cost),
 			cost.key_len, with.max_mem, with.max_work, with.min_key_len)

@@ -1,6 +1,6 @@
 // An instance of the module: allocates in its memory, and calls its functions.
 import { NO_LIMIT } from './arguments.js';
-import { KEY_TOO_SHORT, MISMATCH, NEEDS_REHASH, OK, OUTPUT_SIZE, TOO_COSTLY } from './declared.js';
+import { KEY_TOO_SHORT, MISMATCH, NEEDS_REHASH, OK, TOO_COSTLY } from './declared.js';
 import { errorOf, outOfMemory } from './errors.js';
 
 const PAGE = 65536;
@@ -125,17 +125,13 @@ export class Instance {
     return this.buffers(sizes);
   }
 
-  /**
-   * The buffers for verifying a hash, or empty ones if it is rejected: the call that verifies it
-   * returns the error before it checks the buffers. A hash without a key is damaged: the proved
-   * calls return that no password matches it.
-   */
+  /** The buffers for verifying a hash. */
   buffersOf(text, limits) {
     const [cost, keyLength, ...sizes] = this.#takeCost();
     const status = this.#status('scrypt_hash_cost', [text, ...limits, cost]);
     this.#cost = inWords([...sizes.slice(4), keyLength].map((size) => this.big(size)), limits);
-    if (status === MISMATCH) throw this.#refusal(OUTPUT_SIZE);
-    return status === OK ? this.buffers(sizes) : [1, 4, 4].map((size) => this.take(0, size));
+    if (status !== OK) throw this.#refusal(status);
+    return this.buffers(sizes);
   }
 
   /**

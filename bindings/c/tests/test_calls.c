@@ -162,6 +162,7 @@ static void texts_of_other_bytes(void) {
 
 /* ---- What is written with an error, and what saturates ---- */
 
+#define KEYLESS "$scrypt$ln=4,r=8,p=1$c2FsdHNhbHQ"
 #define PHC "$scrypt$ln=4,r=8,p=1$c2FsdHNhbHQ$AAAAAAAAAAAAAAAAAAAAAA"
 
 static void costs(void) {
@@ -171,6 +172,8 @@ static void costs(void) {
   size_t key_len = 99;
   check(scrypt_hash_cost("$7$", 3, SIZE_MAX, UINT64_MAX, 0, &cost) == SCRYPT_ENCODING_INVALID &&
             memcmp(&cost, &nines, sizeof cost) == 0, "no hash");
+  check(scrypt_hash_cost(KEYLESS, strlen(KEYLESS), SIZE_MAX, UINT64_MAX, 0, &cost) == SCRYPT_OUTPUT_SIZE &&
+            memcmp(&cost, &nines, sizeof cost) == 0, "a damaged hash, which lost its key");
   check(scrypt_params_cost(0, 1, 0, 0, 0, &cost) == SCRYPT_INVALID_PARAMS && memcmp(&cost, &nines, sizeof cost) == 0,
         "no parameters");
   check(scrypt_hash_cost(PHC, strlen(PHC), 0, UINT64_MAX, 0, &cost) == SCRYPT_TOO_COSTLY && cost.log_n == 4 &&

@@ -43,6 +43,16 @@ rehash_status (Ok true) = pos 22
 rehash_status (Err PasswordInvalid) = pos 22
 rehash_status (Err why) = refusal_status why
 
+-- the status of an error of reading: a hash without a salt or a key is damaged
+abbrev pub unread_status : Refusal → ℤ
+unread_status PasswordInvalid = pos 7
+unread_status why = refusal_status why
+
+-- the status of reading the cost of a hash, with limits
+abbrev pub cost_status : {A : Type 0} → Result A Refusal → ℤ
+cost_status (Ok x) = pos 0
+cost_status (Err why) = unread_status why
+
 -- the status of an error in the caller's buffers, where `OutOfMemory` means that a buffer is too
 -- short
 abbrev pub short_status : Refusal → ℤ

@@ -5,10 +5,10 @@ ghost use Rattle.scrypt.specs.Accepted.{are_accepted};
 ghost use Rattle.scrypt.specs.Limits.{limits_for_new};
 ghost use Rattle.scrypt_c.specs.Limits.{IsNeedStatus, limited_reading, limits_of, params_of};
 ghost use Rattle.scrypt_c.specs.Cost.{cost_of};
-ghost use Rattle.scrypt_c.specs.Statuses.{result_status};
+ghost use Rattle.scrypt_c.specs.Statuses.{cost_status};
 ghost use Rattle.scrypt_c.specs.Texts.{bytes_reading};
 
-use crate::statuses::{INVALID_PARAMS, OK, TOO_COSTLY, limited_status_of, status_of};
+use crate::statuses::{INVALID_PARAMS, OK, TOO_COSTLY, limited_status_of, unread_status_of};
 use crate::texts::{stored_hash, whole_params};
 use scrypt::{BufferLens, Limits, Params};
 
@@ -35,7 +35,7 @@ pub struct Cost {
 /// `max_mem` bytes in total. Does not allocate.
 ///
 /// Returns `OK`, or the first of these: the errors of `scrypt_verify_limited` for a hash that cannot
-/// be read, including `MISMATCH` if it has no salt or no key, and then nothing is written;
+/// be read, but `OUTPUT_SIZE` if it has no salt or no key, and then nothing is written;
 /// `TOO_COSTLY` if the buffers with one table have more than `max_mem` bytes in total, or if the
 /// work, `4 * (2^log_n + 32) * r * p`, exceeds `max_work`; and `KEY_TOO_SHORT` if the key has
 /// fewer than `min_key_len` bytes. These two write the same as `OK`; `tables` is 1 if even one
@@ -48,17 +48,17 @@ pub extern "C" fn scrypt_hash_cost(
     min_key_len: usize,
     cost: &mut Cost,
 ) -> i32
-    ensures status { result ≡ result_status (limited_reading max_mem max_work min_key_len text.now) }
+    ensures status { result ≡ cost_status (limited_reading max_mem max_work min_key_len text.now) }
     ensures read { IfOk (bytes_reading text.now) (λ s. cost.new ≡ cost_of max_mem s.params (length s.key)) }
     ensures unread { OnErr (bytes_reading text.now) (cost.new ≡ cost.old) }
 {
     let hash = match stored_hash(text) {
         Ok(hash) => hash,
-        Err(error) => return status_of(error),
+        Err(error) => return unread_status_of(error),
     };
     let (params, len) = match whole_params(&hash) {
         Ok(read) => read,
-        Err(error) => return status_of(error),
+        Err(error) => return unread_status_of(error),
     };
     *cost = cost_of(&params, len, max_mem);
     let limits = Limits {

@@ -170,8 +170,8 @@ pub extern "C" fn scrypt_key_finish(
 /// within the limits. Continue with `scrypt_key_step`, with the parameters that this call writes;
 /// `scrypt_verify_finish` returns the verdict.
 ///
-/// Returns `OK`, or the first of these, and then nothing has changed: the error that
-/// `scrypt_hash_cost` returns; and `BUFFER_SIZE` as `scrypt_key_begin` does.
+/// Returns `OK`, or the first of these, and then nothing has changed: the errors of
+/// `scrypt_verify_limited` before it derives, and `BUFFER_SIZE` as `scrypt_key_begin` does.
 #[unsafe(no_mangle)]
 pub extern "C" fn scrypt_verify_begin(
     password: &[u8],

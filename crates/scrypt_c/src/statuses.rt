@@ -3,7 +3,7 @@
 ghost use Rattle.std.specs.Prelude.{◌≡◌};
 ghost use Rattle.password_hash.specs.Refusal.{refusal};
 ghost use Rattle.scrypt.specs.WithinLimits.{limited_refusal};
-ghost use Rattle.scrypt_c.specs.Statuses.{refusal_status};
+ghost use Rattle.scrypt_c.specs.Statuses.{refusal_status, unread_status};
 
 use password_hash::Error;
 use scrypt::LimitedError;
@@ -90,6 +90,16 @@ pub(crate) fn status_of(error: Error) -> i32
         Error::ParamsInvalid => HASH_PARAMS_INVALID,
         Error::SaltInvalid => SALT_INVALID,
         Error::Version => VERSION,
+    }
+}
+
+// Returns the status of an error of reading a hash, which is damaged if it has no salt or no key.
+pub(crate) fn unread_status_of(error: Error) -> i32
+    ensures { result ≡ unread_status (refusal error) }
+{
+    match error {
+        Error::PasswordInvalid => OUTPUT_SIZE,
+        error => status_of(error),
     }
 }
 
