@@ -9,6 +9,7 @@ if [ $# = 1 ]; then
   while read -r line; do
     case $line in "rt: $1 proved" | "rt: $1 is kept:"*) exit 0 ;; "rt ci ended") exit 1 ;; esac
   done < <(tail --pid=$$ -n +1 -F $log 2> /dev/null)
+  exit 1
 fi
 rt ci
 status=$?
