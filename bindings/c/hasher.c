@@ -211,21 +211,18 @@ static size_t form_batch(scrypt_hasher *hasher, struct call **batch, size_t max)
   return extend_batch(hasher, batch, count, max);
 }
 
-static int write_hash(const scrypt_options *options, const struct call *call,
-                      struct buffers buffers) {
+static int write_hash(const scrypt_options *options, const struct call *call, struct buffers buffers) {
   return scrypt_hash_with_buffers(call->login.password, call->login.password_len, call->salt,
                                   call->salt_len, options->log_n, options->r, options->p,
                                   options->key_len, options->mcf, (char *)call->output,
                                   call->output_len, ALL_OF(buffers));
 }
 
-static int write_key(const scrypt_options *options, const struct call *call,
-                     struct buffers buffers) {
+static int write_key(const scrypt_options *options, const struct call *call, struct buffers buffers) {
   int status = scrypt_key_with_buffers(call->login.password, call->login.password_len, call->salt,
                                        call->salt_len, options->log_n, options->r, options->p,
                                        (uint8_t *)call->output, call->output_len, ALL_OF(buffers));
-  scrypt_wipe(buffers.chunks, buffers.chunks_len, buffers.table, 0, buffers.scratch,
-              buffers.scratch_len);
+  scrypt_wipe(buffers.chunks, buffers.chunks_len, buffers.table, 0, buffers.scratch, buffers.scratch_len);
   return status;
 }
 
@@ -341,8 +338,7 @@ int scrypt_hasher_key(scrypt_hasher *hasher, const void *password, size_t passwo
 int scrypt_hasher_needs_rehash(const scrypt_hasher *hasher, const char *text, size_t text_len) {
   const scrypt_options *options = scrypt_hasher_options(hasher);
   if (options == NULL) return SCRYPT_NULL_POINTER;
-  return scrypt_needs_rehash(text, text_len, options->log_n, options->r, options->p,
-                             options->key_len);
+  return scrypt_needs_rehash(text, text_len, options->log_n, options->r, options->p, options->key_len);
 }
 
 int scrypt_hasher_stats(scrypt_hasher *hasher, scrypt_stats *stats) {
