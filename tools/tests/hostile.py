@@ -152,14 +152,18 @@ def verdict(text, by):
 
 
 def calls(path):
-    """The calls that verify a text with the empty password: one allocates, one has limits and uses the buffers."""
+    """The calls that verify a text with the empty password: one allocates, one has limits and uses the buffers.
+    The cost of a text has the error of its verification."""
     library = header.loaded(path)
     cost, rooms = header.structure("scrypt_cost")(), [((ctypes.c_uint32 * length)(), length) for length in LENS]
     buffers = list(itertools.chain(*rooms))
 
     def within(*text):
         status = library.scrypt_hash_cost(*text, *BOUNDS, cost)
-        return status or library.scrypt_verify_limited_with_buffers(b"", 0, *text, *BOUNDS, *buffers)
+        verified = library.scrypt_verify_limited_with_buffers(b"", 0, *text, *BOUNDS, *buffers)
+        # No password matches a hash without a key, and its cost cannot be read.
+        is_keyless = (status, verified) == (STATUSES["OutputSize"], STATUSES["PasswordInvalid"])
+        return verified if status in (0, verified) or is_keyless else status
 
     return functools.partial(library.scrypt_verify_unlimited, b"", 0), within
 
