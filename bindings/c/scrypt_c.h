@@ -34,8 +34,7 @@
  * output may be NULL with length 0, and another argument if the call's comment allows it. For any
  * other NULL a call returns SCRYPT_NULL_POINTER before any other status; only scrypt_buffer_lens
  * and scrypt_wipe do not check, and gcc and clang warn there. No output may overlap an input or
- * another output. The caller has to free only a scrypt_hasher and
- * a scrypt_derivation.
+ * another output. The caller has to free only a scrypt_hasher and a scrypt_derivation.
  *
  * All calls are thread-safe, if they share no output or buffer.
  */
@@ -63,8 +62,8 @@
 /* The maximum output_len: 32 * (2^32 - 1). */
 #define SCRYPT_MAX_OUTPUT_LEN UINT64_C(137438953440)
 
-/* Capacities, including the terminating NUL: exactly what scrypt_hash_password needs; enough for any PHC
- * text; and enough for any $7$ hash with a salt of salt_len bytes. */
+/* Capacities, including the terminating NUL: exactly what scrypt_hash_password needs; enough for
+ * any PHC string; and enough for any new $7$ hash with a salt of salt_len bytes. */
 #define SCRYPT_HASH_CAPACITY 89
 #define SCRYPT_PHC_CAPACITY 256
 #define SCRYPT_MCF_CAPACITY(salt_len) (128 + 2 * (salt_len))
@@ -93,14 +92,14 @@ extern "C" {
  * scrypt_generate_salt, and the scrypt_cost that scrypt_hash_cost and scrypt_params_cost write. */
 enum scrypt_status {
   SCRYPT_OK = 0,
-  SCRYPT_MISMATCH = 1,            /* the password is wrong, or the hash has no salt or no key */
+  SCRYPT_MISMATCH = 1,            /* the password is wrong, or a PHC string has no salt or no key */
   SCRYPT_INVALID_PARAMS = 2,      /* log_n, r and p, or key_len, are not accepted */
   SCRYPT_INVALID_OUTPUT_LEN = 3,  /* output_len is 0, or above SCRYPT_MAX_OUTPUT_LEN */
   SCRYPT_OUT_OF_MEMORY = 4,       /* an allocation failed */
   /* The text is not a hash that can be read: */
   SCRYPT_ALGORITHM = 5,           /* the hash is of another algorithm */
   SCRYPT_ENCODING_INVALID = 6,    /* the text does not have the grammar of its format */
-  SCRYPT_OUTPUT_SIZE = 7,         /* the text has no key, or one that is too long */
+  SCRYPT_OUTPUT_SIZE = 7,         /* no key, or one that is too long; in scrypt_hash_cost also: no salt */
   SCRYPT_HASH_PARAM_INVALID = 8,  /* a parameter in the text is not a decimal in its range */
   SCRYPT_HASH_PARAMS_INVALID = 9, /* parameters in the text are not accepted, or not scrypt's */
   SCRYPT_VERSION = 11,            /* the hash has a version field, which scrypt does not define */
@@ -170,28 +169,29 @@ void scrypt_wipe(uint8_t *chunks, size_t chunks_len, uint32_t *table, size_t tab
 
 /* ---- Keys in steps, to show the progress of a derivation or to abandon it ---- */
 
-/* A derivation in steps of a given time, for callers that do something between the steps. The password is read by the first call and by the last, and is not kept.
+/* A derivation in steps of a given time, for callers that do something between the steps. The first
+ * call and the last read the password, and it is not kept.
  *
- *   scrypt_derivation *it = NULL;
+ *   scrypt_derivation *steps = NULL;
  *   double done = 0;
- *   int status = scrypt_derivation_new(password, password_len, salt, salt_len, 20, 8, 1, 0, 32, &it);
+ *   int status = scrypt_derivation_new(password, password_len, salt, salt_len, 20, 8, 1, 0, 32, &steps);
  *   while (status == SCRYPT_OK && done < 1) {
- *     status = scrypt_derivation_run(it, 10, &done);
+ *     status = scrypt_derivation_run(steps, 10, &done);
  *     show(done);
  *   }
- *   if (status == SCRYPT_OK) status = scrypt_derivation_finish(it, password, password_len, key, 32);
- *   scrypt_derivation_free(&it);
+ *   if (status == SCRYPT_OK) status = scrypt_derivation_finish(steps, password, password_len, key, 32);
+ *   scrypt_derivation_free(&steps);
  *
  * Threads: any thread may make the next call, but only one at a time.
- * fork: the child has a copy, which it continues or frees; it is not the parent's.
- * Memory: until it is freed, passwords can be guessed from it at little cost. */
+ * fork: the child has its own copy, which it continues or frees.
+ * Memory: until a derivation is freed, passwords can be guessed from its memory at little cost. */
 typedef struct scrypt_derivation scrypt_derivation;
 
 /* Begins to derive the key of password and salt, output_len bytes long, and writes the derivation,
  * which the caller frees. If max_mem is 0, the tables are those of scrypt_key; otherwise chunks are
  * interleaved as far as all buffers fit into max_mem bytes together, and SCRYPT_TOO_COSTLY means
- * that those with one table do not. If several tables cannot be allocated, one is used. No core is
- * run.
+ * that the buffers with one table do not fit. If several tables cannot be allocated, one is used.
+ * No core is run.
  * SCRYPT_NULL_POINTER, SCRYPT_INVALID_PARAMS, SCRYPT_TOO_COSTLY (only with a max_mem),
  * SCRYPT_INVALID_OUTPUT_LEN, SCRYPT_OUT_OF_MEMORY. */
 SCRYPT_NODISCARD
@@ -260,7 +260,7 @@ int scrypt_stored_text(const void *salt, size_t salt_len, const void *key, size_
                        uint32_t p, int mcf, char *text, size_t capacity);
 
 /* Verifies a password against the text of a hash: returns SCRYPT_OK if the derived key is the key
- * of the hash, and SCRYPT_MISMATCH if it is not, or if the hash has no salt or no key.
+ * of the hash, and SCRYPT_MISMATCH if it is not, or if a PHC string has no salt or no key.
  * A text that is $7 or begins with $7$ is read as a $7$ hash, and any other as a PHC string.
  * The hash sets the parameters, and an untrusted one can demand any memory and time: one that
  * exceeds the default limits of a hasher (SCRYPT_DEFAULT_MAX_MEM, SCRYPT_DEFAULT_MAX_WORK,
@@ -327,9 +327,9 @@ int scrypt_verify_batch_with_buffers(const scrypt_login *logins, size_t count, i
                                      size_t scratch_len);
 
 /* Compares a hash with wanted parameters: returns SCRYPT_NEEDS_REHASH if its log_n, r, p or key
- * length is less than wanted, or if it has no salt or no key; otherwise SCRYPT_OK. Nothing is
- * allocated. First SCRYPT_INVALID_PARAMS (also for key_len), then the errors of scrypt_verify for a
- * text that cannot be read, except SCRYPT_MISMATCH. */
+ * length is less than wanted, or if it is a PHC string without a salt or a key; otherwise
+ * SCRYPT_OK. Nothing is allocated. First SCRYPT_INVALID_PARAMS (also for key_len), then the errors
+ * of scrypt_verify for a text that cannot be read, except SCRYPT_MISMATCH. */
 SCRYPT_NODISCARD
 int scrypt_needs_rehash(const char *text, size_t text_len, uint32_t log_n, uint32_t r, uint32_t p, size_t key_len);
 
@@ -352,10 +352,11 @@ typedef struct scrypt_cost {
 } scrypt_cost;
 
 /* Checks a hash against limits, and writes what it costs to verify it. Nothing is allocated. The
- * errors of scrypt_verify for a text that cannot be read, but SCRYPT_OUTPUT_SIZE without a salt or a
- * key: such a hash is damaged, whatever the password. Then SCRYPT_TOO_COSTLY if the bytes exceed max_mem, or the work exceeds max_work; then
- * SCRYPT_KEY_TOO_SHORT if the key has fewer than min_key_len bytes. With these two the cost is
- * written too; with any other error nothing is written. */
+ * errors of scrypt_verify for a text that cannot be read, but SCRYPT_OUTPUT_SIZE for a PHC string
+ * without a salt or a key: such a hash is damaged, whatever the password. Then SCRYPT_TOO_COSTLY if
+ * the bytes exceed max_mem, or the work exceeds max_work; then SCRYPT_KEY_TOO_SHORT if the key has
+ * fewer than min_key_len bytes. With these two the cost is written too; with any other error
+ * nothing is written. */
 SCRYPT_NODISCARD
 int scrypt_hash_cost(const char *text, size_t text_len, size_t max_mem, uint64_t max_work, size_t min_key_len,
                      scrypt_cost *cost);
@@ -454,8 +455,8 @@ const scrypt_options *scrypt_hasher_options(const scrypt_hasher *hasher);
  * For a login whose name doesn't exist, pass NULL with text_len 0: the call derives with the
  * parameters of new hashes, and returns SCRYPT_MISMATCH after the time of a wrong password, so that
  * a timing attack doesn't tell which names exist.
- * SCRYPT_NULL_POINTER; the errors of scrypt_hash_cost, without waiting; SCRYPT_CLOSED, SCRYPT_TIMEOUT, SCRYPT_OUT_OF_MEMORY, and
- * last SCRYPT_MISMATCH if the password is wrong. */
+ * SCRYPT_NULL_POINTER; the errors of scrypt_hash_cost, without waiting; SCRYPT_CLOSED,
+ * SCRYPT_TIMEOUT, SCRYPT_OUT_OF_MEMORY, and last SCRYPT_MISMATCH if the password is wrong. */
 SCRYPT_NODISCARD
 int scrypt_hasher_verify(scrypt_hasher *hasher, const void *password, size_t password_len, const char *text,
                          size_t text_len, int64_t timeout_ms);
