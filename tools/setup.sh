@@ -25,7 +25,7 @@ needed() {
 }
 unused() {
   for it in $uses; do
-    if [[ $(dpkg-query -W -f '${db:Status-Status}' "$it" 2> /dev/null) != installed ]]; then printf '%s ' "$it"; fi
+    if [[ $(dpkg-query -W -f '${db:Status-Status}' "$it" 2> /dev/null) != installed* ]]; then printf '%s ' "$it"; fi
   done
 }
 log=build/setup.log
