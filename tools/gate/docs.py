@@ -20,7 +20,6 @@ from tools.generate.sources import read
 
 SOURCES = ("crates/", "examples/", "bindings/", "Makefile")
 SUFFIXES = (".rt", ".antt", ".c", ".h", ".py", ".go", ".rs", ".js", "Makefile")
-TEMPLATE = "tools/generate/promises.md"  # its links are those of docs/PROMISES.md
 
 # Names of other programs and libraries.
 OTHERS = {"check_password", "crypt_data", "crypt_r", "find_package", "maxmem_bytes", "mlockall", "must_use", "needs_update",
@@ -91,7 +90,7 @@ def unnamed_calls(path, library):
 def main():
     paths = files()
     names = known_names(paths)
-    documents = {path: read(path) for path in paths if path.endswith(".md") and path != TEMPLATE}
+    documents = {path: read(path) for path in paths if path.endswith(".md")}
     found = [it for path, text in documents.items() for it in (*unknown_names(path, text, names), *broken_links(path, text))]
     sys.exit("\n".join([*found, *unnamed_calls("docs/API.md", Library("."))]) or 0)
 

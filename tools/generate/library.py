@@ -33,6 +33,10 @@ class Library:
             name = f"Rattle.{crate}.specs.{os.path.basename(path)[:-5]}"
             self.modules[name] = specs.read_module(name, os.path.relpath(path, self.folder), sources.read(path))
 
+    def files(self):
+        """Every source and every module of definitions."""
+        return [*(it for those in self.sources.values() for it in those.values()), *self.modules.values()]
+
     def crates(self):
         """The crates that are promised: libraries, except for tests."""
         return [it for it in self.uses if not it.endswith(TESTS) and os.path.exists(f"{self.folder}/crates/{it}/src/lib.rt")]

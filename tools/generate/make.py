@@ -1,7 +1,7 @@
-"""Reads the sources once, and makes of them docs/PROMISES.md and the pages for reading the proof.
+"""Reads the sources once, and makes of them the generated parts of docs/PROMISES.md and the pages for reading the proof.
 
 usage: python3 -m tools.generate.make            writes the pages to build/doc, and prints the first one's address
-       python3 -m tools.generate.make promises   writes docs/PROMISES.md
+       python3 -m tools.generate.make promises   writes these parts
        python3 -m tools.generate.make check      writes the pages, and fails if PROMISES differs from the sources
 
 The pages need Debian's python3-jinja2, and nothing needs the kit. It fails if a name in a

@@ -1,68 +1,44 @@
-"""The text of docs/PROMISES.md: fills the placeholders {name} of tools/generate/promises.md from the sources. These
-are the clauses of a key and of a verdict with their definitions, and the definitions to review."""
+"""The generated parts of docs/PROMISES.md, each between `<!-- generated: .. -->` and `<!-- end -->`: the definitions to
+review, and quotations. `PATH: NAME ..` quotes functions with their clauses, or definitions with their comments, which
+name the standard's steps."""
 
 import itertools
-import os
 import re
 import textwrap
 
 from tools.generate.sources import read
 
-PAGE, TEMPLATE = "docs/PROMISES.md", "tools/generate/promises.md"
+PAGE = "docs/PROMISES.md"
+GENERATED = re.compile(r"(<!-- generated: (.*?)(?:: (.*?))? -->\n\n).*?(\n\n<!-- end -->)", re.S)
 
 # The clauses of each of the two promises.
 KEY = ["scrypt::Params::new accepted", *(f"scrypt::scrypt_counted {it}" for it in ("length", "value", "counted"))]
 VERDICT = [f"scrypt::StoredHash::{it}" for it in ("verify_with_buffers verdict", "verify_with_buffers left")]
 VERDICT += ["scrypt::StoredHash::read reading"]
 
-# Quotations on the page: functions with their clauses, and definitions with their comments, which name the standard's steps.
-QUOTED = {
-    "clauses_of_a_key": [("scrypt", "derivation", ["scrypt"])],
-    "definitions_of_a_key": [
-        ("scrypt", "Key", ["mixed_chunk", "mixed_chunks", "mixed_b", "derived_key"]),
-        ("scrypt_kernel", "RoMix", ["row", "integerify", "walk", "ro_mix"]),
-    ],
-    "clauses_of_a_verdict": [("scrypt", "stored_hash", ["StoredHash::verify"])],
-    "definitions_of_a_verdict": [("scrypt", "Reading", ["is_right", "verdict", "IsVerdict"])],
-}
 
-
-def named(names):
-    return ", ".join(f"`{it}`" for it in names)
-
-
-def name_of(item):
-    if item.kind == "impl":
-        return "{} for {}".format(*item.name.split(" for ", 1))
-    return f"{re.sub('<.*', '', item.owner)}::{item.name}" if item.owner else item.name
-
-
-def quoted_function(library, crate, module, name):
+def quoted_function(source, name):
     """The head of a function in the source, with its clauses and without its body."""
-    source = library.sources[crate][module]
-    item = next(it for it in source.items if it.kind == "fn" and name_of(it) == name)
+    owner, _, name = name.rpartition("::")
+    item = next(it for it in source.items if (it.kind, it.name, re.sub("<.*", "", it.owner)) == ("fn", name, owner))
     return textwrap.dedent("\n".join(source.text.splitlines()[item.line - 1 : item.opened - 1]))
 
 
-def quoted_definition(library, crate, module, name):
+def quoted_definition(module, name):
     """A definition in its file, with the comment above it."""
-    it = library.modules[f"Rattle.{crate}.specs.{module}"]
-    lines, definition = read(it.path).splitlines(), it.definitions[name]
+    lines, definition = read(module.path).splitlines(), module.definitions[name]
     above = list(itertools.takewhile(lambda line: line.startswith("--"), reversed(lines[: definition.line - 1])))
     return "\n".join([*reversed(above), definition.text])
 
 
-def quoted(library, place):
-    """Blocks of code, one for each file, after its name and its first comment."""
-    for crate, module, names in QUOTED[place]:
-        if module in library.sources[crate]:
-            path, language, quote, comment = library.sources[crate][module].path, "rust", quoted_function, ""
-        else:
-            it = library.modules[f"Rattle.{crate}.specs.{module}"]
-            path, language, quote, comment = it.path, "agda", quoted_definition, f": {it.comment}"
-        text = "\n\n".join(quote(library, crate, module, name) for name in names)
-        path = os.path.normpath(path)
-        yield filled(f"[{path}](../{path}){comment}") + f"\n\n```{language}\n{text}\n```\n"
+def quoted(library, path, names):
+    """A block of code from a file, after the file's name and its first comment."""
+    language, quote, comment = "rust", quoted_function, ""
+    it = next(it for it in library.files() if it.path.removeprefix("./") == path)
+    if path.endswith(".antt"):
+        language, quote, comment = "agda", quoted_definition, f": {it.comment}"
+    text = "\n\n".join(quote(it, name) for name in names)
+    return filled(f"[{path}](../{path}){comment}") + f"\n\n```{language}\n{text}\n```"
 
 
 def reading(views):
@@ -75,7 +51,8 @@ def reading(views):
         for module, shown in modules:
             if new := [it for it in shown if it.key not in known]:
                 file = f"[{module.name.split('.')[1]}/{module.short}](../{module.path})"
-                yield filled(f"{file}, {sum(it.lines for it in new)} lines: {named(it.name for it in new)}", "  - ")
+                names = ", ".join(f"`{it.name}`" for it in new)
+                yield filled(f"{file}, {sum(it.lines for it in new)} lines: {names}", "  - ")
         known |= {it.key for it in every}
 
 
@@ -85,9 +62,13 @@ def filled(text, begin=""):
 
 
 def page(views):
-    parts = {place: "\n".join(quoted(views.library, place)).strip() for place in QUOTED}
-    parts["reading"] = "\n".join(reading(views))
-    return re.sub(r"^\{(\w+)\}$", lambda found: parts[found[1]], read(TEMPLATE), flags=re.M)
+    """The page with its parts as the sources have them now."""
+    def part(found):
+        path, names = found[2], found[3]
+        text = quoted(views.library, path, names.split()) if names else "\n".join(reading(views))
+        return found[1] + text + found[4]
+
+    return GENERATED.sub(part, read(PAGE))
 
 
 def lines(views, clauses):
