@@ -82,9 +82,9 @@ def broken_links(path, text):
 def unnamed_calls(path, library):
     """The public functions of the crate scrypt that a document doesn't name."""
     words = set(re.findall(r"\w+", read(path)))
-    functions = ((source, it) for source in library.sources["scrypt"].values() for it in source.items if it.kind == "fn")
-    yield from (f"{path}: {source.path}:{it.line}: the public function {it.name} isn't named" for source, it in functions
-                if it.name not in words and " for " not in it.owner and library.is_public(source, it))
+    functions = (it for source in library.sources["scrypt"].values() for it in source.items if it.kind == "fn")
+    yield from (f"{path}: {it.path}:{it.line}: the public function {it.name} isn't named" for it in functions
+                if it.name not in words and " for " not in it.owner and library.is_public(it))
 
 
 def main():
@@ -92,7 +92,7 @@ def main():
     names = known_names(paths)
     documents = {path: read(path) for path in paths if path.endswith(".md")}
     found = [it for path, text in documents.items() for it in (*unknown_names(path, text, names), *broken_links(path, text))]
-    sys.exit("\n".join([*found, *unnamed_calls("docs/API.md", Library("."))]) or 0)
+    sys.exit("\n".join([*found, *unnamed_calls("docs/API.md", Library())]) or 0)
 
 
 if __name__ == "__main__":
