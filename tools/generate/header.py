@@ -1,4 +1,4 @@
-"""Parses bindings/c/scrypt_c.h: its calls and structures, and their types in ctypes."""
+"""What bindings/c/scrypt_c.h declares: its calls, structures, statuses and numbers, and their types in ctypes."""
 
 import ctypes
 import functools
@@ -11,18 +11,18 @@ TYPES = {"int": ctypes.c_int, "uint8_t": ctypes.c_uint8, "uint32_t": ctypes.c_ui
          "int64_t": ctypes.c_int64, "size_t": ctypes.c_size_t, "double": ctypes.c_double}
 
 
-OPAQUE = re.findall(r"^typedef struct (\w+) \1;", TEXT, re.M)
-
-
 def without_comments(text):
     return re.sub(r"/\*.*?\*/", "", text, flags=re.S)
 
 
-def calls_of(text):
-    """The result, the name and the arguments of each call of a header."""
-    found = re.findall(r"^(int|void|(?:const )?\w+ \*) ?(scrypt_\w+)\(([^{}]*?)\);", without_comments(text), re.M)
-    return [(result, name, [" ".join(it.split()) for it in arguments.split(",") if it != "void"])
-            for result, name, arguments in found]
+def name_of(declared):
+    """The name of an argument or of a field."""
+    return re.search(r"\w+$", declared)[0]
+
+
+def word_of(declared):
+    """The word of its type."""
+    return declared.removeprefix("const ").split()[0]
 
 
 def structures_of(text):
@@ -37,45 +37,21 @@ def structures_of(text):
     return made
 
 
-def statuses_of(text):
-    """The statuses of a header, each name with its number."""
-    return {name: int(number) for name, number in re.findall(r"^  SCRYPT_(\w+) = (\d+)", text, re.M)}
-
-
-def words_of(text):
-    """The message of each status by its name, from status.c."""
-    found = re.findall(r'ROW\((\w+), ((?:"[^"]*"\s*)+)\)', text)
-    return {name: "".join(re.findall('"([^"]*)"', words)) for name, words in found}
-
-
-def version_of(text):
-    """The version of a header."""
-    return re.search('^#define SCRYPT_VERSION_STRING "(.*)"$', text, re.M)[1]
-
-
-def numbers_of(text):
-    """The numbers that a header defines, by their names without SCRYPT_."""
-    found = re.findall(r"^#define SCRYPT_(\w+) \(?(?:UINT\d+_C\()?(\d+)\)?(?: << (\d+)\))?$", text, re.M)
-    return {name: int(number) << int(shift or 0) for name, number, shift in found}
-
-
-NUMBERS = numbers_of(TEXT)
-
-
-def name_of(declared):
-    """The name of an argument or of a field."""
-    return re.search(r"\w+$", declared)[0]
-
-
-def word_of(declared):
-    """The word of its type."""
-    return declared.removeprefix("const ").split()[0]
+OPAQUE, STRUCTURES = re.findall(r"^typedef struct (\w+) \1;", TEXT, re.M), structures_of(TEXT)
+# the result, the name and the arguments of each call
+CALLS = [(result, name, [" ".join(it.split()) for it in arguments.split(",") if it != "void"]) for result, name, arguments in
+         re.findall(r"^(int|void|(?:const )?\w+ \*) ?(scrypt_\w+)\(([^{}]*?)\);", without_comments(TEXT), re.M)]
+# statuses and numbers, by their names without SCRYPT_
+STATUSES = {name: int(number) for name, number in re.findall(r"^  SCRYPT_(\w+) = (\d+)", TEXT, re.M)}
+NUMBERS = {name: int(number) << int(shift or 0) for name, number, shift in
+           re.findall(r"^#define SCRYPT_(\w+) \(?(?:UINT\d+_C\()?(\d+)\)?(?: << (\d+)\))?$", TEXT, re.M)}
+VERSION = re.search('^#define SCRYPT_VERSION_STRING "(.*)"$', TEXT, re.M)[1]
 
 
 def kind(declared, address=ctypes.c_void_p):
     """The type of an argument, a field or a result, or None for void. Of numbers and bytes C takes the address."""
     word = word_of(declared)
-    its = structure(word) if word in structures_of(TEXT) else None
+    its = structure(word) if word in STRUCTURES else None
     if "*" not in declared:
         return its or TYPES.get(word)
     return ctypes.POINTER(its) if its else address
@@ -84,14 +60,14 @@ def kind(declared, address=ctypes.c_void_p):
 @functools.lru_cache(maxsize=None)
 def structure(name):
     """A structure of C."""
-    fields = [(name_of(it), kind(it, ctypes.c_char_p)) for it in structures_of(TEXT)[name]]
+    fields = [(name_of(it), kind(it, ctypes.c_char_p)) for it in STRUCTURES[name]]
     return type(name, (ctypes.Structure,), {"_fields_": fields})
 
 
 def loaded(path):
     """The shared library, with the types of its calls; an older one does not have all."""
     library = ctypes.CDLL(os.path.abspath(path))
-    for result, name, arguments in calls_of(TEXT):
+    for result, name, arguments in CALLS:
         if hasattr(library, name):
             call = getattr(library, name)
             call.argtypes, call.restype = [kind(it) for it in arguments], kind(result)

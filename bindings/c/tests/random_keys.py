@@ -16,8 +16,6 @@ import sys
 from tools.generate import header
 from tools.tests.reference import hash_of
 
-STATUSES = header.statuses_of(header.TEXT)
-
 
 def given(rng):
     """A log_n, r and p, a password and a salt."""
@@ -60,7 +58,7 @@ def needs(rng, count):
             status = "OK" if max(needed, work) < 1 << 64 else "TOO_COSTLY"
         else:
             needed, status = 0, "INVALID_PARAMS"
-        yield line("need", 0, (log_n, r, p), 0, b"", b""), f"{STATUSES[status]} {min(needed, (1 << 64) - 1)}"
+        yield line("need", 0, (log_n, r, p), 0, b"", b""), f"{header.STATUSES[status]} {min(needed, (1 << 64) - 1)}"
 
 
 def main(key_count, text_count, seed, *command):
