@@ -89,8 +89,8 @@ static void *map_block(size_t len) {
 
 /* A block begins at a cache line, and a large block at a huge page, which it asks for, because rows
  * are read in random order. A block below 32 MiB is malloc's, which reuses it: mapping it for each
- * call takes longer if the system has no huge pages. A block above 129 MiB is not touched before
- * its use, because the next allocation may fail. */
+ * call takes longer if the system has no huge pages. A block above MAX_INTERLEAVED_MEM is not
+ * touched before its use, because the next allocation may fail. */
 void *clearing_malloc(size_t len) {
   size_t unit = len < 2 * HUGE_PAGE ? CACHE_LINE : HUGE_PAGE, more = sizeof(struct head) + unit - 1;
   uint8_t *start;

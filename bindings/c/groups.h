@@ -2,6 +2,7 @@
 #ifndef GROUPS_H
 #define GROUPS_H
 
+#include "numbers.h"
 #include "scrypt_c.h"
 
 /* NULL is allowed for no bytes, but not by the proved calls. */
@@ -13,10 +14,6 @@ static inline const uint8_t *bytes_of(const void *bytes) {
 /* Converts log_n for the proved calls, which accept none above 56: truncation must not turn a
  * larger value into an accepted one. */
 static inline uint8_t in_8_bits(uint32_t log_n) { return log_n < 64 ? (uint8_t)log_n : UINT8_MAX; }
-
-/* The maximum bytes of several tables where the caller sets no limit: four of 32 MiB, with scratch
- * and chunks. */
-#define MAX_INTERLEAVED_MEM ((size_t)129 << 20)
 
 /* The progress of a derivation in steps. Of the p * 2^(log_n + 1) block mixes of all chunks,
  * chunks * 2^(log_n + 1) + interleaved * mixes are done. */

@@ -1,10 +1,10 @@
 #!/usr/bin/env python3
-"""Generates code from bindings/c/scrypt_c.h and the functions of crates/scrypt_c: the declarations
-of the packages for Python, Rust and JavaScript, and two lists in C. `make lib` calls it; the
-repository has none of the generated files.
+"""Generates code from bindings/c/scrypt_c.h, the functions of crates/scrypt_c and numbers of crates: the
+declarations of the packages for Python, Rust and JavaScript, and three headers of the C code. `make lib`
+calls it; the repository has none of the generated files.
 
 usage: python3 -m tools.generate.declarations            writes the files of the packages
-       python3 -m tools.generate.declarations FOLDER     and the lists in C into this folder
+       python3 -m tools.generate.declarations FOLDER     and the headers into this folder
 """
 
 import os
@@ -158,14 +158,19 @@ def proved_calls():
     yield from (f"/* {NOTE}crates/scrypt_c/src: the proved calls, each as PROVED_CALL(name, parameters, arguments)",
                 " * if it returns a status, and else as PROVED_PROCEDURE, which whoever includes this list defines: clearing.c chooses one of",
                 " * each level, calls it, and clears after it. */")
-    words = re.search(r"^const MIN_INTERLEAVED_WORDS: usize = (.*);", read("crates/scrypt_c/src/keys.rt"), re.M)
-    yield f"#define MIN_INTERLEAVED_WORDS ({words[1]}) /* of a table that makes interleaving faster */"
     for kind, name, arguments in proved():
         if name != "scrypt_wipe":
             names = ", ".join(map(header.name_of, arguments))
             yield f"PROVED_{kind}({name}, ({', '.join(arguments)}), ({names}))"
         elif arguments != next(given for _, it, given in CALLS if it == name):  # the header declares it, as it sees no password
             sys.exit(f"{name} has other arguments than in the header: {', '.join(arguments)}")
+
+
+def numbers():
+    yield f"/* {NOTE}crates: numbers that C shares with the proved code. */"
+    for name, path in (("MIN_INTERLEAVED_WORDS", "scrypt_c/src/keys.rt"), ("MAX_INTERLEAVED_MEM", "scrypt/src/buffers.rt")):
+        number = re.search(rf"\bconst {name}: usize = (.*);", read(f"crates/{path}"))
+        yield f"#define {name} ({number[1]}) /* crates/{path} */"
 
 
 def each_call():
@@ -189,7 +194,7 @@ PACKAGES = {
     "bindings/rust/src/calls.rs": rust,
     "bindings/js/declared.js": javascript,
 }
-LISTS = {"proved_calls.h": proved_calls, "each_call.h": each_call}
+HEADERS = {"proved_calls.h": proved_calls, "each_call.h": each_call, "numbers.h": numbers}
 
 
 def write(path, make):
@@ -205,7 +210,7 @@ def write(path, make):
 def main(folder=None):
     for path, make in PACKAGES.items():
         write(Path(path), make)
-    for name, make in LISTS.items() if folder else ():
+    for name, make in HEADERS.items() if folder else ():
         write(Path(folder, name), make)
 
 

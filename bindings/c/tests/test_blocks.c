@@ -2,6 +2,7 @@
  * it, and fail on request. */
 #define _GNU_SOURCE
 #include "check.h"
+#include "numbers.h"
 #include "scrypt_c.h"
 
 #include <errno.h>
@@ -69,6 +70,9 @@ static int derive(uint32_t log_n, uint32_t p, size_t max_mem) {
   return status;
 }
 
+/* The most chunks for four tables of 32 MiB and their scratches. */
+enum { MOST = (MAX_INTERLEAVED_MEM - 4 * ((128 * R << 15) + 256 * R)) / (128 * R) };
+
 static void tables_of_keys(size_t that_pay) {
   static const struct {
     const char *why;
@@ -80,11 +84,11 @@ static void tables_of_keys(size_t that_pay) {
               {"no more tables than p", 14, 3, 3},
               {"no more than four", 14, 9, 4},
               {"128 MiB", 15, 4, 4},
-              {"129 MiB with the chunks", 15, 1016, 4},
-              {"above 129 MiB with the chunks", 15, 1017, 3},
+              {"the maximum with the chunks", 15, MOST, 4},
+              {"above the maximum with the chunks", 15, MOST + 1, 3},
               {"two of 64 MiB", 16, 4, 2},
               {"one of 128 MiB", 17, 4, 1},
-              {"one above 129 MiB", 18, 1, 1},
+              {"one above the maximum", 18, 1, 1},
               {"no key with log_n of 60", 60, 4, 0}};
   size_t i;
   for (i = 0; i < sizeof KEYS / sizeof KEYS[0]; i++) {

@@ -8,10 +8,6 @@ use crate::invocation::Machine;
 use scrypt::{BufferLens, Buffers, CoreCount, DeriveError, Params, output_len_ok, scrypt_in_steps};
 use std::alloc::{AllocError, Global};
 
-// The maximum bytes of the buffers if there are several tables, as in C's `scrypt_key`. More could
-// exceed the memory limit of a container that allows one table.
-const MAX_INTERLEAVED_MEM: usize = 129 << 20;
-
 // On x86-64-v2 three interleaved chunks take the least time.
 const MAX_TABLES: usize = 3;
 
@@ -58,7 +54,7 @@ pub(crate) fn derive_shown<M: Machine>(
 fn allocate(alloc: Global, params: &Params) -> Result<(usize, Buffers), AllocError>
     ensures { IfOk result (λ got. AreFor params.now got.1) }
 {
-    let tables = BufferLens::tables_within(params, MAX_INTERLEAVED_MEM).min(MAX_TABLES);
+    let tables = BufferLens::tables_within(params, BufferLens::MAX_INTERLEAVED_MEM).min(MAX_TABLES);
     if tables > 1
         && let Ok(own) = Buffers::allocate(alloc, &BufferLens::for_tables(params, tables))
     {
