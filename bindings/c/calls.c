@@ -105,9 +105,7 @@ int scrypt_verify_limited(STORED, size_t max_mem, uint64_t max_work, size_t min_
   return cleared_scrypt_verify_limited(THE_STORED, max_mem, max_work, min_key_len);
 }
 
-int scrypt_verify(STORED) {
-  return scrypt_verify_limited(THE_STORED, SCRYPT_DEFAULT_MAX_MEM, SCRYPT_DEFAULT_MAX_WORK, SCRYPT_DEFAULT_MIN_KEY_LEN);
-}
+int scrypt_verify(STORED) { return scrypt_verify_limited(THE_STORED, DEFAULT_LIMITS); }
 
 int scrypt_verify_unlimited(STORED) { return scrypt_verify_limited(THE_STORED, SIZE_MAX, UINT64_MAX, 0); }
 

@@ -263,8 +263,8 @@ int scrypt_stored_text(const void *salt, size_t salt_len, const void *key, size_
  * of the hash, and SCRYPT_MISMATCH if it is not, or if a PHC string has no salt or no key.
  * A text that is $7 or begins with $7$ is read as a $7$ hash, and any other as a PHC string.
  * The hash sets the parameters, and an untrusted one can demand any memory and time: one that
- * exceeds the default limits of a hasher (SCRYPT_DEFAULT_MAX_MEM, SCRYPT_DEFAULT_MAX_WORK,
- * SCRYPT_DEFAULT_MIN_KEY_LEN) is rejected before anything is allocated.
+ * exceeds the default limits (scrypt_default_limits, for the recommended parameters) is rejected
+ * before anything is allocated.
  * For a PHC string: SCRYPT_ENCODING_INVALID, SCRYPT_ALGORITHM, SCRYPT_VERSION;
  * SCRYPT_HASH_PARAM_INVALID or SCRYPT_HASH_PARAMS_INVALID, for the first parameter that is
  * rejected; SCRYPT_HASH_PARAMS_INVALID if the parameters are not accepted; SCRYPT_MISMATCH without
@@ -366,9 +366,10 @@ int scrypt_hash_cost(const char *text, size_t text_len, size_t max_mem, uint64_t
 SCRYPT_NODISCARD
 int scrypt_params_cost(uint32_t log_n, uint32_t r, uint32_t p, size_t max_mem, uint64_t max_work, scrypt_cost *cost);
 
-/* Writes the default limits of a hasher that makes such hashes: SCRYPT_DEFAULT_MAX_MEM,
- * SCRYPT_DEFAULT_MAX_WORK and SCRYPT_DEFAULT_MIN_KEY_LEN, changed as far as necessary to admit
- * these hashes. (On a machine with little memory, a hasher's default of max_mem is lower.)
+/* Writes the default limits of a hasher that makes such hashes: on bytes, a little more than a table
+ * of 256 MiB; on work, four times the work of the recommended parameters; and on the length of a
+ * key, at least 16 bytes; changed as far as necessary to admit these hashes. (On a machine with
+ * little memory, a hasher's default of max_mem is lower.)
  * SCRYPT_INVALID_PARAMS; then nothing is written. */
 SCRYPT_NODISCARD
 int scrypt_default_limits(uint32_t log_n, uint32_t r, uint32_t p, size_t key_len, size_t *max_mem, uint64_t *max_work,
@@ -409,14 +410,9 @@ int scrypt_default_limits(uint32_t log_n, uint32_t r, uint32_t p, size_t key_len
  *   before they are unmapped. */
 typedef struct scrypt_hasher scrypt_hasher;
 
-/* Default limits: on bytes, a little more than a table of 256 MiB; on work, four times the work of
- * the recommended parameters; and the minimum length of a key. */
-#define SCRYPT_DEFAULT_MAX_MEM (UINT32_C(257) << 20)
-#define SCRYPT_DEFAULT_MAX_WORK UINT32_C(16781312)
-#define SCRYPT_DEFAULT_MIN_KEY_LEN 16
-
 /* The options of a hasher. A field that is 0 means its default; log_n, r and p mean theirs only if
- * all three are 0, so that N = 1 is possible. More than 8192 processors count as 8192. */
+ * all three are 0, so that N = 1 is possible. The default limits are those of scrypt_default_limits.
+ * More than 8192 processors count as 8192. */
 typedef struct scrypt_options {
   size_t size;              /* sizeof (scrypt_options), so that later versions can add fields; */
                             /* it has no default */
@@ -424,12 +420,10 @@ typedef struct scrypt_options {
   int mcf;                  /* new hashes are PHC strings if 0, otherwise $7$ hashes of crypt(3) */
   size_t key_len, salt_len; /* of new hashes: SCRYPT_KEY_LEN and SCRYPT_SALT_LEN */
   size_t max_mem;           /* maximum bytes of the buffers for a hash, as in scrypt_hash_cost: */
-                            /* SCRYPT_DEFAULT_MAX_MEM, or 7/8 of the memory (see max_tables) if */
-                            /* that is less; but no less than a new hash needs */
-  uint64_t max_work;        /* maximum work of a hash: SCRYPT_DEFAULT_MAX_WORK, or the work of a */
-                            /* new hash if that is more */
-  size_t min_key_len;       /* minimum key length of a hash that is verified, up to key_len: */
-                            /* SCRYPT_DEFAULT_MIN_KEY_LEN, or key_len if that is less */
+                            /* the default, or 7/8 of the memory (see max_tables) if that is */
+                            /* less; but no less than a new hash needs */
+  uint64_t max_work;        /* maximum work of a hash */
+  size_t min_key_len;       /* minimum key length of a hash that is verified, up to key_len */
   size_t max_tables;        /* maximum number of tables: two for each processor, or the number of */
                             /* tables of max_mem that fit into 7/8 of the memory of the */
                             /* machine and of its control group if that is less; one or more */

@@ -40,8 +40,8 @@ type Options struct {
 	Processors int
 
 	// The limits on Params.Memory and Params.Work, above which a hash returns ErrTooCostly: by
-	// default DefaultMaxMem, or 7/8 of the memory if that is less, and DefaultMaxWork, or the cost
-	// of new hashes if that is more.
+	// default those of DefaultLimits, for MaxMem 7/8 of the memory if that is less, or the cost of
+	// new hashes if that is more.
 	MaxMem, MaxWork uint64
 }
 
@@ -212,8 +212,8 @@ func (h *Hasher) Key(ctx context.Context, password, salt []byte, keyLen int) ([]
 //
 // Other errors match (errors.Is) the context's error, ErrClosed or ErrOutOfMemory. If the hash is
 // rejected, Verify returns, without waiting, an error that matches ErrRefused: ErrInvalidHash,
-// ErrTooCostly if the hash exceeds the limits, or ErrKeyTooShort if its key has fewer than
-// DefaultMinKeyLen bytes, or fewer than new keys if that is less.
+// ErrTooCostly if the hash exceeds the limits, or ErrKeyTooShort if its key has fewer bytes than
+// DefaultLimits returns, or fewer than new keys if that is less.
 func (h *Hasher) Verify(ctx context.Context, text string, password []byte) error {
 	if h.shared == nil {
 		return ErrClosed

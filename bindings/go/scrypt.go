@@ -23,15 +23,6 @@ import (
 	"time"
 )
 
-// The default limits on a hash: the maximum of its memory, the maximum of its work, which is four
-// times the work of the recommended parameters, and the minimum length of its key, or the length of
-// new keys if that is less.
-const (
-	DefaultMaxMem    uint64 = C.SCRYPT_DEFAULT_MAX_MEM
-	DefaultMaxWork   uint64 = C.SCRYPT_DEFAULT_MAX_WORK
-	DefaultMinKeyLen        = C.SCRYPT_DEFAULT_MIN_KEY_LEN
-)
-
 // Params are the parameters of a hash: N = 2^LogN, the block size R, the parallelization P, and the
 // length of the hash's key, 10 to 64 bytes. They are of type int so that no conversion truncates
 // them; a number that is out of range gives ErrInvalidParams.
@@ -47,6 +38,17 @@ func Recommended() Params {
 		P:      C.SCRYPT_RECOMMENDED_P,
 		KeyLen: C.SCRYPT_KEY_LEN,
 	}
+}
+
+// DefaultLimits returns the default limits on a hash: the maximum of its memory, a little more than a
+// table of 256 MiB; the maximum of its work, four times the work of the recommended parameters; and
+// the minimum length of its key, 16 bytes.
+func DefaultLimits() (maxMem, maxWork uint64, minKeyLen int) {
+	var mem, keyLen C.size_t
+	var work C.uint64_t
+	C.scrypt_default_limits(C.SCRYPT_RECOMMENDED_LOG_N, C.SCRYPT_RECOMMENDED_R, C.SCRYPT_RECOMMENDED_P, C.SCRYPT_KEY_LEN,
+		&mem, &work, &keyLen)
+	return uint64(mem), uint64(work), int(keyLen)
 }
 
 // Calibrate measures this machine, and returns the most costly parameters whose derivation takes no

@@ -137,7 +137,8 @@ func TestHashes(t *testing.T) {
 func TestOptions(t *testing.T) {
 	usual, large := newHasher(t, Options{}).Options(), newHasher(t, Options{Params: Params{LogN: 19, P: 2}}).Options()
 	tables, processors := usual.MaxTables, usual.Processors
-	check(t, usual == Options{Recommended(), false, 16, tables, processors, DefaultMaxMem, DefaultMaxWork}, usual)
+	maxMem, maxWork, _ := DefaultLimits()
+	check(t, usual == Options{Recommended(), false, 16, tables, processors, maxMem, maxWork}, usual)
 	check(t, tables >= 1 && tables <= 2*processors && processors <= runtime.NumCPU(), usual)
 	check(t, large.MaxMem == 536875008 && large.MaxWork == 33556480, large)
 	for given, inside := range map[Options]int{
@@ -156,6 +157,7 @@ func TestOptions(t *testing.T) {
 // numbers to accepted ones.
 func TestRejectedArguments(t *testing.T) {
 	const stored, most = "1024$8$1$73656173616c74$703969a2643cb636f2e6", uint64(math.MaxUint64)
+	maxMem, _, _ := DefaultLimits()
 	hasher, closed, zero, secret := newHasher(t, small), newHasher(t, small), new(Hasher), make([]byte, 65)
 	check(t, closed.Close() == nil && closed.Close() == nil && zero.Close() == nil && zero.Options() == Options{} && zero.Stats() == Stats{})
 	made := func(options Options) error { return fault(NewHasher(options)) }
@@ -182,7 +184,7 @@ func TestRejectedArguments(t *testing.T) {
 		{with(0, 0, 1-1<<32, 0), ErrInvalidParams, "P:-4294967295"},
 		{with(16384, 0, 0, 0), ErrInvalidParams, "log_n is the logarithm of N, 14 for 16384): LogN 16384, R 8 and P 1"},
 		{with(57, 0, 0, 0), ErrInvalidParams, "LogN 57, R 8 and P 1 are not accepted: {"},
-		{verify(costly, Options{MaxWork: 16781311}), ErrTooCostly, "MaxMem is 269484032, MaxWork is 16781311"},
+		{verify(costly, Options{MaxWork: 16781311}), ErrTooCostly, fmt.Sprintf("MaxMem is %d, MaxWork is 16781311", maxMem)},
 		{verify(costly, Options{MaxMem: 134223871}), ErrTooCostly, "need 134223872 bytes and a work of 16781312"},
 		{verify(noHash[:len(noHash)-2], Options{}), ErrKeyTooShort, "a key of 15 bytes"},
 		{verify("$scrypt$ln=4,r=8,p=1$c2FsdHNhbHQ", Options{}), ErrRefused, "the hash has no key"},

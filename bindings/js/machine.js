@@ -1,4 +1,5 @@
 // The memory and the processors of the machine, or of the container.
+import { DEFAULT_MAX_MEM } from './declared.js';
 import { host } from './host.js';
 
 const { os } = host;
@@ -9,8 +10,8 @@ export const MEMORY = Math.floor((memory * 7) / 8);
 
 const processors = os?.availableParallelism() ?? globalThis.navigator?.hardwareConcurrency ?? 4;
 
-// A verification within the default limits takes 257 MiB, and its worker about 15 MiB more.
-const OF_WORKER = 272 * 2 ** 20;
+// The memory of a verification within the default limits; its worker takes about 15 MiB more.
+const OF_WORKER = DEFAULT_MAX_MEM + 15 * 2 ** 20;
 
 /** The default maximum number of workers. */
 export const MAX_WORKERS = Math.max(1, Math.min(processors, 4, Math.floor(MEMORY / OF_WORKER)));

@@ -101,9 +101,9 @@ def javascript():
     for name, number in proved.items():
         if number != str(STATUSES.get(name)):
             sys.exit(f"crates/scrypt_c/src/statuses.rt: {name} is {number}, and {STATUSES.get(name)} in the header")
-    yield f"// {NOTE}bindings/c: the recommended parameters, the statuses and their words. DO NOT EDIT."
+    yield f"// {NOTE}bindings/c: the recommended parameters, the default limits, the statuses and their words. DO NOT EDIT."
     yield from (f"export const {name} = {NUMBERS[name]};" for name in
-                ("RECOMMENDED_LOG_N", "RECOMMENDED_R", "RECOMMENDED_P", "SALT_LEN", "KEY_LEN", "MAX_KEY_LEN"))
+                ("RECOMMENDED_LOG_N", "RECOMMENDED_R", "RECOMMENDED_P", "SALT_LEN", "KEY_LEN", "MAX_KEY_LEN", *header.LIMITS))
     yield from ("", *(f"export const {name} = {number};" for name, number in proved.items()))
     yield from ("", "/** The name and the words of each status. */", "export const WORDS = new Map([")
     for name, words in re.findall(r'ROW\((\w+), ((?:"[^"]*"\s*)+)\)', read("bindings/c/status.c")):
@@ -171,6 +171,7 @@ def numbers():
     for name, path in (("MIN_INTERLEAVED_WORDS", "scrypt_c/src/keys.rt"), ("MAX_INTERLEAVED_MEM", "scrypt/src/buffers.rt")):
         number = re.search(rf"\bconst {name}: usize = (.*);", read(f"crates/{path}"))
         yield f"#define {name} ({number[1]}) /* crates/{path} */"
+    yield f"#define DEFAULT_LIMITS {', '.join(map(str, header.LIMITS.values()))} /* crates/scrypt/src/limits.rt */"
 
 
 def each_call():

@@ -1,4 +1,5 @@
-"""What bindings/c/scrypt_c.h declares: its calls, structures, statuses and numbers, and their types in ctypes."""
+"""What bindings/c/scrypt_c.h declares: its calls, structures, statuses and numbers, and their types in ctypes. The default
+limits are those of crates/scrypt."""
 
 import ctypes
 import functools
@@ -6,7 +7,8 @@ import os
 import re
 from pathlib import Path
 
-TEXT = (Path(__file__).parents[2] / "bindings/c/scrypt_c.h").read_text("utf-8")
+TOP = Path(__file__).parents[2]
+TEXT = (TOP / "bindings/c/scrypt_c.h").read_text("utf-8")
 TYPES = {"int": ctypes.c_int, "uint8_t": ctypes.c_uint8, "uint32_t": ctypes.c_uint32, "uint64_t": ctypes.c_uint64,
          "int64_t": ctypes.c_int64, "size_t": ctypes.c_size_t, "double": ctypes.c_double}
 
@@ -41,10 +43,12 @@ OPAQUE, STRUCTURES = re.findall(r"^typedef struct (\w+) \1;", TEXT, re.M), struc
 # the result, the name and the arguments of each call
 CALLS = [(result, name, [" ".join(it.split()) for it in arguments.split(",") if it != "void"]) for result, name, arguments in
          re.findall(r"^(int|void|(?:const )?\w+ \*) ?(scrypt_\w+)\(([^{}]*?)\);", without_comments(TEXT), re.M)]
-# statuses and numbers, by their names without SCRYPT_
+# statuses and numbers, by their names without SCRYPT_; the crate proves that the default limits have these values
 STATUSES = {name: int(number) for name, number in re.findall(r"^  SCRYPT_(\w+) = (\d+)", TEXT, re.M)}
-NUMBERS = {name: int(number) << int(shift or 0) for name, number, shift in
-           re.findall(r"^#define SCRYPT_(\w+) \(?(?:UINT\d+_C\()?(\d+)\)?(?: << (\d+)\))?$", TEXT, re.M)}
+NUMBERS = {name: int(number) for name, number in re.findall(r"^#define SCRYPT_(\w+) (?:UINT64_C\()?(\d+)\)?$", TEXT, re.M)}
+LIMITS = {f"DEFAULT_{name.upper()}": int(number) for name, number in
+          re.findall(r"Limits::DEFAULT\.(\w+) == (\d+)", (TOP / "crates/scrypt/src/limits.rt").read_text("utf-8"))}
+NUMBERS |= LIMITS
 VERSION = re.search('^#define SCRYPT_VERSION_STRING "(.*)"$', TEXT, re.M)[1]
 
 

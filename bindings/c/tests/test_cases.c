@@ -1,11 +1,10 @@
 /* The verifications of bindings/cases.tsv, which the packages read too.
  * usage: test_cases FILE */
 #include "check.h"
+#include "numbers.h"
 #include "scrypt_c.h"
 
 #include <string.h>
-
-#define LIMITS SCRYPT_DEFAULT_MAX_MEM, SCRYPT_DEFAULT_MAX_WORK, SCRYPT_DEFAULT_MIN_KEY_LEN
 
 int main(int argc, char **argv) {
   char line[4096];
@@ -23,7 +22,7 @@ int main(int argc, char **argv) {
     len = strlen(text);
     zero = strstr(text, "\\0");
     if (zero != NULL) *zero = 0, len--;
-    name = scrypt_status_name(scrypt_verify_limited(password, strlen(password), text, len, LIMITS));
+    name = scrypt_status_name(scrypt_verify_limited(password, strlen(password), text, len, DEFAULT_LIMITS));
     check(name != NULL && strcmp(name + strlen("SCRYPT_"), line) == 0, text);
     count++;
   }

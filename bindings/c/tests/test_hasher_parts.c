@@ -36,6 +36,8 @@ static void options(void) {
   }
 }
 
+static const uint64_t LIMITS[] = {DEFAULT_LIMITS};
+
 static void defaults(void) {
   scrypt_hasher *hasher = scrypt_hasher_new(NULL, NULL);
   const scrypt_options *with = scrypt_hasher_options(hasher);
@@ -45,9 +47,9 @@ static void defaults(void) {
   IS(with->p, SCRYPT_RECOMMENDED_P);
   IS(with->key_len, SCRYPT_KEY_LEN);
   IS(with->salt_len, SCRYPT_SALT_LEN);
-  IS(with->max_mem, SCRYPT_DEFAULT_MAX_MEM);
-  IS(with->max_work, SCRYPT_DEFAULT_MAX_WORK);
-  IS(with->min_key_len, SCRYPT_DEFAULT_MIN_KEY_LEN);
+  IS(with->max_mem, LIMITS[0]);
+  IS(with->max_work, LIMITS[1]);
+  IS(with->min_key_len, LIMITS[2]);
   IS(with->processors, processors_of_process());
   IS(with->max_tables, 2 * with->processors);
   IS(scrypt_hasher_options(NULL), NULL);
@@ -306,8 +308,7 @@ static void memory(void) {
     size_t memory, max_mem, processors, max_tables, default_most;
   } MEMORY[] = {{"two for each processor", SIZE_MAX, 1 << 14, 64, 128},
                 {"two for each of 8192 processors", SIZE_MAX, 1 << 14, SIZE_MAX / 2 + 1, 1 << 14},
-                {"three tables of the default max_mem in 7/8 of the memory", GIB, 0, 64, 3,
-                 SCRYPT_DEFAULT_MAX_MEM},
+                {"three tables of the default max_mem in 7/8 of the memory", GIB, 0, 64, 3, LIMITS[0]},
                 {"six tables of 129 MiB", GIB, 129 << 20, 64, 6},
                 {"max_mem is 7/8 of the memory by default", GIB / 4, 0, 64, 1, 7 * (GIB / 32)},
                 {"max_mem is no less than a new hash needs", GIB / 16, 0, 64, 1, 134220800},

@@ -4,6 +4,7 @@
  * says. */
 #include "arguments.h"
 #include "check.h"
+#include "numbers.h"
 
 #include <pthread.h>
 
@@ -48,10 +49,11 @@ static int are_lens(size_t table_len, size_t scratch_len) {
 }
 static int lens(void) { return are_lens(1024, 128); }
 static int lens_of_half(void) { return are_lens(512, 192); }
+static const uint64_t LIMITS[] = {DEFAULT_LIMITS};
 static int are_limits(size_t min_key_len) {
-  return *made.max_mem == SCRYPT_DEFAULT_MAX_MEM && *made.max_work == SCRYPT_DEFAULT_MAX_WORK && *made.min_key_len == min_key_len;
+  return *made.max_mem == LIMITS[0] && *made.max_work == LIMITS[1] && *made.min_key_len == min_key_len;
 }
-static int limits(void) { return are_limits(SCRYPT_DEFAULT_MIN_KEY_LEN); }
+static int limits(void) { return are_limits(LIMITS[2]); }
 static int limits_of_short_keys(void) { return are_limits(10); }
 static int stats(void) { return made.stats->waiting == 0 && made.stats->deriving == 0 && made.stats->failed == 0; }
 static int params(void) { return *made.log_n == 4 && *made.r == 2 && *made.p == 3 && *made.key_len == 20; }

@@ -1,4 +1,5 @@
 // The checks for each engine. Each is a name and a function, which throws on failure.
+import { DEFAULT_MAX_MEM, DEFAULT_MAX_WORK, DEFAULT_MIN_KEY_LEN } from '../declared.js';
 import * as workers from '../index.js';
 import { compile } from '../load.js';
 import { OF, bytes, equal, hex, instead, opened, refused, utf8, wiping } from './support.js';
@@ -122,8 +123,8 @@ const OF_EACH = {
     await refused('TOO_COSTLY', () => api.verify('', null, { maxmem: 1 }));
   },
   limits: async (api) => {
-    await refused('TOO_COSTLY', () => api.verify('', COSTLY), ': 11282432 bytes (maxmem is '
-      + '269484032), a work of 16896000 (maxwork is 16781312), a key of 32 bytes (minKeyLength is 16)');
+    await refused('TOO_COSTLY', () => api.verify('', COSTLY), `: 11282432 bytes (maxmem is ${DEFAULT_MAX_MEM}), a work of `
+      + `16896000 (maxwork is ${DEFAULT_MAX_WORK}), a key of 32 bytes (minKeyLength is ${DEFAULT_MIN_KEY_LEN})`);
     equal(await api.verify('', COSTLY, { N: 16, p: 11000, dkLen: 32 }), false, 'as for new hashes');
     // 128 * r * p bytes of chunks, 128 * r * N of a table, and 256 * r of scratch.
     const [maxmem, maxwork] = [128 + 2048 + 256, 4 * (16 + 32)];

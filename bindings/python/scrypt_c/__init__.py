@@ -27,7 +27,7 @@ the library inside this package is used; if there is none, the one that the syst
 
 from .arguments import Bytes, Password
 from .calibration import calibrate
-from .declared import VERSION_STRING
+from .declared import DEFAULT_MAX_MEM, DEFAULT_MAX_WORK, DEFAULT_MIN_KEY_LEN, VERSION_STRING
 from .errors import (
     InvalidHashError,
     InvalidOutputLenError,
@@ -41,7 +41,7 @@ from .errors import (
 )
 from .hasher import Options, PasswordHasher, Stats
 from .key import scrypt
-from .params import DEFAULT_MIN_KEY_LEN, DEFAULT_MAX_MEM, DEFAULT_MAX_WORK, RECOMMENDED, Params, params_of
+from .params import RECOMMENDED, Params, params_of
 
 __version__ = VERSION_STRING
 

@@ -7,9 +7,9 @@ import ctypes
 from . import library
 from .arguments import in_64_bits
 from .arguments import seconds as time_of
-from .declared import TOO_COSTLY
+from .declared import DEFAULT_MAX_MEM, TOO_COSTLY
 from .errors import check
-from .params import DEFAULT_MAX_MEM, Params
+from .params import Params
 
 MAX_SECONDS = 1e9
 

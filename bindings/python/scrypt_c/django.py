@@ -37,11 +37,11 @@ from django.utils.crypto import constant_time_compare
 from django.utils.translation import gettext_noop as _
 
 from .arguments import raw_password
-from .declared import RECOMMENDED_LOG_N, RECOMMENDED_P, RECOMMENDED_R
+from .declared import DEFAULT_MAX_MEM, DEFAULT_MAX_WORK, RECOMMENDED_LOG_N, RECOMMENDED_P, RECOMMENDED_R
 from .errors import InvalidHashError, InvalidParamsError, RefusedHashError, VerifyMismatchError
 from .hasher import PasswordHasher
 from .key import derive_within, log_of
-from .params import DEFAULT_MAX_MEM, DEFAULT_MAX_WORK, Params
+from .params import Params
 
 LOG = logging.getLogger(__name__)
 

@@ -72,7 +72,6 @@ def _declared(name: str, library: ctypes.CDLL = _lib) -> Any:
 key = _declared("scrypt_key")
 params_cost = _declared("scrypt_params_cost")
 hash_cost = _declared("scrypt_hash_cost")
-default_limits = _declared("scrypt_default_limits")
 derivation_new = _declared("scrypt_derivation_new")
 derivation_run = _declared("scrypt_derivation_run")
 derivation_finish = _declared("scrypt_derivation_finish")

@@ -63,16 +63,7 @@ def cost_of(
     return status, cost
 
 
-def _default_limits() -> tuple[int, int, int]:
-    limits = ctypes.c_size_t(), ctypes.c_uint64(), ctypes.c_size_t()
-    check(library.default_limits(*RECOMMENDED, *limits))
-    return limits[0].value, limits[1].value, limits[2].value
-
-
 RECOMMENDED = Params()
-
-# The default limits on the cost of a hash, and on the length of its key.
-DEFAULT_MAX_MEM, DEFAULT_MAX_WORK, DEFAULT_MIN_KEY_LEN = _default_limits()
 
 
 def check_costs(

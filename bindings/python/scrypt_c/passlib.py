@@ -14,9 +14,9 @@ from __future__ import annotations
 import passlib.hash
 
 from .arguments import raw_password
-from .declared import RECOMMENDED_LOG_N
+from .declared import DEFAULT_MAX_MEM, DEFAULT_MAX_WORK, RECOMMENDED_LOG_N
 from .key import derive_within
-from .params import DEFAULT_MAX_MEM, DEFAULT_MAX_WORK, Params
+from .params import Params
 
 
 class scrypt(passlib.hash.scrypt):  # passlib names handlers as their scheme

@@ -47,7 +47,7 @@ REFUSED = [
     (TooCostlyError, "log_n=17, r=8, p=1 need 134220800 bytes and a work of 4195328, with", made, [
         {"log_n": 17, "max_mem": 134220799}, {"log_n": 17, "max_work": 4195327}]),
     (TooCostlyError, "need", made, each("max_mem max_work", 0, -1)),  # not defaults
-    (TooCostlyError, "p=2000000 need 256000512 bytes and a work of 272000000, with max_mem=269484032",
+    (TooCostlyError, f"need 256000512 bytes and a work of 272000000, with max_mem={scrypt_c.DEFAULT_MAX_MEM}",
      verify, each("hash", f"$scrypt$ln=1,r=1,p=2000000{KEY}")),
     (TooCostlyError, "n=16, r=8, p=1 need 19456 bytes and a work of 1536", key, [
         {"maxmem": 19455}, *each("max_work", 1535, 0)]),

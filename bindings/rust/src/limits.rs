@@ -66,18 +66,3 @@ impl Default for Limits {
         Limits::DEFAULT
     }
 }
-
-/// The constants equal the options of a hasher that is created without options. It is not freed, so
-/// that its options stay valid.
-#[cfg(test)]
-#[test]
-fn default_limits_of_the_library() {
-    use crate::calls::*;
-    // SAFETY: the status is a local variable, and NULL means the default options.
-    let options = unsafe { &*scrypt_hasher_options(scrypt_hasher_new(std::ptr::null(), &mut -1)) };
-    let limits = Limits { max_mem: options.max_mem, max_work: options.max_work };
-    assert_eq!((limits, options.min_key_len), (Limits::DEFAULT, Limits::DEFAULT_MIN_KEY_LEN));
-    let usual = Params::RECOMMENDED;
-    assert_eq!((options.log_n, options.r, options.p), (usual.log_n().into(), usual.r(), usual.p()));
-    assert_eq!((options.key_len, options.salt_len), (usual.key_len(), 16));
-}

@@ -32,9 +32,9 @@ and for hash:\n\
 \x20 --recommended      LOG_N R P are 17 8 1 and a salt is drawn: hash phc|mcf\n\
 options for verify and rehash, as an untrusted HASH chooses its own cost:\n\
 \x20 --default-limits   all three limits below; without an option there are none\n\
-\x20 --max-mem=N        the maximum memory (269484032 bytes), and\n\
-\x20 --max-work=N       the maximum work, 4 * (2^LOG_N + 32) * R * P (16781312),\n\
-\x20                    or for rehash what the new hash needs if that is more\n\
+\x20 --max-mem=N        the maximum memory in bytes (a table of 256 MiB fits), and\n\
+\x20 --max-work=N       the maximum work, 4 * (2^LOG_N + 32) * R * P (four times that of\n\
+\x20                    17 8 1), or for rehash what the new hash needs if that is more\n\
 \x20 --min-key-len=N    the minimum length of the key in bytes (16 for verify, 0 for rehash)\n\
 and because other users can see arguments:\n\
 \x20 --hash-file=FILE   read HASH from FILE: then leave HASH out\n\
