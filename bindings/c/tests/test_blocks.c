@@ -1,7 +1,7 @@
 /* The memory that the calls allocate and free: in a program whose malloc, mmap and munmap record
  * it, and fail on request. */
 #define _GNU_SOURCE
-#include "check.h"
+#include "child.h"
 #include "numbers.h"
 #include "scrypt_c.h"
 
@@ -136,15 +136,23 @@ static void no_table(void) {
   REFUSES("a key of 16 bytes", 14, 0, SCRYPT_KEY_TOO_SHORT, scrypt_verify_limited(OF_PHC, NO_LIMITS, 17));
 }
 
-/* If there is memory for one table and not for several, one is used. */
-static void one_of_several(void) {
-  uint8_t same[32];
-  check(scrypt_key(SECRETS, 14, R, 4, same, sizeof same) == SCRYPT_OK, "a key");
-  min_refused = 2 * table_bytes(14);
-  check(scrypt_key(SECRETS, 14, R, 4, key, sizeof key) == SCRYPT_OK && memcmp(key, same, 32) == 0, "in one table");
+/* One table is used if the system has no memory for several: here 80 MiB of address space, of which
+ * a table takes 32. */
+static uint8_t wanted_key[32];
+static int is_in_one_table(void) {
+  FILE *statm = fopen("/proc/self/statm", "r");
+  unsigned long pages;
+  struct rlimit limit;
+  if (statm == NULL || fscanf(statm, "%lu", &pages) != 1 || getrlimit(RLIMIT_AS, &limit) != 0) return 1;
+  limit.rlim_cur = pages * (size_t)sysconf(_SC_PAGESIZE) + (80 << 20);
+  if (setrlimit(RLIMIT_AS, &limit) != 0) return 2;
+  if (scrypt_key(SECRETS, 15, R, 4, key, sizeof key) != SCRYPT_OK || memcmp(key, wanted_key, 32) != 0) return 3;
   memset(key, 7, sizeof key);
-  check(derive(14, 4, 0) == SCRYPT_OK && memcmp(key, same, 32) == 0, "in one table, in steps");
-  min_refused = SIZE_MAX;
+  return derive(15, 4, 0) != SCRYPT_OK || memcmp(key, wanted_key, 32) != 0;
+}
+static void one_of_several(void) {
+  check(scrypt_key(SECRETS, 15, R, 4, wanted_key, 32) == SCRYPT_OK, "a key");
+  in_a_child(is_in_one_table, "a key, and one in steps, in 80 MiB");
 }
 
 static long touched_kib(void) {
