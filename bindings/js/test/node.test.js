@@ -13,15 +13,17 @@ const at = (path) => new URL(`../../../${path}`, import.meta.url);
 const read = (path) => readFileSync(at(path), 'utf8');
 const randomOf = (list) => list[randomInt(list.length)];
 
-function randomKey() {
+// A key of random secrets; its costs are random, unless they are given.
+function randomKey(costs) {
   const some = () => randomBytes(randomOf([0, 1, 7, 8, 16, 63, 64, 65, 200]));
   const [password, salt, dkLen] = [some(), some(), randomOf([1, 16, 31, 32, 33, 64, 100])];
-  const of = { N: 2 ** randomInt(1, 11), r: randomInt(1, 13), p: randomInt(1, 7), dkLen };
+  const of = { N: 2 ** randomInt(1, 11), r: randomInt(1, 13), p: randomInt(1, 7), dkLen, ...costs };
   const key = scryptSync(password, salt, dkLen, { ...of, maxmem: 2 ** 30 });
   return { password: hex(password), salt: hex(salt), of, key: hex(key) };
 }
 
-const keys = Array.from({ length: process.env.KEYS ?? 100 }, randomKey);
+const manyChunks = [{ N: 1024, r: 1, p: 500 }, { N: 512, r: 1, p: 4096 }];
+const keys = [...manyChunks, ...Array(Number(process.env.KEYS ?? 100)).fill({})].map(randomKey);
 const cases = { keys, lines: read('bindings/cases.tsv') };
 writeFileSync(at('build/wasm/cases.json'), JSON.stringify(cases));
 for (const [name, check] of Object.entries(checks(cases))) test(name, check);
