@@ -8,8 +8,9 @@ count. A count could also be wrong by one of the following, which are errors her
   that one hashes and derives would not be counted. Calls are followed by the last name alone, so a
   call counts as a call of each function with that name in its crate and below, and `x.f()` as one
   of each method
-- a file that names the trait `Digest` or all of `sha2`, through which SHA-256 is called, except the
-  file that counts the blocks that it compresses
+- a file that names more of `sha2` than the type `Sha256`, such as the trait through which SHA-256 is
+  called, except the file that counts the blocks that it compresses
+- another name for `CoreCount`, by which a count could be made unseen
 - a handwritten proof other than the counter's
 
 An impl of `PartialEq` chooses its own relation, and the contract of `Clone` does not require a copy
@@ -48,7 +49,8 @@ PASSED = re.compile(r"\b(?:CoreCount|ActiveBuffers)\b")
 CALL = re.compile(r"(\.?\b\w+)\s*(?:::\s*<[^;{}()]*>\s*)?\(|::\s*(\w+)")
 METHOD = re.compile(r"\(\s*&?(?:'\w+ )?(?:mut )?self\b")
 
-HASHING, HASHING_SOURCE = re.compile(r"\bDigest\b|\bsha2\s*::\s*\*"), "crates/scrypt_kernel/src/cores/sha256.rt"
+HASHING, HASHING_SOURCE = re.compile(r"\bDigest\b|(?<!Rattle\.)\bsha2\b(?!\s*::\s*Sha256\b)"), "crates/scrypt_kernel/src/cores/sha256.rt"
+RENAMED = re.compile(r"\bCoreCount\s+as\b|=\s*CoreCount\s*;")
 HANDWRITTEN = ["crates/scrypt_kernel/proofs/cores/count/CoreCount/of/Proof.antt"]
 
 # The clauses by which an impl of `PartialEq` compares the whole values.
@@ -92,6 +94,8 @@ def wrong_in(source):
     """The other errors in a source."""
     if source.path != HASHING_SOURCE and HASHING.search(source.text):
         yield f"{source.path}: calls SHA-256 where it is not counted"
+    if RENAMED.search(source.text):
+        yield f"{source.path}: gives CoreCount another name"
     for item in source.items:
         trait = re.search(r"\b(Clone|PartialEq)\b(?:<[^>]*>)? for ", item.name)
         body = "\n".join(source.text.splitlines()[item.line : item.last])
