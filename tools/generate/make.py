@@ -17,9 +17,7 @@ import sys
 from collections import Counter
 from pathlib import Path
 
-from tools import debian
-
-debian.add_packages()
+sys.path.append("/usr/lib/python3/dist-packages")  # Debian's packages, for an interpreter that is not the system's
 try:
     import jinja2
 except ImportError:

@@ -23,12 +23,11 @@ import subprocess
 import sys
 import tempfile
 
-from tools import debian
 from tools.tests import crypt64, known, oracle, reference
 from tools.tests.oracle import some_bytes, some_params
 from tools.tests.runs import run
 
-debian.add_packages()
+sys.path.append("/usr/lib/python3/dist-packages")  # Debian's packages, for an interpreter that is not the system's
 os.environ.setdefault("SCRYPT_C_LIBRARY", "build/lib")
 sys.path.insert(0, "bindings/python")
 from scrypt_c import migration  # noqa: E402
