@@ -19,7 +19,7 @@ import sys
 import tempfile
 from pathlib import Path
 
-from tools import copies, kit
+from tools import copies, prover_command
 
 TARGET = "x86_64-w64-mingw32"
 OUT = Path("crates/scrypt_c/out/windows")
@@ -41,7 +41,7 @@ DEFINED = re.compile(r"^define .*", re.M)
 
 
 def tool(name):
-    return f"{kit.located()}/toolchain/bin/{name}"
+    return f"{prover_command.kit()}/toolchain/bin/{name}"
 
 
 def compile_as_given(given, text, made, *options):

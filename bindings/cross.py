@@ -18,7 +18,7 @@ import sys
 import tempfile
 from pathlib import Path
 
-from tools import copies, kit, presets
+from tools import copies, presets, prover_command
 
 MADE = {"scrypt_c": "libscrypt_c.a", "scrypt_tool": "scrypt_tool.o"}
 
@@ -37,7 +37,7 @@ def build(room, preset, name, given):
     out, of_kit = Path(f"crates/{name}/out/{preset}").resolve(), presets.MACHINES[preset]["kit"]
     out.mkdir(parents=True, exist_ok=True)
     copies.copy_crate(name, room / name, of_kit["backend"])
-    options = ["--toolchain", f"{kit.located()}/toolchain", "--backend", "llvm", "--target", of_kit["target"]]
+    options = ["--toolchain", f"{prover_command.kit()}/toolchain", "--backend", "llvm", "--target", of_kit["target"]]
     verdict = copies.build(name, room / name, out / MADE[name], *options, kept=begin(name, preset, given))
     shutil.rmtree(out / "kept", ignore_errors=True)
     shutil.move(room / name / "kept", out / "kept")

@@ -11,7 +11,7 @@ import subprocess
 import sys
 from pathlib import Path
 
-from tools import kit, prover_command
+from tools import prover_command
 
 TOP = Path(__file__).resolve().parents[1]
 
@@ -53,7 +53,7 @@ def leave_out(crate, function):
 def copy_toolchain(to, *flags, given=None):
     """The kit's toolchain, with these flags for the compiler. If a folder is given, the compiler saves its input there:
     its options, one a line, and module.bc. In that case it is called once."""
-    own = f"{kit.located()}/toolchain"
+    own = f"{prover_command.kit()}/toolchain"
     (to / "bin").mkdir(parents=True)
     (to / "lib").symlink_to(f"{own}/lib")
     for tool in os.listdir(f"{own}/bin"):

@@ -2,8 +2,16 @@
 crates/*/out, or at the same paths in the folder that PROVED_LIBRARIES names in the environment."""
 
 import os
-from tools.kit import located as kit
+import shutil
+import sys
+from pathlib import Path
+
 from tools.generate.sources import crates
+
+
+def kit():
+    """The folder of the Rattle kit."""
+    return Path(shutil.which("rt") or sys.exit("the Rattle kit's command rt isn't here")).resolve().parents[1]
 
 
 def below(name):

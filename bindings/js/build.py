@@ -14,7 +14,7 @@ import tempfile
 from pathlib import Path
 
 from bindings.js import lower
-from tools import copies
+from tools import copies, prover_command
 from tools.generate import declarations
 
 TOP = Path(__file__).resolve().parents[2]
@@ -63,7 +63,7 @@ def main(kept):
     # Not in the repository, because rt rejects sources there that belong to no crate.
     with tempfile.TemporaryDirectory() as room:
         archive = prove(Path(room), kept)
-        own = copies.kit.located()
+        own = prover_command.kit()
         copies.run(f"{own}/bin/rattle-link", "--target", TARGET, "--toolchain", f"{own}/toolchain", "-o", MADE, archive)
     # Binaryen's wasm-opt can do this too, but what is packed must not depend on which version of it
     # is installed, if any.

@@ -19,7 +19,7 @@ import sys
 import tempfile
 from pathlib import Path
 
-from tools import copies, kit, prover_command
+from tools import copies, prover_command
 
 # The options of each level, and its folder.
 LEVELS = {"x86-64-v3": (["--cpu", "x86-64-v3"], "x86-64-v3"), "x86-64-v2": ([], ".")}
@@ -30,7 +30,7 @@ def build(level, out, kept, backend):
     options = [*LEVELS[level][0], "--backend", backend, "--incremental", kept]
     out.mkdir(parents=True, exist_ok=True)
     with tempfile.TemporaryDirectory() as room:
-        toolchain = Path(kit.located(), "toolchain")
+        toolchain = Path(prover_command.kit(), "toolchain")
         if backend == "llvm":
             toolchain = Path(room, "toolchain")
             copies.copy_toolchain(toolchain, given=out / "given")
