@@ -14,6 +14,7 @@ vector instructions with an operand on the stack. It fails if a number of chunks
 loop calls a function, cores are outside of a loop, or a number is above its limit.
 """
 
+import collections
 import re
 import subprocess
 import sys
@@ -51,9 +52,8 @@ VECTOR, ON_STACK = re.compile(r"%[xy]mm|\b[vq]\d+"), re.compile(r"\(%[re]sp|\[sp
 def sections(library):
     """The instructions of each section of code, by their addresses. A library can have several objects."""
     text = ""
-    for tools in "", "aarch64-linux-gnu-":
-        command = [f"{tools}objdump", "-d", "--no-show-raw-insn", library]
-        ran = subprocess.run(command, capture_output=True, text=True)
+    for objdump in "objdump", "aarch64-linux-gnu-objdump":
+        ran = subprocess.run([objdump, "-d", "--no-show-raw-insn", library], capture_output=True, text=True)
         if ran.returncode == 0:
             text = ran.stdout
             break
@@ -62,69 +62,62 @@ def sections(library):
         yield {int(it[1], 16): it[2] for it in found if it}
 
 
-def inner_loops(code):
-    """The first and the last address of each loop that has no other loop in it: a jump back ends a loop."""
-    jumps = {at: int(it[1], 16) for at, it in ((at, JUMP.match(text)) for at, text in code.items()) if it}
-    loops = sorted(((to, at) for at, to in jumps.items() if to <= at and to in code), key=lambda it: it[1] - it[0])
-    inner = []
-    for first, last in loops:
-        if not any(first <= it[0] and it[1] <= last for it in inner):
-            inner.append((first, last))
-    return inner
-
-
-def wrong(chunks, level, texts, vectors, on_stack):
-    """The errors of a loop of cores."""
-    if any(CALL.match(it) for it in texts):
-        return "calls a function, which was to be inlined"
-    if chunks not in LIMITS[level]:
-        return f"no limits are known for {chunks:g} chunks"
-    max_vectors, max_on_stack = LIMITS[level][chunks]
-    if vectors > max_vectors or on_stack > max_on_stack:
-        return f"above {max_vectors} vector instructions or {max_on_stack} on the stack"
-    return None
-
-
-def loops_of_cores(code):
-    """For each loop of cores of a section: its processor, its chunks, its numbers, and its errors."""
-    rotations = {at: text for at, text in code.items() if ROTATION.match(text)}
-    for first, last in inner_loops(code):
-        its = [text for at, text in rotations.items() if first <= at <= last]
-        if its:
-            texts = [text for at, text in code.items() if first <= at <= last]
+def loops_of_cores(library):
+    """The processor, the number of chunks and the instructions of each loop of cores that has no other loop in it, and the
+    rotations outside of these."""
+    for code in sections(library):
+        jumps = ((int(it[1], 16), at) for at, text in code.items() if (it := JUMP.match(text)))
+        loops = sorted({(to, at) for to, at in jumps if to <= at and to in code}, key=lambda it: it[1] - it[0])
+        # Each rotation is in the shortest of them, since loops can overlap.
+        inner = [it for it in loops if not any(it != other and it[0] <= other[0] and other[1] <= it[1] for other in loops)]
+        cores = collections.defaultdict(list)
+        for at, text in code.items():
+            if ROTATION.match(text):
+                cores[next((it for it in inner if it[0] <= at <= it[1]), None)].append(text)
+        for loop, its in cores.items():
             kinds = {it.split()[0] for it in its}
-            level, of_a_chunk = KINDS[kinds.pop()]
+            level, of_a_chunk = KINDS[kinds.pop()] if len(kinds) == 1 else ("in words and in vectors", 16)
             # A vector of 256 bits has words of two chunks.
             chunks = sum(2 if "%ymm" in it else 1 for it in its) / of_a_chunk
-            vectors = [it for it in texts if VECTOR.search(it) or of_a_chunk > 16 and ON_STACK.search(it)]
-            counts = len(vectors), sum(bool(ON_STACK.search(it)) for it in vectors)
-            error = "in words and in vectors" if kinds else wrong(chunks, level, texts, *counts)
-            yield level, chunks, *counts, error
-            rotations = {at: text for at, text in rotations.items() if not first <= at <= last}
-    if rotations:
-        yield "", 0, 0, 0, f"{len(rotations)} rotations of cores outside of a loop"
+            if loop:
+                yield level, chunks, [text for at, text in code.items() if loop[0] <= at <= loop[1]]
+            else:
+                yield f"{level}, outside of a loop", chunks, its
+
+
+def wrong(level, chunks, texts, vectors, on_stack):
+    """The error of a loop of cores, if any."""
+    if any(CALL.match(it) for it in texts):
+        return ": calls a function, which was to be inlined"
+    if chunks not in LIMITS.get(level, ()):
+        return ": no limits are known for this"
+    max_vectors, max_on_stack = LIMITS[level][chunks]
+    if vectors > max_vectors or on_stack > max_on_stack:
+        return f": above {max_vectors} vector instructions or {max_on_stack} on the stack"
+    return ""
 
 
 def check(library):
     """Prints the loops of cores of a library, and returns the number of errors."""
-    found = sorted((loop for code in sections(library) for loop in loops_of_cores(code)), key=lambda it: it[:4])
-    for level, chunks, vectors, on_stack, error in found:
-        loop = f"{level}, {chunks:g} interleaved: {vectors} vector instructions, {on_stack} on the stack" if chunks else "cores"
-        print(f"{library}: {loop}{': ' + error if error else ''}")
+    errors, found = 0, set()
+    for level, chunks, texts in sorted(loops_of_cores(library)):
+        vectors = [it for it in texts if VECTOR.search(it) or level == "arm64, in words" and ON_STACK.search(it)]
+        counts = len(vectors), sum(bool(ON_STACK.search(it)) for it in vectors)
+        error = wrong(level, chunks, texts, *counts)
+        print(f"{library}: {level}, {chunks:g} interleaved: {counts[0]} vector instructions, {counts[1]} on the stack{error}")
+        errors += error != ""
+        found.add((level, chunks))
     # Chunks that are mixed otherwise, such as by scalar code, have no loop here.
-    loops = {(loop[0], loop[1]) for loop in found if loop[1]}
-    levels = sorted({level for level, _ in loops})
-    missing = [(level, it) for level in levels for it in LIMITS[level] if (level, it) not in loops]
-    for level, chunks in missing:
+    missing = {(level, chunks) for level, _ in found for chunks in LIMITS.get(level, ())} - found
+    for level, chunks in sorted(missing) if found else [("any processor", "any number")]:
         print(f"{library}: {level}, {chunks} interleaved: no loop")
-    if not loops:
-        print(f"{library}: no loop of cores")
-    return sum(loop[-1] is not None for loop in found) + len(missing) + (not loops)
+        errors += 1
+    return errors
 
 
 def main():
     libraries = sys.argv[1:] or [it for it in (BUILT / "libscrypt_c.a", BUILT / "libscrypt_c.so") if it.exists()]
-    errors = sum(check(it) for it in libraries)
+    errors = sum(map(check, libraries))
     print(f"registers: {errors} errors in {len(libraries)} libraries")
     sys.exit(1 if errors or not libraries else 0)
 
