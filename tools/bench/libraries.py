@@ -1,61 +1,98 @@
-"""Other implementations that are called in this process: C libraries, by ctypes, and hashlib.
+"""Verifications of a password by this library and by others: functions that return the nanoseconds that one took, and whether
+it accepts the password.
 
-Each is a function of password, text, parameters, salt and key that verifies a password: by its own call for a `$7$`
-hash, `text`, or by deriving the key and comparing it.
+This library and libxcrypt verify by their own calls. The others derive the key, which is compared. This library keeps its
+tables between calls; the others allocate theirs.
 """
 
 import ctypes
 import ctypes.util
 import hashlib
-import hmac
-import sys
+import mmap
+import time
 
-DATA, SIZE, WORD = ctypes.c_char_p, ctypes.c_size_t, ctypes.c_uint32
+from tools.bench import ours
+from tools.generate.header import structure
+from tools.tests import crypt64
+from tools.tests.worker import Worker
+
+OURS, TWO, FOUR = "this library", "each of a batch of two", "each of a batch of four"
+PASSWORD, SALT = b"pleaseletmein", b"SodiumChloride"
 CRYPT_DATA = 32768  # the size of the structure crypt_data of crypt(3)
+Login = structure("scrypt_login")
 
 
-def openssl(password, _text, params, salt, key):
-    """hashlib's scrypt, which is OpenSSL's."""
-    log_n, r, p = params
-    return hmac.compare_digest(hashlib.scrypt(password, salt=salt, n=1 << log_n, r=r, p=p, dklen=len(key), maxmem=(1 << 31) - 1), key)
+def timed(verify, count=1):
+    """A verification by a call that makes this number of them."""
+
+    def verification():
+        begun = time.perf_counter_ns()
+        accepted = verify()
+        return (time.perf_counter_ns() - begun) // count, accepted
+
+    return verification
 
 
-def libxcrypt(library):
-    library.crypt_r.argtypes, library.crypt_r.restype = [DATA, DATA, ctypes.c_void_p], DATA
+def in_hasher(library, params, text):
+    """In up to four tables, on one processor."""
+    hasher = ours.hasher(library, params, max_tables=4, processors=1)
+    return lambda: library.scrypt_hasher_verify(hasher, PASSWORD, len(PASSWORD), text, len(text), -1) == 0
+
+
+def in_batch(library, params, text, count):
+    logins = (Login * count)(*[(PASSWORD, len(PASSWORD), text, len(text))] * count)
+    statuses, buffers = (ctypes.c_int * count)(*[-1] * count), []
+    for length, width in zip(ours.buffer_lens(library, params), (1, 4, 4)):
+        room = mmap.mmap(-1, length * count * width)
+        room.madvise(mmap.MADV_HUGEPAGE)
+        buffers += (ctypes.c_char * len(room)).from_buffer(room), length * count
+    return lambda: library.scrypt_verify_batch_with_buffers(logins, count, statuses, *buffers) == 0 and not any(statuses)
+
+
+def libxcrypt(library, text):
+    library.crypt_r.argtypes, library.crypt_r.restype = [ctypes.c_char_p, ctypes.c_char_p, ctypes.c_void_p], ctypes.c_char_p
     data = ctypes.create_string_buffer(CRYPT_DATA)
-    return lambda password, text, *_: hmac.compare_digest(library.crypt_r(password, text, data) or b"", text)
+    return lambda: library.crypt_r(PASSWORD, text, data) == text
 
 
-def libsodium(library):
-    library.sodium_init()
-    verify = library.crypto_pwhash_scryptsalsa208sha256_str_verify
-    verify.argtypes = [DATA, DATA, ctypes.c_ulonglong]
-    # It takes salts of 43 letters only.
-    return lambda password, text, *_: verify(text, password, len(password)) == 0
+def deriving(derive, params, key):
+    """By a call that libscrypt-kdf and libsodium declare alike."""
+    data, size, word = ctypes.c_char_p, ctypes.c_size_t, ctypes.c_uint32
+    derive.argtypes = [data, size, data, size, ctypes.c_uint64, word, word, data, size]
+    (log_n, r, p), made = params, ctypes.create_string_buffer(len(key))
+    arguments = PASSWORD, len(PASSWORD), SALT, len(SALT), 1 << log_n, r, p, made, len(key)
+    return lambda: derive(*arguments) == 0 and made.raw == key
 
 
-def libscrypt_kdf(library):
-    library.crypto_scrypt.argtypes = [DATA, SIZE, DATA, SIZE, ctypes.c_uint64, WORD, WORD, DATA, SIZE]
-
-    def verified(password, _text, params, salt, key):
-        log_n, r, p = params
-        made = ctypes.create_string_buffer(len(key))
-        status = library.crypto_scrypt(password, len(password), salt, len(salt), 1 << log_n, r, p, made, len(key))
-        return status == 0 and hmac.compare_digest(made.raw, key)
-
-    return verified
+def openssl(log_n, r, p):
+    """The key, by hashlib."""
+    return hashlib.scrypt(PASSWORD, salt=SALT, n=1 << log_n, r=r, p=p, dklen=32, maxmem=(1 << 31) - 1)
 
 
-# the linker's name of each library, and the function that makes its verification
-FOUND = {"libxcrypt": ("crypt", libxcrypt), "libsodium": ("sodium", libsodium), "libscrypt-kdf": ("scrypt-kdf", libscrypt_kdf)}
+def by_worker(worker, params, key):
+    """In the time that the worker measured, without the pipe to it."""
+
+    def verification():
+        nanoseconds, derived = worker.derive(PASSWORD, SALT, params, len(key))
+        return nanoseconds, derived == key
+
+    return verification
 
 
-def libraries():
-    """The verification of each installed library, and of hashlib. A library that isn't installed is named on standard error."""
-    made = {}
-    for name, (linked, verification) in FOUND.items():
-        if path := ctypes.util.find_library(linked):
-            made[name] = verification(ctypes.CDLL(path))
-        else:
-            print(f"{name} isn't installed: left out", file=sys.stderr)
-    return made | {"OpenSSL": openssl}
+def verifications(path, workers, params):
+    """Each verification of a hash with these parameters, by its name: by this library at this path, by these workers (as
+    NAME=WORKER), and by the libraries that are installed."""
+    library, key = ours.loaded(path), openssl(*params)
+    text = crypt64.text(SALT.decode(), key, *params).encode()
+    made = {OURS: timed(in_hasher(library, params, text))}
+    if params[2] == 1:
+        made |= {name: timed(in_batch(library, params, text, count), count) for name, count in ((TWO, 2), (FOUR, 4))}
+    for name, worker in (it.split("=", 1) for it in workers):
+        made[name] = by_worker(Worker(name, worker), params, key)
+    if found := ctypes.util.find_library("crypt"):
+        made["libxcrypt"] = timed(libxcrypt(ctypes.CDLL(found), text))
+    if found := ctypes.util.find_library("sodium"):
+        made["libsodium"] = timed(deriving(ctypes.CDLL(found).crypto_pwhash_scryptsalsa208sha256_ll, params, key))
+    if found := ctypes.util.find_library("scrypt-kdf"):
+        made["libscrypt-kdf"] = timed(deriving(ctypes.CDLL(found).crypto_scrypt, params, key))
+    return made | {"OpenSSL": timed(lambda: openssl(*params) == key)}
