@@ -12,10 +12,7 @@ export CARGO_TARGET_DIR="$room/target" CARGO_HOME="$room/cargo" CARGO_NET_OFFLIN
 unset SCRYPT_C_LIBRARY
 cp "$lib/libscrypt_c.a" "bindings/rust/$bundled"
 mkdir "$CARGO_HOME"
-cat > "$CARGO_HOME/config.toml" << CONFIG
-source.crates-io.replace-with = "debian"
-source.debian.directory = "$registry"
-CONFIG
+cp tools/release/cargo.toml "$CARGO_HOME/config.toml"
 crate=bindings/rust
 crate() { (cd "$crate" && "$@" > "$room/log" 2>&1) || { cat "$room/log"; exit 1; }; }
 if [ "$system" = windows ]; then
