@@ -16,9 +16,9 @@ expect() {
   if [ "${1%% *}" != "$key" ]; then echo "another key: $2: $1" >&2; exit 1; fi
   echo "the first key of RFC 7914: $2"
 }
-# In a separate mount namespace, for /proc, without which rustc doesn't run.
+# With /proc, without which rustc doesn't run.
 inside() {
-  unshare --mount sh -c 'mount -t proc proc "$0/proc" && exec chroot "$0" "$@"' "$root" \
+  unshare --mount-proc --root="$root" \
     env -i PATH=/usr/sbin:/usr/bin:/sbin:/bin HOME=/root LC_ALL=C.UTF-8 sh -ec "$1" < /dev/null
 }
 # The lines of README.md for a language.
