@@ -1,13 +1,12 @@
 #!/bin/bash
-# Checks the first step of make run, make lib and make test without a compiler and CMake; that a step says `skipped`;
-# and the last lines of the gate.
+# Checks the first step of make run, make lib and make test without a compiler and CMake, and what the gate prints.
 set -eu
 unset CDPATH
 cd "$(dirname "$0")/../.."
 room=$(mktemp -d)
 trap 'rm -rf "$room"' EXIT
 mkdir -p "$room"/{bin,tools/gate,bindings/c}
-for it in awk bash cat chmod cp dirname echo env grep make mkdir nice nproc rm sed sleep sort tail tr true; do
+for it in awk bash cat chmod cp dirname echo env grep make mkdir nice nproc rm sed sort tail tr true; do
   ln -s "$(type -P $it)" "$room/bin/$it"
 done
 ln -s "$(python3 -c 'import sys; print(sys.executable)')" "$room/bin/python3"
@@ -40,26 +39,29 @@ said=$(tools/setup.sh lib 2> /dev/null) && { echo "make lib begins, and nothing 
   is "$said" "the packages, and how to prevent it"
 grep -q 'install .* gcc .*cmake ninja-build$' asked
 
-step() { tools/gate/step.sh try "$@" | sed 's/ (.:.*//'; }
-is "$(step --needs nothing:golang-go nocc:gcc true)" "try: skipped (needs gcc golang-go)"
-is "$(step bash -c 'echo "go is not installed (package golang-go): not run"; exit 77')" "try: skipped (needs golang-go)"
-is "$(step bash -c 'echo "go is not installed (packages a, b): not run"')" "try: passed, in part (needs a b)"
-is "$(step bash -c 'echo "logic=proved functions=7 axioms=0"; echo "so far: 1 of 7 functions checked"')" "try: proved, 7 functions"
-is "$(step bash -c 'echo "logic=proved functions=7 axioms=0"; echo "2 passed, 0 failed"')" "try: 2 passed, 0 failed"
-
 cat > tools/gate/gate.mk << 'MK'
-documents = part none all after
+documents = proved counted part none needs wrong after
 tasks:; @echo $($(OF))
 documents: $(documents)
-part:; @tools/gate/step.sh $@ bash -c 'echo "it is not installed (package a): not run"'
-none:; @tools/gate/step.sh $@ --needs nothing:b true
-all:; @tools/gate/step.sh $@ true
+STEP = @tools/gate/step.sh $@
+proved:; $(STEP) bash -c 'echo "logic=proved functions=7 axioms=0"; echo "so far: 1 of 7 functions checked"'
+counted:; $(STEP) bash -c 'echo "logic=proved functions=7 axioms=0"; echo "2 passed, 0 failed"'
+part:; $(STEP) bash -c 'echo "it is not installed (packages a, b): not run"'
+none:; $(STEP) bash -c 'echo "it is not installed (package c): not run"; exit 77'
+needs:; $(STEP) --needs nothing:d no-cc:gcc true
+wrong:; $(STEP) bash -c 'echo why; exit 3'
 after: wrong
-wrong:; @exit 1
 MK
-is "$(tools/gate/run.sh documents 2> /dev/null | sed '/ processor\( minutes\|)\)$/d')" "none: skipped (needs b)
+is "$(JOBS=1 tools/gate/run.sh documents 2> /dev/null | sed 's/ (.:.*//; /processor minutes$/d')" "proved: proved, 7 functions
+counted: 2 passed, 0 failed
+part: passed, in part (needs a b)
+none: skipped (needs c)
+needs: skipped (needs d gcc)
+why
+wrong: FAILED
+wrong: FAILED (build/log/wrong.log)
 after: did not begin, since what it needs failed
-in part: part (needs a)
-skipped: none (needs b)
-2 passed, 1 failed, 1 skipped"
+in part: part (needs a b)
+skipped: none (needs c); needs (needs d gcc)
+3 passed, 2 failed, 2 skipped"
 echo "the first step of make, skipped steps, and the last lines"

@@ -39,7 +39,7 @@ tasks: # of the targets OF
 	@echo $(foreach it,$(OF),$(or $($(it)),$(it)))
 
 # ---- The proofs ----
-proofs: private export PROGRESS = lines
+proofs: private export PROGRESS = yes
 proofs:
 	+$(TASK) tools/gate/prove.sh
 # A task that needs a proved crate begins when `rt ci` has proved it: what follows there, tests and edits, takes

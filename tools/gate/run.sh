@@ -7,7 +7,7 @@
 set -u
 unset CDPATH
 cd "$(dirname "$0")/../.."
-begun=$SECONDS
+begun=$SECONDS results=build/log/results
 jobs=${JOBS:-$(($(nproc) + 2))} # with the proofs and what waits for them
 gate() { make --no-print-directory -f tools/gate/gate.mk "$@"; }
 
@@ -25,18 +25,16 @@ else
   export BUILT=1
 fi
 mkdir -p build/log
-tasks=$(gate tasks OF="$*")
-for task in $tasks; do rm -f "build/log/$task.took"; done
+: > $results
 gate --keep-going --output-sync=target -j"$jobs" "$@"
 
-failed=0 passed=0 skipped=0 without='' in_part=''
-for task in $tasks; do
-  status=unbegun needs=
-  if [ -e "build/log/$task.took" ]; then read -r status _ _ needs < "build/log/$task.took"; fi
+passed=0 failed=0 skipped=0 without='' in_part=''
+for task in $(gate tasks OF="$*"); do
+  read -r status _ needs < <(sed -n "s/^$task //p" $results)
   case $status in
     0) passed=$((passed + 1)) && in_part=$in_part${needs:+"; $task (needs $needs)"} ;;
     77) skipped=$((skipped + 1)) && without="$without; $task (needs $needs)" ;;
-    unbegun) failed=$((failed + 1)) && echo "$task: did not begin, since what it needs failed" ;;
+    '') failed=$((failed + 1)) && echo "$task: did not begin, since what it needs failed" ;;
     *) failed=$((failed + 1)) && echo "$task: FAILED (build/log/$task.log)" ;;
   esac
 done
@@ -44,15 +42,11 @@ if [ "$*" = gate ]; then
   # `rt ci` counts the crates and what it ran.
   read -r more _ less < <(sed -nE 's/^([0-9]+) passed, ([0-9]+) failed$/\1 . \2/p' build/log/proofs.log | tail -n 1)
   passed=$((passed + ${more:-0})) failed=$((failed + ${less:-1}))
-  cat build/log/{proofs,library,module,library-*,program-*}.log > build/log/verdicts.log 2> /dev/null
-  if [ $failed = 0 ]; then python3 -B tools/release/proved.py keep build/log/verdicts.log || failed=1; fi
+  if [ $failed = 0 ]; then python3 -B tools/release/proved.py keep build/log/{proofs,library,module,library-*,program-*}.log || failed=1; fi
 fi
 if [ -n "$in_part" ]; then echo "in part: ${in_part#; }"; fi
 if [ -n "$without" ]; then echo "skipped: ${without#; }"; fi
-took=$((SECONDS - begun))
-# shellcheck disable=SC2086 # names without blanks
-used=$(cd build/log && cat ${tasks// /.took }.took 2> /dev/null | awk '{ all += $3 } END { printf "%.1f", all / 60 }')
-echo "$((took / 60)):$(printf %02d $((took % 60))) minutes, $used processor minutes"
+awk -v all=$((SECONDS - begun)) '{ used += $3 } END { printf "%d:%02d minutes, %.1f processor minutes\n", all / 60, all % 60, used / 60 }' $results
 if [ "$skipped" = 0 ]; then skipped=; fi
 echo "$passed passed, $failed failed${skipped:+, $skipped skipped}"
 [ "$failed" = 0 ]

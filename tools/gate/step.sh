@@ -1,19 +1,18 @@
 #!/usr/bin/env bash
 # Runs a command as a step of the gate or of make. Its output goes to build/log/NAME.log. One line has
 # the result and the time; if the step failed, the last lines of the log come first. With PROGRESS, a line
-# says that it begins, and others how many functions are checked, or which crates: one a minute, or, on a
-# terminal and without PROGRESS=lines, one that changes.
+# says that it begins, and the prover's lines about its progress follow.
 #
 # usage: step.sh NAME [--needs COMMAND:PACKAGE ..] COMMAND ..
 # If a needed command (or file) is missing, nothing is run. A command that ran nothing ends with the status
 # 77. Both are skipped: the line names the Debian packages, which the log has in lines
-# `WHAT is not installed (packages NAMES): not run`. build/log/NAME.took has the status, the times, and the packages.
+# `WHAT is not installed (packages NAMES): not run`. build/log/results gets a line with the name, the status, the
+# seconds of a processor, and the packages.
 set -u
 unset CDPATH
-name=$1 log=build/log/$1.log took=build/log/$1.took missing='' clear=''
+name=$1 log=build/log/$1.log missing=''
 shift
 mkdir -p build/log
-rm -f "$took"
 if [ "${1:-}" = --needs ]; then
   shift
   while [[ $1 == *:* ]]; do
@@ -23,41 +22,21 @@ if [ "${1:-}" = --needs ]; then
 fi
 if [ -n "$missing" ]; then set -- bash -c "echo '$name is not installed (packages$missing): not run'; exit 77"; fi
 
-minutes() { awk -v all="$1" 'BEGIN { printf "%d:%02d", all / 60, all % 60 }'; }
-# What the prover said last, until this step ends.
-report() {
-  local every=60 after="\n" now
-  if [ -n "$clear" ]; then every=2 after=""; fi
-  for ((second = 1; ; second++)); do
-    sleep 1
-    kill -0 $$ 2> /dev/null || exit # it was killed
-    if ((second % every == 0)); then
-      now=$(grep -oE '^so far: [0-9]+ of [0-9]+ functions checked|^rt: .*(proved|kept)' "$log" | tail -n 1)
-      now=${now:-no function is checked yet}
-      printf "$clear%s$after" "$name: ${now#rt: } ($(minutes $second))"
-    fi
-  done
-}
+: > "$log"
 if [ -n "${PROGRESS:-}" ]; then
-  if [ -t 1 ] && [ "$PROGRESS" != lines ]; then clear="\r\033[K"; fi
-  : > "$log"
   echo "$name: begins"
-  report &
-  reporter=$!
+  tail --pid=$$ -f "$log" 2> /dev/null | grep --line-buffered -E '^so far: |^rt: .*(proved|kept)' &
 fi
 TIMEFORMAT='%1R %1U %1S'
-{ time nice -n "${NICE:-0}" "$@" > "$log" 2>&1; } 2> "$took.part"
+times=$({ time nice -n "${NICE:-0}" "$@" > "$log" 2>&1; } 2>&1)
 status=$?
-if [ -n "${PROGRESS:-}" ]; then
-  { kill "$reporter" && wait "$reporter"; } 2> /dev/null
-  printf '%b' "$clear"
-fi
-read -r real user system < <(tail -n 1 "$took.part")
-rm -f "$took.part"
-used=$(echo "$user $system" | awk '{ print $1 + $2 }')
+if [ -n "${PROGRESS:-}" ]; then { kill $! && wait $!; } 2> /dev/null; fi
+read -r real user system <<< "$times"
+used=$(awk "BEGIN { print $user + $system }")
 absent=$(sed -nE 's/.*\(packages? ([^()]*)\): not run.*/\1/p' "$log" | tr -s ', ' '\n\n' | sort -u | tr '\n' ' ')
 absent=${absent% }
-echo "$status $real $used $absent" > "$took"
+echo "$name $status $used $absent" >> build/log/results
+minutes() { awk -v all="$1" 'BEGIN { printf "%d:%02d", all / 60, all % 60 }'; }
 how="($(minutes "$real"), $(minutes "$used") of a processor)"
 case $status in
   0) # the last verdict or count, which is not a line of the prover's progress
