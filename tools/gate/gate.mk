@@ -21,7 +21,7 @@ endif
 
 # The longest tasks, and tasks that others wait for, are first.
 BUILDS = library linked module program $(CROSS:%=program-%) $(MACHINES:%=library-%)
-documents = lint first-steps links version promises formats cores
+documents = lint first-steps links version promises cores
 examples = $(patsubst examples/%/test.sh,example-%,$(wildcard examples/*/test.sh))
 LANGUAGES = python go rust javascript drop-in $(examples) examples-of-pages
 suites = native asan tsan $(LANGUAGES) answers hashes migration oracle hostile completions
@@ -62,8 +62,6 @@ lint:
 	$(TASK) tools/gate/lint.sh
 first-steps:
 	$(TASK) tools/gate/first_steps.sh
-formats:
-	$(TASK) --needs rt:the-Rattle-kit tools/gate/formats.sh
 links:
 	$(TASK) $(PY) tools.gate.docs
 version:

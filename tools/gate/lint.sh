@@ -11,7 +11,7 @@ lint() {
     echo "$1 is not installed (package $package): not run"
     return
   fi
-  wrong=$(find bindings examples tools -name "$kind" -not -path '*/out/*' \
+  wrong=$(find bindings crates examples tools -name "$kind" -not -path '*/out/*' \
     -not -path '*/target/*' -exec "$@" {} + 2>&1) || test -n "$wrong" || wrong="$1 failed"
   test -z "$wrong" || { echo "$wrong"; failed=1; }
 }
@@ -19,6 +19,10 @@ lint() {
 lint '*.py' pyflakes3 pyflakes3
 lint '*.sh' shellcheck shellcheck --severity=error
 lint '*.go' golang-go gofmt -l
+lint '*.rs' rustfmt rustfmt --check --edition 2021 --config-path bindings/rust
+rattle=$(dirname "$(rt doc 2> /dev/null)")/bin/rattle
+lint '*.rt' the-Rattle-kit "$rattle" fmt --check
+lint '*.antt' the-Rattle-kit "$rattle" fmt --check
 # A user's CDPATH would make cd go elsewhere.
 for script in .ci/run $(find bindings examples tools -name '*.sh'); do
   if grep -qE '^[^#]*\bcd ' "$script" && ! grep -qx 'unset CDPATH' "$script"; then
@@ -26,5 +30,4 @@ for script in .ci/run $(find bindings examples tools -name '*.sh'); do
     failed=1
   fi
 done
-lint '*.rs' rustfmt rustfmt --check --edition 2021 --config-path bindings/rust
 exit $failed
