@@ -24,10 +24,6 @@ rattle=$(dirname "$(rt doc 2> /dev/null)")/bin/rattle
 lint '*.rt' the-Rattle-kit "$rattle" fmt --check
 lint '*.antt' the-Rattle-kit "$rattle" fmt --check
 # A user's CDPATH would make cd go elsewhere.
-for script in .ci/run $(find bindings examples tools -name '*.sh'); do
-  if grep -qE '^[^#]*\bcd ' "$script" && ! grep -qx 'unset CDPATH' "$script"; then
-    echo "$script: no unset CDPATH"
-    failed=1
-  fi
-done
+without=$(grep -lE '^[^#]*\bcd ' .ci/run $(find bindings examples tools -name '*.sh') | xargs grep -Lx 'unset CDPATH' || true)
+test -z "$without" || { echo "no unset CDPATH: $without"; failed=1; }
 exit $failed
