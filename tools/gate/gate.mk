@@ -89,7 +89,7 @@ python go rust drop-in: linked
 module: library
 	$(TASK) $(PY) bindings.js.build $(KEPT)
 javascript: $(call proved,module) linked
-	$(TASK) $(firstword $(wildcard bindings/js/test.sh bindings/js/test/test.sh))
+	$(TASK) bindings/js/test/test.sh
 # Both have a program that reads from a terminal.
 answers example-key_files: private NEEDS = --needs /dev/pts/ptmx:/dev/pts
 $(examples): example-%: $(call proved,module) linked
