@@ -1,43 +1,39 @@
 #!/bin/bash
-# Checks the first step of make run, make lib and make test without a compiler and CMake, and what the gate prints.
+# Checks the first step of make lib and make run where packages are missing, and what the gate prints.
 set -eu
 unset CDPATH
 cd "$(dirname "$0")/../.."
 room=$(mktemp -d)
 trap 'rm -rf "$room"' EXIT
-mkdir -p "$room"/{bin,tools/gate,bindings/c}
-for it in awk bash cat chmod cp dirname echo env grep make mkdir nice nproc rm sed sort tail tr true; do
-  ln -s "$(type -P $it)" "$room/bin/$it"
-done
-ln -s "$(python3 -c 'import sys; print(sys.executable)')" "$room/bin/python3"
-cp tools/{setup.sh,packages.txt,presets.py} "$room/tools"
+mkdir -p "$room"/{bin,tools/gate}
+cp tools/setup.sh "$room/tools"
 cp tools/gate/{run,step}.sh "$room/tools/gate"
-cp bindings/c/CMakePresets.json "$room/bindings/c"
 cd "$room"
 unset NO_INSTALL PRESET PROGRESS NICE JOBS # of who runs this
-export PATH="$room/bin"
+export PATH="$room/bin:$PATH"
 is() { if [ "$1" != "$2" ]; then printf '%s\nand not: %s\n' "$1" "$2"; exit 1; fi; }
-
-is "$(tools/setup.sh run 2>&1)" ""
-lacks() { # VARIABLES COMMAND: one line, whoever runs it
-  said=$(env $1 tools/setup.sh "$2" 2>&1) && { echo "make $2 begins without cc"; exit 1; }
-  [[ $said == "make $2 needs these packages of Debian, and nothing was proved: apt-get install gcc "*cmake* ]] ||
-    is "$said" "the packages gcc, cmake, ninja-build"
-  is "$(sed -n '$=' <<< "$said")" 1
+fake() { # COMMAND LINE: a command that prints this line, and notes how it is called
+  printf '#!/bin/sh\necho %s "$@" >> asked\necho %s\n' "$1" "$2" > "bin/$1"
+  chmod +x "bin/$1"
 }
-lacks "" lib
-lacks "" test
-# As root on Debian.
-printf '#!/bin/bash\necho "$@" >> asked\necho 0\n' > bin/apt-get
-chmod +x bin/apt-get
-cp bin/apt-get bin/id
-cp bin/apt-get bin/dpkg-query
-lacks NO_INSTALL=1 lib
-if [ -e asked ]; then echo "NO_INSTALL=1 installs"; exit 1; fi
-said=$(tools/setup.sh lib 2> /dev/null) && { echo "make lib begins, and nothing was installed"; exit 1; }
-[[ $said == "Installs these packages of Debian, in some minutes (NO_INSTALL=1 prevents it): gcc "*"cmake ninja-build" ]] ||
-  is "$said" "the packages, and how to prevent it"
-grep -q 'install .* gcc .*cmake ninja-build$' asked
+
+cat > tools/packages.txt << 'END'
+run uses unused
+lib needs sh:dash no-cc:gcc /no/cmake:cmake
+END
+lacks="make lib needs these packages of Debian, and nothing was proved: apt-get install gcc cmake
+1"
+fake id 1000
+fake apt-get ""
+fake dpkg-query ""
+is "$(tools/setup.sh run 2>&1; echo $?)" 0
+is "$(tools/setup.sh lib 2>&1; echo $?)" "$lacks"
+fake id 0
+is "$(NO_INSTALL=1 tools/setup.sh lib 2>&1; echo $?)" "$lacks"
+if grep apt-get asked; then echo "installs packages, not as root or with NO_INSTALL=1"; exit 1; fi
+is "$(tools/setup.sh lib 2>&1; echo $?)" "Installs these packages of Debian, in some minutes (NO_INSTALL=1 prevents it): gcc cmake
+$lacks"
+grep -q '^apt-get install .* gcc cmake$' asked
 
 cat > tools/gate/gate.mk << 'MK'
 documents = proved counted part none needs wrong after
@@ -48,7 +44,7 @@ proved:; $(STEP) bash -c 'echo "logic=proved functions=7 axioms=0"; echo "so far
 counted:; $(STEP) bash -c 'echo "logic=proved functions=7 axioms=0"; echo "2 passed, 0 failed"'
 part:; $(STEP) bash -c 'echo "it is not installed (packages a, b): not run"'
 none:; $(STEP) bash -c 'echo "it is not installed (package c): not run"; exit 77'
-needs:; $(STEP) --needs nothing:d no-cc:gcc true
+needs: none; $(STEP) --needs nothing:d no-cc:gcc true
 wrong:; $(STEP) bash -c 'echo why; exit 3'
 after: wrong
 MK
