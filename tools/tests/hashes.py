@@ -110,8 +110,7 @@ def made(tool):
 
 def main():
     (tool,) = sys.argv[1:]
-    _, wrong = runs.report("hashes", itertools.chain(verified(tool), cases(tool), made(tool)))
-    sys.exit(1 if wrong else 0)
+    sys.exit(not runs.report("hashes", itertools.chain(verified(tool), cases(tool), made(tool))))
 
 
 if __name__ == "__main__":

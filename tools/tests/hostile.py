@@ -1,14 +1,14 @@
 """Fuzzes the verifier: compares its verdicts on hostile hashes with a reader in plain Python.
 
-usage: python3 -m tools.tests.hostile LIBRARY [TEXTS [SEED]]
+usage: python3 -m tools.tests.hostile LIBRARY TEXTS [SEED]
 
 LIBRARY is libscrypt_c.so. First come two long texts, all texts that are one character away from a
-text of each format, and the `$7$` hashes with a key of up to three letters. Then come random texts
-of both formats (by default a million): valid ones, and valid ones that are mutated, spliced,
-truncated, doubled, or random, from a seed that is printed. Their log_n is 0 to 4, or so large that
-the allocation of the table fails. Then the same texts, and texts with random parameters, are
-verified within limits, in buffers for a log_n of 4 and an r * p of 16. The script prints the number
-of texts for each verdict, and fails if a verdict differs, or if one has no text.
+text of each format, and the `$7$` hashes with a key of up to three letters. Then come TEXTS random
+texts of both formats: valid ones, and valid ones that are mutated, spliced, truncated, doubled, or
+random, from a seed that is printed. Their log_n is 0 to 4, or so large that the allocation of the
+table fails. Then the same texts, and texts with random parameters, are verified within limits, in
+buffers for a log_n of 4 and an r * p of 16. The script prints the number of texts for each verdict,
+and fails if a verdict differs, or if one has no text.
 """
 
 import collections
@@ -23,8 +23,6 @@ import sys
 from tools.generate import header
 from tools.tests import crypt64, known, phc, reference, runs
 
-TEXTS = 1_000_000
-
 # the statuses of the verdicts on the empty password, and within limits
 STATUSES = {"Ok": 0, "PasswordInvalid": 1, "OutOfMemory": 4, "Algorithm": 5, "EncodingInvalid": 6, "OutputSize": 7}
 STATUSES |= {"ParamInvalid": 8, "ParamsInvalid": 9, "Version": 11}
@@ -37,7 +35,7 @@ MEMORY = 4 << 30
 GREAT = 50
 
 # the default limits, and the lengths of the buffers
-BOUNDS = DEFAULT_MAX_MEM, DEFAULT_MAX_WORK, DEFAULT_MIN_KEY_LEN = [header.NUMBERS[name] for name in ("DEFAULT_MAX_MEM", "DEFAULT_MAX_WORK", "DEFAULT_MIN_KEY_LEN")]
+BOUNDS = MAX_MEM, MAX_WORK, MIN_KEY_LEN = [header.NUMBERS[f"DEFAULT_{it}"] for it in ("MAX_MEM", "MAX_WORK", "MIN_KEY_LEN")]
 LENS = CHUNKS, TABLE, SCRATCH = 128 * 16, 32 * 16 * 16, 64 * 16
 
 # parameters that are exactly, or almost, at the limits
@@ -83,9 +81,9 @@ def compared_within(salt, log_n, r, p, key):
     """The same within the limits, in the buffers."""
     chunks, table, scratch = 128 * r * p, 32 * r << log_n, 64 * r
     size, work = chunks + 4 * table + 4 * scratch, 4 * ((1 << log_n) + 32) * r * p
-    if size > DEFAULT_MAX_MEM or work > DEFAULT_MAX_WORK:
+    if size > MAX_MEM or work > MAX_WORK:
         return "TooCostly"
-    if len(key) < DEFAULT_MIN_KEY_LEN:
+    if len(key) < MIN_KEY_LEN:
         return "KeyTooShort"
     if chunks > CHUNKS or table > TABLE or scratch > SCRATCH:
         return "BufferSize"
@@ -240,21 +238,18 @@ def judged(texts, by=compared):
             pass
 
 
-def disagree(title, pairs, call, statuses):
-    """Whether the library has another verdict on a text, or a verdict has no text."""
+def agree(title, pairs, call, statuses):
+    """Whether the library has the same verdict on each text, and each verdict has a text."""
     encoded = ((text, text.encode(), wanted) for text, wanted in pairs)
-    cases = ((repr(text[:100]), call(data, len(data)), statuses[wanted]) for text, data, wanted in encoded)
-    _, wrong = runs.report(title, cases)
+    is_same = runs.report(title, ((repr(text[:100]), call(data, len(data)), statuses[wanted]) for text, data, wanted in encoded))
     fell = collections.Counter(wanted for _, wanted in pairs)
     missing = [it for it in statuses if not fell[it]]
     print(f"{dict(fell)}; verdicts without a text: {missing or 'none'}")
-    return wrong or missing
+    return is_same and not missing
 
 
-def main():
-    path, *numbers = sys.argv[1:]
-    count = int(numbers[0]) if numbers else TEXTS
-    seed = int(numbers[1]) if len(numbers) > 1 else random.SystemRandom().randrange(1 << 32)
+def main(path, count, seed=None):
+    count, seed = int(count), random.SystemRandom().randrange(1 << 32) if seed is None else int(seed)
     verified, within = calls(path)
     resource.setrlimit(resource.RLIMIT_AS, (MEMORY, MEMORY))
     print(f"hostile texts from seed {seed}")
@@ -263,14 +258,13 @@ def main():
     rng = random.Random(seed)
     good = good_texts(rng)
     pairs += itertools.islice(judged(hostile(rng, good) for _ in itertools.count()), count)
-    failed = [disagree("hostile texts", pairs, verified, STATUSES)]
+    is_well = agree("hostile texts", pairs, verified, STATUSES)
     params = ALLOWED + list(itertools.islice(random_params(random.Random(seed)), count // 10))
     texts = itertools.chain((text for text, _ in pairs), known.costly(), *(known.texts_of(*it) for it in params))
     # In buffers nothing is allocated.
     bounded = {name: status for name, status in (STATUSES | WITHIN).items() if name != "OutOfMemory"}
-    failed.append(disagree("within limits", list(judged(texts, compared_within)), within, bounded))
-    sys.exit(1 if any(failed) else 0)
+    sys.exit(not (agree("within limits", list(judged(texts, compared_within)), within, bounded) and is_well))
 
 
 if __name__ == "__main__":
-    main()
+    main(*sys.argv[1:])

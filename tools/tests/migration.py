@@ -14,18 +14,18 @@ import argparse
 import base64
 import ctypes
 import hashlib
+import importlib
 import json
 import os
 import random
 import shutil
 import string
-import subprocess
 import sys
 import tempfile
 
 from tools.tests import crypt64, known, oracle, reference
 from tools.tests.oracle import some_bytes, some_params
-from tools.tests.runs import run
+from tools.tests.runs import report, run
 
 sys.path.append("/usr/lib/python3/dist-packages")  # Debian's packages, for an interpreter that is not the system's
 os.environ.setdefault("SCRYPT_C_LIBRARY", "build/lib")
@@ -98,31 +98,39 @@ func main() {
 class Missing(Exception):
     """A program or library that a part needs is not installed."""
 
+    def __init__(self, what, package):
+        super().__init__(f"{what} is not installed (package {package}): not run")
+
+
+def imported(module, package):
+    try:
+        return importlib.import_module(module)
+    except ImportError:
+        raise Missing(module, package) from None
+
+
+def loaded(library, package):
+    try:
+        return ctypes.CDLL(library)
+    except OSError:
+        raise Missing(library, package) from None
+
 
 class Trial:
-    """The program, and the number of agreements for one tool."""
+    """Runs of the program as cases, and random input for them."""
 
     def __init__(self, program, rng):
-        self.program, self.rng, self.agreed, self.notes = program, rng, [], []
+        self.program, self.rng = program, rng
 
-    def check(self, agrees, *about):
-        self.agreed.append(bool(agrees))
-        if not agrees:
-            print("differs:", *about)
+    def verified(self, text, password):
+        return oracle.verified(self.program, text, password.encode() if isinstance(password, str) else password)
 
-    def verifies(self, text, password):
-        password = password.encode() if isinstance(password, str) else password
-        about, got, wanted = oracle.verified(self.program, text, password)
-        self.check(got == wanted, about, got)
-
-    def refuses(self, text, error):
-        got = run([self.program, "verify", text], b"password")
-        self.check(got == (2, "", f"hash refused: {error}\n"), text, got)
+    def rejected(self, text, error):
+        return text, run([self.program, "verify", text], b"password"), (2, "", f"hash refused: {error}\n")
 
     def converted(self, convert, text, password):
         """A text that is rejected as it is, and verified once it is converted."""
-        self.refuses(text, "EncodingInvalid")
-        self.verifies(convert(text), password)
+        return [self.rejected(text, "EncodingInvalid"), self.verified(convert(text), password)]
 
     def answer(self, words, password):
         return run([self.program, *(str(it) for it in words)], password)[1].strip()
@@ -141,140 +149,119 @@ class Trial:
         letters = string.ascii_letters + string.digits
         return "".join(self.rng.choices(letters, k=self.rng.randrange(least, most + 1)))
 
-    def cases(self):
+    def texts(self):
         """Passwords and salts that are text, and parameters."""
         return [(self.word(), self.word(8, 32), *self.params()) for _ in range(CASES)]
-
-    def key_cases(self):
-        """Passwords, salts of any bytes in hexadecimal, parameters, and lengths of keys."""
-        salts = [(some_bytes(self.rng, 63) + b"!").hex() for _ in range(CASES)]
-        return [(self.word(), it, *self.params(), self.rng.randrange(10, 65)) for it in salts]
-
-
-def installed(command, package):
-    if not shutil.which(command):
-        raise Missing(f"{command} is not installed (package {package})")
-
-
-def answers(words, cases, **env):
-    """The lines that a program prints for these cases, each of which it reads as JSON."""
-    lines = "".join(json.dumps(case) + "\n" for case in cases)
-    ran = subprocess.run(words, input=lines, capture_output=True, text=True, check=True,
-                         env=os.environ | env)
-    return ran.stdout.splitlines()
 
 
 def passlib(trial):
     """passlib's hashes are verified. It finds the same ones weaker, and makes the same new ones,
     with keys of 32 bytes, its only length; but it also rehashes if r or p is above the wanted value.
     """
-    try:
-        from passlib.hash import scrypt
-    except ImportError:
-        raise Missing("passlib is not installed (package python3-passlib)") from None
+    scrypt = imported("passlib.hash", "python3-passlib").scrypt
 
     def made(password, salt, n, r, p, **more):
         costs = {"rounds": n.bit_length() - 1, "block_size": r, "parallelism": p}
         return scrypt.using(salt=salt.encode(), **costs, **more).hash(password)
 
-    for case in trial.cases():
-        trial.verifies(made(*case), case[0])
-        trial.verifies(made(*case, ident="$7$"), case[0])
+    for case in trial.texts():
+        yield trial.verified(made(*case), case[0])
+        yield trial.verified(made(*case, ident="$7$"), case[0])
     for salt in ["", *(trial.word(65, 200) for _ in range(9))]:
-        trial.converted(migration.from_passlib, made("pass", salt, *trial.params()), "pass")
+        yield from trial.converted(migration.from_passlib, made("pass", salt, *trial.params()), "pass")
     text = made("password", "s", 16, 8, 1)
     for old, new, error in PASSLIB_SPELLINGS:
         other = text.replace(old, new)
-        trial.check(other != text and scrypt.verify("password", other), "passlib", other)
-        trial.refuses(other, error)
-        trial.verifies(migration.from_passlib(other), "password")
+        yield f"passlib verifies {other}", (other != text, scrypt.verify("password", other)), (True, True)
+        yield trial.rejected(other, error)
+        yield trial.verified(migration.from_passlib(other), "password")
     for _ in range(2 * CASES):
         (log_n, r, p, _), (*wanted, _) = some_params(trial.rng), some_params(trial.rng)
         text, salt = made("password", "stored", 1 << log_n, r, p), some_bytes(trial.rng, 20) + b"!"
         weaker = reference.is_weaker((log_n, r, p), wanted)
         handler = scrypt.using(salt=salt, min_rounds=wanted[0], default_rounds=wanted[0], block_size=wanted[1],
                                parallelism=wanted[2])
-        trial.check(handler.needs_update(text) == (weaker or [r, p] != wanted[1:]), text, wanted)
+        yield f"passlib replaces {text} for {wanted}", handler.needs_update(text), weaker or [r, p] != wanted[1:]
         new = trial.answer(["rehash", "phc", *wanted, 32, salt.hex(), text], b"password")
-        trial.check(new == (handler.hash("password") if weaker else "ok"), text, wanted, new)
+        yield f"{text} for {wanted}", new, handler.hash("password") if weaker else "ok"
 
 
 def django(trial):
     for password, text in DJANGO_TEXTS:
-        trial.converted(migration.from_django, text, password)
+        yield from trial.converted(migration.from_django, text, password)
     try:
         from django.conf import settings
         settings.configure()
         from django.contrib.auth.hashers import ScryptPasswordHasher
     except ImportError:
-        trial.notes.append("texts of its tests: Django 4 is not installed")
+        print("Django 4 is not installed: only texts of its own tests")
         return
-    for case in trial.cases():
-        trial.converted(migration.from_django, ScryptPasswordHasher().encode(*case), case[0])
-
-
-def crypt(password, setting):
-    """The hash that crypt(3) makes."""
-    try:
-        library = ctypes.CDLL("libcrypt.so.1")
-    except OSError:
-        raise Missing("crypt(3) is not installed (package libcrypt1)") from None
-    library.crypt.restype = ctypes.c_char_p
-    return library.crypt(password, setting.encode()).decode()
+    for case in trial.texts():
+        yield from trial.converted(migration.from_django, ScryptPasswordHasher().encode(*case), case[0])
 
 
 def libxcrypt(trial):
+    library = loaded("libcrypt.so.1", "libcrypt1")
+    library.crypt.restype = ctypes.c_char_p
+
+    def crypt(password, setting):
+        """The hash that crypt(3) makes."""
+        return library.crypt(password, setting.encode()).decode()
+
     for password, text in (b"pleaseletmein", known.CRYPT), (b"pleaseletmein", known.PLAIN), (b"", known.EMPTY):
-        trial.check(crypt(password, text) == text, "a hash of the tests", text)
-    for password, salt, n, r, p in trial.cases():
+        yield "a hash of the tests", crypt(password, text), text
+    for password, salt, n, r, p in trial.texts():
         ours = trial.hash_mcf(n.bit_length() - 1, r, p, 32, some_bytes(trial.rng, 20), password.encode())
-        trial.check(crypt(password.encode(), ours) == ours, "crypt(3) refuses", ours)
+        yield "crypt(3) verifies", crypt(password.encode(), ours), ours
         params = crypt64.params(n.bit_length() - 1, r, p)
-        trial.verifies(crypt(password.encode(), f"{params}{salt}$"), password)
+        yield trial.verified(crypt(password.encode(), f"{params}{salt}$"), password)
         setting = f"{params}{salt[:20]}$a${salt}$"  # it takes a salt with a $
         text = crypt(password.encode(), setting)
-        trial.check(text.startswith(setting), "crypt(3) refuses the salt", text)
-        trial.converted(migration.from_crypt, text, password)
+        yield f"crypt(3) takes the salt of {text}", text.startswith(setting), True
+        yield from trial.converted(migration.from_crypt, text, password)
     key = hashlib.scrypt(b"password", salt=b"a+b", n=16, r=1, p=1, dklen=32)
     texts = [(f"{crypt64.params(4, 1, 1)}a+b${crypt64.letters(key)}", b"password")]
     texts += [(trial.hash_mcf(*params, password=it), it) for params, it in CRYPT_REFUSES]
     for text, password in texts:
-        trial.verifies(text, password)
-        trial.check(crypt(password, text) != text, "crypt(3) verifies", text)
+        yield trial.verified(text, password)
+        yield f"crypt(3) verifies {text}", crypt(password, text) == text, False
 
 
 def libsodium(trial):
-    try:
-        from nacl import exceptions
-        from nacl.pwhash import scrypt
-    except ImportError:
-        raise Missing("PyNaCl is not installed (package python3-nacl)") from None
-    for password, *_ in trial.cases()[:10]:
-        text = scrypt.str(password.encode(), opslimit=32768, memlimit=1 << 24).decode()
-        trial.verifies(text, password)
+    pwhash, exceptions = (imported(f"nacl.{it}", "python3-nacl") for it in ("pwhash", "exceptions"))
+    for password, *_ in trial.texts()[:10]:
+        text = pwhash.scrypt.str(password.encode(), opslimit=32768, memlimit=1 << 24).decode()
+        yield trial.verified(text, password)
     for salt, length, is_verified in ((32, 32, True), (16, 32, False), (32, 33, False)):
         text = trial.hash_mcf(4, 8, 1, length, trial.rng.randbytes(salt))
         try:
-            trial.check(scrypt.verify(text.encode(), b"password") == is_verified, text)
-        except (exceptions.CryptoError, ValueError) as error:
-            trial.check(not is_verified, text, error)
+            verdict = pwhash.scrypt.verify(text.encode(), b"password")
+        except (exceptions.CryptoError, ValueError):
+            verdict = False
+        yield f"libsodium verifies {text}", verdict, is_verified
 
 
 def libscrypt(trial):
-    try:
-        library = ctypes.CDLL("libscrypt.so.0")
-    except OSError:
-        raise Missing("libscrypt is not installed (package libscrypt0)") from None
-    for password, _, n, r, p in trial.cases():
+    library = loaded("libscrypt.so.0", "libscrypt0")
+    for password, _, n, r, p in trial.texts():
         text = ctypes.create_string_buffer(128)
         library.libscrypt_hash(text, password.encode(), n, r, p)
-        trial.converted(migration.from_libscrypt, text.value.decode(), password)
+        yield from trial.converted(migration.from_libscrypt, text.value.decode(), password)
         salt = some_bytes(trial.rng, 15) + b"!"
         key = trial.key(password.encode(), salt, n.bit_length() - 1, r, p, 64)
         library.libscrypt_mcf(n, r, p, base64.b64encode(salt), base64.b64encode(key), text)
         made = text.value.decode()
-        trial.check(library.libscrypt_check(text, password.encode()) > 0, "libscrypt", made)
-        trial.verifies(migration.from_libscrypt(made), password)
+        yield f"libscrypt verifies {made}", library.libscrypt_check(text, password.encode()) > 0, True
+        yield trial.verified(migration.from_libscrypt(made), password)
+
+
+def raises(call, *words, **named):
+    """Whether a call raises ValueError."""
+    try:
+        call(*words, **named)
+    except ValueError:
+        return True
+    return False
 
 
 def of_hashlib(trial):
@@ -284,42 +271,37 @@ def of_hashlib(trial):
         plain, short = (some_bytes(trial.rng, 63) + b"!", some + 9), ("ö".encode(), some % 10 + 1)
         salt, length = trial.rng.choice([plain, (b"", some), (long, some), short])
         key = hashlib.scrypt(password, salt=salt, n=n, r=r, p=p, dklen=length)
-        trial.check(trial.key(password, salt, n.bit_length() - 1, r, p, length) == key, salt)
-        trial.verifies(migration.stored_text(salt, key, n, r, p), password)
-    for password, salt, n, r, p in trial.cases():  # as Werkzeug 2.3 writes them
+        yield f"the key of {salt}", trial.key(password, salt, n.bit_length() - 1, r, p, length), key
+        yield trial.verified(migration.stored_text(salt, key, n, r, p), password)
+    for password, salt, n, r, p in trial.texts():  # as Werkzeug 2.3 writes them
         key = hashlib.scrypt(password.encode(), salt=salt.encode(), n=n, r=r, p=p, dklen=64).hex()
-        trial.converted(migration.from_werkzeug, f"scrypt:{n}:{r}:{p}${salt}${key}", password)
-    for salt in (b"\xff" * 65, b"$" * 65):  # neither format has these
-        try:
-            trial.check(False, migration.stored_text(salt, bytes(32), 64, 8, 1))
-        except ValueError:
-            trial.check(True)
+        yield from trial.converted(migration.from_werkzeug, f"scrypt:{n}:{r}:{p}${salt}${key}", password)
+    for salt in (b"\xff" * 65, b"$" * 65):
+        yield f"neither format has the salt {salt}", raises(migration.stored_text, salt, bytes(32), 64, 8, 1), True
     for log_n, r, p in ((0, 8, 1), (16, 1, 1), (17, 8, 1)):
-        try:
-            hashlib.scrypt(b"", salt=b"", n=1 << log_n, r=r, p=p, dklen=10)
-            trial.check(False, "hashlib takes", log_n, r, p)
-        except ValueError:
-            trial.check(len(trial.key(b"", b"", log_n, r, p, 10)) == 10, log_n, r, p)
+        is_refused = raises(hashlib.scrypt, b"", salt=b"", n=1 << log_n, r=r, p=p, dklen=10)
+        yield f"hashlib refuses {log_n}, {r}, {p}", (is_refused, len(trial.key(b"", b"", log_n, r, p, 10))), (True, 10)
 
 
 def go(trial):
-    installed("go", "golang-go")
+    if not shutil.which("go"):
+        raise Missing("go", "golang-go")
     if not os.path.isdir(f"{GO_SOURCES}/src/golang.org/x/crypto/scrypt"):
-        raise Missing("x/crypto is not installed (package golang-golang-x-crypto-dev)")
-    cases = trial.key_cases() + [("pass", "00", 1 << 16, 1, 1, 32), ("pass", "00", 1, 8, 1, 32)]
+        raise Missing("x/crypto", "golang-golang-x-crypto-dev")
+    salts = [(some_bytes(trial.rng, 63) + b"!").hex() for _ in range(CASES)]
+    cases = [(trial.word(), it, *trial.params(), trial.rng.randrange(10, 65)) for it in salts]
+    cases += [("pass", "00", 1 << 16, 1, 1, 32), ("pass", "00", 1, 8, 1, 32)]
     with tempfile.TemporaryDirectory() as folder:
         shutil.copytree("bindings/go", f"{folder}/src/nilomafy.example/scrypt")
         source = f"{folder}/main.go"
         with open(source, "w", encoding="utf-8") as file:
             file.write(GO)
         paths = {"GO111MODULE": "off", "GOPATH": f"{folder}:{GO_SOURCES}", "GOFLAGS": ""}
-        *made, last = answers(["go", "run", source], cases, **paths)
+        _, printed, errors = run(["go", "run", source], "\n".join(map(json.dumps, cases)).encode(), env=os.environ | paths)
+    *made, last = printed.splitlines() or [""]
     for case, text in zip(cases, made):
-        trial.verifies(text, case[0])
-    trial.check(last == "scrypt: N must be > 1 and a power of 2", last)
-
-
-PARTS = [passlib, django, libxcrypt, libsodium, libscrypt, of_hashlib, go]
+        yield trial.verified(text, case[0])
+    yield f"x/crypto refuses N = 1 {errors}", (len(made), last), (len(cases) - 1, "scrypt: N must be > 1 and a power of 2")
 
 
 def main():
@@ -327,17 +309,12 @@ def main():
     parser.add_argument("program")
     parser.add_argument("--seed", type=int, default=7914)
     args = parser.parse_args()
-    rng, is_well = random.Random(args.seed), True
-    for part in PARTS:
-        trial = Trial(os.path.abspath(args.program), rng)
+    trial, is_well = Trial(os.path.abspath(args.program), random.Random(args.seed)), True
+    for part in (passlib, django, libxcrypt, libsodium, libscrypt, of_hashlib, go):
         try:
-            part(trial)
+            is_well = report(part.__name__, part(trial)) and is_well
         except Missing as missing:
-            print(f"{part.__name__}: {missing}: not run")
-            continue
-        is_well = is_well and all(trial.agreed)
-        notes = "".join(f" ({it})" for it in trial.notes)
-        print(f"{part.__name__}: {sum(trial.agreed)} of {len(trial.agreed)} agreed{notes}")
+            print(f"{part.__name__}: {missing}")
     sys.exit(not is_well)
 
 

@@ -9,7 +9,6 @@ lengths that both have to reject.
 """
 
 import argparse
-import functools
 import random
 import sys
 
@@ -27,25 +26,14 @@ def by_python(password, salt, params, length):
     return reference.key(password, salt, *params, length)
 
 
-def by_worker(path):
-    worker = Worker("worker", path)
-    return lambda *case: worker.derive(*case)[1]
-
-
 def some_bytes(rng, greatest):
     """Bytes of any value, zeros and bytes that are no text among them."""
     return bytes(rng.choice((0, 10, 255, rng.randrange(256))) for _ in range(rng.randrange(greatest)))
 
 
-def words_of(*words):
-    """The arguments of a command, with salts in hexadecimal."""
-    return [it.hex() if isinstance(it, bytes) else str(it) for it in words]
-
-
-def verified(program, text, password):
-    """The case of a hash that is verified with its password and with a wrong one."""
-    got = [run([program, "verify", text], it) for it in (password, password + b"x")]
-    return f"verify {text!r} on {password.hex()}", got, [OK, NO]
+def some_params(rng):
+    """log_n, r, p and the length of a key, from few values, so that two are often equal."""
+    return rng.randrange(3, 6), rng.randrange(1, 4), rng.randrange(1, 4), rng.choice((16, 31, 32, 33))
 
 
 def some_case(rng):
@@ -58,17 +46,28 @@ def some_case(rng):
     return password, salt, params, rng.randrange(1 + rng.choice((1, 32, 33, 65, 300)))
 
 
+def made(program, words, password, wanted):
+    """The case of a command, whose salt is bytes."""
+    words = [it.hex() if isinstance(it, bytes) else str(it) for it in words]
+    return f"{words} on {password.hex()}", run([program, *words], password), wanted
+
+
+def verified(program, text, password):
+    """The case of a hash that is verified with its password and with a wrong one."""
+    got = [run([program, "verify", text], it) for it in (password, password + b"x")]
+    return f"verify {text!r} on {password.hex()}", got, [OK, NO]
+
+
 def keys(program, rng, derive=by_python, count=CASES):
     """Keys of random passwords, salts, parameters and lengths; or both reject them."""
     for _ in range(count):
         password, salt, params, length = case = some_case(rng)
         try:
-            key = derive(*case)
+            wanted = 0, f"{derive(*case).hex()}\n"
         except Refused:
             wanted = 2, ""
-        else:
-            wanted = 0, f"{key.hex()}\n"
-        yield case, run([program, *words_of("key", *params, length, salt)], password)[:2], wanted
+        about, ended, _ = made(program, ["key", *params, length, salt], password, wanted)
+        yield about, ended[:2], wanted
 
 
 def hashes(program, rng):
@@ -78,14 +77,8 @@ def hashes(program, rng):
         params = rng.randrange(9), rng.choice((1, 2, 3, 8)), rng.randrange(1, 4)
         for form in ("phc", "mcf"):
             text = hash_of(form, password, salt, *params, length)
-            words = words_of("hash", form, *params, salt, length)
-            yield f"{words} on {password.hex()}", run([program, *words], password), (0, f"{text}\n", "")
+            yield made(program, ["hash", form, *params, salt, length], password, (0, f"{text}\n", ""))
             yield verified(program, text, password)
-
-
-def some_params(rng):
-    """log_n, r, p and the length of a key, from few values, so that two are often equal."""
-    return rng.randrange(3, 6), rng.randrange(1, 4), rng.randrange(1, 4), rng.choice((16, 31, 32, 33))
 
 
 def rehashes(program, rng):
@@ -104,15 +97,7 @@ def rehashes(program, rng):
             answer = 2, "", "hash refused: SaltInvalid\n"
         else:
             answer = 0, hash_of(form, password, salt, *wanted) + "\n", ""
-        words = words_of("rehash", form, *wanted, salt, text)
-        yield f"{words} on {password.hex()}", run([program, *words], password if right else password + b"x"), answer
-
-
-PARTS = {
-    "keys of hashlib, or of plain Python if it refuses": keys,
-    "hashes with keys of 10 to 64 bytes": hashes,
-    "rehashes by the definition in plain Python": rehashes,
-}
+        yield made(program, ["rehash", form, *wanted, salt, text], password if right else password + b"x", answer)
 
 
 def main():
@@ -121,11 +106,16 @@ def main():
     parser.add_argument("--seed", type=int, default=7914)
     parser.add_argument("--worker")
     args = parser.parse_args()
-    rng, parts = random.Random(args.seed), PARTS
+    program, rng = args.program, random.Random(args.seed)
     if args.worker:
-        parts = {"keys of the worker": functools.partial(keys, derive=by_worker(args.worker), count=WORKER_CASES)}
-    wrong = [report(title, part(args.program, rng))[1] for title, part in parts.items()]
-    sys.exit(1 if any(wrong) else 0)
+        worker = Worker("worker", args.worker)
+        sys.exit(not report("keys of the worker", keys(program, rng, lambda *case: worker.derive(*case)[1], WORKER_CASES)))
+    parts = {
+        "keys of hashlib, or of plain Python if it refuses": keys(program, rng),
+        "hashes with keys of 10 to 64 bytes": hashes(program, rng),
+        "rehashes by the definition in plain Python": rehashes(program, rng),
+    }
+    sys.exit(not all([report(*part) for part in parts.items()]))
 
 
 if __name__ == "__main__":

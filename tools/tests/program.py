@@ -323,8 +323,7 @@ def main():
     # The memory that a program touches includes this script's at its start, so this test is first.
     parts = [memory, rows, long_passwords, streams, cuts, allocations.cases, salts, hash_files, information, raw_keys, terminal]
     shown = {"shown": sys.maxsize} if sys.argv[2:] == ["all"] else {}
-    _, wrong = runs.report("program", itertools.chain(*(part(sys.argv[1]) for part in parts)), **shown)
-    sys.exit(1 if wrong else 0)
+    sys.exit(not runs.report("program", itertools.chain(*(part(sys.argv[1]) for part in parts)), **shown))
 
 
 if __name__ == "__main__":

@@ -59,18 +59,13 @@ def ro_mix(words, n):
     return words
 
 
-def chunks_of(password, salt, r, p):
-    """The p chunks of B as words (section 6, step 1)."""
-    size = 128 * r
-    b = hashlib.pbkdf2_hmac("sha256", password, salt, 1, p * size)
-    return [list(struct.unpack(f"<{size // 4}I", b[at : at + size])) for at in range(0, p * size, size)]
-
-
 def scrypt(password, salt, log_n, r, p, length):
     """scrypt (section 6)."""
-    mixed = b""
-    for words in chunks_of(password, salt, r, p):
-        mixed += struct.pack(f"<{len(words)}I", *ro_mix(words, 1 << log_n))
+    size, mixed = 128 * r, b""
+    b = hashlib.pbkdf2_hmac("sha256", password, salt, 1, p * size)
+    for at in range(0, p * size, size):
+        words = struct.unpack(f"<{32 * r}I", b[at : at + size])
+        mixed += struct.pack(f"<{32 * r}I", *ro_mix(words, 1 << log_n))
     return hashlib.pbkdf2_hmac("sha256", password, mixed, 1, length)
 
 

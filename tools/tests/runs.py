@@ -30,7 +30,7 @@ def failing_calls():
 
 
 def report(title, cases, shown=20):
-    """Prints the first cases whose result is not the expected one, and returns the numbers of right and wrong cases.
+    """Prints the first cases whose result is not the expected one, and returns whether there is none.
 
     A case is a triple: a description, the result, and the expected result.
     """
@@ -43,4 +43,4 @@ def report(title, cases, shown=20):
         if wrong <= shown:
             print(f"{about}: {answer}, and not {wanted}")
     print(f"{title}: {right} of {right + wrong} as they should be", flush=True)
-    return right, wrong
+    return wrong == 0
