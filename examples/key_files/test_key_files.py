@@ -18,7 +18,7 @@ from key_files import open_age, open_ethereum, open_scrypt
 
 HERE = Path(__file__).resolve().parent
 sys.path.insert(0, str(HERE.parents[1]))
-from tools.tests.terminal import on_terminal  # noqa: E402
+from tools.tests.terminal import session  # noqa: E402
 
 PASSWORD = "testpassword"
 CONTENT = b"The key of the garden gate is under the third stone.\n"
@@ -94,7 +94,7 @@ class KeyFilesTest(unittest.TestCase):
             for length in (0, 65536, 200_000):
                 source.write_bytes(os.urandom(length))
                 words = ["age", "-p", "-o", str(target), str(source)]
-                self.assertEqual(on_terminal(words, [PASSWORD] * 2), 0)
+                self.assertEqual(session(words, [f"{PASSWORD}\n".encode()] * 2)[0], 0)
                 self.assertEqual(open_age(target.read_bytes(), PASSWORD), source.read_bytes())
 
     @unittest.skipUnless(shutil.which("scrypt"), "the package scrypt is not installed")

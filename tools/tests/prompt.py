@@ -1,15 +1,14 @@
-"""Runs the installed program on a terminal, where it asks for the password without echo."""
+"""Runs the installed program on a terminal, where it asks for the password without echo and shows progress."""
 
 import os
+import re
 import signal
 import subprocess
 import sys
 import tempfile
-import time
 
-from tools.tests import progress
 from tools.tests.known import HASHLIB
-from tools.tests.runs import OK
+from tools.tests.runs import OK, redirected, run
 from tools.tests.terminal import session
 
 TOP = os.path.join(os.path.dirname(os.path.abspath(__file__)), "../..")
@@ -47,33 +46,64 @@ ROWS = [
 ]
 
 
-def non_blocking(words, parts):
-    """How a run ends if its input is a non-blocking pipe, to which the parts are written with pauses."""
-    read, write = os.pipe()
-    os.set_blocking(read, False)
-    ran = subprocess.Popen(words, stdin=read, stdout=subprocess.PIPE, stderr=subprocess.PIPE, text=True)
-    os.close(read)
-    for part in parts:
-        time.sleep(0.1)
-        os.write(write, part)
-    os.close(write)
-    return ran.wait(), ran.stdout.read(), ran.stderr.read()
+# A program whose standard input does not block.
+NON_BLOCKING = [sys.executable, "-c", "import os, sys; os.set_blocking(0, False); os.execv(sys.argv[1], sys.argv[1:])"]
+
+# The bar of --progress until it is removed, or until Ctrl-C is typed.
+BAR = re.compile(rb"(?:\r\[[# ]{40}\] {1,3}\d+ %)+(?:\r {48,}\r|\^C)")
+TYPED, PIPED = '"$@"', 'printf pass | "$@"'
+SHORT, WHOLE = "key 10 8 1 32 4e61436c", list(range(101))
+
+# The command of the shell, the arguments, the percentages that are shown, and the reason. All else is as without --progress.
+BARS = [
+    (TYPED, "key 16 8 2 32 4e61436c", WHOLE, "the password is typed"),
+    (PIPED, "key 9 1 500 32 4e61436c", WHOLE, "more groups of chunks than percentages"),
+    (PIPED, "key 0 1 1 100 4e61436c", [0, 50, 100], "two mixes"),
+    (f"ulimit -v 80000; {PIPED}", "key 15 8 4 32 00", WHOLE, "memory for one table of four"),
+    (f"ulimit -v 60000; {PIPED}", "key 17 8 1 32 00", [], "too little memory"),
+    (f"{PIPED} 2>&-", SHORT, [], "no standard error"),
+]
+
+
+def prompts(program):
+    """Each row. The echo is off at each prompt, and then on again."""
+    words = [*NON_BLOCKING, program, *VERIFY.split(" ")]
+    slow = redirected('for part in pass word; do sleep 0.1; printf $part; done | "$@"', words)
+    yield "a pipe that does not block", slow, OK
+    yield "a terminal that does not block", session(words, [b"password\n"]), (0, b"Password: \r\nok\r\n", [False, True])
+    for words, typed, status, lines, reason in ROWS:
+        answers = [it if isinstance(it, int) else it.encode() for it in typed]
+        ended, shown, echo = session([program, *words.split(" ")], answers)
+        written = shown.decode().removesuffix("\r\n").split("\r\n")
+        yield f"on a terminal, {words!r} ({reason})", (ended, written, echo), (status, lines, [False] * len(typed) + [True])
+
+
+def shown_by(words, answers):
+    """How a session ends, without the bar, and the percentages in it."""
+    status, shown, echo = session(words, answers)
+    drawn = re.findall(rb"(\d+) %", b"".join(BAR.findall(shown)))
+    return (status, BAR.sub(b"", shown), echo), [int(it) for it in drawn]
+
+
+def bars(program):
+    """Each row with and without --progress, a run without a terminal, and Ctrl-C."""
+    for shell, words, percentages, reason in BARS:
+        with_bar, without = (
+            shown_by(["sh", "-c", shell, "sh", program, *option, *words.split(" ")], [b"pass\n"] if shell == TYPED else [])
+            for option in (["--progress"], [])
+        )
+        yield f"--progress {words} by {shell} ({reason})", with_bar, (without[0], percentages)
+    ran = [run([program, *words.split(" ")], b"pass") for words in (f"--progress {SHORT}", SHORT)]
+    yield "no bar if the standard error is no terminal", *ran
+    ended, _ = shown_by([program, *"--progress key 18 8 16 32 00".split(" ")], [b"pass\n", b"\x03"])
+    yield "Ctrl-C at the bar", ended, (-signal.SIGINT, b"Password: \r\n", [False, True, True])
 
 
 def cases(program):
-    """Each row, by the program that is linked from the proved one. The echo is off at each prompt, and then on again."""
+    """The cases of the program that is linked from the proved one."""
     with tempfile.TemporaryDirectory() as folder:
-        subprocess.run([f"{TOP}/bindings/cli/build.sh", program, f"{folder}/scrypt_tool"], check=True)
-        subprocess.run([f"{TOP}/tools/release/hardened.sh", f"{folder}/scrypt_tool"], check=True)
-        words = [f"{folder}/scrypt_tool", *VERIFY.split(" ")]
-        yield "a pipe that does not block", non_blocking(words, [b"pass", b"word"]), OK
-        run = "import os, sys; os.set_blocking(0, False); os.execv(sys.argv[1], sys.argv[1:])"
-        ended = session([sys.executable, "-c", run, *words], [b"password\n"])
-        yield "a terminal that does not block", ended, (0, b"Password: \r\nok\r\n", [False, True])
-        for words, typed, status, lines, reason in ROWS:
-            answers = [it if isinstance(it, int) else it.encode() for it in typed]
-            ended, shown, echo = session([f"{folder}/scrypt_tool", *words.split(" ")], answers)
-            written = shown.decode().removesuffix("\r\n").split("\r\n")
-            wanted = status, lines, [False] * len(typed) + [True]
-            yield f"on a terminal, {words!r} ({reason})", (ended, written, echo), wanted
-        yield from progress.cases(f"{folder}/scrypt_tool")
+        linked = f"{folder}/scrypt_tool"
+        subprocess.run([f"{TOP}/bindings/cli/build.sh", program, linked], check=True)
+        subprocess.run([f"{TOP}/tools/release/hardened.sh", linked], check=True)
+        yield from prompts(linked)
+        yield from bars(linked)

@@ -25,6 +25,16 @@ def send(pid, terminal, answer):
             return
 
 
+def read(terminal):
+    """The next output, or nothing at its end, which Linux can report before it returns the last output."""
+    for _ in range(2):
+        try:
+            return os.read(terminal, 1024)
+        except OSError:
+            pass
+    return b""
+
+
 def session(words, answers):
     """Runs a program on a terminal, and types an answer, or sends a signal, after each line that ends in a colon, or a
     bar that ends in a per cent sign.
@@ -35,27 +45,14 @@ def session(words, answers):
         for each in signal.valid_signals() - {signal.SIGKILL, signal.SIGSTOP}:
             signal.signal(each, signal.SIG_DFL)
         os.execvp(words[0], words)
-    shown, line, answers, echo, is_closed = b"", b"", list(answers), [], False
-    while True:
-        try:
-            part = os.read(terminal, 1024)
-        except OSError:
-            # Linux can report that the program has closed its side before it returns the last output.
-            if is_closed:
-                break
-            is_closed = True
-            continue
-        shown, line = shown + part, line + part
-        if line.rstrip().endswith((b":", b"%")) and answers:
+    shown, answered, echo = b"", 0, []
+    while part := read(terminal):
+        shown += part
+        if len(echo) < len(answers) and shown[answered:].rstrip().endswith((b":", b"%")):
+            answered = len(shown)
             echo.append(has_echo(terminal))
-            send(pid, terminal, answers.pop(0))
-            line = b""
+            send(pid, terminal, answers[len(echo) - 1])
     status = os.waitstatus_to_exitcode(os.waitpid(pid, 0)[1])
     echo.append(has_echo(terminal))
     os.close(terminal)
     return status, shown, echo
-
-
-def on_terminal(words, answers):
-    """The status of a program to which these answers are typed, each with a newline."""
-    return session(words, [it.encode() + b"\n" for it in answers])[0]
