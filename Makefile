@@ -90,7 +90,7 @@ test: setup-test; @tools/gate/run.sh
 check: kit documents # from nothing, the libraries are proved first, with more jobs for each
 	$(if $(wildcard crates/scrypt_commands/out/incremental),,$(PROVE) $(LIBRARIES))
 	@$(STEP) what-changed env RT_SECONDS=300 rt all test --jobs $(if $(HAS_ROOM),4,1)
-	@tools/gate/run.sh answers hashes
+	@tools/gate/run.sh answers
 documents: generate
 documents suites examples:
 	@tools/gate/run.sh $@

@@ -24,7 +24,7 @@ BUILDS = library linked module program $(CROSS:%=program-%) $(MACHINES:%=library
 documents = lint first-steps links version promises cores
 examples = $(patsubst examples/%/test.sh,example-%,$(wildcard examples/*/test.sh))
 LANGUAGES = python go rust javascript drop-in $(examples) examples-of-pages
-suites = native asan tsan $(LANGUAGES) answers hashes migration oracle hostile completions
+suites = native asan tsan $(LANGUAGES) answers migration oracle hostile completions
 gate = proofs $(BUILDS) $(MACHINES) $(CROSS:%=answers-%) must-not-compile new-user \
   $(documents) $(suites) by-rattle
 # Tasks give way to the proofs: not those that others wait for, and less those that take long alone.
@@ -106,7 +106,7 @@ $(CROSS:%=program-%): program-%: $(call proved,proved-scrypt_tool)
 	$(TASK) $(call FOR,$*) $(PY) bindings.cross $* scrypt_tool
 $(CROSS:%=answers-%): answers-%: % program-%
 	$(TASK) $(call FOR,$*) env PRESET=$* tools/gate/program.sh
-answers hashes oracle migration: program
+answers oracle migration: program
 	$(TASK) $(PY) tools.tests.$(@:answers=program) $(PROGRAM)
 completions:
 	$(TASK) python3 -B bindings/cli/test_completions.py

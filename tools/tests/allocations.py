@@ -9,7 +9,7 @@ scratch.
 
 import functools
 
-from tools.tests import crypt64, phc, runs
+from tools.tests import runs
 from tools.tests.known import HASHLIB as PHC
 
 # how a run ends if an allocation fails: while the arguments are read, and after that
@@ -36,16 +36,11 @@ RUNS = [
     (f"rehash mcf 5 1 1 32 4e61436c {MCF}", b"another", 1, 5),
     # large chunks take no more allocations
     ("key 0 2048 1 32 4e61436c", b"password", 0, 8),
-    ("hash phc 0 2048 1 4e61436c", b"password", 0, 7),
-    ("hash mcf 0 2048 1 4e61436c", b"password", 0, 7),
-    (f"verify {phc.text(b'NaCl', bytes(32), 0, 2048, 1)}", b"password", 1, 4),
-    (f"verify {crypt64.text('NaCl', bytes(32), 0, 2048, 1)}", b"password", 1, 4),
     # rejected before the input, some with the salt in memory
     ("key 4 1 1 32 4", b"password", 2, 0),
     ("key 4 1 1 0 4e", b"password", 2, 1),
     # rejected after it
     ("verify $scrypt$v=1$ln=4,r=1,p=1$TmFDbA$rsa3SD7SbgiAK0H0AyCGoOiGvnrEj8/ZL/DO+BCXUvQ", b"password", 2, 1),
-    ("verify $argon2id$ln=4$aA", b"password", 2, 1),
     ("verify $scrypt$ln=4$aA", b"password", 1, 1),
     ("verify $7$2/..../....$", b"password", 2, 1),
     ("--default-limits verify $7$s/..../....$" + "z" * 40, b"password", 2, 1),
@@ -55,10 +50,8 @@ RUNS = [
 # and the scratch, or of these after the text of a `$7$` hash
 BUFFERS = [
     ("key 4 1 4 32 4e61436c", [512, 2048, 256]),
-    ("hash phc 5 1 4 4e61436c", [512, 4096, 256]),
     ("hash mcf 4 2 4 4e61436c", [64, 1024, 4096, 512]),
     (f"verify {PHC.replace('p=1', 'p=4')}", [512, 2048, 256]),
-    (f"verify {MCF.replace('/..../....', '/....2....')}", [512, 2048, 256]),
 ]
 
 

@@ -3,29 +3,22 @@
 import os
 import tempfile
 
-from tools.tests.lines import MISFIT, USAGE
-from tools.tests.known import EMPTY, LONG
-from tools.tests.runs import run
+from tools.tests.known import EMPTY, EMPTY_OF_64
+from tools.tests.runs import USAGE, run
 
 # A `$7$` hash of 4096 bytes whose salt has all but its other letters.
 LONGEST = f"$7$2/..../....{'x' * 4079}$r/"
 
-# The bytes of a file if there is one, the arguments with {} for its name, the status, the line, and
-# the reason for the row. The password is empty.
+# The bytes of a file, the arguments with {} for its name, the status, the line, and the reason for the row. The password
+# is empty.
 HASH_FILES = [
     (EMPTY, "--hash-file={} verify", 0, "ok", "the text of a file"),
     (f"{EMPTY}\n", "--hash-file={} verify", 0, "ok", "the newline at its end is not of the hash"),
     (f"{EMPTY}\n\n", "--hash-file={} verify", 2, "hash refused: EncodingInvalid", "only one is cut off"),
     (EMPTY, "--hash-file=/ --hash-file={} --default-limits verify", 0, "ok", "the last of two files, and another option"),
-    (EMPTY, "--hash-file={} rehash mcf 4 1 1 64 ", 0, LONG, "a new hash"),
+    (EMPTY, "--hash-file={} rehash mcf 4 1 1 64 ", 0, EMPTY_OF_64, "a new hash"),
     (EMPTY, f"--hash-file={{}} verify {EMPTY}", 2, USAGE, "HASH is left out"),
     (EMPTY, "verify --hash-file={}", 2, "hash refused: EncodingInvalid", "an option after the command is HASH"),
-    (None, "--hash-file={} key 4 1 1 16 ", 2, MISFIT["key"], "no file is read for a command without HASH"),
-    (None, "--hash-file={} hash phc 4 1 1 00", 2, MISFIT["hash"], "the same"),
-    (None, "--hash-file={}", 2, USAGE, "nor without a command"),
-    (None, "--hash-file={} foo", 2, USAGE, "nor for a word that is no command"),
-    (None, "--hash-file={} --", 2, USAGE, "nor for one like an option"),
-    (None, "--hash-file={} verify", 4, "{}: No such file or directory (os error 2)", "no file"),
     ("", "--hash-file={} verify", 2, "hash refused: EncodingInvalid", "no text"),
     (LONGEST, "--hash-file={} verify", 1, "no", "the longest text"),
     (f"{LONGEST}\n", "--hash-file={} verify", 2, "{}: more than 4096 bytes", "a longer one"),
@@ -46,11 +39,10 @@ NAMES = [
 def hash_files(program):
     """Hashes in files."""
     with tempfile.TemporaryDirectory() as room:
-        for number, (text, line, status, printed, reason) in enumerate(HASH_FILES):
-            file = os.path.join(room, str(number))
-            if text is not None:
-                with open(file, "wb") as it:
-                    it.write(os.fsencode(text))
+        file = f"{room}/hash"
+        for text, line, status, printed, reason in HASH_FILES:
+            with open(file, "wb") as it:
+                it.write(os.fsencode(text))
             lines = f"{printed.format(file)}\n", ""
             words = [word.format(file) for word in line.split(" ")]
             yield f"{line!r} ({reason})", run([program, *words]), (status, *(lines if status < 2 else lines[::-1]))

@@ -14,7 +14,7 @@ PLAIN = "$7$C6..../....SodiumChloride$kBGj9fHznVYFQMEn/qDCfrDevf9YDtcDdKvEqHJLV8
 # of the empty password: by hashlib with a salt of one zero, and without a salt
 EMPTY_PHC = "$scrypt$ln=4,r=1,p=1$AA$D/ts3LanbDgeRL6tq66ykPpVILti5Hnap4D6jsndXzg"
 EMPTY = "$7$2/..../....$rNxJWVHNv/mCNcgE/f6/L4zO6Fos5c2uTzhyzoisI62"
-LONG = "$7$2/..../....$rNxJWVHNv/mCNcgE/f6/L4zO6Fos5c2uTzhyzoisI62zEPEbhb.Gs9XOpdn16zl3cDBsvvG1qUmnp6C1s2RW4."
+EMPTY_OF_64 = "$7$2/..../....$rNxJWVHNv/mCNcgE/f6/L4zO6Fos5c2uTzhyzoisI62zEPEbhb.Gs9XOpdn16zl3cDBsvvG1qUmnp6C1s2RW4."
 
 # of `password`, with the salt `NaCl`, by hashlib
 HASHLIB = "$scrypt$ln=4,r=1,p=1$TmFDbA$rsa3SD7SbgiAK0H0AyCGoOiGvnrEj8/ZL/DO+BCXUvQ"

@@ -1,4 +1,4 @@
-"""Runs of the built programs, and cases that compare their results with the expected ones."""
+"""Runs of the built programs, error lines of scrypt_tool, and cases that compare results with the expected ones."""
 
 import contextlib
 import os
@@ -6,13 +6,18 @@ import subprocess
 import tempfile
 
 OK, NO = (0, "ok\n", ""), (1, "no\n", "")
+USAGE = (
+    "usage: key LOG_N R P LEN SALT_HEX | hash phc|mcf LOG_N R P SALT_HEX [LEN] | verify HASH"
+    " | rehash phc|mcf LOG_N R P LEN SALT_HEX HASH"
+)
 COMPILER = os.environ.get("CC", "cc")
 
 
 def run(words, password=b"", **options):
     """How a run ends: its status, its standard output and its standard error."""
-    ran = subprocess.run(words, input=password, capture_output=True, **options)
-    return ran.returncode, ran.stdout.decode(), ran.stderr.decode()
+    outputs = {"stdout": subprocess.PIPE, "stderr": subprocess.PIPE}
+    ran = subprocess.run(words, input=password, **outputs | options)
+    return ran.returncode, *((it or b"").decode(errors="surrogateescape") for it in (ran.stdout, ran.stderr))
 
 
 def redirected(shell, words):

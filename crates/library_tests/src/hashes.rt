@@ -1,6 +1,6 @@
 // Hashes with known values, the calls that make them, and the texts of errors, which no clause
-// states. `tools/tests/hashes.py` and `tools/tests/program.py` ask the built programs which texts
-// are made, verified and rejected.
+// states. `tools/tests/program.py` asks the built program which texts are made, verified and
+// rejected.
 
 use crate::{holds, is};
 use password_hash::mcf::Base64;

@@ -1,8 +1,8 @@
 //! Tests of the libraries for what no contract can state: that the compiled code computes the
 //! standards' keys; that calls succeed if memory is available, also on texts at the limits of each
 //! format and at large sizes; how much each call allocates, and the effect of a failed allocation.
-//! `tools/tests/program.py` asks the linked program for the keys of RFC 7914, and
-//! `tools/tests/hashes.py` which texts it verifies.
+//! `tools/tests/program.py` asks the linked program for the keys of RFC 7914, and which texts it
+//! verifies.
 //!
 //! A function that returns no error does exactly what its contract states, and its definition is
 //! evaluated on the standards' vectors in `proofs/StandardFacts.antt` of its crate. The tables here

@@ -1,5 +1,5 @@
 // The verdicts that the calls return on stored hashes, and which hashes are weaker than wanted.
-// `tools/tests/hashes.py` asks the built program for more.
+// `tools/tests/program.py` asks the built program for those of `bindings/cases.tsv`.
 
 use crate::failing_allocations::{CallEnd, failing_allocations};
 use crate::hashes::{EMPTY, MCF, MCF_OF_10, PHC, THIRD_OF_10, params_of};
