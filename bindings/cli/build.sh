@@ -1,6 +1,6 @@
 #!/bin/sh
 # Links the installed program: the proved program, whose reads of the standard input go through
-# terminal.c.
+# terminal.c, and whose memory on x86-64 is the library's (heap.c).
 # usage: build.sh                   links build/bin/scrypt_tool; with PRESET (c/CMakePresets.json), for that
 #                                   machine, into its folder
 #        build.sh PROGRAM OUTPUT    PROGRAM is crates/scrypt_tool/out/scrypt_tool, with its object next to it
@@ -9,8 +9,7 @@ unset CDPATH
 cd "$(dirname "$0")/../.."
 if [ "${PRESET:-native}" = native ]; then
   build=build proved=out CC=${CC:-cc} objcopy=objcopy
-  kit=$(dirname "$(rt doc)")
-  kit_c="$kit/c/libos_c.a $kit/c/liblibc_c.a"
+  kit_c="bindings/cli/heap.c $(dirname "$(rt doc)")/c/libos_c.a"
 else # the kit has its C only for x86-64
   . bindings/preset.sh
   proved=out/$PRESET
@@ -24,6 +23,7 @@ trap 'rm -r "$room"' EXIT
 # Only this object of libbsd: others would replace glibc's functions, such as getentropy.
 (cd "$room" && ar x "$($CC -print-file-name=libbsd.a)" readpassphrase.o)
 mkdir -p "$(dirname "$output")"
+python3 -B -m tools.generate.declarations "$room/made"
 # shellcheck disable=SC2086 # words without spaces
 $CC -std=gnu99 -O2 -Wall -Wextra -fstack-protector-strong -U_FORTIFY_SOURCE -D_FORTIFY_SOURCE=2 \
-  -Wl,-z,relro -Wl,-z,now -o "$output" "$room"/*.o bindings/cli/terminal.c $kit_c
+  -Wl,-z,relro -Wl,-z,now -I"$room/made" -Ibindings/c -o "$output" "$room"/*.o bindings/cli/terminal.c $kit_c

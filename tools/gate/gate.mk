@@ -106,6 +106,8 @@ $(CROSS:%=program-%): program-%: $(call proved,proved-scrypt_tool)
 	$(TASK) $(call FOR,$*) $(PY) bindings.cross $* scrypt_tool
 $(CROSS:%=answers-%): answers-%: % program-%
 	$(TASK) $(call FOR,$*) env PRESET=$* tools/gate/program.sh
+oracle migration: private PROGRAM = build/bin/scrypt_tool # as it is installed, with the library's memory
+oracle migration: private NEEDS = --needs build/bin/scrypt_tool:libbsd-dev
 answers oracle migration: program
 	$(TASK) $(PY) tools.tests.$(@:answers=program) $(PROGRAM)
 completions:
