@@ -45,6 +45,8 @@ from .params import Params
 
 LOG = logging.getLogger(__name__)
 
+_KEY_LEN = 64  # in Django's own format
+
 
 class FalseIfRefused:
     """A base class to put before one of the hashers below: no password matches a rejected hash,
@@ -90,7 +92,10 @@ class ScryptPasswordHasher(BasePasswordHasher):
         p = self.parallelism if p is None else p
         params = Params(log_of(n), r, p)
         limits = self.max_mem, self.max_work
-        key = derive_within(raw_password(password), salt.encode(), params, *limits, 64)
+        key = derive_within(raw_password(password), salt.encode(), params, *limits, _KEY_LEN)
+        return self._text(salt, n, r, p, key)
+
+    def _text(self, salt: str, n: int, r: int, p: int, key: bytes) -> str:
         return f"{self.algorithm}${n}${salt}${r}${p}${base64.b64encode(key).decode()}"
 
     def decode(self, encoded: str) -> dict[str, Any]:
@@ -108,9 +113,16 @@ class ScryptPasswordHasher(BasePasswordHasher):
 
     def verify(self, password: str, encoded: str) -> bool:
         parts = self.decode(encoded)
-        costs = parts["work_factor"], parts["block_size"], parts["parallelism"]
+        inputs = parts["salt"], parts["work_factor"], parts["block_size"], parts["parallelism"]
         try:
-            made = self.encode(password, parts["salt"], *costs)
+            key = base64.b64decode(parts["hash"], validate=True)
+        except ValueError:
+            key = b""
+        if len(key) != _KEY_LEN or encoded != self._text(*inputs, key):  # encode never returns this
+            words = "N, r or p is not a plain decimal, or the key is not the Base64 of 64 bytes"
+            raise _invalid(words)
+        try:
+            made = self.encode(password, *inputs)
         except InvalidParamsError as error:
             raise _invalid(str(error)) from None
         return constant_time_compare(encoded, made)

@@ -29,17 +29,25 @@ of_page = {}
 exec(re.search(r"(?ms)^```python\n(from django.*?)^```", PAGE.read_text("utf-8"))[1], of_page)
 OverPBKDF2 = of_page["OverPBKDF2"]
 
+NO_KEY = f"{86 * 'A'}=="  # 64 bytes of zeros, which no password has
 COSTLY = [
-    "scrypt$2$salt$1$2000000$AAAA", "scrypt$1099511627776$salt$8$1$AAAA",
+    f"scrypt$2$salt$1$2000000${NO_KEY}", f"scrypt$1099511627776$salt$8$1${NO_KEY}",
     f"scrypt_c$scrypt$ln=1,r=1,p=2000000{KEY}",
 ]
 DAMAGED = [
     f"scrypt_c$scrypt$ln=6,r=8,p=1{KEY}", f"scrypt_c$argon2$ln=6,r=8,p=1{KEY}",
-    "scrypt_c$7$46..../....saltsalt$..", "scrypt$16$seasalt$8", "scrypt$16$$8$1$AAAA",
-    "scrypt$16$sea\ud800$8$1$AAAA", "scrypt$x$seasalt$8$1$AAAA",
-    "scrypt$0$seasalt$8$1$AAAA",  # not the default
+    "scrypt_c$7$46..../....saltsalt$..", "scrypt$16$seasalt$8", f"scrypt$16$$8$1${NO_KEY}",
+    f"scrypt$16$sea\ud800$8$1${NO_KEY}", f"scrypt$x$seasalt$8$1${NO_KEY}",
+    f"scrypt$0$seasalt$8$1${NO_KEY}",  # not the default
     "scrypt_c$scrypt$ln=6,r=8,p=1", "scrypt_c$scrypt$ln=6,r=8,p=1$c2FsdHNhbHQ", "scrypt$16$seasalt$8$1$",
-    f"scrypt${1 << 260}$seasalt$8$1$AAAA", f"scrypt$16$seasalt${8 + (1 << 32)}$1$AAAA",
+    f"scrypt${1 << 260}$seasalt$8$1${NO_KEY}", f"scrypt$16$seasalt${8 + (1 << 32)}$1${NO_KEY}",
+    f"scrypt$016$seasalt$8$1${NO_KEY}", f"scrypt$16$seasalt$+8$1${NO_KEY}", f"scrypt$16$seasalt$8$1 ${NO_KEY}",
+    *(f"scrypt$16$seasalt$8$1${key}" for key in [
+        NO_KEY[:-30], NO_KEY[1:], NO_KEY[:-1], NO_KEY[:-2],  # cut
+        f"*{NO_KEY[1:]}", f"-{NO_KEY[1:]}", f"é{NO_KEY[1:]}",  # not in the alphabet
+        f"{NO_KEY}\n", f"{NO_KEY}=", f"{NO_KEY}$AAAA", f"{85 * 'A'}B==",  # more than the bytes
+        f"{14 * 'A'}==", 84 * "A", f"{87 * 'A'}=",  # 10, 63 and 65 bytes
+    ]),
 ]
 
 
@@ -64,7 +72,6 @@ class Hashers(unittest.TestCase):
         for text in (ours, stored):
             self.assertTrue(hashers.check_password("lètmein", text))
             self.assertFalse(hashers.check_password("letmein", text))
-        self.assertFalse(hashers.check_password("lètmein", stored[:-80]))
 
     def test_weaker_hashes_are_replaced(self):
         """At a login Django replaces a weaker hash, a hash of another hasher, and a wrapped hash."""
