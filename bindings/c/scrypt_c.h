@@ -104,7 +104,7 @@ enum scrypt_status {
   SCRYPT_HASH_PARAMS_INVALID = 9, /* parameters in the text are not accepted, or not scrypt's */
   SCRYPT_VERSION = 11,            /* the hash has a version field, which scrypt does not define */
   /* Others: */
-  SCRYPT_SALT_INVALID = 10,       /* the salt has a length that is not allowed */
+  SCRYPT_SALT_INVALID = 10,       /* the salt is not one that the format allows */
   SCRYPT_BUFFER_SIZE = 12,        /* the length of a buffer is wrong, or the text does not fit */
   SCRYPT_TOO_COSTLY = 13,         /* the parameters need more bytes or work than the limits allow */
   SCRYPT_NO_RANDOM_BYTES = 14,    /* the system has no random bytes */

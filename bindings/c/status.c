@@ -17,7 +17,7 @@ static const struct {
     ROW(OUTPUT_SIZE, "the hash has no key, or one that is too long"),
     ROW(HASH_PARAM_INVALID, "ln, r or p in the hash is not a decimal in its range"),
     ROW(HASH_PARAMS_INVALID, "the parameters in the hash are not accepted, or it has one other than ln, r and p"),
-    ROW(SALT_INVALID, "the salt of a PHC hash must have 1 to 64 bytes"),
+    ROW(SALT_INVALID, "the salt of a $7$ hash must be UTF-8 without a $, and that of a PHC hash must have 1 to 64 bytes"),
     ROW(VERSION, "the hash has a version field (v=..), which scrypt does not define"),
     ROW(BUFFER_SIZE, "a buffer is too short or, for scrypt_key_thin, too long; or the text does not fit"),
     ROW(TOO_COSTLY, "the hash or parameters exceed the limits on memory or work"),

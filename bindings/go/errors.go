@@ -26,7 +26,8 @@ const (
 	ErrInvalidOutputLen Error = C.SCRYPT_INVALID_OUTPUT_LEN
 	// ErrOutOfMemory: the memory is not available.
 	ErrOutOfMemory Error = C.SCRYPT_OUT_OF_MEMORY
-	// ErrSaltInvalid: the salt of a PHC hash does not have 1 to 64 bytes.
+	// ErrSaltInvalid: the salt of a PHC hash does not have 1 to 64 bytes, or that of a $7$ hash is not
+	// UTF-8 without a $.
 	ErrSaltInvalid Error = C.SCRYPT_SALT_INVALID
 	// ErrAlgorithm: the hash is of another algorithm.
 	ErrAlgorithm Error = C.SCRYPT_ALGORITHM

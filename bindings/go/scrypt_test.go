@@ -205,6 +205,7 @@ func TestRejectedArguments(t *testing.T) {
 		{fault(KeyContext(ctx, nil, nil, 1<<56, 1, 1, 32, nil)), ErrOutOfMemory, "need 9223372036854776192 bytes"},
 		{fault(Calibrate(time.Microsecond, 32<<20)), ErrTooCostly, ""},
 		{fault(Calibrate(time.Second, 1000)), ErrTooCostly, ""},
+		{fault(StoredText([]byte("sea$salt"), secret[:9], 64, 8, 1)), ErrSaltInvalid, "$7$ hash must be UTF-8 without a $"},
 		{fault(StoredText(nil, secret, 14, 8, 1)), ErrInvalidParams, "N is at least 64, and 14 may be its logarithm"},
 		{simple("1024", "16"), nil, ""},
 		{simple("1024", "+1024"), ErrEncodingInvalid, ""},

@@ -111,7 +111,10 @@ export type ErrorCode =
   | 'TOO_COSTLY'
   /** The key in the hash is shorter than the limit allows. */
   | 'KEY_TOO_SHORT'
-  /** The salt of a new hash in PHC form has no bytes, or more than 64. */
+  /**
+   * The salt of a hash in PHC form does not have 1 to 64 bytes, or that of a `$7$` hash is not UTF-8
+   * without a `$`.
+   */
   | 'SALT_INVALID'
   /**
    * The text is neither a hash in PHC form nor a `$7$` hash, such as a hash of bcrypt; or, in PHC

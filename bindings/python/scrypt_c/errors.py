@@ -44,7 +44,8 @@ class InvalidParamsError(ScryptError, ValueError):
 
 
 class InvalidSaltError(ScryptError, ValueError):
-    """The salt of a PHC hash does not have 1 to 64 bytes."""
+    """The salt of a PHC hash does not have 1 to 64 bytes, or that of a `$7$` hash is not UTF-8
+    without a `$`."""
 
 
 class InvalidOutputLenError(ScryptError, ValueError):

@@ -103,6 +103,9 @@ class Texts(unittest.TestCase):
             self.assertEqual(text, wanted, (salt, key, numbers))
         for costs in [(-1024, 8, 1), (1 << 64, 8, 1), (64, 8 + (1 << 32), 1), (64, 1 << 30, 1)]:
             self.assertRaises(ValueError, stored_text, b"", KEY, *costs)
+        for salt in (b"\xff", b"sea$salt"):  # the key is too short for a PHC string
+            words = r"\$7\$ hash must be UTF-8 without a \$"
+            self.assertRaisesRegex(scrypt_c.InvalidSaltError, words, stored_text, salt, KEY[:9], 64, 8, 1)
         words = "^n is N, at least 64, and 14 may be its logarithm, log_n: n=16384 is"
         self.assertRaisesRegex(ValueError, words, stored_text, SALT, KEY, 14, 8, 1)
         self.assertEqual(params_of(from_werkzeug(f"scrypt:16:8:1$seasalt${KEY.hex()}"))[:3], (4, 8, 1))

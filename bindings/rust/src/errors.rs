@@ -48,7 +48,7 @@ pub enum Error {
     ParamInvalid,
     /// The parameters in the text are not accepted, or are not scrypt's.
     ParamsInvalid,
-    /// The salt has a length that is not allowed.
+    /// The salt is not one that the format allows.
     SaltInvalid,
     /// The hash has a version field, which scrypt does not define.
     Version,

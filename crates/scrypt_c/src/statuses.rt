@@ -39,7 +39,7 @@ pub const HASH_PARAM_INVALID: i32 = 8;
 /// The parameters in the text are not accepted, or are not scrypt's.
 pub const HASH_PARAMS_INVALID: i32 = 9;
 
-/// The salt has a length that is not allowed.
+/// The salt is not one that the format allows.
 pub const SALT_INVALID: i32 = 10;
 
 /// The hash has a version field; scrypt hashes have no version.
