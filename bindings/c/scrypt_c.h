@@ -251,8 +251,9 @@ int scrypt_hash_with_buffers(const void *password, size_t password_len, const vo
  * NUL-terminated, to text: a PHC string if mcf is 0, and otherwise a $7$ hash. The text is read as
  * exactly these parts. For a PHC string the salt has 1 to 64 bytes and the key 10 to 64; a shorter
  * key is a prefix of a longer one. The salt of a $7$ hash is UTF-8 without a $, and stands in the
- * text as it is. A capacity of SCRYPT_PHC_CAPACITY + 2 * (salt_len + key_len) is enough. Nothing is
- * allocated.
+ * text as it is, after 14 bytes. A zero byte in it stands there too, so that the length of the text
+ * is not strlen(text) but 14 + salt_len + strlen(text + 14 + salt_len). A capacity of
+ * SCRYPT_PHC_CAPACITY + 2 * (salt_len + key_len) is enough. Nothing is allocated.
  * SCRYPT_NULL_POINTER, SCRYPT_INVALID_PARAMS, SCRYPT_SALT_INVALID, SCRYPT_INVALID_OUTPUT_LEN for the
  * length of the key, SCRYPT_BUFFER_SIZE. */
 SCRYPT_NODISCARD

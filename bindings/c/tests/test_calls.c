@@ -160,6 +160,18 @@ static void texts_of_other_bytes(void) {
   check(verify("$7$26..../....s\xc3\xa4lt$......................") == SCRYPT_MISMATCH, "a letter of two bytes");
 }
 
+/* A zero byte in the salt of a stored $7$ hash, with the length that the header gives for its text. */
+static void zero_in_a_salt(void) {
+  static const char SALT[] = {'a', 0, 'b'};
+  enum { LEN = sizeof SALT };
+  char text[SCRYPT_PHC_CAPACITY + 2 * (LEN + 32)];
+  uint8_t key[32];
+  check(scrypt_key("pw", 2, SALT, LEN, 4, 1, 1, key, 32) == SCRYPT_OK, "the key of this salt");
+  check(scrypt_stored_text(SALT, LEN, key, 32, 4, 1, 1, 1, text, sizeof text) == SCRYPT_OK, "a zero byte");
+  check(scrypt_verify("pw", 2, text, 14 + LEN + strlen(text + 14 + LEN)) == SCRYPT_OK, "the whole text");
+  check(strlen(text) == 15 && verify(text) == SCRYPT_ENCODING_INVALID, "the text up to the zero byte");
+}
+
 /* ---- What is written with an error, and what saturates ---- */
 
 #define KEYLESS "$scrypt$ln=4,r=8,p=1$c2FsdHNhbHQ"
@@ -218,6 +230,7 @@ int main(void) {
   capacities();
   long_inputs();
   texts_of_other_bytes();
+  zero_in_a_salt();
   costs();
   words_of_statuses();
   check(strncmp(scrypt_version(), VERSION, sizeof VERSION - 1) == 0, "the version of the header");
