@@ -5,6 +5,7 @@ import "C"
 
 import (
 	"context"
+	"errors"
 	"fmt"
 	"runtime"
 	"strings"
@@ -219,7 +220,7 @@ func (h *Hasher) Verify(ctx context.Context, text string, password []byte) error
 		return ErrClosed
 	}
 	raw := []byte(text)
-	if err := h.refusal(raw); err == ErrEncodingInvalid && looksLikeHash(password) {
+	if err := h.refusal(raw); errors.Is(err, ErrInvalidHash) && looksLikeHash(password) {
 		return fmt.Errorf("%w: the hash comes first, and then the password", err)
 	} else if err != nil {
 		return err

@@ -191,6 +191,7 @@ func TestRejectedArguments(t *testing.T) {
 		{verify("$scrypt$ln=4,r=8,p=1", Options{}), ErrOutputSize, "the hash has no key"},
 		{hasher.Verify(ctx, "pw", []byte(noHash)), ErrEncodingInvalid, "hash: the hash comes first"},
 		{hasher.Verify(ctx, "pw", []byte("$7$")), ErrRefused, "hash: the hash comes first"},
+		{hasher.Verify(ctx, "$money", []byte(noHash)), ErrAlgorithm, "algorithm: the hash comes first"},
 		{fault(hasher.NeedsRehash("$scrypt$ln=4,r=8,p=1")), nil, ""},
 		{verify(noHash[:len(noHash)-2], Options{Params: Params{KeyLen: 15}}), ErrMismatch, ""},
 		{verify(huge, Options{MaxMem: most, MaxWork: most}), ErrOutOfMemory, ""},

@@ -22,17 +22,18 @@ export class RefusedHashError extends ScryptError {
   }
 }
 
-const REFUSALS = new Set([
-  ALGORITHM, ENCODING_INVALID, HASH_PARAMS_INVALID, HASH_PARAM_INVALID, KEY_TOO_SHORT, OUTPUT_SIZE,
-  TOO_COSTLY, VERSION,
-].map((status) => WORDS.get(status)[0]));
+const codesOf = (...statuses) => new Set(statuses.map((status) => WORDS.get(status)[0]));
+const NO_HASH = codesOf(
+  ALGORITHM, ENCODING_INVALID, HASH_PARAMS_INVALID, HASH_PARAM_INVALID, OUTPUT_SIZE, VERSION,
+);
+const OUTSIDE_LIMITS = codesOf(KEY_TOO_SHORT, TOO_COSTLY);
 
 /** The error of a call that reads the text of a hash, and perhaps a password, as bytes. */
 export function errorOfHash(error, password = new Uint8Array()) {
-  if (!REFUSALS.has(error.code)) return error;
+  const isNoHash = NO_HASH.has(error.code);
+  if (!isNoHash && !OUTSIDE_LIMITS.has(error.code)) return error;
   const isHash = /^\$(scrypt|7)\$/.test(new TextDecoder().decode(password.subarray(0, 8)));
-  const isSwapped = isHash && error.code === 'ENCODING_INVALID';
-  const hint = isSwapped ? ': the password comes first, and then the hash' : '';
+  const hint = isNoHash && isHash ? ': the password comes first, and then the hash' : '';
   return new RefusedHashError(error.code, error.message + hint);
 }
 

@@ -165,6 +165,7 @@ const OF_EACH = {
       await refused(code, () => api[name](...given), '', `${name}(${words.join('; ')})`);
     }
     await refused('ENCODING_INVALID', () => api.verify('$7$', 'secret'), 'the password comes first');
+    await refused('ALGORITHM', () => api.verify('$7$', '$money'), 'the password comes first');
     await refused('INVALID_TYPE', () => api.verify('secret'), 'a password and a hash');
     equal(hex(await api.scrypt('', '', { N: 16, r: 1, p: 1, dkLen: 4 })), '77d65762', 'the next');
   },

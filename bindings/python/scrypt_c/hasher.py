@@ -20,13 +20,11 @@ from .arguments import (
     seconds,
 )
 from .declared import (
-    ENCODING_INVALID,
     KEY_TOO_SHORT,
     MAX_KEY_LEN,
     MAX_SALT_LEN,
     MIN_KEY_LEN,
     NEEDS_REHASH,
-    OK,
     OUT_OF_MEMORY,
     SALT_INVALID,
     TIMEOUT,
@@ -174,8 +172,8 @@ class PasswordHasher:
         """
         raw, secret = None if hash is None else raw_text(hash), raw_password(password)
         status = self._run(library.hasher_verify, secret, len(secret), raw, len(raw or b""))
-        is_swapped = status == ENCODING_INVALID and secret.startswith((b"$scrypt$", b"$7$"))
-        check(status if is_swapped else OK, "the hash comes first, and then the password")
+        if library.status_is_invalid_hash(status) and secret.startswith((b"$scrypt$", b"$7$")):
+            check(status, "the hash comes first, and then the password")
         self._check(status, raw)
         return True
 

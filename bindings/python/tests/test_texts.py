@@ -63,9 +63,10 @@ class Texts(unittest.TestCase):
 
     def test_swapped_arguments(self):
         for text in ("$scrypt$ln=4", b"$7$"):
-            name, error = outcome(PasswordHasher().verify, "pw", text)
-            self.assertEqual((name, type(error)), ("ENCODING_INVALID", scrypt_c.InvalidHashError))
-            self.assertRegex(str(error), ": the hash comes first, and then the password$")
+            for password, reason in [("pw", "ENCODING_INVALID"), ("$money", "ALGORITHM")]:
+                name, error = outcome(PasswordHasher().verify, password, text)
+                self.assertEqual((name, type(error)), (reason, scrypt_c.InvalidHashError))
+                self.assertRegex(str(error), ": the hash comes first, and then the password$")
         _, error = outcome(PasswordHasher().verify, "pw", "other")
         self.assertNotIn("first", str(error))
 

@@ -40,7 +40,8 @@ pub enum Error {
     Algorithm,
     /// The text does not have the grammar of its format.
     EncodingInvalid,
-    /// The same, and the password begins like a hash: the hash comes first, and then the password.
+    /// The text is not a hash, and the password begins like one: the hash comes first, and then the
+    /// password.
     ArgumentsSwapped,
     /// The text has no key, or one that is too long.
     OutputSize,

@@ -268,9 +268,7 @@ impl Hasher {
         };
         match (status, text) {
             (TOO_COSTLY | KEY_TOO_SHORT, Some(text)) => Err(self.refusal(status, text)),
-            (ENCODING_INVALID, _)
-                if password.starts_with(b"$scrypt$") || password.starts_with(b"$7$") =>
-            {
+            _ if looks_like_hash(password) && Error::of(status).is_invalid_hash() => {
                 Err(Error::ArgumentsSwapped)
             }
             _ => Error::check(status),
@@ -318,6 +316,10 @@ impl Hasher {
         // SAFETY: the hasher lives until this returns.
         unsafe { scrypt_hasher_close(self.raw()) }
     }
+}
+
+fn looks_like_hash(password: &[u8]) -> bool {
+    password.starts_with(b"$scrypt$") || password.starts_with(b"$7$")
 }
 
 // The hash that `write` writes, with a salt of up to `salt_len` bytes.

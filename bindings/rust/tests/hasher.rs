@@ -99,8 +99,8 @@ fn limits() {
     let costly = words(&PHC.replace("ln=4", "ln=19"));
     assert!(costly.ends_with(&wanted), "{costly}");
     assert!(words(&text).ends_with(": its length is 15, and at least 16 is required"));
-    for text in [PHC, MCF] {
-        let swapped = Hasher::default().verify("pw", text).unwrap_err();
+    for (password, text) in [("pw", PHC), ("pw", MCF), ("$money", PHC)] {
+        let swapped = Hasher::default().verify(password, text).unwrap_err();
         assert!(swapped.is_invalid_hash(), "{swapped:?}");
         assert!(swapped.to_string().ends_with(": the hash comes first, and then the password"));
     }
