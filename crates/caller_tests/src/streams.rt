@@ -80,17 +80,9 @@ impl Write for Stream {
 // The end of a stream and its error.
 type Kind = (usize, Option<ErrorKind>);
 
-// A command line; the kinds of its input, its output, and its error output; how the run ends; the
-// number of reads; the bytes written to the output and to the error output; and the reason for the
-// row.
-type Row<'a> = (
-    &'a str,
-    [Kind; 3],
-    (u8, bool, bool),
-    usize,
-    [&'a str; 2],
-    &'static str,
-);
+// A command line; the kinds of its input, its output, and its error output; the status; the bytes
+// written to the output and to the error output; and the reason for the row.
+type Row<'a> = (&'a str, [Kind; 3], u8, [&'a str; 2], &'static str);
 
 // The words of a command line.
 fn words_of(alloc: Global, line: &str) -> std::result::Result<Vec<String>, AllocError> {
@@ -101,26 +93,22 @@ fn words_of(alloc: Global, line: &str) -> std::result::Result<Vec<String>, Alloc
     Ok(words)
 }
 
-// Runs a command line, and fails unless the run ends as the row states.
+// Runs a command line, and fails unless the run ends as the row states. The input is read up to the
+// call that ends it, unless the command line or its hash is rejected before.
 fn check(alloc: Global, row: Row<'_>) -> std::result::Result<(), Fail> {
-    let (
-        line,
-        [input, output, faults],
-        (status, input_failed, fault_told),
-        reads,
-        [written, told],
-        reason,
-    ) = row;
+    let (line, [input, output, faults], status, [written, told], reason) = row;
+    let wanted = Ended {
+        status,
+        input_failed: told.starts_with("input failed"),
+        fault_told: faults.0 == usize::MAX,
+    };
+    let at_end = input.0.saturating_add(1);
+    let reads = if status == 2 { 0 } else { at_end };
     let words = words_of(alloc, line)?;
     let mut input = Stream::new(alloc, input);
     let mut output = Stream::new(alloc, output);
     let mut faults = Stream::new(alloc, faults);
     let ended = run(alloc, &words, &mut input, &mut output, &mut faults);
-    let wanted = Ended {
-        status,
-        input_failed,
-        fault_told,
-    };
     let is_so = (ended == wanted)
         & (input.calls == reads)
         & (output.text.as_slice() == written.as_bytes())
@@ -132,170 +120,100 @@ const OTHER: Option<ErrorKind> = Some(ErrorKind::Other);
 
 const INTERRUPTED: Option<ErrorKind> = Some(ErrorKind::Interrupted);
 
+// A stream without an end; the input `xxx`; the empty one; and a stream that fails at once.
 const ALL: Kind = (usize::MAX, None);
 
-// The letters `xxx`.
 const INPUT: Kind = (3, None);
+
+const NONE: Kind = (0, None);
+
+const BAD: Kind = (0, OTHER);
 
 const KEY: &str = "key 4 1 1 64 ";
 
-// A hash of `xxx`, and one of no password.
-const VERIFY: &str = "verify $7$2/..../....$W.DC6SK1n8Wquj250SWcOF3iCywSlnx7anZDmvlBgp.";
-
-const VERIFY_EMPTY: &str = "verify $7$2/..../....$rNxJWVHNv/mCNcgE/f6/L4zO6Fos5c2uTzhyzoisI62";
+// The hash of the empty password, and that of `xxx`.
+const VERIFY: &str = "verify $7$2/..../....$rNxJWVHNv/mCNcgE/f6/L4zO6Fos5c2uTzhyzoisI62";
 
 const REHASH: &str =
     "rehash mcf 4 1 1 64  $7$2/..../....$W.DC6SK1n8Wquj250SWcOF3iCywSlnx7anZDmvlBgp.";
 
-// Command lines, their statuses, and their output for `xxx`, by Python's hashlib.
-const ANSWERS: [(&str, u8, &str, &str); 4] = [
+// Command lines, inputs, statuses, outputs by hashlib (the first is RFC 7914's), and the reason.
+static ANSWERS: [(&str, Kind, u8, &str, &str); 5] = [
     (
         KEY,
+        NONE,
         0,
-        "22f03888670db322dafa4b1c8227a25a54b88ecf7bf1dc27e65c3ef21e376c0db90adb241ee0f4f3f27ca36d9c866861b65933995b0813e7c17fb4271434fbc9\n^",
+        "77d6576238657b203b19ca42c18a0497f16b4844e3074ae8dfdffa3fede21442fcd0069ded0948f8326a753a0fc81f17e8d3e0fb2e0d3628cf35e20c38d18906\n^",
         "a key, in a line of 129 bytes",
     ),
-    (VERIFY, 0, "ok\n^", "the right password"),
-    (
-        VERIFY_EMPTY,
-        1,
-        "no\n^",
-        "a wrong one: no `ok`, nor a part of it",
-    ),
+    (VERIFY, NONE, 0, "ok\n^", "the right password"),
+    ("verify $7$2/..../....$W.", INPUT, 0, "ok\n^", "three reads"),
+    (VERIFY, INPUT, 1, "no\n^", "no part of `ok`"),
     (
         REHASH,
+        INPUT,
         0,
         "$7$2/..../....$W.DC6SK1n8Wquj250SWcOF3iCywSlnx7anZDmvlBgpEi8gB7S.Cxn9DTXq4b4WKMqapANi30HQSkzFv7IEny71\n^",
         "a new hash",
     ),
 ];
 
-const INPUT_FAILED: &str = "input failed\n";
+const NO_INPUT: &str = "input failed\n";
 
-const OUTPUT_FAILED: &str = "output failed\n";
+const NO_OUTPUT: &str = "output failed\n";
+
+const UNREAD: &str = "hash refused: EncodingInvalid\n";
 
 // Command lines, inputs that fail, and the reason for the row.
-const INPUTS: [(&str, Kind, &str); 9] = [
-    (KEY, (0, OTHER), "an input that seems empty"),
+static INPUTS: [(&str, Kind, &str); 9] = [
+    (KEY, BAD, "an input that seems empty"),
     (KEY, (1, OTHER), "after a first piece"),
     (KEY, (99_999, OTHER), "after many pieces"),
     (KEY, (1, INTERRUPTED), "no read is tried again"),
     (VERIFY, (3, OTHER), "no verdict on a part"),
-    ("verify $7$", (0, OTHER), "its fields are read later"),
-    (REHASH, (0, OTHER), "an old hash, and no input"),
+    ("verify $7$", BAD, "its fields are read later"),
+    (REHASH, BAD, "an old hash, and no input"),
     (REHASH, (99_999, OTHER), "after many pieces"),
     (REHASH, (1, INTERRUPTED), "and one error"),
 ];
 
-const ENDS: [Row<'static>; 10] = [
+// A command line, its input, output and error output, the status, what is written to both outputs,
+// and the reason for the row.
+static ENDS: [(&str, Kind, Kind, Kind, u8, &str, &str, &str); 9] = [
     (
         "key 4 1 1 16 ",
-        [(1_999_999, None), ALL, ALL],
-        (0, false, true),
-        2_000_000,
-        ["6d2a4ebafb0d1dbdd84a749eb3eceaf2\n^", ""],
+        (1_999_999, None),
+        ALL,
+        ALL,
+        0,
+        "6d2a4ebafb0d1dbdd84a749eb3eceaf2\n^",
+        "",
         "the key of 2,000,000 reads, by hashlib",
     ),
-    (
-        KEY,
-        [(0, None), ALL, ALL],
-        (0, false, true),
-        1,
-        [
-            "77d6576238657b203b19ca42c18a0497f16b4844e3074ae8dfdffa3fede21442fcd0069ded0948f8326a753a0fc81f17e8d3e0fb2e0d3628cf35e20c38d18906\n^",
-            "",
-        ],
-        "the first key of RFC 7914, a byte a write",
-    ),
-    (
-        KEY,
-        [INPUT, (0, None), ALL],
-        (4, false, true),
-        4,
-        ["", OUTPUT_FAILED],
-        "an output that takes no byte",
-    ),
-    (
-        REHASH,
-        [INPUT, (0, None), ALL],
-        (4, false, true),
-        4,
-        ["", OUTPUT_FAILED],
-        "a new hash that is not taken",
-    ),
-    (
-        VERIFY,
-        [INPUT, (1, INTERRUPTED), ALL],
-        (0, false, true),
-        4,
-        ["ok\n^", ""],
-        "an interrupted write is repeated",
-    ),
-    (
-        "verify $scrypt$",
-        [(0, OTHER), ALL, ALL],
-        (2, false, true),
-        0,
-        ["", "hash refused: EncodingInvalid\n"],
-        "a PHC string is read before the input",
-    ),
-    (
-        "key 4 1 1 0 ",
-        [INPUT, ALL, (0, OTHER)],
-        (2, false, false),
-        0,
-        ["", ""],
-        "a fault that cannot be written",
-    ),
-    (
-        "key 4 1 1 0 ",
-        [INPUT, ALL, (9, OTHER)],
-        (2, false, false),
-        0,
-        ["", "invalid o"],
-        "and one of which a part is",
-    ),
-    (
-        KEY,
-        [(0, OTHER), ALL, (12, None)],
-        (4, true, false),
-        1,
-        ["", "input failed"],
-        "and one without its newline",
-    ),
-    (
-        REHASH,
-        [INPUT, (0, OTHER), (0, OTHER)],
-        (4, false, false),
-        4,
-        ["", ""],
-        "neither output takes a byte",
-    ),
+    (KEY, NONE, NONE, ALL, 4, "", NO_OUTPUT, "it takes no byte"),
+    (REHASH, INPUT, NONE, ALL, 4, "", NO_OUTPUT, "nor of a hash"),
+    (VERIFY, NONE, (1, INTERRUPTED), ALL, 0, "ok\n^", "", "again"),
+    ("verify $scrypt$", BAD, ALL, ALL, 2, "", UNREAD, "before it"),
+    ("key 4 1 1 0 ", NONE, ALL, BAD, 2, "", "", "no error line"),
+    ("key 4 1 1 0 ", NONE, ALL, (1, OTHER), 2, "", "i", "a part"),
+    (KEY, BAD, ALL, (12, None), 4, "", "input failed", "newline"),
+    (REHASH, INPUT, BAD, BAD, 4, "", "", "neither takes a byte"),
 ];
 
 // The call after the last byte of an answer is the flush, which ends the run: no call follows it.
 #[test]
 fn failing_outputs(rt: HostRuntime) -> std::result::Result<(), Fail> {
-    for &(line, status, answer, reason) in &ANSWERS {
-        for end in 0..answer.len() {
+    for &(line, input, status, answer, reason) in &ANSWERS {
+        let whole = answer.len();
+        for end in 0..whole {
             // A flush that fails is marked too.
-            let len = if end + 1 == answer.len() {
-                answer.len()
-            } else {
-                end
-            };
-            let told = [answer.get(..len).unwrap_or(""), OUTPUT_FAILED];
-            let streams = [INPUT, (end, OTHER), ALL];
-            check(
-                rt.alloc(),
-                (line, streams, (4, false, true), 4, told, reason),
-            )?;
+            let len = if end + 1 == whole { whole } else { end };
+            let texts = [answer.get(..len).unwrap_or(""), NO_OUTPUT];
+            let streams = [input, (end, OTHER), ALL];
+            check(rt.alloc(), (line, streams, 4, texts, reason))?;
         }
-        let ended = (status, false, true);
-        check(
-            rt.alloc(),
-            (line, [INPUT, ALL, ALL], ended, 4, [answer, ""], reason),
-        )?;
+        let streams = [input, ALL, ALL];
+        check(rt.alloc(), (line, streams, status, [answer, ""], reason))?;
     }
     Ok(())
 }
@@ -303,27 +221,17 @@ fn failing_outputs(rt: HostRuntime) -> std::result::Result<(), Fail> {
 #[test]
 fn failing_inputs(rt: HostRuntime) -> std::result::Result<(), Fail> {
     for &(line, input, reason) in &INPUTS {
-        let reads = input.0.saturating_add(1);
-        let told = ["", INPUT_FAILED];
-        check(
-            rt.alloc(),
-            (
-                line,
-                [input, ALL, ALL],
-                (4, true, true),
-                reads,
-                told,
-                reason,
-            ),
-        )?;
+        let streams = [input, ALL, ALL];
+        check(rt.alloc(), (line, streams, 4, ["", NO_INPUT], reason))?;
     }
     Ok(())
 }
 
 #[test]
 fn other_ends(rt: HostRuntime) -> std::result::Result<(), Fail> {
-    for &row in &ENDS {
-        check(rt.alloc(), row)?;
+    for &(line, input, output, faults, status, written, told, reason) in &ENDS {
+        let streams = [input, output, faults];
+        check(rt.alloc(), (line, streams, status, [written, told], reason))?;
     }
     Ok(())
 }
