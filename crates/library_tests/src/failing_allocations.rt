@@ -24,6 +24,14 @@ pub fn ended<T, E: PartialEq + Drop>(answer: &Result<T, E>, out_of_memory: E) ->
     }
 }
 
+pub fn done_if(is_so: bool) -> CallEnd {
+    if is_so {
+        CallEnd::Done
+    } else {
+        CallEnd::Otherwise
+    }
+}
+
 // One block of each size, the last size first.
 fn take_each(alloc: Global, sizes: &[usize]) -> Result<Vec<Vec<u8>>, AllocError> {
     let mut blocks: Vec<Vec<u8>> = Vec::with_capacity(alloc, sizes.len())?;

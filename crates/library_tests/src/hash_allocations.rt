@@ -1,7 +1,7 @@
 // Each allocation of a call is made to fail, one per run, and the exact number of them is asserted.
 
 use crate::derivation_allocations::{OF_FOUR, OF_ONE};
-use crate::failing_allocations::{CallEnd, check, ended, failing_allocations};
+use crate::failing_allocations::{CallEnd, check, done_if, ended, failing_allocations};
 use crate::{holds, is};
 use password_hash::mcf::{self, Base64};
 use password_hash::{Error, PasswordHasher, PasswordVerifier, phc};
@@ -155,5 +155,27 @@ fn texts_letters_and_bytes(rt: HostRuntime) -> Result<(), Fail> {
     })?;
     check(alloc, &[LETTERS, LETTERS, GROWN], || {
         end_of_push(alloc, text.as_str(), "", &bytes)
+    })
+}
+
+// Nothing is allocated but the id of the text that a field is pushed to.
+#[test]
+fn refusals_without_allocating(rt: HostRuntime) -> Result<(), Fail> {
+    let (alloc, crypt) = (rt.alloc(), Base64::Crypt);
+    let refused = Some(mcf::Error::EncodingInvalid);
+    let id = "a".repeat(alloc, LETTERS - 1)?;
+    let hash = mcf::PasswordHashRef::new("$7$z")?;
+    let field = hash.fields().next().ok_or("no field")?;
+    check(alloc, &[LETTERS], || {
+        let Ok(mut hash) = mcf::PasswordHash::from_id(alloc, id.as_str()) else {
+            return CallEnd::OutOfMemory;
+        };
+        done_if(
+            hash.push_str("a$b").err() == refused
+                && mcf::PasswordHash::new(alloc, "7$a").err() == refused
+                && mcf::PasswordHash::from_id(alloc, "7$a").err() == refused
+                && crypt.decode_vec(alloc, field.as_str()).err() == refused
+                && field.decode_base64(alloc, crypt).err() == refused,
+        )
     })
 }

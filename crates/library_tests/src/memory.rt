@@ -1,10 +1,7 @@
-// The number of tables that the calls allocate, their success at large sizes, and errors without
-// allocating.
+// The number of tables that the calls allocate, and their success at large sizes.
 
-use crate::hash_allocations::followed;
 use crate::verdicts::{is_mcf_verdict, is_phc_verdict};
 use crate::{holds, is};
-use password_hash::mcf::Base64;
 use password_hash::{PasswordHasher, PasswordVerifier, mcf, phc};
 use scrypt::{CoreCount, Kdf, Params, Scrypt, Simd, scrypt, scrypt_with_max_mem};
 use std::alloc::Global;
@@ -103,43 +100,4 @@ fn large_sizes(rt: HostRuntime) -> Result<(), Fail> {
         holds(verifies(alloc, params, &password, &salt)?, reason)?;
     }
     Ok(())
-}
-
-// Large enough that a copy would raise the peak of `peak_memory`.
-const LONG: usize = 1 << 26;
-
-#[test]
-fn refusals_without_allocating(rt: HostRuntime) -> Result<(), Fail> {
-    let alloc = rt.alloc();
-    // A field of one letter too many for any bytes.
-    let text = followed(alloc, "$7$", "a", LONG + 1)?;
-    let hash = mcf::PasswordHashRef::new(text.as_str())?;
-    let field = hash.fields().next().ok_or("no field")?;
-    let with_dollar = text.get(1..).unwrap_or("");
-    let mut other = mcf::PasswordHash::from_id(alloc, "7")?;
-    // Making the text raised the peak, so a copy could hide below it: this block is held to prevent
-    // that.
-    let held: Vec<u8> = Vec::with_capacity(alloc, 8 * LONG)?;
-    let before = peak_memory(&rt)?;
-    for &(refused, reason) in &[
-        (mcf::PasswordHash::new(alloc, with_dollar).err(), "a text"),
-        (
-            mcf::PasswordHash::from_id(alloc, with_dollar).err(),
-            "an id",
-        ),
-        (other.push_str(with_dollar).err(), "a field"),
-        (
-            Base64::Crypt.decode_vec(alloc, field.as_str()).err(),
-            "letters",
-        ),
-        (
-            field.decode_base64(alloc, Base64::Crypt).err(),
-            "of a field",
-        ),
-    ] {
-        holds(refused == Some(mcf::Error::EncodingInvalid), reason)?;
-    }
-    let taken = peak_memory(&rt)?.saturating_sub(before);
-    drop(held);
-    holds(taken < LONG / 8 / 1024, "a copy")
 }
