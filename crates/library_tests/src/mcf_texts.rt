@@ -8,32 +8,24 @@ use std::alloc::Global;
 use std::str;
 use std::test::Fail;
 
-// Numbers, their letters in the first five of six places, and the reason for the row.
-static NUMBERS: [(u32, [u8; 6], &str); 4] = [
-    (32, *b"U....!", "libxcrypt's r"),
-    (1, *b"/....!", "the lowest digit comes first"),
-    (1_073_741_823, *b"zzzzz!", "the greatest number"),
-    (1_073_741_824, *b".....!", "modulo 2^30"),
-];
-
-// Letters, the number that is read, and the reason for the row.
-static READ: [(&[u8], Result<u32, Error>, &str); 3] = [
-    (b"U...E", Ok(268_435_488), "the fifth letter counts"),
-    (b"zzzzz", Ok(1_073_741_823), "the greatest number"),
-    (b"U...", Err(EncodingInvalid), "four letters"),
+// Numbers, their letters, the number that is read from these, and the reason for the row.
+static NUMBERS: [(u32, &[u8; 5], u32, &str); 5] = [
+    (32, b"U....", 32, "libxcrypt's r"),
+    (1, b"/....", 1, "the lowest digit comes first"),
+    (268_435_488, b"U...E", 268_435_488, "the fifth counts"),
+    (1_073_741_823, b"zzzzz", 1_073_741_823, "the greatest"),
+    (1_073_741_824, b".....", 0, "modulo 2^30"),
 ];
 
 #[test]
 fn numbers_of_five_letters() -> Result<(), Fail> {
-    for &(number, letters, reason) in &NUMBERS {
+    for &(number, letters, read, reason) in &NUMBERS {
         let mut out = *b"!!!!!!";
         encode64_uint32(&mut out, number)?;
-        holds(out == letters, reason)?;
+        holds(out[..5] == letters[..] && out[5] == b'!', reason)?;
+        holds(decode64_uint32(letters) == Ok(read), reason)?;
     }
-    for &(letters, number, reason) in &READ {
-        holds(decode64_uint32(letters) == number, reason)?;
-    }
-    Ok(())
+    holds(decode64_uint32(b"U...") == Err(EncodingInvalid), "four")
 }
 
 // libxcrypt's parameters and salt.
