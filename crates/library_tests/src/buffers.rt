@@ -3,8 +3,8 @@
 use crate::holds;
 use crate::keys::FIRST;
 use scrypt::{
-    BufferLens, Buffers, CoreCount, InvalidOutputLen, Params, Simd, StepsError, scrypt_in_steps,
-    scrypt_thin, scrypt_with_buffers,
+    BufferLens, Buffers, CoreCount, InvalidOutputLen, Params, StepsError, scrypt_thin,
+    scrypt_with_buffers,
 };
 use std::alloc::Global;
 use std::test::Fail;
@@ -21,8 +21,8 @@ fn keys_in_used_buffers() -> Result<(), Fail> {
     Ok(())
 }
 
-// The end of a derivation by (4, 1, 1) in steps of five block mixes, in `Buffers` or in slices,
-// until `until` cores are done. Each step takes ten cores, of 64 in all.
+// The end of a derivation by (4, 1, 1) in steps of five block mixes, until `until` cores are done.
+// Each step takes ten cores, of 64 in all.
 #[derive(Drop)]
 struct End {
     result: Result<(), StepsError>,
@@ -32,7 +32,7 @@ struct End {
     is_half: bool,
 }
 
-fn in_steps(alloc: Global, is_method: bool, until: u128, key: &mut [u8; 64]) -> Result<End, Fail> {
+fn in_steps(alloc: Global, until: u128, key: &mut [u8; 64]) -> Result<End, Fail> {
     let params = Params::new(4, 1, 1)?;
     let mut own = Buffers::allocate(alloc, &BufferLens::of(&params))?;
     let mut seen = 0u128;
@@ -40,13 +40,7 @@ fn in_steps(alloc: Global, is_method: bool, until: u128, key: &mut [u8; 64]) -> 
         seen = seen.wrapping_mul(100).wrapping_add(done);
         done < until
     };
-    let result = if is_method {
-        own.derive_key_in_steps(b"", b"", &params, 5, go_on, key)
-    } else {
-        let (b, v, t) = (&mut own.chunks, &mut own.table, &mut own.scratch);
-        let cores = &mut CoreCount::new();
-        scrypt_in_steps::<Simd, _>(b"", b"", &params, 5, go_on, b, v, t, key, cores)
-    };
+    let result = own.derive_key_in_steps(b"", b"", &params, 5, go_on, key);
     let is_half = own.table.last() != Some(&0);
     Ok(End {
         result,
@@ -57,19 +51,16 @@ fn in_steps(alloc: Global, is_method: bool, until: u128, key: &mut [u8; 64]) -> 
 
 #[test]
 fn keys_in_steps(rt: HostRuntime) -> Result<(), Fail> {
-    for is_method in [true, false] {
-        let mut key = [0; 64];
-        let whole = in_steps(rt.alloc(), is_method, 65, &mut key)?;
-        holds(whole.result.is_ok() && key == FIRST, "the whole key")?;
-        let is_so = whole.seen == 10_20_30_40_50_60_64;
-        holds(is_so, "after each of seven steps")?;
-        let cancelled = in_steps(rt.alloc(), is_method, 20, &mut key)?;
-        let is_so = cancelled.result == Err(StepsError::Cancelled) && key == FIRST;
-        holds(is_so, "cancelled, with the output unchanged")?;
-        let is_so = cancelled.seen == 10_20 && !cancelled.is_half;
-        holds(is_so, "at once, after the second step")?;
-    }
-    Ok(())
+    let mut key = [0; 64];
+    let whole = in_steps(rt.alloc(), 65, &mut key)?;
+    holds(whole.result.is_ok() && key == FIRST, "the whole key")?;
+    let is_so = whole.seen == 10_20_30_40_50_60_64;
+    holds(is_so, "after each of seven steps")?;
+    let cancelled = in_steps(rt.alloc(), 20, &mut key)?;
+    let is_so = cancelled.result == Err(StepsError::Cancelled) && key == FIRST;
+    holds(is_so, "cancelled, with the output unchanged")?;
+    let is_so = cancelled.seen == 10_20 && !cancelled.is_half;
+    holds(is_so, "at once, after the second step")
 }
 
 #[test]

@@ -5,7 +5,7 @@ use crate::failing_allocations::{CallEnd, check, done_if, ended, failing_allocat
 use crate::{holds, is};
 use password_hash::mcf::{self, Base64};
 use password_hash::{Error, PasswordHasher, PasswordVerifier, phc};
-use scrypt::{Params, Scrypt, StoredHash, hash_text};
+use scrypt::{Params, Scrypt, hash_text};
 use std::alloc::Global;
 use std::test::Fail;
 
@@ -17,7 +17,6 @@ enum Deriving {
     VerifyPhc,
     VerifyMcf,
     HashText,
-    VerifyText,
 }
 
 // More than the 72 bytes that some hashes stop at.
@@ -25,7 +24,7 @@ const LONG: [u8; 73] = [b'x'; 73];
 
 // A call that derives a key, p, the key's length, the sizes of its allocations at (4, 1, p), and
 // the reason for the row. The last three are the chunks, the table and the scratch.
-static DERIVING: [(Deriving, u32, usize, &[usize], &str); 11] = [
+static DERIVING: [(Deriving, u32, usize, &[usize], &str); 10] = [
     (Deriving::HashPhc, 1, 32, &OF_ONE, "its key is in place"),
     (Deriving::HashPhc, 4, 32, &OF_FOUR, "one table"),
     (Deriving::VerifyPhc, 1, 32, &OF_ONE, "it is read in place"),
@@ -36,7 +35,6 @@ static DERIVING: [(Deriving, u32, usize, &[usize], &str); 11] = [
     (Deriving::VerifyMcf, 1, 32, &OF_ONE, "its letters are read"),
     (Deriving::VerifyMcf, 4, 32, &OF_FOUR, "one table"),
     (Deriving::HashText, 1, 32, &OF_ONE, "none for the text"),
-    (Deriving::VerifyText, 1, 32, &OF_ONE, "it is read in place"),
 ];
 
 // The end of this call with the empty password, or with a long one.
@@ -65,13 +63,6 @@ fn end_of_deriving(
         Deriving::HashText => {
             let made = hash_text(alloc, &LONG, [7; 16], &hasher.params());
             ended(&made, memory)
-        }
-        Deriving::VerifyText => {
-            let text = phc_hash.to_array_string();
-            match StoredHash::read(text.as_str()) {
-                Ok(hash) => ended(&hash.verify(alloc, b""), memory),
-                Err(_) => CallEnd::Otherwise,
-            }
         }
         // The owned text is verified as the borrowed one, so this tries both.
         Deriving::VerifyMcf => ended(&hasher.verify_password(alloc, b"", mcf_hash), memory),

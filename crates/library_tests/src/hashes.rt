@@ -2,6 +2,7 @@
 // states. `tools/tests/program.py` asks the built program which texts are made, verified and
 // rejected.
 
+use crate::verdicts::is_mcf_verdict;
 use crate::{holds, is};
 use password_hash::mcf::Base64;
 use password_hash::{
@@ -19,37 +20,33 @@ pub const PHC: &str =
 pub const MCF: &str =
     "$7$CU..../....Mq4YHD2syxYT.MsH1Ek0n1$JyHIxez0DOwm0r6.kAIohc8UFBOLU4xX8a1wGBpLrw7";
 
-pub const MCF_OF_10: &str = "$7$CU..../....Mq4YHD2syxYT.MsH1Ek0n1$JyHIxez0DOwm01";
+const MCF_OF_10: &str = "$7$CU..../....Mq4YHD2syxYT.MsH1Ek0n1$JyHIxez0DOwm01";
 
-// The first key of RFC 7914, section 12, without password and salt, in 32, 10 and 64 bytes.
+// The first key of RFC 7914, section 12, without password and salt, in 32 and in 64 bytes.
 pub const EMPTY: &str = "$7$2/..../....$rNxJWVHNv/mCNcgE/f6/L4zO6Fos5c2uTzhyzoisI62";
-
-const EMPTY_OF_10: &str = "$7$2/..../....$rNxJWVHNv/mCN.";
 
 const EMPTY_OF_64: &str =
     "$7$2/..../....$rNxJWVHNv/mCNcgE/f6/L4zO6Fos5c2uTzhyzoisI62zEPEbhb.Gs9XOpdn16zl3cDBsvvG1qUmnp6C1s2RW4.";
 
 const SALT: &str = "Mq4YHD2syxYT.MsH1Ek0n1";
 
-const LETMEIN: &str = "pleaseletmein";
+pub const LETMEIN: &str = "pleaseletmein";
 
-// The letters of a salt, a password, log_n, r and p, the length of the key or 0 for none, and the
-// hash.
+// The letters of a salt, a password, log_n, r and p, a key's length or 0 for none, and the hash.
 static MCF_HASHES: [(&str, &str, (u8, u32, u32), usize, &str); 5] = [
     (SALT, LETMEIN, (14, 32, 1), 0, MCF),
     (SALT, LETMEIN, (14, 32, 1), 10, MCF_OF_10),
     ("", "", (4, 1, 1), 0, EMPTY),
-    ("", "", (4, 1, 1), 10, EMPTY_OF_10),
+    ("", "", (4, 1, 1), 10, "$7$2/..../....$rNxJWVHNv/mCN."),
     ("", "", (4, 1, 1), 64, EMPTY_OF_64),
 ];
 
 // Parameters with this key length, or without one if it is 0.
 pub fn params_of((log_n, r, p): (u8, u32, u32), len: usize) -> Result<Params, InvalidParams> {
     if len == 0 {
-        Params::new(log_n, r, p)
-    } else {
-        Params::new_with_output_len(log_n, r, p, len)
+        return Params::new(log_n, r, p);
     }
+    Params::new_with_output_len(log_n, r, p, len)
 }
 
 #[test]
@@ -63,7 +60,8 @@ fn known_mcf_hashes(rt: HostRuntime) -> Result<(), Fail> {
             &salt,
             params,
         )?;
-        holds(is(made.as_str(), wanted), wanted)?;
+        let is_verified = is_mcf_verdict(rt.alloc(), wanted, password, Ok(()));
+        holds(is(made.as_str(), wanted) && is_verified, wanted)?;
     }
     Ok(())
 }
@@ -74,34 +72,29 @@ const THIRD: &str =
 
 pub const THIRD_OF_10: &str = "$scrypt$ln=14,r=8,p=1$U29kaXVtQ2hsb3JpZGU$cCO9yzr9c0hGHA";
 
-// A salt, the length of the key or 0 for none, the hash of `pleaseletmein` by (14, 8, 1), or its
-// error, and the reason for the row.
-static PHC_HASHES: [(&[u8], usize, Result<&str, Error>, &str); 4] = [
-    (b"SodiumChloride", 0, Ok(THIRD), "without a length"),
-    (b"SodiumChloride", 10, Ok(THIRD_OF_10), "of 10 bytes"),
-    (b"", 0, Err(Error::SaltInvalid), "no salt"),
-    (&[b'a'; 65], 0, Err(Error::SaltInvalid), "65 bytes"),
+// A salt, a key's length or 0 for none, the hash of `pleaseletmein` or the error, and the reason.
+static PHC_HASHES: [(&[u8], usize, &str, &str); 4] = [
+    (b"SodiumChloride", 0, THIRD, "without a length"),
+    (b"SodiumChloride", 10, THIRD_OF_10, "of 10 bytes"),
+    (b"", 0, "invalid salt length", "no salt"),
+    (&[b'a'; 65], 0, "invalid salt length", "65 bytes"),
 ];
-
-fn is_made(made: &Result<phc::PasswordHash, Error>, wanted: &Result<&str, Error>) -> bool {
-    match (made, wanted) {
-        (Ok(hash), Ok(text)) => is(hash.to_array_string().as_str(), text),
-        (Err(error), Err(refused)) => error == refused,
-        _ => false,
-    }
-}
 
 #[test]
 fn known_phc_hashes(rt: HostRuntime) -> Result<(), Fail> {
-    for (salt, len, wanted, reason) in &PHC_HASHES {
-        let params = params_of((14, 8, 1), *len)?;
+    for &(salt, len, wanted, reason) in &PHC_HASHES {
+        let (password, params) = (LETMEIN.as_bytes(), params_of((14, 8, 1), len)?);
         let made: Result<phc::PasswordHash, Error> = Scrypt::new().hash_password_with_params(
             rt.alloc(),
-            LETMEIN.as_bytes(),
+            password,
             salt,
             params,
         );
-        holds(is_made(&made, wanted), reason)?;
+        let is_wanted = match made {
+            Ok(hash) => is(hash.to_array_string().as_str(), wanted),
+            Err(error) => is(error.to_string(rt.alloc())?.as_str(), wanted),
+        };
+        holds(is_wanted, reason)?;
     }
     Ok(())
 }

@@ -12,34 +12,28 @@ fn the_greatest() -> Result<(), Fail> {
     holds(Params::new(27, 0x3fff_ffff, 1).is_ok(), "N * r")
 }
 
-// A length of a key, whether one of this length can be derived, and the reason for the row.
-static LENS: [(usize, bool, &str); 5] = [
-    (0, false, "no byte"),
-    (1, true, "the least"),
-    (137_438_953_440, true, "the greatest"),
-    (137_438_953_441, false, "a byte more"),
-    (137_438_953_471, false, "as many whole blocks of PBKDF2"),
-];
-
-// The same for the key of a stored hash.
-static STORED_LENS: [(usize, bool, &str); 5] = [
-    (9, false, "too short"),
-    (10, true, "the least"),
-    (32, true, "the recommended one"),
-    (64, true, "the greatest"),
-    (65, false, "a byte more"),
+// A key's length, whether one can be derived, whether it can be that of a hash, and the reason.
+static LENS: [(usize, bool, bool, &str); 10] = [
+    (0, false, false, "no byte"),
+    (1, true, false, "the least"),
+    (9, true, false, "too short for a hash"),
+    (10, true, true, "the least of a hash"),
+    (32, true, true, "not the same as no length"),
+    (64, true, true, "the greatest of a hash"),
+    (65, true, false, "too long for a hash"),
+    (137_438_953_440, true, false, "the greatest"),
+    (137_438_953_441, false, false, "a byte more"),
+    (137_438_953_471, false, false, "whole blocks of PBKDF2"),
 ];
 
 #[test]
 fn lengths_of_keys() -> Result<(), Fail> {
-    for &(len, is_ok, reason) in &LENS {
-        holds(output_len_ok(len) == is_ok, reason)?;
-    }
     let without = Params::new(17, 8, 1)?;
-    for &(len, is_ok, reason) in &STORED_LENS {
+    for &(len, is_derived, is_of_hash, reason) in &LENS {
+        holds(output_len_ok(len) == is_derived, reason)?;
         let params = Params::new_with_output_len(17, 8, 1, len);
-        holds(params.is_ok() == is_ok, reason)?;
-        holds(params != Ok(without), "none is another length")?;
+        let is_so = params.is_ok() == is_of_hash && params != Ok(without);
+        holds(is_so, reason)?;
     }
     Ok(())
 }

@@ -1,8 +1,8 @@
 // The verdicts that the calls return on stored hashes, and which hashes are weaker than wanted.
 // `tools/tests/program.py` asks the built program for those of `bindings/cases.tsv`.
 
-use crate::failing_allocations::{CallEnd, failing_allocations};
-use crate::hashes::{EMPTY, MCF, MCF_OF_10, PHC, THIRD_OF_10, params_of};
+use crate::failing_allocations::{check, done_if};
+use crate::hashes::{EMPTY, LETMEIN, MCF, PHC, THIRD_OF_10, params_of};
 use crate::holds;
 use password_hash::Error::{
     self, Algorithm, EncodingInvalid, OutOfMemory, OutputSize, ParamInvalid, ParamsInvalid,
@@ -57,18 +57,6 @@ pub fn is_mcf_verdict(alloc: Global, text: &str, password: &[u8], wanted: Verdic
         && (!text.starts_with("$7") || stored_verdict(alloc, text, password) == wanted)
 }
 
-// Whether an MCF string is rejected by this error if each allocation fails.
-fn is_rejected_without_memory(alloc: Global, text: &str, error: Error) -> Result<bool, Fail> {
-    let allocations = failing_allocations(alloc, &[], || {
-        if borrowed_verdict(alloc, text, b"") == Err(error) {
-            CallEnd::Done
-        } else {
-            CallEnd::Otherwise
-        }
-    })?;
-    Ok(allocations == 0)
-}
-
 const NO: Verdict = Err(PasswordInvalid);
 
 const UNREAD: Verdict = Err(EncodingInvalid);
@@ -78,6 +66,8 @@ const LN: Verdict = Err(ParamInvalid { name: "ln" });
 const R: Verdict = Err(ParamInvalid { name: "r" });
 
 const PHC_KEY: &str = "$nFNh2CVHVjNldFVKDHDlm4CbdRSCdEBsjjJxD+iCs5E";
+
+const LARGE: &str = "$scrypt$ln=56,r=1,p=1$aA$AAAAAAAAAAAAAA";
 
 // What is replaced in a hash of `password` by what, the verdict, and the reason for the row.
 static PHC_VERDICTS: [(&str, &str, Verdict, &str); 14] = [
@@ -94,7 +84,7 @@ static PHC_VERDICTS: [(&str, &str, Verdict, &str); 14] = [
     ("r=8", "r=0", Err(ParamsInvalid), "r is 0"),
     ("scrypt", "argon2id", Err(Algorithm), "no scrypt"),
     (PHC_KEY, "", NO, "no key"),
-    ("ln=16,r=8", "ln=56,r=1", Err(OutOfMemory), "2^63 bytes"),
+    (PHC, LARGE, Err(OutOfMemory), "a table of 2^63 bytes"),
 ];
 
 #[test]
@@ -105,34 +95,20 @@ fn by_phc_hashes(rt: HostRuntime) -> Result<(), Fail> {
         let is_wanted = is_phc_verdict(alloc, text.as_str(), b"password", wanted);
         holds(is_wanted, reason)?;
     }
-    let is_refused = is_phc_verdict(alloc, PHC, b"invalid", NO);
-    holds(is_refused, "another password")
+    holds(is_phc_verdict(alloc, PHC, b"invalid", NO), "another one")
 }
-
-const LETMEIN: &str = "pleaseletmein";
 
 const MCF_KEY: &str = "$JyHIxez0DOwm0r6.kAIohc8UFBOLU4xX8a1wGBpLrw7";
 
 // The third key of RFC 7914, section 12, whose salt is plain text.
 const PLAIN: &str = "$7$C6..../....SodiumChloride$kBGj9fHznVYFQMEn/qDCfrDevf9YDtcDdKvEqHJLV8D";
 
-// An MCF string, what is replaced in it by what, a password, the verdict, and the reason for the
-// row.
-static MCF_VERDICTS: [(&str, &str, &str, &str, Verdict, &str); 23] = [
-    (MCF, "", "", LETMEIN, Ok(()), "the password"),
+// An MCF string, what is replaced in it by what, a password, the verdict, and the reason.
+static MCF_VERDICTS: [(&str, &str, &str, &str, Verdict, &str); 21] = [
     (MCF, "", "", "bogus", NO, "another password"),
     (MCF, "Lrw7", "LrwD", LETMEIN, NO, "another key"),
-    (MCF_OF_10, "", "", LETMEIN, Ok(()), "10 bytes of a key"),
     (PLAIN, "", "", LETMEIN, Ok(()), "a salt of plain text"),
-    (EMPTY, "", "", "", Ok(()), "no password and no salt"),
-    (
-        EMPTY,
-        "zoisI62",
-        "zoisI62z",
-        "",
-        Ok(()),
-        "33 bytes of a key",
-    ),
+    (EMPTY, "I62", "I62z", "", Ok(()), "33 bytes of a key"),
     ("$7$2/..../....$r/", "", "", "", Ok(()), "a byte of a key"),
     ("$7$2/..../....$s/", "", "", "", NO, "another byte"),
     ("$7$s/..../....$r/", "", "", "", Err(OutOfMemory), "2^63"),
@@ -149,28 +125,28 @@ static MCF_VERDICTS: [(&str, &str, &str, &str, Verdict, &str); 23] = [
     (MCF, "$C", "$*", LETMEIN, Err(ParamsInvalid), "log_n is 255"),
     ("$7$*/..../....$r/", "", "", "", Err(ParamsInvalid), "255"),
     (MCF, "CU", "t/", LETMEIN, Err(ParamsInvalid), "log_n is 57"),
+    ("$7$t/..../....$r/", "", "", "", Err(ParamsInvalid), "57"),
 ];
 
+// A hash that is rejected is so before anything is allocated.
 #[test]
 fn by_mcf_hashes(rt: HostRuntime) -> Result<(), Fail> {
     let alloc = rt.alloc();
     for &(hash, old, new, password, wanted, reason) in &MCF_VERDICTS {
-        let text = hash.replace(alloc, old, new)?;
-        let is_wanted = is_mcf_verdict(alloc, text.as_str(), password.as_bytes(), wanted);
+        let (text, password) = (hash.replace(alloc, old, new)?, password.as_bytes());
+        let is_wanted = is_mcf_verdict(alloc, text.as_str(), password, wanted);
         holds(is_wanted, reason)?;
-        let is_so = match wanted {
-            Ok(()) | Err(PasswordInvalid | OutOfMemory) => true,
-            Err(error) => is_rejected_without_memory(alloc, text.as_str(), error)?,
-        };
-        holds(is_so, reason)?;
+        if !matches!(wanted, Ok(()) | Err(PasswordInvalid | OutOfMemory)) {
+            let again = || done_if(borrowed_verdict(alloc, text.as_str(), password) == wanted);
+            check(alloc, &[], again)?;
+        }
     }
     Ok(())
 }
 
 const RECOMMENDED: (u8, u32, u32) = (17, 8, 1);
 
-// A hash, the wanted log_n, r, p and length, or 0 for none, whether it is weaker, and the reason
-// for the row.
+// A hash, the wanted log_n, r, p and length, or 0 for none, whether it is weaker, and the reason.
 static WEAKER: [(&str, (u8, u32, u32), usize, Result<bool, Error>, &str); 13] = [
     (PHC, RECOMMENDED, 0, Ok(true), "the recommended parameters"),
     (PHC, (16, 8, 1), 0, Ok(false), "its own"),
