@@ -25,7 +25,7 @@ if [ -n "$missing" ]; then set -- bash -c "echo '$name is not installed (package
 : > "$log"
 if [ -n "${PROGRESS:-}" ]; then
   echo "$name: begins"
-  tail --pid=$$ -f "$log" 2> /dev/null | grep --line-buffered -E '^so far: |^rt: .*(proved|kept)' &
+  tail --pid=$$ -f "$log" 2> /dev/null | grep --line-buffered -E '^so far: |^rt: \w+(: its tests are)? (proved|is kept)' &
 fi
 TIMEFORMAT='%1R %1U %1S'
 times=$({ time nice -n "${NICE:-0}" "$@" > "$log" 2>&1; } 2>&1)
