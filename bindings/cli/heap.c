@@ -1,5 +1,5 @@
-/* The memory of the installed program: that of the library, wiped before it is freed, and in huge
- * pages if it is large. Not proved. */
+/* The allocator of the installed program is the library's: it wipes memory before it frees it, and
+ * asks for huge pages for large blocks. Not proved. */
 #include "blocks.c"
 #include "linux.c"
 
