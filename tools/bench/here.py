@@ -4,8 +4,8 @@ usage: python3 -m tools.bench.here LIBRARY parameters [PICTURE]   *Time and atta
        python3 -m tools.bench.here LIBRARY thin                   *Smaller tables*
        python3 -m tools.bench.here LIBRARY logins                 *Tables for each processor*
 
-LIBRARY is libscrypt_c.so. The environment variables RUNS (7) and SECONDS (10) are the number of runs, of which the minimum
-counts, and how long each row of `logins` takes. SMALL=1 tries each table with small parameters.
+LIBRARY is libscrypt_c.so. `parameters` and `thin` print the minimum of RUNS runs (an environment variable, 7 by default), and
+a row of `logins` takes SECONDS seconds (10). SMALL=1 tries each table with small parameters.
 """
 
 import concurrent.futures

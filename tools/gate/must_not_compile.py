@@ -10,7 +10,7 @@ count. A count could also be wrong by one of the following, which are errors her
   of each method
 - a file that names more of `sha2` than the type `Sha256`, such as the trait through which SHA-256 is
   called, except the file that counts the blocks that it compresses
-- another name for `CoreCount`, by which a count could be made unseen
+- another name for `CoreCount`: a call of `new` by that name would not be found
 - a handwritten proof other than the counter's
 
 An impl of `PartialEq` chooses its own relation, and the contract of `Clone` does not require a copy

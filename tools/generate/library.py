@@ -107,7 +107,7 @@ class Library:
         return item.public and (item.kind == "impl" or bool(self.path_of(item)))
 
     def path_of(self, item):
-        """The path by which users know an item, or None. A method can be in another source than its type."""
+        """The path that users write for an item, or None. A method can be in another source than its type."""
         if not item.block:
             return self.public.get(item)
         path = self.public.get(self.rust(f"{item.source.name}::{re.sub('<.*', '', item.owner.split(' for ')[-1])}"))

@@ -36,7 +36,7 @@ class Proof:
                 yield source, shown
 
     def name_of(self, it):
-        """The path by which users know an item."""
+        """The path that users write for an item."""
         if it.kind == "impl":
             return it.name
         if " for " in it.owner:

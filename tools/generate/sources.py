@@ -53,7 +53,7 @@ class Item:
     """A function, a type, a constant, a trait or an implementation, from `line` to `last`.
 
     The body of a function begins after the line `opened`. `block` is the trait or the implementation that an item is
-    in, and `owner` its name: `TYPE`, `TRAIT`, or `TRAIT for TYPE`. proof.py adds the path by which users know it, and HTML.
+    in, and `owner` its name: `TYPE`, `TRAIT`, or `TRAIT for TYPE`. proof.py adds the path that users write, and HTML.
     """
 
     source: object

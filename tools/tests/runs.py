@@ -35,7 +35,7 @@ def failing_calls():
 
 
 def report(title, cases, shown=20):
-    """Prints the first cases whose result is not the expected one, and returns whether there is none.
+    """Prints the first cases whose result is not the expected one. Returns True if every result is.
 
     A case is a triple: a description, the result, and the expected result.
     """

@@ -8,7 +8,7 @@ import resource
 from tools.tests.known import EMPTY, EMPTY_PHC
 from tools.tests.runs import redirected, run
 
-# One command of each kind, all of which end with status 0 for an empty password.
+# One command of each kind. Each ends with status 0 for an empty password.
 COMMANDS = ["key 4 1 1 64 ", "hash phc 4 1 1 00", "hash mcf 4 1 1 ", f"verify {EMPTY_PHC}", f"verify {EMPTY}"]
 COMMANDS += [f"rehash phc 5 1 1 32 00 {EMPTY}"]
 
@@ -19,7 +19,7 @@ STREAMS = [
     ('"$@" < /', "input failed\n", "a directory opens, but cannot be read"),
     ('"$@" <&-', "input failed\n", "the standard input is closed"),
 ]
-# A file that takes one byte, of which the output has the content.
+# A file that takes one byte; its content is printed.
 SHORT_FILE = 'trap "" XFSZ; file=$(mktemp); prlimit --fsize=1 "$@" > "$file"; status=$?; cat "$file"; rm "$file"; exit $status'
 
 # Parameters whose chunks take 2 GiB, and whose table cannot be allocated: log_n is 56, r is 1 and p is 2^24. Nothing is

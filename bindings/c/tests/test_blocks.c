@@ -136,8 +136,8 @@ static void no_table(void) {
   REFUSES("a key of 16 bytes", 14, 0, SCRYPT_KEY_TOO_SHORT, scrypt_verify_limited(OF_PHC, NO_LIMITS, 17));
 }
 
-/* One table is used if the system has no memory for several: here 80 MiB of address space, of which
- * a table takes 32. */
+/* One table is used if the system has no memory for several: the address space has 80 MiB, and a
+ * table takes 32. */
 static uint8_t wanted_key[32];
 static int is_in_one_table(void) {
   FILE *statm = fopen("/proc/self/statm", "r");
