@@ -30,6 +30,14 @@ pub value_of_byte : (byte : ℕ) → byte < 256 → letter_value byte ≡ value_
 unfolding letter_value
 value_of_byte byte below = agree_at letter_value value_by_range 256 byte refl below
 
+-- a value's letter, by arithmetic
+pub letter_of_value : (value : ℕ) → value < 64
+    → letter value ≡ value + 46 + 7 * ((value + 116) / 128) + 6 * ((value + 90) / 128)
+unfolding letter
+letter_of_value value below =
+    let same = agree_at (λ v. Some (letter v)) (λ v. Some (v + 46 + 7 * ((v + 116) / 128) + 6 * ((v + 90) / 128))) 64 value refl below in
+    cc
+
 -- the value of a value's letter
 pub letter_value-letter : (value : ℕ) → value < 64 → letter_value (letter value) ≡ Some value
 unfolding letter letter_value

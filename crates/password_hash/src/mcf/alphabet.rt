@@ -2,16 +2,16 @@
 ghost use Rattle.std.specs.Prelude.{◌≡◌, ◌<◌, ◌≤◌, length};
 ghost use Rattle.password_hash.specs.Crypt64.{letter, letter_value, number_of};
 
-/// The letter of each value from 0 to 63.
-const ALPHABET: [u8; 64] = *b"./0123456789ABCDEFGHIJKLMNOPQRSTUVWXYZabcdefghijklmnopqrstuvwxyz";
-
 /// Returns the letter of a value below 64.
-#[tactic(auto, unfolding(crate::specs::Crypt64::letter))]
+///
+/// The value may be a part of a key, so there is no table, whose address would depend on it: the
+/// two quotients are 1 from `A` and from `a` on.
+#[tactic(auto, using(crate::proofs::Crypt64Facts::letter_of_value))]
 pub fn letter(value: u32) -> u8
     requires small { value < 64 }
     ensures value { result ≡ letter value }
 {
-    ALPHABET[value as usize]
+    (value + 46 + 7 * ((value + 116) / 128) + 6 * ((value + 90) / 128)) as u8
 }
 
 /// Returns the value of a letter, from 0 to 63, or `None` if the byte is not a letter of crypt(5).
