@@ -1,0 +1,99 @@
+/* That no branch and no address depends on a password or a key, in each call of the header: by valgrind's
+ * memcheck, which reports each branch and each address that depends on undefined bytes, as passwords and keys
+ * are here (as in ctgrind). It reports the verdict too, and the letters of a key that is written as text: their
+ * numbers are checked. With N = 1 there is one row, whose address depends on nothing. With a larger N
+ * secrets.supp suppresses the addresses in the function that reads a row at an address that scrypt requires to
+ * depend on them.
+ * usage: valgrind --error-limit=no test_secrets 0    or, with --suppressions=secrets.supp, test_secrets LOG_N */
+#include "arguments.h"
+#include "check.h"
+
+#include <valgrind/memcheck.h>
+
+enum { KEY_LEN = 64, LETTERS = 86, OF_UTF8 = 3, LOGINS = 2 };
+
+static uint8_t password[200];
+static int is_wrong; /* the password, for the text */
+
+#define HIDE(it) (void)VALGRIND_MAKE_MEM_UNDEFINED(&it, sizeof it)
+#define SHOW(it) (void)VALGRIND_MAKE_MEM_DEFINED(&it, sizeof it)
+
+/* Whether memcheck has followed the password to each bit of the key. */
+static int is_hidden(const uint8_t *key) {
+  uint8_t bits[KEY_LEN];
+  size_t i = 0;
+  if (VALGRIND_GET_VBITS(key, bits, KEY_LEN) != 1) return 0;
+  while (i < KEY_LEN && bits[i] == 0xff) i++;
+  return i == KEY_LEN;
+}
+
+static int has(const char *name, const char *word) { return strstr(name, word) != NULL; }
+
+/* How often a call may depend on the verdict of a login, or on the letters of a key: a PHC string is written by
+ * a table of letters, and a $7$ hash in allocated memory is checked to be UTF-8. */
+static unsigned max_reports(const char *name) {
+  if (has(name, "verify_batch")) return LOGINS * (is_wrong ? 2 : 1);
+  if (has(name, "verify_limited_with") || has(name, "hasher_verify")) return is_wrong ? 2 : 1;
+  if (given.mcf) return has(name, "hash_with_salt") ? OF_UTF8 : 0;
+  return has(name, "hash_with") || has(name, "hasher_hash") || has(name, "stored") ? LETTERS : 0;
+}
+
+static void check_call(const char *name, int status, unsigned reports) {
+  const int wanted = is_wrong && has(name, "verify") ? SCRYPT_MISMATCH : SCRYPT_OK;
+  char what[150];
+  SHOW(status), SHOW(made.statuses);
+  snprintf(what, sizeof what, "%s of %zu bytes with (%u, %u, %u): status %d, %u reports", name, given.password_len,
+           given.log_n, given.r, given.p, status, reports);
+  check(reports <= max_reports(name), what);
+  if (has(name, "thin") && status == SCRYPT_BUFFER_SIZE) return; /* it takes one table */
+  check(status == (has(name, "batch") ? SCRYPT_OK : wanted), what);
+  if (has(name, "batch")) check(made.statuses[0] == wanted && made.statuses[LOGINS - 1] == wanted, what);
+  if (given.password_len == 0) return;
+  if (has(name, "scrypt_key") || has(name, "_finish")) check(is_hidden(made.output), what);
+  if (has(name, "hasher_key")) check(is_hidden(made.key), what);
+}
+
+/* Each call, except two that choose their own parameters. The key of a $7$ hash is compared in three pieces. */
+static void all_calls(size_t len, uint32_t log_n, uint32_t r, uint32_t p, size_t tables, int mcf) {
+  static uint8_t key[200];
+  static char text[SCRYPT_PHC_CAPACITY + 2 * (4 + sizeof key)];
+  static scrypt_login logins[LOGINS];
+  const size_t key_len = mcf ? sizeof key : KEY_LEN;
+  const scrypt_options with = {sizeof with, log_n, r, p, mcf, KEY_LEN, 0, SIZE_MAX, UINT64_MAX, 0, tables, 1};
+  unsigned before;
+  int status;
+  is_wrong = len > 0 && !is_wrong;
+  SHOW(password);
+  if (scrypt_key(password, len, "salt", 4, log_n, r, p, key, key_len) ||
+      scrypt_stored_text("salt", 4, key, key_len, log_n, r, p, mcf, text, sizeof text)) exit(3);
+  password[0] ^= (uint8_t)is_wrong;
+  HIDE(password), HIDE(made.key);
+  take_arguments(password, len, "salt", 4, log_n, r, p, KEY_LEN, tables);
+  logins[0] = logins[1] = (scrypt_login){password, len, text, strlen(text)};
+  take_text(text, logins, LOGINS);
+  given.mcf = mcf;
+  given.hasher = scrypt_hasher_new(&with, NULL);
+#define CALL(name, arguments)                                                                  \
+  if (strcmp(#name, "scrypt_hash_password") != 0 && strcmp(#name, "scrypt_calibrate") != 0) {  \
+    before = VALGRIND_COUNT_ERRORS;                                                            \
+    status = name arguments;                                                                   \
+    check_call(#name, status, VALGRIND_COUNT_ERRORS - before);                                 \
+  }
+#include "each_call.h"
+  scrypt_hasher_free(given.hasher);
+  free_arguments();
+}
+
+int main(int count, char **words) {
+  static const size_t LENS[] = {0, 1, 63, 64, 65, 200};
+  const uint32_t log_n = count > 1 ? (uint32_t)atoi(words[1]) : 0;
+  size_t i;
+  uint32_t p;
+  if (!RUNNING_ON_VALGRIND) return 3;
+  check(strcmp(scrypt_version(), SCRYPT_VERSION_STRING " " PROCESSOR) == 0, scrypt_version());
+  for (p = 1; p <= 5; p++) all_calls(8, log_n, 8, p, 4, p % 2);
+  if (log_n > 0) return failed;
+  for (i = 0; i < 4 * sizeof LENS / sizeof *LENS; i++) all_calls(LENS[i / 4], 0, 1, 1, 1, i % 4 > 1);
+  for (i = 0; i < 20; i++) all_calls(8, 0, 8, (uint32_t)i / 4 + 1, i % 4 + 1, i % 3 > 0);
+  return failed;
+}
