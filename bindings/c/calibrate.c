@@ -30,13 +30,13 @@ static int measure(uint32_t log_n, double *seconds) {
 int scrypt_calibrate(double seconds, size_t max_mem, uint32_t *log_n, uint32_t *r, uint32_t *p) {
   double taken = 0, best_taken = 0;
   uint32_t next, best = 0;
-  int status = SCRYPT_TOO_COSTLY;
-  if (log_n == NULL || r == NULL || p == NULL) return SCRYPT_NULL_POINTER;
+  int status = SCRYPT_E_TOO_COSTLY;
+  if (log_n == NULL || r == NULL || p == NULL) return SCRYPT_E_NULL_POINTER;
   /* Twice the N takes about twice the time: try it if that may be within the limit. */
   for (next = MIN_LOG_N; next <= MAX_LOG_N && (size_t)128 * R <= max_mem >> next; next++) {
     if (!(1.8 * taken <= seconds)) break; /* also if seconds is not a number */
     status = measure(next, &taken);
-    if (status == SCRYPT_OK && !(taken <= seconds)) status = SCRYPT_TOO_COSTLY;
+    if (status == SCRYPT_OK && !(taken <= seconds)) status = SCRYPT_E_TOO_COSTLY;
     if (status != SCRYPT_OK) break;
     best = next;
     best_taken = taken;

@@ -20,7 +20,7 @@
 #define THE_BUFFERS chunks, chunks_len, table, table_len, scratch, scratch_len
 
 #define REFUSE_IF(is_wrong) \
-  if (is_wrong) return SCRYPT_NULL_POINTER
+  if (is_wrong) return SCRYPT_E_NULL_POINTER
 #define TAKE(bytes)                       \
   REFUSE_IF(is_null(bytes, bytes##_len)); \
   bytes = (const void *)bytes_of(bytes)
@@ -125,7 +125,7 @@ int scrypt_verify_batch_with_buffers(const scrypt_login *logins, size_t count, i
   TAKE_BUFFERS;
   for (i = 0; i < count; i++)
     REFUSE_IF(is_null(logins[i].password, logins[i].password_len) || is_null(logins[i].text, logins[i].text_len));
-  if (count > SCRYPT_MAX_LOGINS) return SCRYPT_BUFFER_SIZE;
+  if (count > SCRYPT_MAX_LOGINS) return SCRYPT_E_BUFFER_SIZE;
   for (i = 0; i < SCRYPT_MAX_LOGINS; i++) {
     each[i] = i < count ? logins[i] : NONE;
     each[i].password = bytes_of(each[i].password);

@@ -120,8 +120,8 @@ static void assign_slot(struct queue *queue, struct slot *slot, struct call *cal
 
 static void enter(scrypt_hasher *hasher, struct call *call) {
   struct slot *slot = find_free_slot(hasher);
-  call->status = SCRYPT_OUT_OF_MEMORY;
-  if (hasher->is_closed) end_call(call, SCRYPT_CLOSED);
+  call->status = SCRYPT_E_OUT_OF_MEMORY;
+  if (hasher->is_closed) end_call(call, SCRYPT_E_CLOSED);
   else if (slot != NULL) assign_slot(hasher->queue, slot, call);
   else enqueue(hasher->queue, call);
 }
@@ -183,7 +183,7 @@ static void await(struct queue *queue, struct call *call, int64_t timeout_ms) {
   while (call->state == WAITING || call->state == FOLLOWING) {
     if (call->state == FOLLOWING) condition_wait(&call->changed, &queue->lock, NO_DEADLINE);
     else if (now_ns() < deadline) condition_wait(&call->changed, &queue->lock, deadline);
-    else leave(queue, call, SCRYPT_TIMEOUT);
+    else leave(queue, call, SCRYPT_E_TIMEOUT);
   }
 }
 
@@ -255,8 +255,8 @@ static void derive(scrypt_hasher *hasher, struct call **batch, size_t count, siz
 /* A batch has no more chunks than the slot has tables, so that no call waits for others' chunks. */
 static void lead(scrypt_hasher *hasher, struct call *call) {
   struct call *batch[SCRYPT_MAX_LOGINS] = {call};
-  int statuses[] = {SCRYPT_OUT_OF_MEMORY, SCRYPT_OUT_OF_MEMORY, SCRYPT_OUT_OF_MEMORY,
-                    SCRYPT_OUT_OF_MEMORY};
+  int statuses[] = {SCRYPT_E_OUT_OF_MEMORY, SCRYPT_E_OUT_OF_MEMORY, SCRYPT_E_OUT_OF_MEMORY,
+                    SCRYPT_E_OUT_OF_MEMORY};
   size_t place = (size_t)(call->slot - hasher->queue->slots);
   size_t width = width_of_slot(&hasher->options, hasher->slots, place);
   size_t count = form_batch(hasher, batch, call->kind == VERIFY ? width / call->cost.p : 1);
@@ -272,7 +272,7 @@ static int run(scrypt_hasher *hasher, struct call *call, int64_t timeout_ms) {
   enter(hasher, call);
   await(queue, call, timeout_ms);
   if (call->state == LEADING) lead(hasher, call);
-  queue->stats.failed += call->status == SCRYPT_OUT_OF_MEMORY || call->status == SCRYPT_TIMEOUT;
+  queue->stats.failed += call->status == SCRYPT_E_OUT_OF_MEMORY || call->status == SCRYPT_E_TIMEOUT;
   mutex_unlock(&queue->lock);
   return call->status;
 }
@@ -286,7 +286,7 @@ int scrypt_hasher_verify(scrypt_hasher *hasher, const void *password, size_t pas
   const scrypt_options *options = scrypt_hasher_options(hasher);
   int status;
   if (hasher == NULL || is_null(password, password_len) || is_null(text, text_len))
-    return SCRYPT_NULL_POINTER;
+    return SCRYPT_E_NULL_POINTER;
   if (text == NULL) {
     call.login.text = hasher->decoy;
     call.login.text_len = strlen(hasher->decoy);
@@ -306,19 +306,19 @@ int scrypt_hasher_hash(scrypt_hasher *hasher, const void *password, size_t passw
   uint8_t random_salt[SCRYPT_MAX_SALT_LEN];
   if (hasher == NULL || is_null(password, password_len) || is_null(salt, salt_len) ||
       is_null(text, capacity))
-    return SCRYPT_NULL_POINTER;
+    return SCRYPT_E_NULL_POINTER;
   call.cost = hasher->cost;
   if (salt == NULL) {
     call.salt = random_salt;
     call.salt_len = options->salt_len;
   }
   if (!options->mcf && (call.salt_len == 0 || call.salt_len > SCRYPT_MAX_SALT_LEN))
-    return SCRYPT_SALT_INVALID;
+    return SCRYPT_E_SALT_INVALID;
   /* Otherwise a PHC string that doesn't fit would be detected only after the derivation. */
   if (call.salt_len > capacity ||
       capacity < (options->mcf ? SCRYPT_MCF_CAPACITY(call.salt_len) : SCRYPT_PHC_CAPACITY))
-    return SCRYPT_BUFFER_SIZE;
-  if (salt == NULL && !random_bytes(random_salt, call.salt_len)) return SCRYPT_NO_RANDOM_BYTES;
+    return SCRYPT_E_BUFFER_SIZE;
+  if (salt == NULL && !random_bytes(random_salt, call.salt_len)) return SCRYPT_E_NO_RANDOM_BYTES;
   return run(hasher, &call, timeout_ms);
 }
 
@@ -329,20 +329,20 @@ int scrypt_hasher_key(scrypt_hasher *hasher, const void *password, size_t passwo
                       .salt = salt, .salt_len = salt_len, .output = key, .output_len = key_len};
   if (hasher == NULL || is_null(password, password_len) || is_null(salt, salt_len) ||
       is_null(key, key_len))
-    return SCRYPT_NULL_POINTER;
+    return SCRYPT_E_NULL_POINTER;
   call.cost = hasher->cost;
-  if (key_len == 0 || key_len > SCRYPT_MAX_OUTPUT_LEN) return SCRYPT_INVALID_OUTPUT_LEN;
+  if (key_len == 0 || key_len > SCRYPT_MAX_OUTPUT_LEN) return SCRYPT_E_INVALID_OUTPUT_LEN;
   return run(hasher, &call, timeout_ms);
 }
 
 int scrypt_hasher_needs_rehash(const scrypt_hasher *hasher, const char *text, size_t text_len) {
   const scrypt_options *options = scrypt_hasher_options(hasher);
-  if (options == NULL) return SCRYPT_NULL_POINTER;
+  if (options == NULL) return SCRYPT_E_NULL_POINTER;
   return scrypt_needs_rehash(text, text_len, options->log_n, options->r, options->p, options->key_len);
 }
 
 int scrypt_hasher_stats(scrypt_hasher *hasher, scrypt_stats *stats) {
-  if (hasher == NULL || stats == NULL) return SCRYPT_NULL_POINTER;
+  if (hasher == NULL || stats == NULL) return SCRYPT_E_NULL_POINTER;
   mutex_lock(&hasher->queue->lock);
   *stats = hasher->queue->stats;
   mutex_unlock(&hasher->queue->lock);
@@ -362,7 +362,7 @@ scrypt_hasher *scrypt_hasher_new(const scrypt_options *options, int *status) {
     made.slots = slots_of(&made.options);
     hasher = (scrypt_hasher *)malloc(sizeof *hasher);
     made.queue = hasher != NULL ? (struct queue *)map_zeros(size_of_queue(&made)) : NULL;
-    if (made.queue == NULL) result = SCRYPT_OUT_OF_MEMORY;
+    if (made.queue == NULL) result = SCRYPT_E_OUT_OF_MEMORY;
   }
   if (status != NULL) *status = result;
   if (result != SCRYPT_OK) {
@@ -386,7 +386,7 @@ void scrypt_hasher_close(scrypt_hasher *hasher) {
   queue = hasher->queue;
   mutex_lock(&queue->lock);
   hasher->is_closed = 1;
-  while (queue->first != NULL) leave(queue, queue->first, SCRYPT_CLOSED);
+  while (queue->first != NULL) leave(queue, queue->first, SCRYPT_E_CLOSED);
   for (i = 0; i < hasher->slots; i++)
     if (!queue->slots[i].is_taken) arena_free(&queue->slots[i].arena);
   mutex_unlock(&queue->lock);

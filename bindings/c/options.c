@@ -38,7 +38,7 @@ int complete_options(const scrypt_options *options, scrypt_options *completed, s
   size_t max_mem, min_key_len;
   uint64_t max_work;
   int status;
-  if (options != NULL && options->size != sizeof *completed) return SCRYPT_OPTIONS_SIZE;
+  if (options != NULL && options->size != sizeof *completed) return SCRYPT_E_OPTIONS_SIZE;
   *completed = options != NULL ? *options : (scrypt_options){.size = sizeof *completed};
   if (completed->log_n == 0 && completed->r == 0 && completed->p == 0) {
     completed->log_n = SCRYPT_RECOMMENDED_LOG_N;
@@ -48,7 +48,7 @@ int complete_options(const scrypt_options *options, scrypt_options *completed, s
   DEFAULT(key_len, SCRYPT_KEY_LEN);
   DEFAULT(salt_len, SCRYPT_SALT_LEN);
   DEFAULT(processors, processors_of_process());
-  if (completed->key_len < SCRYPT_MIN_KEY_LEN || completed->key_len > SCRYPT_MAX_KEY_LEN) return SCRYPT_INVALID_PARAMS;
+  if (completed->key_len < SCRYPT_MIN_KEY_LEN || completed->key_len > SCRYPT_MAX_KEY_LEN) return SCRYPT_E_INVALID_PARAMS;
   status = scrypt_default_limits(completed->log_n, completed->r, completed->p, completed->key_len, &max_mem,
                                  &max_work, &min_key_len);
   if (status != SCRYPT_OK) return status;
@@ -58,8 +58,8 @@ int complete_options(const scrypt_options *options, scrypt_options *completed, s
   DEFAULT(max_work, max_work);
   DEFAULT(min_key_len, min_key_len);
   /* Otherwise new hashes would be rejected. */
-  if (completed->min_key_len > completed->key_len) return SCRYPT_INVALID_PARAMS;
-  if (completed->salt_len > SCRYPT_MAX_SALT_LEN) return SCRYPT_SALT_INVALID;
+  if (completed->min_key_len > completed->key_len) return SCRYPT_E_INVALID_PARAMS;
+  if (completed->salt_len > SCRYPT_MAX_SALT_LEN) return SCRYPT_E_SALT_INVALID;
   status = scrypt_params_cost(completed->log_n, completed->r, completed->p, completed->max_mem, completed->max_work,
                               cost);
   if (status != SCRYPT_OK) return status;

@@ -32,7 +32,7 @@
  *
  * Lengths are in bytes unless words are named; a word has 4 bytes. A password, a salt, a text or an
  * output may be NULL with length 0, and another argument if the call's comment allows it. For any
- * other NULL a call returns SCRYPT_NULL_POINTER before any other status; only scrypt_buffer_lens
+ * other NULL a call returns SCRYPT_E_NULL_POINTER before any other status; only scrypt_buffer_lens
  * and scrypt_wipe do not check, and gcc and clang warn there. No output may overlap an input or
  * another output. The caller has to free only a scrypt_hasher and a scrypt_derivation.
  *
@@ -92,30 +92,31 @@ extern "C" {
  * scrypt_generate_salt, and the scrypt_cost that scrypt_hash_cost and scrypt_params_cost write. */
 enum scrypt_status {
   SCRYPT_OK = 0,
-  SCRYPT_MISMATCH = 1,            /* the password is wrong, or a PHC string has no salt or no key */
-  SCRYPT_INVALID_PARAMS = 2,      /* log_n, r and p, or key_len, are not accepted */
-  SCRYPT_INVALID_OUTPUT_LEN = 3,  /* output_len is 0, or above SCRYPT_MAX_OUTPUT_LEN */
-  SCRYPT_OUT_OF_MEMORY = 4,       /* an allocation failed */
+  SCRYPT_MISMATCH = 1,                /* the password is wrong, or a PHC string has no salt or no key */
+  SCRYPT_NEEDS_REHASH = 2,            /* the hash is weaker than wanted */
+  /* Errors: */
+  SCRYPT_E_INVALID_PARAMS = 3,        /* log_n, r and p, or key_len, are not accepted */
+  SCRYPT_E_INVALID_OUTPUT_LEN = 4,    /* output_len is 0, or above SCRYPT_MAX_OUTPUT_LEN */
+  SCRYPT_E_OUT_OF_MEMORY = 5,         /* an allocation failed */
   /* The text is not a hash that can be read: */
-  SCRYPT_ALGORITHM = 5,           /* the hash is of another algorithm */
-  SCRYPT_ENCODING_INVALID = 6,    /* the text does not have the grammar of its format */
-  SCRYPT_OUTPUT_SIZE = 7,         /* no key, or one that is too long; in scrypt_hash_cost also: no salt */
-  SCRYPT_HASH_PARAM_INVALID = 8,  /* a parameter in the text is not a decimal in its range */
-  SCRYPT_HASH_PARAMS_INVALID = 9, /* parameters in the text are not accepted, or not scrypt's */
-  SCRYPT_VERSION = 11,            /* the hash has a version field, which scrypt does not define */
+  SCRYPT_E_ALGORITHM = 6,             /* the hash is of another algorithm */
+  SCRYPT_E_ENCODING_INVALID = 7,      /* the text does not have the grammar of its format */
+  SCRYPT_E_OUTPUT_SIZE = 8,           /* no key, or one that is too long; in scrypt_hash_cost also: no salt */
+  SCRYPT_E_HASH_PARAM_INVALID = 9,    /* a parameter in the text is not a decimal in its range */
+  SCRYPT_E_HASH_PARAMS_INVALID = 10,  /* parameters in the text are not accepted, or not scrypt's */
+  SCRYPT_E_VERSION = 11,              /* the hash has a version field, which scrypt does not define */
   /* Others: */
-  SCRYPT_SALT_INVALID = 10,       /* the salt is not one that the format allows */
-  SCRYPT_BUFFER_SIZE = 12,        /* the length of a buffer is wrong, or the text does not fit */
-  SCRYPT_TOO_COSTLY = 13,         /* the parameters need more bytes or work than the limits allow */
-  SCRYPT_NO_RANDOM_BYTES = 14,    /* the system has no random bytes */
-  SCRYPT_KEY_TOO_SHORT = 15,      /* the key in the text is shorter than the limits allow */
-  SCRYPT_NULL_POINTER = 16,       /* a required pointer is NULL */
-  SCRYPT_CLOSED = 17,             /* the hasher is closed */
-  SCRYPT_TIMEOUT = 18,            /* timed out waiting for a free slot in the hasher */
-  SCRYPT_OPTIONS_SIZE = 19,       /* the size in the options is not sizeof (scrypt_options) */
-  SCRYPT_UNFINISHED = 20,         /* not all chunks of a derivation in steps are mixed */
-  SCRYPT_INVALID_PROGRESS = 21,   /* of JavaScript's module: no derivation has this progress */
-  SCRYPT_NEEDS_REHASH = 22        /* the hash is weaker than wanted */
+  SCRYPT_E_SALT_INVALID = 12,         /* the salt is not one that the format allows */
+  SCRYPT_E_BUFFER_SIZE = 13,          /* the length of a buffer is wrong, or the text does not fit */
+  SCRYPT_E_TOO_COSTLY = 14,           /* the parameters need more bytes or work than the limits allow */
+  SCRYPT_E_KEY_TOO_SHORT = 15,        /* the key in the text is shorter than the limits allow */
+  SCRYPT_E_NO_RANDOM_BYTES = 16,      /* the system has no random bytes */
+  SCRYPT_E_NULL_POINTER = 17,         /* a required pointer is NULL */
+  SCRYPT_E_CLOSED = 18,               /* the hasher is closed */
+  SCRYPT_E_TIMEOUT = 19,              /* timed out waiting for a free slot in the hasher */
+  SCRYPT_E_OPTIONS_SIZE = 20,         /* the size in the options is not sizeof (scrypt_options) */
+  SCRYPT_E_UNFINISHED = 21,           /* not all chunks of a derivation in steps are mixed */
+  SCRYPT_E_INVALID_PROGRESS = 22      /* of JavaScript's module: no derivation has this progress */
 };
 
 /* ---- Keys ---- */
@@ -123,7 +124,7 @@ enum scrypt_status {
 /* Writes the scrypt key of password and salt, output_len bytes long, to output. With p of 2 or
  * more, and tables of 64 KiB or more, up to four chunks are interleaved, each in its own table, as
  * far as all buffers fit into 129 MiB together; if that allocation fails, one table is used.
- * SCRYPT_NULL_POINTER, SCRYPT_INVALID_PARAMS, SCRYPT_INVALID_OUTPUT_LEN, SCRYPT_OUT_OF_MEMORY. */
+ * SCRYPT_E_NULL_POINTER, SCRYPT_E_INVALID_PARAMS, SCRYPT_E_INVALID_OUTPUT_LEN, SCRYPT_E_OUT_OF_MEMORY. */
 SCRYPT_NODISCARD
 int scrypt_key(const void *password, size_t password_len, const void *salt, size_t salt_len, uint32_t log_n, uint32_t r,
                uint32_t p, uint8_t *output, size_t output_len);
@@ -131,7 +132,7 @@ int scrypt_key(const void *password, size_t password_len, const void *salt, size
 /* Writes the lengths of the buffers: of chunks in bytes, of table and scratch in words. With s = 0
  * they are the minimum lengths for scrypt_key_with_buffers; with any s up to log_n they are the
  * exact lengths for scrypt_key_thin with this s.
- * SCRYPT_INVALID_PARAMS, also if s is above log_n. */
+ * SCRYPT_E_INVALID_PARAMS, also if s is above log_n. */
 SCRYPT_NODISCARD SCRYPT_NONNULL
 int scrypt_buffer_lens(uint32_t log_n, uint32_t r, uint32_t p, uint8_t s, size_t *chunks_len,
                        size_t *table_len, size_t *scratch_len);
@@ -142,7 +143,7 @@ int scrypt_buffer_lens(uint32_t log_n, uint32_t r, uint32_t p, uint8_t s, size_t
  * the mixed blocks, with which passwords can be tried against the key at little cost, so wipe them
  * with scrypt_wipe. The used parts of the other buffers are unspecified, and the rest is unchanged.
  * Nothing is allocated. On an error the buffers are unchanged too.
- * SCRYPT_INVALID_PARAMS, SCRYPT_INVALID_OUTPUT_LEN, SCRYPT_BUFFER_SIZE if a buffer is too short. */
+ * SCRYPT_E_INVALID_PARAMS, SCRYPT_E_INVALID_OUTPUT_LEN, SCRYPT_E_BUFFER_SIZE if a buffer is too short. */
 SCRYPT_NODISCARD
 int scrypt_key_with_buffers(const void *password, size_t password_len, const void *salt,
                             size_t salt_len, uint32_t log_n, uint32_t r, uint32_t p, uint8_t *output,
@@ -153,8 +154,8 @@ int scrypt_key_with_buffers(const void *password, size_t password_len, const voi
  * table is 2^s times smaller, and the work is larger. Each buffer must have exactly the length that
  * scrypt_buffer_lens returns for this s. Nothing is allocated. On an error the buffers are
  * unchanged too.
- * SCRYPT_INVALID_PARAMS, also if s is above log_n, SCRYPT_INVALID_OUTPUT_LEN,
- * SCRYPT_BUFFER_SIZE. */
+ * SCRYPT_E_INVALID_PARAMS, also if s is above log_n, SCRYPT_E_INVALID_OUTPUT_LEN,
+ * SCRYPT_E_BUFFER_SIZE. */
 SCRYPT_NODISCARD
 int scrypt_key_thin(const void *password, size_t password_len, const void *salt,
                     size_t salt_len, uint32_t log_n, uint32_t r, uint32_t p, uint8_t s,
@@ -189,24 +190,24 @@ typedef struct scrypt_derivation scrypt_derivation;
 
 /* Begins to derive the key of password and salt, output_len bytes long, and writes the derivation,
  * which the caller frees. If max_mem is 0, the tables are those of scrypt_key; otherwise chunks are
- * interleaved as far as all buffers fit into max_mem bytes together, and SCRYPT_TOO_COSTLY means
+ * interleaved as far as all buffers fit into max_mem bytes together, and SCRYPT_E_TOO_COSTLY means
  * that the buffers with one table do not fit. If several tables cannot be allocated, one is used.
  * No core is run.
- * SCRYPT_NULL_POINTER, SCRYPT_INVALID_PARAMS, SCRYPT_TOO_COSTLY (only with a max_mem),
- * SCRYPT_INVALID_OUTPUT_LEN, SCRYPT_OUT_OF_MEMORY. */
+ * SCRYPT_E_NULL_POINTER, SCRYPT_E_INVALID_PARAMS, SCRYPT_E_TOO_COSTLY (only with a max_mem),
+ * SCRYPT_E_INVALID_OUTPUT_LEN, SCRYPT_E_OUT_OF_MEMORY. */
 SCRYPT_NODISCARD
 int scrypt_derivation_new(const void *password, size_t password_len, const void *salt, size_t salt_len, uint32_t log_n,
                           uint32_t r, uint32_t p, size_t max_mem, size_t output_len, scrypt_derivation **derivation);
 
 /* Derives for about this time, but at least one block mix of each interleaved chunk, or until all
  * chunks are mixed. Writes the fraction that is done: 1 if all chunks are mixed, and less if not.
- * SCRYPT_NULL_POINTER. */
+ * SCRYPT_E_NULL_POINTER. */
 SCRYPT_NODISCARD
 int scrypt_derivation_run(scrypt_derivation *derivation, uint32_t milliseconds, double *done);
 
 /* Writes the key after all chunks are mixed. The password and output_len must be those of
  * scrypt_derivation_new; with another password the key is wrong.
- * SCRYPT_NULL_POINTER, SCRYPT_UNFINISHED, SCRYPT_INVALID_OUTPUT_LEN. */
+ * SCRYPT_E_NULL_POINTER, SCRYPT_E_UNFINISHED, SCRYPT_E_INVALID_OUTPUT_LEN. */
 SCRYPT_NODISCARD
 int scrypt_derivation_finish(const scrypt_derivation *derivation, const void *password, size_t password_len,
                              uint8_t *output, size_t output_len);
@@ -218,8 +219,8 @@ void scrypt_derivation_free(scrypt_derivation **derivation);
 
 /* Writes the PHC string of a new hash, NUL-terminated, to text, with a random salt and the
  * recommended parameters. The capacity must be SCRYPT_HASH_CAPACITY or more.
- * SCRYPT_NULL_POINTER, SCRYPT_BUFFER_SIZE if the capacity is less, SCRYPT_NO_RANDOM_BYTES,
- * SCRYPT_OUT_OF_MEMORY. */
+ * SCRYPT_E_NULL_POINTER, SCRYPT_E_BUFFER_SIZE if the capacity is less, SCRYPT_E_NO_RANDOM_BYTES,
+ * SCRYPT_E_OUT_OF_MEMORY. */
 SCRYPT_NODISCARD
 int scrypt_hash_password(const void *password, size_t password_len, char *text, size_t capacity);
 
@@ -227,8 +228,8 @@ int scrypt_hash_password(const void *password, size_t password_len, char *text, 
  * mcf is 0, and otherwise the $7$ hash of crypt(3). The key has key_len bytes, 10 to 64. The salt of
  * a PHC string has 1 to 64 bytes, and that of a $7$ hash any length. A capacity that is too small is
  * detected only after the derivation; SCRYPT_PHC_CAPACITY or SCRYPT_MCF_CAPACITY(salt_len) is enough.
- * SCRYPT_NULL_POINTER, SCRYPT_INVALID_PARAMS (also for key_len), SCRYPT_SALT_INVALID,
- * SCRYPT_OUT_OF_MEMORY, SCRYPT_BUFFER_SIZE. */
+ * SCRYPT_E_NULL_POINTER, SCRYPT_E_INVALID_PARAMS (also for key_len), SCRYPT_E_SALT_INVALID,
+ * SCRYPT_E_OUT_OF_MEMORY, SCRYPT_E_BUFFER_SIZE. */
 SCRYPT_NODISCARD
 int scrypt_hash_with_salt(const void *password, size_t password_len, const void *salt, size_t salt_len, uint32_t log_n,
                           uint32_t r, uint32_t p, size_t key_len, int mcf, char *text, size_t capacity);
@@ -238,8 +239,8 @@ int scrypt_hash_with_salt(const void *password, size_t password_len, const void 
  * are zeros afterwards, the used part of the table is unspecified, and the rest is unchanged;
  * otherwise all buffers are unchanged. With a table and a scratch of w times that length, up to w
  * chunks are interleaved, but no more than four. Nothing is allocated.
- * SCRYPT_NULL_POINTER, SCRYPT_INVALID_PARAMS (also for key_len), SCRYPT_SALT_INVALID,
- * SCRYPT_BUFFER_SIZE if a buffer is too short, or if the text does not fit, which for a PHC string
+ * SCRYPT_E_NULL_POINTER, SCRYPT_E_INVALID_PARAMS (also for key_len), SCRYPT_E_SALT_INVALID,
+ * SCRYPT_E_BUFFER_SIZE if a buffer is too short, or if the text does not fit, which for a PHC string
  * is detected only after the derivation. */
 SCRYPT_NODISCARD
 int scrypt_hash_with_buffers(const void *password, size_t password_len, const void *salt, size_t salt_len, uint32_t log_n,
@@ -254,8 +255,8 @@ int scrypt_hash_with_buffers(const void *password, size_t password_len, const vo
  * text as it is, after 14 bytes. A zero byte in it stands there too, so that the length of the text
  * is not strlen(text) but 14 + salt_len + strlen(text + 14 + salt_len). A capacity of
  * SCRYPT_PHC_CAPACITY + 2 * (salt_len + key_len) is enough. Nothing is allocated.
- * SCRYPT_NULL_POINTER, SCRYPT_INVALID_PARAMS, SCRYPT_SALT_INVALID, SCRYPT_INVALID_OUTPUT_LEN for the
- * length of the key, SCRYPT_BUFFER_SIZE. */
+ * SCRYPT_E_NULL_POINTER, SCRYPT_E_INVALID_PARAMS, SCRYPT_E_SALT_INVALID, SCRYPT_E_INVALID_OUTPUT_LEN for the
+ * length of the key, SCRYPT_E_BUFFER_SIZE. */
 SCRYPT_NODISCARD
 int scrypt_stored_text(const void *salt, size_t salt_len, const void *key, size_t key_len, uint32_t log_n, uint32_t r,
                        uint32_t p, int mcf, char *text, size_t capacity);
@@ -266,13 +267,13 @@ int scrypt_stored_text(const void *salt, size_t salt_len, const void *key, size_
  * The hash sets the parameters, and an untrusted one can demand any memory and time: one that
  * exceeds the default limits (scrypt_default_limits, for the recommended parameters) is rejected
  * before anything is allocated.
- * For a PHC string: SCRYPT_ENCODING_INVALID, SCRYPT_ALGORITHM, SCRYPT_VERSION;
- * SCRYPT_HASH_PARAM_INVALID or SCRYPT_HASH_PARAMS_INVALID, for the first parameter that is
- * rejected; SCRYPT_HASH_PARAMS_INVALID if the parameters are not accepted; SCRYPT_MISMATCH without
- * a salt or a key. For a $7$ hash: SCRYPT_ENCODING_INVALID if its first field encodes no
- * parameters; SCRYPT_HASH_PARAMS_INVALID; SCRYPT_ENCODING_INVALID for what follows;
- * SCRYPT_OUTPUT_SIZE.
- * Then, for a hash that can be read, SCRYPT_TOO_COSTLY, SCRYPT_KEY_TOO_SHORT, SCRYPT_OUT_OF_MEMORY,
+ * For a PHC string: SCRYPT_E_ENCODING_INVALID, SCRYPT_E_ALGORITHM, SCRYPT_E_VERSION;
+ * SCRYPT_E_HASH_PARAM_INVALID or SCRYPT_E_HASH_PARAMS_INVALID, for the first parameter that is
+ * rejected; SCRYPT_E_HASH_PARAMS_INVALID if the parameters are not accepted; SCRYPT_MISMATCH without
+ * a salt or a key. For a $7$ hash: SCRYPT_E_ENCODING_INVALID if its first field encodes no
+ * parameters; SCRYPT_E_HASH_PARAMS_INVALID; SCRYPT_E_ENCODING_INVALID for what follows;
+ * SCRYPT_E_OUTPUT_SIZE.
+ * Then, for a hash that can be read, SCRYPT_E_TOO_COSTLY, SCRYPT_E_KEY_TOO_SHORT, SCRYPT_E_OUT_OF_MEMORY,
  * and last SCRYPT_MISMATCH if the password is wrong. */
 SCRYPT_NODISCARD
 int scrypt_verify(const void *password, size_t password_len, const char *text, size_t text_len);
@@ -283,7 +284,7 @@ int scrypt_verify_limited(const void *password, size_t password_len, const char 
                           uint64_t max_work, size_t min_key_len);
 
 /* The same for a hash of any cost, and a key of any length: only for hashes from a trusted source.
- * SCRYPT_TOO_COSTLY means that the bytes or the work exceed 64 bits. */
+ * SCRYPT_E_TOO_COSTLY means that the bytes or the work exceed 64 bits. */
 SCRYPT_NODISCARD
 int scrypt_verify_unlimited(const void *password, size_t password_len, const char *text, size_t text_len);
 
@@ -292,8 +293,8 @@ int scrypt_verify_unlimited(const void *password, size_t password_len, const cha
  * keys were compared, the used parts of chunks and scratch are zeros afterwards, the used part of
  * the table is unspecified, and the rest is unchanged; otherwise all buffers are unchanged. With a
  * table and a scratch of w times that length, up to w chunks are interleaved, but no more than
- * four. Nothing is allocated: SCRYPT_BUFFER_SIZE, for a buffer that is too short, replaces
- * SCRYPT_OUT_OF_MEMORY. */
+ * four. Nothing is allocated: SCRYPT_E_BUFFER_SIZE, for a buffer that is too short, replaces
+ * SCRYPT_E_OUT_OF_MEMORY. */
 SCRYPT_NODISCARD
 int scrypt_verify_limited_with_buffers(const void *password, size_t password_len, const char *text, size_t text_len,
                                        size_t max_mem, uint64_t max_work, size_t min_key_len, uint8_t *chunks,
@@ -321,7 +322,7 @@ typedef struct scrypt_login {
  * the rest are tried again as a batch in the same way. Afterwards the used parts of chunks and
  * scratch are zeros. On x86-64-v3 a batch of two takes 0.56 of the time of two calls, and a batch
  * of four 0.41 of the time of four; on some processors a batch of two takes as long as two calls.
- * SCRYPT_BUFFER_SIZE for a greater count; then no status is written. */
+ * SCRYPT_E_BUFFER_SIZE for a greater count; then no status is written. */
 SCRYPT_NODISCARD
 int scrypt_verify_batch_with_buffers(const scrypt_login *logins, size_t count, int *statuses, uint8_t *chunks,
                                      size_t chunks_len, uint32_t *table, size_t table_len, uint32_t *scratch,
@@ -329,7 +330,7 @@ int scrypt_verify_batch_with_buffers(const scrypt_login *logins, size_t count, i
 
 /* Compares a hash with wanted parameters: returns SCRYPT_NEEDS_REHASH if its log_n, r, p or key
  * length is less than wanted, or if it is a PHC string without a salt or a key; otherwise
- * SCRYPT_OK. Nothing is allocated. First SCRYPT_INVALID_PARAMS (also for key_len), then the errors
+ * SCRYPT_OK. Nothing is allocated. First SCRYPT_E_INVALID_PARAMS (also for key_len), then the errors
  * of scrypt_verify for a text that cannot be read, except SCRYPT_MISMATCH. */
 SCRYPT_NODISCARD
 int scrypt_needs_rehash(const char *text, size_t text_len, uint32_t log_n, uint32_t r, uint32_t p, size_t key_len);
@@ -353,17 +354,17 @@ typedef struct scrypt_cost {
 } scrypt_cost;
 
 /* Checks a hash against limits, and writes what it costs to verify it. Nothing is allocated. The
- * errors of scrypt_verify for a text that cannot be read, but SCRYPT_OUTPUT_SIZE for a PHC string
- * without a salt or a key: such a hash is damaged, whatever the password. Then SCRYPT_TOO_COSTLY if
- * the bytes exceed max_mem, or the work exceeds max_work; then SCRYPT_KEY_TOO_SHORT if the key has
+ * errors of scrypt_verify for a text that cannot be read, but SCRYPT_E_OUTPUT_SIZE for a PHC string
+ * without a salt or a key: such a hash is damaged, whatever the password. Then SCRYPT_E_TOO_COSTLY if
+ * the bytes exceed max_mem, or the work exceeds max_work; then SCRYPT_E_KEY_TOO_SHORT if the key has
  * fewer than min_key_len bytes. With these two the cost is written too; with any other error
  * nothing is written. */
 SCRYPT_NODISCARD
 int scrypt_hash_cost(const char *text, size_t text_len, size_t max_mem, uint64_t max_work, size_t min_key_len,
                      scrypt_cost *cost);
 
-/* The same for a derivation with these parameters. SCRYPT_INVALID_PARAMS, and then nothing is
- * written; SCRYPT_TOO_COSTLY. */
+/* The same for a derivation with these parameters. SCRYPT_E_INVALID_PARAMS, and then nothing is
+ * written; SCRYPT_E_TOO_COSTLY. */
 SCRYPT_NODISCARD
 int scrypt_params_cost(uint32_t log_n, uint32_t r, uint32_t p, size_t max_mem, uint64_t max_work, scrypt_cost *cost);
 
@@ -371,7 +372,7 @@ int scrypt_params_cost(uint32_t log_n, uint32_t r, uint32_t p, size_t max_mem, u
  * of 256 MiB; on work, four times the work of the recommended parameters; and on the length of a
  * key, at least 16 bytes; changed as far as necessary to admit these hashes. (On a machine with
  * little memory, a hasher's default of max_mem is lower.)
- * SCRYPT_INVALID_PARAMS; then nothing is written. */
+ * SCRYPT_E_INVALID_PARAMS; then nothing is written. */
 SCRYPT_NODISCARD
 int scrypt_default_limits(uint32_t log_n, uint32_t r, uint32_t p, size_t key_len, size_t *max_mem, uint64_t *max_work,
                           size_t *min_key_len);
@@ -433,9 +434,9 @@ typedef struct scrypt_options {
 } scrypt_options;
 
 /* Creates a hasher, with all defaults if options is NULL. The caller frees it. Returns NULL on an
- * error. If status is not NULL, *status becomes SCRYPT_OK or the error. SCRYPT_OPTIONS_SIZE,
- * SCRYPT_INVALID_PARAMS (also for key_len and min_key_len), SCRYPT_SALT_INVALID for a salt_len
- * above 64, SCRYPT_TOO_COSTLY if new hashes exceed the limits, SCRYPT_OUT_OF_MEMORY. */
+ * error. If status is not NULL, *status becomes SCRYPT_OK or the error. SCRYPT_E_OPTIONS_SIZE,
+ * SCRYPT_E_INVALID_PARAMS (also for key_len and min_key_len), SCRYPT_E_SALT_INVALID for a salt_len
+ * above 64, SCRYPT_E_TOO_COSTLY if new hashes exceed the limits, SCRYPT_E_OUT_OF_MEMORY. */
 SCRYPT_NODISCARD
 scrypt_hasher *scrypt_hasher_new(const scrypt_options *options, int *status);
 
@@ -445,13 +446,13 @@ const scrypt_options *scrypt_hasher_options(const scrypt_hasher *hasher);
 
 /* Verifies a password against the text of a hash, like scrypt_verify, within the limits of the
  * hasher. This and the next two calls wait for a slot of the hasher for up to timeout_ms
- * milliseconds, or without a limit if that is negative, and then return SCRYPT_TIMEOUT; the timeout
+ * milliseconds, or without a limit if that is negative, and then return SCRYPT_E_TIMEOUT; the timeout
  * doesn't end a derivation.
  * For a login whose name doesn't exist, pass NULL with text_len 0: the call derives with the
  * parameters of new hashes, and returns SCRYPT_MISMATCH after the time of a wrong password, so that
  * a timing attack doesn't tell which names exist.
- * SCRYPT_NULL_POINTER; the errors of scrypt_hash_cost, without waiting; SCRYPT_CLOSED,
- * SCRYPT_TIMEOUT, SCRYPT_OUT_OF_MEMORY, and last SCRYPT_MISMATCH if the password is wrong. */
+ * SCRYPT_E_NULL_POINTER; the errors of scrypt_hash_cost, without waiting; SCRYPT_E_CLOSED,
+ * SCRYPT_E_TIMEOUT, SCRYPT_E_OUT_OF_MEMORY, and last SCRYPT_MISMATCH if the password is wrong. */
 SCRYPT_NODISCARD
 int scrypt_hasher_verify(scrypt_hasher *hasher, const void *password, size_t password_len, const char *text,
                          size_t text_len, int64_t timeout_ms);
@@ -459,23 +460,23 @@ int scrypt_hasher_verify(scrypt_hasher *hasher, const void *password, size_t pas
 /* Writes the text of a new hash, NUL-terminated. If the salt is NULL, with length 0, a random salt
  * of salt_len bytes is used. The capacity must be SCRYPT_PHC_CAPACITY or more or, for a $7$ hash,
  * SCRYPT_MCF_CAPACITY of the salt's length.
- * SCRYPT_NULL_POINTER, SCRYPT_SALT_INVALID if the salt of a PHC string does not have 1 to 64 bytes,
- * SCRYPT_BUFFER_SIZE, SCRYPT_NO_RANDOM_BYTES, SCRYPT_CLOSED, SCRYPT_TIMEOUT,
- * SCRYPT_OUT_OF_MEMORY. */
+ * SCRYPT_E_NULL_POINTER, SCRYPT_E_SALT_INVALID if the salt of a PHC string does not have 1 to 64 bytes,
+ * SCRYPT_E_BUFFER_SIZE, SCRYPT_E_NO_RANDOM_BYTES, SCRYPT_E_CLOSED, SCRYPT_E_TIMEOUT,
+ * SCRYPT_E_OUT_OF_MEMORY. */
 SCRYPT_NODISCARD
 int scrypt_hasher_hash(scrypt_hasher *hasher, const void *password, size_t password_len, const void *salt,
                        size_t salt_len, char *text, size_t capacity, int64_t timeout_ms);
 
 /* Writes the scrypt key of password and salt with the parameters of new hashes, key_len bytes long.
- * SCRYPT_NULL_POINTER, SCRYPT_INVALID_OUTPUT_LEN, SCRYPT_CLOSED, SCRYPT_TIMEOUT,
- * SCRYPT_OUT_OF_MEMORY. */
+ * SCRYPT_E_NULL_POINTER, SCRYPT_E_INVALID_OUTPUT_LEN, SCRYPT_E_CLOSED, SCRYPT_E_TIMEOUT,
+ * SCRYPT_E_OUT_OF_MEMORY. */
 SCRYPT_NODISCARD
 int scrypt_hasher_key(scrypt_hasher *hasher, const void *password, size_t password_len, const void *salt,
                       size_t salt_len, uint8_t *key, size_t key_len, int64_t timeout_ms);
 
 /* Compares a hash with the parameters of new hashes, like scrypt_needs_rehash. It works after
  * scrypt_hasher_close too.
- * SCRYPT_NULL_POINTER, then the statuses of scrypt_needs_rehash. */
+ * SCRYPT_E_NULL_POINTER, then the statuses of scrypt_needs_rehash. */
 SCRYPT_NODISCARD
 int scrypt_hasher_needs_rehash(const scrypt_hasher *hasher, const char *text, size_t text_len);
 
@@ -483,14 +484,14 @@ int scrypt_hasher_needs_rehash(const scrypt_hasher *hasher, const char *text, si
 typedef struct scrypt_stats {
   size_t waiting;   /* calls in the wait queue */
   size_t deriving;  /* calls that derive, including each call of a batch */
-  uint64_t failed;  /* calls that have returned SCRYPT_OUT_OF_MEMORY or SCRYPT_TIMEOUT */
+  uint64_t failed;  /* calls that have returned SCRYPT_E_OUT_OF_MEMORY or SCRYPT_E_TIMEOUT */
 } scrypt_stats;
 
-/* Writes the statistics. SCRYPT_NULL_POINTER. */
+/* Writes the statistics. SCRYPT_E_NULL_POINTER. */
 SCRYPT_NODISCARD
 int scrypt_hasher_stats(scrypt_hasher *hasher, scrypt_stats *stats);
 
-/* Closes a hasher: calls that wait, and later ones, return SCRYPT_CLOSED; calls that derive run to
+/* Closes a hasher: calls that wait, and later ones, return SCRYPT_E_CLOSED; calls that derive run to
  * completion. The memory is wiped and unmapped. Does nothing for NULL. */
 void scrypt_hasher_close(scrypt_hasher *hasher);
 
@@ -501,8 +502,8 @@ void scrypt_hasher_free(scrypt_hasher *hasher);
 /* Finds parameters by measuring how long a hasher takes on this machine, now: the maximum log_n
  * whose table has no more than max_mem bytes, and then the maximum p, such that one derivation
  * in one table takes no more than `seconds`; r is 8. The call takes about four times `seconds`.
- * SCRYPT_NULL_POINTER, SCRYPT_TOO_COSTLY if even log_n = 10 with p = 1 takes longer, or needs more;
- * SCRYPT_OUT_OF_MEMORY. */
+ * SCRYPT_E_NULL_POINTER, SCRYPT_E_TOO_COSTLY if even log_n = 10 with p = 1 takes longer, or needs more;
+ * SCRYPT_E_OUT_OF_MEMORY. */
 SCRYPT_NODISCARD
 int scrypt_calibrate(double seconds, size_t max_mem, uint32_t *log_n, uint32_t *r, uint32_t *p);
 
@@ -510,7 +511,7 @@ int scrypt_calibrate(double seconds, size_t max_mem, uint32_t *log_n, uint32_t *
 
 /* Fills salt with random bytes from the system's getrandom; SCRYPT_SALT_LEN bytes are enough. Not
  * proved.
- * SCRYPT_NULL_POINTER, SCRYPT_NO_RANDOM_BYTES if getrandom fails: then a part of the salt may be
+ * SCRYPT_E_NULL_POINTER, SCRYPT_E_NO_RANDOM_BYTES if getrandom fails: then a part of the salt may be
  * written, which must not be used. */
 SCRYPT_NODISCARD
 int scrypt_generate_salt(uint8_t *salt, size_t len);
@@ -527,8 +528,8 @@ const char *scrypt_version(void);
 const char *scrypt_strerror(int status);
 const char *scrypt_status_name(int status);
 
-/* Returns 1 if the status means that the text is not a hash that can be read (from SCRYPT_ALGORITHM
- * to SCRYPT_VERSION above), so that neither the password nor the memory is at fault; otherwise
+/* Returns 1 if the status means that the text is not a hash that can be read (from SCRYPT_E_ALGORITHM
+ * to SCRYPT_E_VERSION above), so that neither the password nor the memory is at fault; otherwise
  * 0. */
 int scrypt_status_is_invalid_hash(int status);
 

@@ -25,7 +25,7 @@ int main(int argc, char **argv) {
     return USAGE;
   }
   status = scrypt_calibrate(seconds, (size_t)(mib * (1 << 20)), &log_n, &r, &p);
-  if (status == SCRYPT_TOO_COSTLY) {
+  if (status == SCRYPT_E_TOO_COSTLY) {
     fprintf(stderr, "even 10 8 1 exceeds %s seconds or %s MiB\n", argv[1], argv[2]);
     return USAGE;
   }

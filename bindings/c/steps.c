@@ -72,19 +72,19 @@ int scrypt_derivation_new(const void *password, size_t password_len, const void 
   size_t tables;
   int status;
   if (is_null(password, password_len) || is_null(salt, salt_len) || derivation == NULL)
-    return SCRYPT_NULL_POINTER;
+    return SCRYPT_E_NULL_POINTER;
   status = scrypt_params_cost(log_n, r, p, max_mem > 0 ? max_mem : MAX_INTERLEAVED_MEM, UINT64_MAX, &cost);
-  if (status != SCRYPT_OK && (status != SCRYPT_TOO_COSTLY || max_mem > 0)) return status;
-  if (output_len == 0 || output_len > SCRYPT_MAX_OUTPUT_LEN) return SCRYPT_INVALID_OUTPUT_LEN;
+  if (status != SCRYPT_OK && (status != SCRYPT_E_TOO_COSTLY || max_mem > 0)) return status;
+  if (output_len == 0 || output_len > SCRYPT_MAX_OUTPUT_LEN) return SCRYPT_E_INVALID_OUTPUT_LEN;
   tables = cost.tables < max_interleave() ? cost.tables : max_interleave();
   if (cost.table_len < MIN_INTERLEAVED_WORDS) tables = 1;
   it = (scrypt_derivation *)clearing_malloc(sizeof *it);
-  if (it == NULL) return SCRYPT_OUT_OF_MEMORY;
+  if (it == NULL) return SCRYPT_E_OUT_OF_MEMORY;
   *it = (scrypt_derivation){.steps = {.log_n = (uint8_t)log_n, .r = r, .p = p}, .output_len = output_len,
                             .max_mixes = FIRST_CORES / r + 1};
   if (!take_buffers(&it->steps, &cost, tables) && (tables == 1 || !take_buffers(&it->steps, &cost, 1))) {
     clearing_free(it);
-    return SCRYPT_OUT_OF_MEMORY;
+    return SCRYPT_E_OUT_OF_MEMORY;
   }
   status = cleared_scrypt_key_begin(bytes_of(password), password_len, bytes_of(salt), salt_len, PARAMS_OF(&it->steps),
                                     BUFFERS_OF(&it->steps), &it->steps.at);
@@ -124,7 +124,7 @@ int scrypt_derivation_run(scrypt_derivation *derivation, uint32_t milliseconds, 
   const struct steps *steps;
   double mixed;
   int status;
-  if (derivation == NULL || done == NULL) return SCRYPT_NULL_POINTER;
+  if (derivation == NULL || done == NULL) return SCRYPT_E_NULL_POINTER;
   status = mix_for(derivation, INT64_C(1000000) * milliseconds);
   if (status != SCRYPT_OK) return status;
   steps = &derivation->steps;
@@ -138,9 +138,9 @@ int scrypt_derivation_finish(const scrypt_derivation *derivation, const void *pa
                              uint8_t *output, size_t output_len) {
   const struct steps *steps;
   if (derivation == NULL || is_null(password, password_len) || is_null(output, output_len))
-    return SCRYPT_NULL_POINTER;
+    return SCRYPT_E_NULL_POINTER;
   steps = &derivation->steps;
-  if (is_mixed(steps) && output_len != derivation->output_len) return SCRYPT_INVALID_OUTPUT_LEN;
+  if (is_mixed(steps) && output_len != derivation->output_len) return SCRYPT_E_INVALID_OUTPUT_LEN;
   return cleared_scrypt_key_finish(bytes_of(password), password_len, PARAMS_OF(steps), steps->chunks, steps->chunks_len,
                                    &steps->at, output != NULL ? output : steps->chunks, output_len);
 }

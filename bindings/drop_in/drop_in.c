@@ -54,7 +54,7 @@ static int derive_key(const uint8_t *password, size_t password_len, const uint8_
   int status;
   if (overlap(password, password_len, output, output_len) || overlap(salt, salt_len, output, output_len)) {
     uint8_t *apart = malloc(output_len);
-    if (apart == NULL) return SCRYPT_OUT_OF_MEMORY;
+    if (apart == NULL) return SCRYPT_E_OUT_OF_MEMORY;
     status = derive_in_one(password, password_len, salt, salt_len, log_n, r, p, apart, output_len);
     if (status == SCRYPT_OK) memcpy(output, apart, output_len);
     explicit_bzero(apart, output_len);

@@ -21,34 +21,34 @@ const (
 	// ErrMismatch: the password does not match the hash.
 	ErrMismatch Error = C.SCRYPT_MISMATCH
 	// ErrInvalidParams: N, r and p, or the length of a hash's key, are not accepted.
-	ErrInvalidParams Error = C.SCRYPT_INVALID_PARAMS
+	ErrInvalidParams Error = C.SCRYPT_E_INVALID_PARAMS
 	// ErrInvalidOutputLen: the key is empty, or longer than scrypt allows.
-	ErrInvalidOutputLen Error = C.SCRYPT_INVALID_OUTPUT_LEN
+	ErrInvalidOutputLen Error = C.SCRYPT_E_INVALID_OUTPUT_LEN
 	// ErrOutOfMemory: the memory is not available.
-	ErrOutOfMemory Error = C.SCRYPT_OUT_OF_MEMORY
+	ErrOutOfMemory Error = C.SCRYPT_E_OUT_OF_MEMORY
 	// ErrSaltInvalid: the salt of a PHC hash does not have 1 to 64 bytes, or that of a $7$ hash is not
 	// UTF-8 without a $.
-	ErrSaltInvalid Error = C.SCRYPT_SALT_INVALID
+	ErrSaltInvalid Error = C.SCRYPT_E_SALT_INVALID
 	// ErrAlgorithm: the hash is of another algorithm.
-	ErrAlgorithm Error = C.SCRYPT_ALGORITHM
+	ErrAlgorithm Error = C.SCRYPT_E_ALGORITHM
 	// ErrEncodingInvalid: the text does not have the grammar of its format.
-	ErrEncodingInvalid Error = C.SCRYPT_ENCODING_INVALID
+	ErrEncodingInvalid Error = C.SCRYPT_E_ENCODING_INVALID
 	// ErrOutputSize: the hash has no key, or one that is too long.
-	ErrOutputSize Error = C.SCRYPT_OUTPUT_SIZE
+	ErrOutputSize Error = C.SCRYPT_E_OUTPUT_SIZE
 	// ErrHashParamInvalid: a parameter in the hash is not a decimal in its range.
-	ErrHashParamInvalid Error = C.SCRYPT_HASH_PARAM_INVALID
+	ErrHashParamInvalid Error = C.SCRYPT_E_HASH_PARAM_INVALID
 	// ErrHashParamsInvalid: the parameters in the hash are not accepted, or are not scrypt's.
-	ErrHashParamsInvalid Error = C.SCRYPT_HASH_PARAMS_INVALID
+	ErrHashParamsInvalid Error = C.SCRYPT_E_HASH_PARAMS_INVALID
 	// ErrVersion: the hash has a version field, which scrypt does not define.
-	ErrVersion Error = C.SCRYPT_VERSION
+	ErrVersion Error = C.SCRYPT_E_VERSION
 	// ErrTooCostly: the hash or parameters exceed the limits on memory or work.
-	ErrTooCostly Error = C.SCRYPT_TOO_COSTLY
+	ErrTooCostly Error = C.SCRYPT_E_TOO_COSTLY
 	// ErrNoRandomBytes: the system has no random bytes for a salt.
-	ErrNoRandomBytes Error = C.SCRYPT_NO_RANDOM_BYTES
+	ErrNoRandomBytes Error = C.SCRYPT_E_NO_RANDOM_BYTES
 	// ErrKeyTooShort: the key in the hash is shorter than the limits allow.
-	ErrKeyTooShort Error = C.SCRYPT_KEY_TOO_SHORT
+	ErrKeyTooShort Error = C.SCRYPT_E_KEY_TOO_SHORT
 	// ErrClosed: the Hasher is closed, or was not created by NewHasher.
-	ErrClosed Error = C.SCRYPT_CLOSED
+	ErrClosed Error = C.SCRYPT_E_CLOSED
 )
 
 // Error returns the message of the error.

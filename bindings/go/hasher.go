@@ -248,7 +248,7 @@ func (h *Hasher) refusal(text []byte) error {
 	with := C.scrypt_hasher_options(h.shared.c)
 	status := C.scrypt_hash_cost(chars(text), size(text), with.max_mem, with.max_work,
 		with.min_key_len, &cost)
-	if status == C.SCRYPT_TOO_COSTLY || status == C.SCRYPT_KEY_TOO_SHORT {
+	if status == C.SCRYPT_E_TOO_COSTLY || status == C.SCRYPT_E_KEY_TOO_SHORT {
 		const limits = "MaxMem is %d, MaxWork is %d, and the minimum key length is %d"
 		return fmt.Errorf("%w: %v, and a key of %d bytes; "+limits, Error(status), inWords(cost),
 			cost.key_len, with.max_mem, with.max_work, with.min_key_len)
@@ -313,10 +313,10 @@ func (h *Hasher) run(ctx context.Context, password []byte,
 	}(append([]byte{}, password...), left(end, isBounded))
 	select {
 	case got := <-ended:
-		if got == C.SCRYPT_TIMEOUT || got == C.SCRYPT_OUT_OF_MEMORY {
+		if got == C.SCRYPT_E_TIMEOUT || got == C.SCRYPT_E_OUT_OF_MEMORY {
 			shared.refused.Add(1)
 		}
-		if got == C.SCRYPT_TIMEOUT {
+		if got == C.SCRYPT_E_TIMEOUT {
 			return context.DeadlineExceeded
 		}
 		return failed(got)

@@ -49,7 +49,7 @@ func storedText(salt, key []byte, N, r, p int) (string, error) {
 		short = short[:C.SCRYPT_MAX_KEY_LEN]
 	}
 	status := store(short, 0)
-	if status == C.SCRYPT_SALT_INVALID || status == C.SCRYPT_INVALID_OUTPUT_LEN {
+	if status == C.SCRYPT_E_SALT_INVALID || status == C.SCRYPT_E_INVALID_OUTPUT_LEN {
 		status = store(key, 1)
 	}
 	if err := failed(status); err != nil {

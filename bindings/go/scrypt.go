@@ -87,7 +87,7 @@ func (params Params) Memory() (uint64, error) {
 func (params Params) costs() (cost C.scrypt_cost, err error) {
 	status := C.scrypt_params_cost(number(params.LogN), number(params.R), number(params.P),
 		C.SIZE_MAX, math.MaxUint64, &cost)
-	if status == C.SCRYPT_INVALID_PARAMS {
+	if status == C.SCRYPT_E_INVALID_PARAMS {
 		err = ErrInvalidParams
 	}
 	return cost, err

@@ -120,7 +120,7 @@ def javascript():
                 ("RECOMMENDED_LOG_N", "RECOMMENDED_R", "RECOMMENDED_P", "SALT_LEN", "KEY_LEN", "MAX_KEY_LEN", *header.LIMITS))
     yield from ("", *(f"export const {name} = {number};" for name, number in proved.items()))
     yield from ("", "/** The name and the words of each status. */", "export const WORDS = new Map([")
-    for name, words in re.findall(r'ROW\((\w+), ((?:"[^"]*"\s*)+)\)', read("bindings/c/status.c")):
+    for name, words in re.findall(r'ROW\((?:E_)?(\w+), ((?:"[^"]*"\s*)+)\)', read("bindings/c/status.c")):
         in_n = re.sub(r'"\s*"|"', "", words).replace("2^log_n", "N").replace("; log_n is the logarithm of N, 14 for 16384", "")
         if name in proved:
             yield f"  [{name}, ['{name}', '{in_n}']],"

@@ -43,8 +43,8 @@ OPAQUE, STRUCTURES = re.findall(r"^typedef struct (\w+) \1;", TEXT, re.M), struc
 # the result, the name and the arguments of each call
 CALLS = [(result, name, [" ".join(it.split()) for it in arguments.split(",") if it != "void"]) for result, name, arguments in
          re.findall(r"^(int|void|(?:const )?\w+ \*) ?(scrypt_\w+)\(([^{}]*?)\);", without_comments(TEXT), re.M)]
-# statuses and numbers, by their names without SCRYPT_; the crate proves that the default limits have these values
-STATUSES = {name: int(number) for name, number in re.findall(r"^  SCRYPT_(\w+) = (\d+)", TEXT, re.M)}
+# statuses and numbers, by their names without SCRYPT_ and SCRYPT_E_; the crate proves that the default limits have these values
+STATUSES = {name: int(number) for name, number in re.findall(r"^  SCRYPT_(?:E_)?(\w+) = (\d+)", TEXT, re.M)}
 NUMBERS = {name: int(number) for name, number in re.findall(r"^#define SCRYPT_(\w+) (?:UINT64_C\()?(\d+)\)?$", TEXT, re.M)}
 LIMITS = {f"DEFAULT_{name.upper()}": int(number) for name, number in
           re.findall(r"Limits::DEFAULT\.(\w+) == (\d+)", (TOP / "crates/scrypt/src/limits.rt").read_text("utf-8"))}

@@ -93,7 +93,7 @@ static void tables_of_keys(size_t that_pay) {
   size_t i;
   for (i = 0; i < sizeof KEYS / sizeof KEYS[0]; i++) {
     const uint32_t log_n = KEYS[i].log_n, p = KEYS[i].p;
-    const int wanted = KEYS[i].tables > 0 ? SCRYPT_OUT_OF_MEMORY : SCRYPT_INVALID_PARAMS;
+    const int wanted = KEYS[i].tables > 0 ? SCRYPT_E_OUT_OF_MEMORY : SCRYPT_E_INVALID_PARAMS;
     const size_t tables = fewer(KEYS[i].tables, that_pay);
     REFUSES(KEYS[i].why, log_n, tables, wanted, scrypt_key(SECRETS, log_n, R, p, key, sizeof key));
     REFUSES(KEYS[i].why, log_n, tables, wanted, derive(log_n, p, 0));
@@ -111,7 +111,7 @@ static void tables_of_limited_keys(size_t that_pay) {
                 {"three tables", CHUNKS + 4 * EACH - 1, 3},              {"no limit", SIZE_MAX, 4}};
   size_t i;
   for (i = 0; i < sizeof BOUNDS / sizeof BOUNDS[0]; i++) {
-    const int wanted = BOUNDS[i].tables > 0 ? SCRYPT_OUT_OF_MEMORY : SCRYPT_TOO_COSTLY;
+    const int wanted = BOUNDS[i].tables > 0 ? SCRYPT_E_OUT_OF_MEMORY : SCRYPT_E_TOO_COSTLY;
     const size_t tables = fewer(BOUNDS[i].tables, that_pay);
     REFUSES(BOUNDS[i].why, 14, tables, wanted, derive(14, 4, BOUNDS[i].max_mem));
   }
@@ -121,19 +121,19 @@ static const char PHC[] = "$scrypt$ln=14,r=8,p=4$c2FsdHNhbHQ$AAAAAAAAAAAAAAAAAAA
 #define OF_PHC "password", 8, PHC, sizeof PHC - 1
 
 static void one_table_of_hashes(void) {
-  REFUSES("phc", 14, 1, SCRYPT_OUT_OF_MEMORY, scrypt_hash_with_salt(SECRETS, 14, R, 4, 32, 0, text, sizeof text));
-  REFUSES("mcf", 14, 1, SCRYPT_OUT_OF_MEMORY, scrypt_hash_with_salt(SECRETS, 14, R, 4, 32, 1, text, sizeof text));
-  REFUSES("verify", 14, 1, SCRYPT_OUT_OF_MEMORY, scrypt_verify(OF_PHC));
-  REFUSES("verify_unlimited", 14, 1, SCRYPT_OUT_OF_MEMORY, scrypt_verify_unlimited(OF_PHC));
-  REFUSES("hash_password", 17, 1, SCRYPT_OUT_OF_MEMORY, scrypt_hash_password("password", 8, text, sizeof text));
+  REFUSES("phc", 14, 1, SCRYPT_E_OUT_OF_MEMORY, scrypt_hash_with_salt(SECRETS, 14, R, 4, 32, 0, text, sizeof text));
+  REFUSES("mcf", 14, 1, SCRYPT_E_OUT_OF_MEMORY, scrypt_hash_with_salt(SECRETS, 14, R, 4, 32, 1, text, sizeof text));
+  REFUSES("verify", 14, 1, SCRYPT_E_OUT_OF_MEMORY, scrypt_verify(OF_PHC));
+  REFUSES("verify_unlimited", 14, 1, SCRYPT_E_OUT_OF_MEMORY, scrypt_verify_unlimited(OF_PHC));
+  REFUSES("hash_password", 17, 1, SCRYPT_E_OUT_OF_MEMORY, scrypt_hash_password("password", 8, text, sizeof text));
 }
 
 /* A call that is rejected requests no table. */
 static void no_table(void) {
-  REFUSES("a key of no bytes", 14, 0, SCRYPT_INVALID_OUTPUT_LEN, scrypt_key(SECRETS, 14, R, 4, key, 0));
-  REFUSES("too many bytes", 14, 0, SCRYPT_TOO_COSTLY, scrypt_verify_limited(OF_PHC, 1, UINT64_MAX, 0));
-  REFUSES("too much work", 14, 0, SCRYPT_TOO_COSTLY, scrypt_verify_limited(OF_PHC, SIZE_MAX, 1, 0));
-  REFUSES("a key of 16 bytes", 14, 0, SCRYPT_KEY_TOO_SHORT, scrypt_verify_limited(OF_PHC, NO_LIMITS, 17));
+  REFUSES("a key of no bytes", 14, 0, SCRYPT_E_INVALID_OUTPUT_LEN, scrypt_key(SECRETS, 14, R, 4, key, 0));
+  REFUSES("too many bytes", 14, 0, SCRYPT_E_TOO_COSTLY, scrypt_verify_limited(OF_PHC, 1, UINT64_MAX, 0));
+  REFUSES("too much work", 14, 0, SCRYPT_E_TOO_COSTLY, scrypt_verify_limited(OF_PHC, SIZE_MAX, 1, 0));
+  REFUSES("a key of 16 bytes", 14, 0, SCRYPT_E_KEY_TOO_SHORT, scrypt_verify_limited(OF_PHC, NO_LIMITS, 17));
 }
 
 /* One table is used if the system has no memory for several: the address space has 80 MiB, and a
@@ -164,7 +164,7 @@ static long touched_kib(void) {
 static void little_is_touched(void) {
   const long before = touched_kib();
   min_refused = table_bytes(25);
-  check(scrypt_key(SECRETS, 25, R, 1 << 21, key, sizeof key) == SCRYPT_OUT_OF_MEMORY, "a table of 32 GiB");
+  check(scrypt_key(SECRETS, 25, R, 1 << 21, key, sizeof key) == SCRYPT_E_OUT_OF_MEMORY, "a table of 32 GiB");
   min_refused = SIZE_MAX;
   check(touched_kib() - before < 4096, "memory is written before all is allocated");
 }

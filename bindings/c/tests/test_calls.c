@@ -63,7 +63,7 @@ static void hashes(uint32_t p, size_t tables, char texts[2][SCRYPT_PHC_CAPACITY]
 /* Each login has the right password, another one, or no hash, whatever the others have. */
 static void batches(uint32_t p, size_t tables, char texts[2][SCRYPT_PHC_CAPACITY]) {
   static const char *const PASSWORDS[] = {"pw", "PW", "pw"};
-  static const int STATUSES[] = {SCRYPT_OK, SCRYPT_MISMATCH, SCRYPT_ENCODING_INVALID};
+  static const int STATUSES[] = {SCRYPT_OK, SCRYPT_MISMATCH, SCRYPT_E_ENCODING_INVALID};
   size_t count, kinds, i;
   for (count = 0; count <= SCRYPT_MAX_LOGINS; count++)
     for (kinds = p; kinds < 81; kinds += 16) {
@@ -124,8 +124,8 @@ static void capacities(void) {
     check(write_hash(i, text, sizeof text) == SCRYPT_OK, "a hash");
     len = strlen(text);
     memset(text, '!', sizeof text);
-    check(write_hash(i, text, len) == SCRYPT_BUFFER_SIZE && text[0] == '!', "no capacity for the NUL");
-    check(write_hash(i, NULL, 0) == SCRYPT_BUFFER_SIZE, "no capacity");
+    check(write_hash(i, text, len) == SCRYPT_E_BUFFER_SIZE && text[0] == '!', "no capacity for the NUL");
+    check(write_hash(i, NULL, 0) == SCRYPT_E_BUFFER_SIZE, "no capacity");
     check(write_hash(i, text, len + 1) == SCRYPT_OK && strlen(text) == len && text[len + 1] == '!',
           "the exact capacity");
   }
@@ -155,8 +155,8 @@ static int verify(const char *text) { return scrypt_verify("", 0, text, strlen(t
 
 /* Texts that are not UTF-8, which bindings/cases.tsv can't have, and one that is. */
 static void texts_of_other_bytes(void) {
-  check(verify("$scrypt$ln=4\xff") == SCRYPT_ENCODING_INVALID, "a byte of no letter");
-  check(verify("$7$26..../....s\xc3lt$......................") == SCRYPT_ENCODING_INVALID, "half a letter");
+  check(verify("$scrypt$ln=4\xff") == SCRYPT_E_ENCODING_INVALID, "a byte of no letter");
+  check(verify("$7$26..../....s\xc3lt$......................") == SCRYPT_E_ENCODING_INVALID, "half a letter");
   check(verify("$7$26..../....s\xc3\xa4lt$......................") == SCRYPT_MISMATCH, "a letter of two bytes");
 }
 
@@ -169,7 +169,7 @@ static void zero_in_a_salt(void) {
   check(scrypt_key("pw", 2, SALT, LEN, 4, 1, 1, key, 32) == SCRYPT_OK, "the key of this salt");
   check(scrypt_stored_text(SALT, LEN, key, 32, 4, 1, 1, 1, text, sizeof text) == SCRYPT_OK, "a zero byte");
   check(scrypt_verify("pw", 2, text, 14 + LEN + strlen(text + 14 + LEN)) == SCRYPT_OK, "the whole text");
-  check(strlen(text) == 15 && verify(text) == SCRYPT_ENCODING_INVALID, "the text up to the zero byte");
+  check(strlen(text) == 15 && verify(text) == SCRYPT_E_ENCODING_INVALID, "the text up to the zero byte");
 }
 
 /* ---- What is written with an error, and what saturates ---- */
@@ -182,22 +182,22 @@ static void costs(void) {
   scrypt_cost cost = nines;
   uint32_t log_n = 99, r = 99, p = 99;
   size_t key_len = 99;
-  check(scrypt_hash_cost("$7$", 3, SIZE_MAX, UINT64_MAX, 0, &cost) == SCRYPT_ENCODING_INVALID &&
+  check(scrypt_hash_cost("$7$", 3, SIZE_MAX, UINT64_MAX, 0, &cost) == SCRYPT_E_ENCODING_INVALID &&
             memcmp(&cost, &nines, sizeof cost) == 0, "no hash");
-  check(scrypt_hash_cost(KEYLESS, strlen(KEYLESS), SIZE_MAX, UINT64_MAX, 0, &cost) == SCRYPT_OUTPUT_SIZE &&
+  check(scrypt_hash_cost(KEYLESS, strlen(KEYLESS), SIZE_MAX, UINT64_MAX, 0, &cost) == SCRYPT_E_OUTPUT_SIZE &&
             memcmp(&cost, &nines, sizeof cost) == 0, "a damaged hash, which lost its key");
-  check(scrypt_params_cost(0, 1, 0, 0, 0, &cost) == SCRYPT_INVALID_PARAMS && memcmp(&cost, &nines, sizeof cost) == 0,
+  check(scrypt_params_cost(0, 1, 0, 0, 0, &cost) == SCRYPT_E_INVALID_PARAMS && memcmp(&cost, &nines, sizeof cost) == 0,
         "no parameters");
-  check(scrypt_hash_cost(PHC, strlen(PHC), 0, UINT64_MAX, 0, &cost) == SCRYPT_TOO_COSTLY && cost.log_n == 4 &&
+  check(scrypt_hash_cost(PHC, strlen(PHC), 0, UINT64_MAX, 0, &cost) == SCRYPT_E_TOO_COSTLY && cost.log_n == 4 &&
             cost.key_len == 16 && cost.bytes == 19456 && cost.work == 1536, "what a costly hash needs");
   cost = nines;
-  check(scrypt_hash_cost(PHC, strlen(PHC), SIZE_MAX, UINT64_MAX, 17, &cost) == SCRYPT_KEY_TOO_SHORT && cost.log_n == 4,
+  check(scrypt_hash_cost(PHC, strlen(PHC), SIZE_MAX, UINT64_MAX, 17, &cost) == SCRYPT_E_KEY_TOO_SHORT && cost.log_n == 4,
         "what a hash with a short key needs");
-  check(scrypt_params_cost(27, (1 << 30) - 1, 1, 0, 0, &cost) == SCRYPT_TOO_COSTLY && cost.bytes == UINT64_MAX &&
+  check(scrypt_params_cost(27, (1 << 30) - 1, 1, 0, 0, &cost) == SCRYPT_E_TOO_COSTLY && cost.bytes == UINT64_MAX &&
             cost.table_len == 32ull * ((1 << 30) - 1) << 27, "bytes above 64 bits");
-  check(scrypt_params_cost(56, 1, (1 << 30) - 1, SIZE_MAX, UINT64_MAX, &cost) == SCRYPT_TOO_COSTLY &&
+  check(scrypt_params_cost(56, 1, (1 << 30) - 1, SIZE_MAX, UINT64_MAX, &cost) == SCRYPT_E_TOO_COSTLY &&
             cost.work == UINT64_MAX, "work above 64 bits");
-  check(scrypt_hash_params("$7$", 3, &log_n, &r, &p, &key_len) == SCRYPT_ENCODING_INVALID &&
+  check(scrypt_hash_params("$7$", 3, &log_n, &r, &p, &key_len) == SCRYPT_E_ENCODING_INVALID &&
             log_n == 99 && r == 99 && p == 99 && key_len == 99, "an error leaves the four");
   check(scrypt_hash_params("$scrypt$ln=9,r=3,p=2", 20, &log_n, &r, &p, &key_len) == SCRYPT_OK &&
             log_n == 9 && r == 3 && p == 2 && key_len == 0, "a hash without salt or key");
@@ -213,11 +213,11 @@ static void words_of_statuses(void) {
       check(strcmp(scrypt_strerror(status), scrypt_strerror(other)) != 0, "each status has its own message");
   check(status > SCRYPT_NEEDS_REHASH, "a message for each status");
   for (status = -1; status < 99; status++) {
-    const int is_of_text = status >= SCRYPT_ALGORITHM && status <= SCRYPT_VERSION && status != SCRYPT_SALT_INVALID;
+    const int is_of_text = status >= SCRYPT_E_ALGORITHM && status <= SCRYPT_E_VERSION;
     check((scrypt_status_name(status) != NULL) == has_words(status), "a name for each status");
     check(scrypt_status_is_invalid_hash(status) == is_of_text, "whether a status means an invalid hash");
   }
-  check(strcmp(scrypt_status_name(SCRYPT_SALT_INVALID), "SCRYPT_SALT_INVALID") == 0, "its name");
+  check(strcmp(scrypt_status_name(SCRYPT_E_SALT_INVALID), "SCRYPT_E_SALT_INVALID") == 0, "its name");
 }
 
 int main(void) {

@@ -94,11 +94,11 @@ __attribute__((noinline)) static void check_stack(const char *name, int (*call)(
 /* No key can be derived in so little time, and scrypt_key_thin takes one table. */
 static int wanted_of(int (*call)(void)) {
   size_t chunks_len, table_len, scratch_len;
-  if (call == each_scrypt_calibrate) return SCRYPT_TOO_COSTLY;
+  if (call == each_scrypt_calibrate) return SCRYPT_E_TOO_COSTLY;
   if (call != each_scrypt_key_thin) return SCRYPT_OK;
   if (scrypt_buffer_lens(given.log_n, given.r, given.p, 0, &chunks_len, &table_len, &scratch_len))
     exit(3);
-  return given.table_len == table_len ? SCRYPT_OK : SCRYPT_BUFFER_SIZE;
+  return given.table_len == table_len ? SCRYPT_OK : SCRYPT_E_BUFFER_SIZE;
 }
 
 /* A derivation that is abandoned, because one that is not freed keeps its memory. */
@@ -151,7 +151,7 @@ static void all_calls(uint32_t p, size_t max_tables) {
     check_call(name, CALLS[i].call, wanted_of(CALLS[i].call), p == 1 && max_tables == 1);
   }
   check_call("a wrong password", verify_wrong, SCRYPT_MISMATCH, 0);
-  check_call("a text that does not fit", no_room, SCRYPT_BUFFER_SIZE, 0);
+  check_call("a text that does not fit", no_room, SCRYPT_E_BUFFER_SIZE, 0);
   scrypt_hasher_free(given.hasher);
   free_arguments();
 }

@@ -106,7 +106,7 @@ static void end(const char *wanted_batches) {
   for (int i = 0; i < started; i++) {
     pthread_join(all[i].id, NULL);
     expect(all[i].status == all[i].wanted, "%s: %d of call %d", scenario, all[i].status, i);
-    refused += all[i].status == SCRYPT_OUT_OF_MEMORY || all[i].status == SCRYPT_TIMEOUT;
+    refused += all[i].status == SCRYPT_E_OUT_OF_MEMORY || all[i].status == SCRYPT_E_TIMEOUT;
   }
   for (int i = 0; i < begun; i++) at += sprintf(at, "%s%s", i > 0 ? " " : "", batches[i].calls);
   expect(strcmp(in_order, wanted_batches) == 0, "%s: batches %s", scenario, in_order);
@@ -190,14 +190,14 @@ static void in_a_window(void) {
 static void timeouts(void) {
   begin("a call that timed out is in no batch", 1, 4);
   start(A);
-  all[start_within(A, 200)].wanted = SCRYPT_TIMEOUT;
+  all[start_within(A, 200)].wanted = SCRYPT_E_TIMEOUT;
   start(A);
   until(READ(over) == 1);
   end_first();
   end("0 2");
   begin("calls time out behind a call that still waits", 1, 1);
   start_all((enum kind[]){A, B, NONE});
-  for (int i = 0; i < 3; i++) all[start_within(A, 200)].wanted = SCRYPT_TIMEOUT;
+  for (int i = 0; i < 3; i++) all[start_within(A, 200)].wanted = SCRYPT_E_TIMEOUT;
   until(READ(over) == 3);
   end("0 1");
   begin("calls that lead or follow do not time out", 1, 2);
@@ -231,7 +231,7 @@ static void memory_refused(void) {
   start(A);
   WRITE(max_mapped, hasher->cost.bytes + HUGE_PAGE);
   start_all((enum kind[]){B, A, A, NONE});
-  all[1].wanted = SCRYPT_OUT_OF_MEMORY;
+  all[1].wanted = SCRYPT_E_OUT_OF_MEMORY;
   end("0 2 3");
 }
 

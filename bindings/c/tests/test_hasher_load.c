@@ -18,8 +18,8 @@ static void check_child(scrypt_hasher *hasher) {
   IS(scrypt_hasher_stats(hasher, &stats), SCRYPT_OK);
   expect(stats.waiting == 0 && stats.deriving == 0 && stats.failed == 0, "stats of the parent");
   make_text(text, "right", 4, 8, 1);
-  IS(verify(hasher, text, "right", 5000), hasher->is_closed ? SCRYPT_CLOSED : SCRYPT_OK);
-  IS(verify(hasher, text, "wrong", 5000), hasher->is_closed ? SCRYPT_CLOSED : SCRYPT_MISMATCH);
+  IS(verify(hasher, text, "right", 5000), hasher->is_closed ? SCRYPT_E_CLOSED : SCRYPT_OK);
+  IS(verify(hasher, text, "wrong", 5000), hasher->is_closed ? SCRYPT_E_CLOSED : SCRYPT_MISMATCH);
   expect(look_at(hasher).is_idle, "the child has calls or memory of the parent");
   scrypt_hasher_close(hasher);
   IS(READ(mapped), 0);
@@ -54,9 +54,9 @@ static void *verify_until_closed(void *hasher) {
     int wrong = rand_r(&seed) & 1, ms = rand_r(&seed) % 4 - 1;
     const char *text = texts[rand_r(&seed) % 3];
     status = scrypt_hasher_verify(hasher, wrong ? "wrong" : "right", 5, text, strlen(text), ms);
-    is_right = status == wrong || status == SCRYPT_CLOSED || (ms >= 0 && status == SCRYPT_TIMEOUT);
+    is_right = status == wrong || status == SCRYPT_E_CLOSED || (ms >= 0 && status == SCRYPT_E_TIMEOUT);
     expect(is_right, "status %d where %d is right", status, wrong);
-  } while (status != SCRYPT_CLOSED);
+  } while (status != SCRYPT_E_CLOSED);
   (void)ADD(running, -1);
   return NULL;
 }
@@ -88,7 +88,7 @@ static void at_any_time(void) {
 
 static void *verify_one(void *hasher) {
   int status = verify(hasher, texts[0], "right", -1);
-  expect(status == SCRYPT_OK || status == SCRYPT_CLOSED, "status %d", status);
+  expect(status == SCRYPT_OK || status == SCRYPT_E_CLOSED, "status %d", status);
   return NULL;
 }
 

@@ -8,17 +8,17 @@ static const struct {
   int status;
 } OPTIONS[] = {
     {"N = 1", OF(0, 1, 1, 0, 0, 0, 0, 0, 0), SCRYPT_OK},
-    {"only log_n, and then the salt", OF(4, 0, 0, 0, 0, 65, 0, 0, 0), SCRYPT_INVALID_PARAMS},
-    {"N in place of log_n", OF(16384, 8, 1, 0, 0, 0, 0, 0, 0), SCRYPT_INVALID_PARAMS},
-    {"a key of 9 bytes", OF(4, 8, 1, 0, 9, 65, 0, 0, 0), SCRYPT_INVALID_PARAMS},
-    {"a key of 65 bytes", OF(4, 8, 1, 0, 65, 0, 0, 0, 0), SCRYPT_INVALID_PARAMS},
-    {"a key below the minimum length", OF(4, 8, 1, 0, 20, 0, 0, 0, 21), SCRYPT_INVALID_PARAMS},
+    {"only log_n, and then the salt", OF(4, 0, 0, 0, 0, 65, 0, 0, 0), SCRYPT_E_INVALID_PARAMS},
+    {"N in place of log_n", OF(16384, 8, 1, 0, 0, 0, 0, 0, 0), SCRYPT_E_INVALID_PARAMS},
+    {"a key of 9 bytes", OF(4, 8, 1, 0, 9, 65, 0, 0, 0), SCRYPT_E_INVALID_PARAMS},
+    {"a key of 65 bytes", OF(4, 8, 1, 0, 65, 0, 0, 0, 0), SCRYPT_E_INVALID_PARAMS},
+    {"a key below the minimum length", OF(4, 8, 1, 0, 20, 0, 0, 0, 21), SCRYPT_E_INVALID_PARAMS},
     {"a key of the minimum length", OF(4, 8, 1, 0, 20, 0, 0, 0, 20), SCRYPT_OK},
-    {"a salt of 65 bytes, and then the memory", OF(4, 8, 1, 0, 0, 65, 1, 0, 0), SCRYPT_SALT_INVALID},
-    {"too few bytes", OF(14, 8, 1, 0, 0, 0, 1 << 20, 0, 0), SCRYPT_TOO_COSTLY},
-    {"too little work", OF(14, 8, 1, 0, 0, 0, 0, 1 << 10, 0), SCRYPT_TOO_COSTLY},
+    {"a salt of 65 bytes, and then the memory", OF(4, 8, 1, 0, 0, 65, 1, 0, 0), SCRYPT_E_SALT_INVALID},
+    {"too few bytes", OF(14, 8, 1, 0, 0, 0, 1 << 20, 0, 0), SCRYPT_E_TOO_COSTLY},
+    {"too little work", OF(14, 8, 1, 0, 0, 0, 0, 1 << 10, 0), SCRYPT_E_TOO_COSTLY},
     {"above the default limits, which are raised", OF(20, 8, 4, 0, 0, 0, 0, 0, 0), SCRYPT_OK},
-    {"a size of another version", {.size = 1, .key_len = 9}, SCRYPT_OPTIONS_SIZE},
+    {"a size of another version", {.size = 1, .key_len = 9}, SCRYPT_E_OPTIONS_SIZE},
     {"more slots than any machine has",
      {sizeof(scrypt_options), 4, 8, 1, 0, 0, 0, 0, 0, 0, SIZE_MAX, SIZE_MAX}, SCRYPT_OK}};
 
@@ -28,7 +28,7 @@ static void options(void) {
     for (is_malloc_refused = 0; is_malloc_refused < 2; is_malloc_refused++) {
       int status = -1, wanted = OPTIONS[i].status;
       scrypt_hasher *hasher = scrypt_hasher_new(&OPTIONS[i].with, &status);
-      if (is_malloc_refused && wanted == SCRYPT_OK) wanted = SCRYPT_OUT_OF_MEMORY;
+      if (is_malloc_refused && wanted == SCRYPT_OK) wanted = SCRYPT_E_OUT_OF_MEMORY;
       expect(status == wanted && (hasher != NULL) == (wanted == SCRYPT_OK), "%s", OPTIONS[i].why);
       scrypt_hasher_free(hasher);
     }
@@ -56,7 +56,7 @@ static void defaults(void) {
   scrypt_hasher_free(hasher);
   WRITE(max_mapped, 10);
   IS(scrypt_hasher_new(NULL, &status), NULL);
-  IS(status, SCRYPT_OUT_OF_MEMORY);
+  IS(status, SCRYPT_E_OUT_OF_MEMORY);
   WRITE(max_mapped, SIZE_MAX);
 }
 
@@ -69,27 +69,27 @@ static void refused_verifications(void) {
   scrypt_stats stats;
   make_text(good, "right", 4, 8, 1);
   hasher->queue->slots[0].is_taken = 1;
-  IS(verify(hasher, "", "", -1), SCRYPT_ENCODING_INVALID);
-  IS(verify(hasher, TEXT_OF("19,r=8,p=1", "AA"), "", -1), SCRYPT_TOO_COSTLY);
-  IS(verify(hasher, TEXT_OF("4,r=8,p=32768", "AA"), "", -1), SCRYPT_TOO_COSTLY);
-  IS(verify(hasher, TEXT_OF("4,r=8,p=1", ""), "", -1), SCRYPT_KEY_TOO_SHORT);
-  IS(verify(hasher, "$scrypt$ln=4,r=8,p=1$c2FsdHNhbHQ", "", -1), SCRYPT_OUTPUT_SIZE);
-  IS(verify(hasher, "$scrypt$ln=4,r=8,p=1", "", -1), SCRYPT_OUTPUT_SIZE);
-  IS(verify(NULL, good, "", -1), SCRYPT_NULL_POINTER);
-  IS(scrypt_hasher_verify(hasher, NULL, 1, good, strlen(good), -1), SCRYPT_NULL_POINTER);
-  IS(scrypt_hasher_verify(hasher, "", 0, NULL, 1, -1), SCRYPT_NULL_POINTER);
-  IS(scrypt_hasher_needs_rehash(NULL, good, 1), SCRYPT_NULL_POINTER);
-  IS(scrypt_hasher_stats(NULL, &stats), SCRYPT_NULL_POINTER);
-  IS(scrypt_hasher_stats(hasher, NULL), SCRYPT_NULL_POINTER);
+  IS(verify(hasher, "", "", -1), SCRYPT_E_ENCODING_INVALID);
+  IS(verify(hasher, TEXT_OF("19,r=8,p=1", "AA"), "", -1), SCRYPT_E_TOO_COSTLY);
+  IS(verify(hasher, TEXT_OF("4,r=8,p=32768", "AA"), "", -1), SCRYPT_E_TOO_COSTLY);
+  IS(verify(hasher, TEXT_OF("4,r=8,p=1", ""), "", -1), SCRYPT_E_KEY_TOO_SHORT);
+  IS(verify(hasher, "$scrypt$ln=4,r=8,p=1$c2FsdHNhbHQ", "", -1), SCRYPT_E_OUTPUT_SIZE);
+  IS(verify(hasher, "$scrypt$ln=4,r=8,p=1", "", -1), SCRYPT_E_OUTPUT_SIZE);
+  IS(verify(NULL, good, "", -1), SCRYPT_E_NULL_POINTER);
+  IS(scrypt_hasher_verify(hasher, NULL, 1, good, strlen(good), -1), SCRYPT_E_NULL_POINTER);
+  IS(scrypt_hasher_verify(hasher, "", 0, NULL, 1, -1), SCRYPT_E_NULL_POINTER);
+  IS(scrypt_hasher_needs_rehash(NULL, good, 1), SCRYPT_E_NULL_POINTER);
+  IS(scrypt_hasher_stats(NULL, &stats), SCRYPT_E_NULL_POINTER);
+  IS(scrypt_hasher_stats(hasher, NULL), SCRYPT_E_NULL_POINTER);
   scrypt_hasher_close(NULL);
   scrypt_hasher_free(NULL);
-  IS(verify(hasher, good, "right", 0), SCRYPT_TIMEOUT);
-  IS(verify(hasher, good, "right", 2), SCRYPT_TIMEOUT);
+  IS(verify(hasher, good, "right", 0), SCRYPT_E_TIMEOUT);
+  IS(verify(hasher, good, "right", 2), SCRYPT_E_TIMEOUT);
   hasher->queue->slots[0].is_taken = 0;
   scrypt_hasher_close(hasher);
   expect(look_at(hasher).is_idle, "closed");
-  IS(verify(hasher, "", "", -1), SCRYPT_ENCODING_INVALID); /* the errors of the text come first */
-  IS(verify(hasher, good, "right", -1), SCRYPT_CLOSED);
+  IS(verify(hasher, "", "", -1), SCRYPT_E_ENCODING_INVALID); /* the errors of the text come first */
+  IS(verify(hasher, good, "right", -1), SCRYPT_E_CLOSED);
   scrypt_hasher_free(hasher);
 }
 
@@ -98,22 +98,22 @@ static void refused_hashes(void) {
   scrypt_options with = {sizeof with, 4, 8, 2, 1, 0, 0, 0, 0, 0, 1, 1};
   scrypt_hasher *phc = new_hasher(1, 1, 4), *of_mcf = scrypt_hasher_new(&with, NULL);
   phc->queue->slots[0].is_taken = of_mcf->queue->slots[0].is_taken = 1;
-  IS(scrypt_hasher_hash(NULL, "a", 1, NULL, 0, text, sizeof text, -1), SCRYPT_NULL_POINTER);
-  IS(scrypt_hasher_hash(phc, NULL, 1, NULL, 0, text, sizeof text, -1), SCRYPT_NULL_POINTER);
-  IS(scrypt_hasher_hash(phc, "a", 1, NULL, 1, text, sizeof text, -1), SCRYPT_NULL_POINTER);
-  IS(scrypt_hasher_hash(phc, "a", 1, NULL, 0, NULL, 1, -1), SCRYPT_NULL_POINTER);
-  IS(scrypt_hasher_hash(phc, "a", 1, "", 0, text, sizeof text, -1), SCRYPT_SALT_INVALID);
-  IS(scrypt_hasher_hash(phc, "a", 1, salt, 65, text, sizeof text, -1), SCRYPT_SALT_INVALID);
-  IS(scrypt_hasher_hash(phc, "a", 1, NULL, 0, text, sizeof text - 1, -1), SCRYPT_BUFFER_SIZE);
-  IS(scrypt_hasher_hash(phc, "a", 1, NULL, 0, NULL, 0, -1), SCRYPT_BUFFER_SIZE);
-  IS(scrypt_hasher_hash(of_mcf, "a", 1, "abc", 3, mcf, sizeof mcf - 1, -1), SCRYPT_BUFFER_SIZE);
-  IS(scrypt_hasher_hash(of_mcf, "a", 1, "a", SIZE_MAX, mcf, sizeof mcf, -1), SCRYPT_BUFFER_SIZE);
+  IS(scrypt_hasher_hash(NULL, "a", 1, NULL, 0, text, sizeof text, -1), SCRYPT_E_NULL_POINTER);
+  IS(scrypt_hasher_hash(phc, NULL, 1, NULL, 0, text, sizeof text, -1), SCRYPT_E_NULL_POINTER);
+  IS(scrypt_hasher_hash(phc, "a", 1, NULL, 1, text, sizeof text, -1), SCRYPT_E_NULL_POINTER);
+  IS(scrypt_hasher_hash(phc, "a", 1, NULL, 0, NULL, 1, -1), SCRYPT_E_NULL_POINTER);
+  IS(scrypt_hasher_hash(phc, "a", 1, "", 0, text, sizeof text, -1), SCRYPT_E_SALT_INVALID);
+  IS(scrypt_hasher_hash(phc, "a", 1, salt, 65, text, sizeof text, -1), SCRYPT_E_SALT_INVALID);
+  IS(scrypt_hasher_hash(phc, "a", 1, NULL, 0, text, sizeof text - 1, -1), SCRYPT_E_BUFFER_SIZE);
+  IS(scrypt_hasher_hash(phc, "a", 1, NULL, 0, NULL, 0, -1), SCRYPT_E_BUFFER_SIZE);
+  IS(scrypt_hasher_hash(of_mcf, "a", 1, "abc", 3, mcf, sizeof mcf - 1, -1), SCRYPT_E_BUFFER_SIZE);
+  IS(scrypt_hasher_hash(of_mcf, "a", 1, "a", SIZE_MAX, mcf, sizeof mcf, -1), SCRYPT_E_BUFFER_SIZE);
   is_random_refused = 1;
-  IS(scrypt_hasher_hash(phc, "a", 1, NULL, 0, text, sizeof text, -1), SCRYPT_NO_RANDOM_BYTES);
+  IS(scrypt_hasher_hash(phc, "a", 1, NULL, 0, text, sizeof text, -1), SCRYPT_E_NO_RANDOM_BYTES);
   is_random_refused = 0;
   phc->queue->slots[0].is_taken = of_mcf->queue->slots[0].is_taken = 0;
   scrypt_hasher_close(phc);
-  IS(scrypt_hasher_hash(phc, "a", 1, NULL, 0, text, sizeof text, -1), SCRYPT_CLOSED);
+  IS(scrypt_hasher_hash(phc, "a", 1, NULL, 0, text, sizeof text, -1), SCRYPT_E_CLOSED);
   scrypt_hasher_free(phc);
   scrypt_hasher_free(of_mcf);
 }
@@ -123,13 +123,13 @@ static void refused_keys(void) {
   scrypt_hasher *hasher = new_hasher(1, 1, 4);
   uint8_t key[32];
   hasher->queue->slots[0].is_taken = 1;
-  IS(scrypt_hasher_key(NULL, "pw", 2, "salt", 4, key, 32, -1), SCRYPT_NULL_POINTER);
-  IS(scrypt_hasher_key(hasher, NULL, 2, "salt", 4, key, 32, -1), SCRYPT_NULL_POINTER);
-  IS(scrypt_hasher_key(hasher, "pw", 2, NULL, 4, key, 32, -1), SCRYPT_NULL_POINTER);
-  IS(scrypt_hasher_key(hasher, "pw", 2, "salt", 4, NULL, 32, -1), SCRYPT_NULL_POINTER);
-  IS(scrypt_hasher_key(hasher, "pw", 2, "salt", 4, key, 0, -1), SCRYPT_INVALID_OUTPUT_LEN);
-  IS(scrypt_hasher_key(hasher, "pw", 2, "", 0, key, LONGEST + 1, -1), SCRYPT_INVALID_OUTPUT_LEN);
-  IS(scrypt_hasher_key(hasher, "pw", 2, "", 0, key, LONGEST, 0), SCRYPT_TIMEOUT);
+  IS(scrypt_hasher_key(NULL, "pw", 2, "salt", 4, key, 32, -1), SCRYPT_E_NULL_POINTER);
+  IS(scrypt_hasher_key(hasher, NULL, 2, "salt", 4, key, 32, -1), SCRYPT_E_NULL_POINTER);
+  IS(scrypt_hasher_key(hasher, "pw", 2, NULL, 4, key, 32, -1), SCRYPT_E_NULL_POINTER);
+  IS(scrypt_hasher_key(hasher, "pw", 2, "salt", 4, NULL, 32, -1), SCRYPT_E_NULL_POINTER);
+  IS(scrypt_hasher_key(hasher, "pw", 2, "salt", 4, key, 0, -1), SCRYPT_E_INVALID_OUTPUT_LEN);
+  IS(scrypt_hasher_key(hasher, "pw", 2, "", 0, key, LONGEST + 1, -1), SCRYPT_E_INVALID_OUTPUT_LEN);
+  IS(scrypt_hasher_key(hasher, "pw", 2, "", 0, key, LONGEST, 0), SCRYPT_E_TIMEOUT);
   hasher->queue->slots[0].is_taken = 0;
   scrypt_hasher_free(hasher);
 }
@@ -183,7 +183,7 @@ static void decoy(void) {
     max_inside = max_tables_inside = 4;
     IS(scrypt_hasher_verify(hasher, "right", 5, NULL, 0, -1), SCRYPT_MISMATCH);
     IS(scrypt_hasher_verify(hasher, NULL, 0, NULL, 0, -1), SCRYPT_MISMATCH);
-    IS(scrypt_hasher_verify(hasher, NULL, 1, NULL, 0, -1), SCRYPT_NULL_POINTER);
+    IS(scrypt_hasher_verify(hasher, NULL, 1, NULL, 0, -1), SCRYPT_E_NULL_POINTER);
     IS(scrypt_hash_cost(text, strlen(text), SIZE_MAX, UINT64_MAX, 0, &cost), SCRYPT_OK);
     expect(cost.log_n == new->log_n && cost.r == new->r && cost.p == new->p, "parameters");
     IS(cost.key_len, hasher->options.key_len);
@@ -193,7 +193,7 @@ static void decoy(void) {
     IS(scrypt_hasher_verify(hasher, "right", 5, NULL, 0, -1), SCRYPT_MISMATCH);
     all_match = 0;
     scrypt_hasher_close(hasher);
-    IS(scrypt_hasher_verify(hasher, "right", 5, NULL, 0, -1), SCRYPT_CLOSED);
+    IS(scrypt_hasher_verify(hasher, "right", 5, NULL, 0, -1), SCRYPT_E_CLOSED);
     scrypt_hasher_free(hasher);
   }
 }
@@ -343,9 +343,9 @@ static void shares(void) {
 
 static void calibrated(void) {
   uint32_t log_n = 0, r = 0, p = 0;
-  IS(scrypt_calibrate(0.02, (size_t)64 << 20, NULL, &r, &p), SCRYPT_NULL_POINTER);
-  IS(scrypt_calibrate(1e-9, (size_t)64 << 20, &log_n, &r, &p), SCRYPT_TOO_COSTLY);
-  IS(scrypt_calibrate(1, ((size_t)1 << 20) - 1, &log_n, &r, &p), SCRYPT_TOO_COSTLY);
+  IS(scrypt_calibrate(0.02, (size_t)64 << 20, NULL, &r, &p), SCRYPT_E_NULL_POINTER);
+  IS(scrypt_calibrate(1e-9, (size_t)64 << 20, &log_n, &r, &p), SCRYPT_E_TOO_COSTLY);
+  IS(scrypt_calibrate(1, ((size_t)1 << 20) - 1, &log_n, &r, &p), SCRYPT_E_TOO_COSTLY);
   expect(log_n == 0 && r == 0 && p == 0, "unchanged");
   IS(scrypt_calibrate(9, (size_t)1 << 20, &log_n, &r, &p), SCRYPT_OK);
   expect(log_n == 10 && r == 8 && p > 1, "the largest table, then p: %u %u %u", log_n, r, p);

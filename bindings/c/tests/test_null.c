@@ -33,7 +33,7 @@ static void each_pointer(void) {
     const int status = (pointers = 0, name arguments);                           \
     char why[64];                                                                \
     snprintf(why, sizeof why, "%s, %s", #name, null);                            \
-    check_null(status, SCRYPT_NULL_POINTER, why);                                \
+    check_null(status, SCRYPT_E_NULL_POINTER, why);                                \
   }
 #include "each_call.h"
 }
@@ -49,23 +49,23 @@ static void others(void) {
     const char *why;
     int status, wanted;
   } ROWS[] = {
-      {"key, log_n of 99 too", scrypt_key(NULL, 5, "s", 1, 99, 1, 1, made.output, 32), SCRYPT_NULL_POINTER},
-      {"key, no output", scrypt_key(SECRETS, 4, 1, 1, NULL, 0), SCRYPT_INVALID_OUTPUT_LEN},
-      {"key, r of 0, no output", scrypt_key(NULL, 0, NULL, 0, 4, 0, 1, NULL, 0), SCRYPT_INVALID_PARAMS},
-      {"buffers, no output", scrypt_key_with_buffers(SECRETS, 4, 1, 1, NULL, 0, BUFFERS_MADE), SCRYPT_INVALID_OUTPUT_LEN},
+      {"key, log_n of 99 too", scrypt_key(NULL, 5, "s", 1, 99, 1, 1, made.output, 32), SCRYPT_E_NULL_POINTER},
+      {"key, no output", scrypt_key(SECRETS, 4, 1, 1, NULL, 0), SCRYPT_E_INVALID_OUTPUT_LEN},
+      {"key, r of 0, no output", scrypt_key(NULL, 0, NULL, 0, 4, 0, 1, NULL, 0), SCRYPT_E_INVALID_PARAMS},
+      {"buffers, no output", scrypt_key_with_buffers(SECRETS, 4, 1, 1, NULL, 0, BUFFERS_MADE), SCRYPT_E_INVALID_OUTPUT_LEN},
       {"generate_salt, no byte", scrypt_generate_salt(NULL, 0), SCRYPT_OK},
-      {"phc, p of 0 too", scrypt_hash_with_salt(NULL, 5, "s", 1, 4, 1, 0, 32, 0, made.text, 99), SCRYPT_NULL_POINTER},
-      {"phc, no salt", scrypt_hash_with_salt("p", 1, NULL, 0, 4, 1, 1, 32, 0, made.text, 99), SCRYPT_SALT_INVALID},
-      {"phc, no capacity", scrypt_hash_with_salt(SECRETS, 4, 1, 1, 32, 0, NULL, 0), SCRYPT_BUFFER_SIZE},
-      {"mcf, no salt and capacity", scrypt_hash_with_salt(NULL, 0, NULL, 0, 4, 1, 1, 32, 1, NULL, 0), SCRYPT_BUFFER_SIZE},
-      {"verify, an empty text", scrypt_verify(NULL, 0, NULL, 0), SCRYPT_ENCODING_INVALID},
-      {"verify_limited, an empty text", scrypt_verify_limited(NULL, 0, NULL, 0, 0, 0, 0), SCRYPT_ENCODING_INVALID},
-      {"verify_limited, no bytes", scrypt_verify_limited("p", 1, NULL, 9, 0, 0, 0), SCRYPT_NULL_POINTER},
-      {"needs_rehash, an empty text", scrypt_needs_rehash(NULL, 0, 4, 1, 1, 32), SCRYPT_ENCODING_INVALID},
+      {"phc, p of 0 too", scrypt_hash_with_salt(NULL, 5, "s", 1, 4, 1, 0, 32, 0, made.text, 99), SCRYPT_E_NULL_POINTER},
+      {"phc, no salt", scrypt_hash_with_salt("p", 1, NULL, 0, 4, 1, 1, 32, 0, made.text, 99), SCRYPT_E_SALT_INVALID},
+      {"phc, no capacity", scrypt_hash_with_salt(SECRETS, 4, 1, 1, 32, 0, NULL, 0), SCRYPT_E_BUFFER_SIZE},
+      {"mcf, no salt and capacity", scrypt_hash_with_salt(NULL, 0, NULL, 0, 4, 1, 1, 32, 1, NULL, 0), SCRYPT_E_BUFFER_SIZE},
+      {"verify, an empty text", scrypt_verify(NULL, 0, NULL, 0), SCRYPT_E_ENCODING_INVALID},
+      {"verify_limited, an empty text", scrypt_verify_limited(NULL, 0, NULL, 0, 0, 0, 0), SCRYPT_E_ENCODING_INVALID},
+      {"verify_limited, no bytes", scrypt_verify_limited("p", 1, NULL, 9, 0, 0, 0), SCRYPT_E_NULL_POINTER},
+      {"needs_rehash, an empty text", scrypt_needs_rehash(NULL, 0, 4, 1, 1, 32), SCRYPT_E_ENCODING_INVALID},
       {"a batch of none", scrypt_verify_batch_with_buffers(NULL, 0, NULL, BUFFERS_MADE), SCRYPT_OK},
-      {"a batch, a text", scrypt_verify_batch_with_buffers(NO_TEXT, 2, made.statuses, BUFFERS_MADE), SCRYPT_NULL_POINTER},
-      {"a batch of five", scrypt_verify_batch_with_buffers(FIVE, 5, made.statuses, BUFFERS_MADE), SCRYPT_BUFFER_SIZE},
-      {"the fifth password", scrypt_verify_batch_with_buffers(LAST, 5, made.statuses, BUFFERS_MADE), SCRYPT_NULL_POINTER},
+      {"a batch, a text", scrypt_verify_batch_with_buffers(NO_TEXT, 2, made.statuses, BUFFERS_MADE), SCRYPT_E_NULL_POINTER},
+      {"a batch of five", scrypt_verify_batch_with_buffers(FIVE, 5, made.statuses, BUFFERS_MADE), SCRYPT_E_BUFFER_SIZE},
+      {"the fifth password", scrypt_verify_batch_with_buffers(LAST, 5, made.statuses, BUFFERS_MADE), SCRYPT_E_NULL_POINTER},
   };
   size_t i;
   for (i = 0; i < sizeof ROWS / sizeof *ROWS; i++) check_null(ROWS[i].status, ROWS[i].wanted, ROWS[i].why);

@@ -28,7 +28,7 @@ static int a_key(void) { return memcmp(made.output, KEY, sizeof KEY) == 0; }
 static int is_all_done(void) { return *made.done == 1; }
 static int is_new(void) {
   double done = 0;
-  int status = scrypt_derivation_finish(*made.derivation, "pw", 2, made.output, 20) == SCRYPT_UNFINISHED ? SCRYPT_OK : -1;
+  int status = scrypt_derivation_finish(*made.derivation, "pw", 2, made.output, 20) == SCRYPT_E_UNFINISHED ? SCRYPT_OK : -1;
   if (status == SCRYPT_OK) status = scrypt_derivation_run(*made.derivation, 60000, &done);
   if (status == SCRYPT_OK) status = scrypt_derivation_finish(*made.derivation, "pw", 2, made.output, 20);
   scrypt_derivation_free(made.derivation);
@@ -69,7 +69,7 @@ static int needs_of_a_hash(void) { return are_needed(1) && made.cost->key_len ==
 /* Each login has its own status: right, no text, a wrong password, right. */
 static const scrypt_login LOGINS[] = {{"pw", 2, OF(PHC)}, {"pw", 2, "$8$", 3}, {"PW", 2, OF(MCF)}, {"pw", 2, OF(MCF)}};
 static int verdicts(void) {
-  static const int WANTED[] = {SCRYPT_OK, SCRYPT_ENCODING_INVALID, SCRYPT_MISMATCH, SCRYPT_OK};
+  static const int WANTED[] = {SCRYPT_OK, SCRYPT_E_ENCODING_INVALID, SCRYPT_MISMATCH, SCRYPT_OK};
   return memcmp(made.statuses, WANTED, sizeof WANTED) == 0;
 }
 
@@ -111,7 +111,7 @@ static const struct {
     {"scrypt_hasher_key", a_hashers_key, SCRYPT_OK},
     {"scrypt_hasher_needs_rehash", nothing, SCRYPT_OK},
     {"scrypt_hasher_stats", stats, SCRYPT_OK},
-    {"scrypt_calibrate", nothing, SCRYPT_TOO_COSTLY},
+    {"scrypt_calibrate", nothing, SCRYPT_E_TOO_COSTLY},
     {"scrypt_generate_salt", a_salt, SCRYPT_OK},
 };
 
@@ -134,7 +134,7 @@ static void rejected(uint32_t log_n, uint32_t r, uint32_t p) {
   given.log_n = log_n, given.r = r, given.p = p;
 #define CALL(name, arguments)                       \
   if (strstr(#arguments, "given.log_n") != NULL)    \
-    check(name arguments == SCRYPT_INVALID_PARAMS, #name ", parameters that are not accepted");
+    check(name arguments == SCRYPT_E_INVALID_PARAMS, #name ", parameters that are not accepted");
 #include "each_call.h"
 #undef CALL
 }
@@ -202,64 +202,64 @@ static void meets(const char *faults, int status, int wanted) {
 }
 
 static void keys(void) {
-  meets("key: r, output", scrypt_key(SECRETS, 4, 0, 1, key, 0), SCRYPT_INVALID_PARAMS);
-  meets("key: output, memory", scrypt_key(SECRETS, HUGE, 1, 1, key, 0), SCRYPT_INVALID_OUTPUT_LEN);
-  meets("key: memory", scrypt_key(SECRETS, HUGE, 1, 1, key, 20), SCRYPT_OUT_OF_MEMORY);
+  meets("key: r, output", scrypt_key(SECRETS, 4, 0, 1, key, 0), SCRYPT_E_INVALID_PARAMS);
+  meets("key: output, memory", scrypt_key(SECRETS, HUGE, 1, 1, key, 0), SCRYPT_E_INVALID_OUTPUT_LEN);
+  meets("key: memory", scrypt_key(SECRETS, HUGE, 1, 1, key, 20), SCRYPT_E_OUT_OF_MEMORY);
   meets("key_with_buffers: r, output, buffers", scrypt_key_with_buffers(SECRETS, 4, 0, 1, key, 0, NO_BUFFERS),
-        SCRYPT_INVALID_PARAMS);
+        SCRYPT_E_INVALID_PARAMS);
   meets("key_with_buffers: output, buffers", scrypt_key_with_buffers(SECRETS, PARAMS, key, 0, NO_BUFFERS),
-        SCRYPT_INVALID_OUTPUT_LEN);
-  meets("key_thin: s, output, buffers", scrypt_key_thin(SECRETS, PARAMS, 5, key, 0, NO_BUFFERS), SCRYPT_INVALID_PARAMS);
-  meets("key_thin: output, buffers", scrypt_key_thin(SECRETS, PARAMS, 1, key, 0, NO_BUFFERS), SCRYPT_INVALID_OUTPUT_LEN);
+        SCRYPT_E_INVALID_OUTPUT_LEN);
+  meets("key_thin: s, output, buffers", scrypt_key_thin(SECRETS, PARAMS, 5, key, 0, NO_BUFFERS), SCRYPT_E_INVALID_PARAMS);
+  meets("key_thin: output, buffers", scrypt_key_thin(SECRETS, PARAMS, 1, key, 0, NO_BUFFERS), SCRYPT_E_INVALID_OUTPUT_LEN);
 }
 
 static void derivations(void) {
   scrypt_derivation *it = NULL;
   double done = 0;
 #define NEW(...) scrypt_derivation_new(__VA_ARGS__, &it)
-  meets("derivation: r, bytes, output", NEW(SECRETS, 4, 0, 1, 1, 0), SCRYPT_INVALID_PARAMS);
-  meets("derivation: bytes, output", NEW(SECRETS, PARAMS, 5375, 0), SCRYPT_TOO_COSTLY);
-  meets("derivation: output, memory", NEW(SECRETS, HUGE, 1, 1, 0, 0), SCRYPT_INVALID_OUTPUT_LEN);
-  meets("derivation: a long output", NEW(SECRETS, HUGE, 1, 1, 0, SCRYPT_MAX_OUTPUT_LEN + 1), SCRYPT_INVALID_OUTPUT_LEN);
-  meets("derivation: memory", NEW(SECRETS, HUGE, 1, 1, 0, 20), SCRYPT_OUT_OF_MEMORY);
+  meets("derivation: r, bytes, output", NEW(SECRETS, 4, 0, 1, 1, 0), SCRYPT_E_INVALID_PARAMS);
+  meets("derivation: bytes, output", NEW(SECRETS, PARAMS, 5375, 0), SCRYPT_E_TOO_COSTLY);
+  meets("derivation: output, memory", NEW(SECRETS, HUGE, 1, 1, 0, 0), SCRYPT_E_INVALID_OUTPUT_LEN);
+  meets("derivation: a long output", NEW(SECRETS, HUGE, 1, 1, 0, SCRYPT_MAX_OUTPUT_LEN + 1), SCRYPT_E_INVALID_OUTPUT_LEN);
+  meets("derivation: memory", NEW(SECRETS, HUGE, 1, 1, 0, 20), SCRYPT_E_OUT_OF_MEMORY);
   check(it == NULL, "no derivation");
   check(NEW(SECRETS, PARAMS, 5376, 20) == SCRYPT_OK, "a derivation in its bytes");
-  meets("derivation: unfinished, output", scrypt_derivation_finish(it, "pw", 2, key, 19), SCRYPT_UNFINISHED);
+  meets("derivation: unfinished, output", scrypt_derivation_finish(it, "pw", 2, key, 19), SCRYPT_E_UNFINISHED);
   check(scrypt_derivation_run(it, 60000, &done) == SCRYPT_OK && done == 1, "all is mixed");
-  meets("derivation: a shorter output", scrypt_derivation_finish(it, "pw", 2, key, 19), SCRYPT_INVALID_OUTPUT_LEN);
-  meets("derivation: no output", scrypt_derivation_finish(it, "pw", 2, NULL, 0), SCRYPT_INVALID_OUTPUT_LEN);
+  meets("derivation: a shorter output", scrypt_derivation_finish(it, "pw", 2, key, 19), SCRYPT_E_INVALID_OUTPUT_LEN);
+  meets("derivation: no output", scrypt_derivation_finish(it, "pw", 2, NULL, 0), SCRYPT_E_INVALID_OUTPUT_LEN);
   scrypt_derivation_free(&it);
 }
 
 static void hashes(void) {
-  meets("phc: p, salt", scrypt_hash_with_salt(NO_SALT, 4, 8, 0, 20, 0, NO_ROOM), SCRYPT_INVALID_PARAMS);
-  meets("phc: salt, memory", scrypt_hash_with_salt(NO_SALT, HUGE, 1, 1, 20, 0, NO_ROOM), SCRYPT_SALT_INVALID);
-  meets("phc: memory, text", scrypt_hash_with_salt(SECRETS, HUGE, 1, 1, 20, 0, NO_ROOM), SCRYPT_OUT_OF_MEMORY);
-  meets("mcf: key, memory", scrypt_hash_with_salt(SECRETS, HUGE, 1, 1, 65, 1, NO_ROOM), SCRYPT_INVALID_PARAMS);
-  meets("mcf: memory, text", scrypt_hash_with_salt(SECRETS, HUGE, 1, 1, 20, 1, NO_ROOM), SCRYPT_OUT_OF_MEMORY);
+  meets("phc: p, salt", scrypt_hash_with_salt(NO_SALT, 4, 8, 0, 20, 0, NO_ROOM), SCRYPT_E_INVALID_PARAMS);
+  meets("phc: salt, memory", scrypt_hash_with_salt(NO_SALT, HUGE, 1, 1, 20, 0, NO_ROOM), SCRYPT_E_SALT_INVALID);
+  meets("phc: memory, text", scrypt_hash_with_salt(SECRETS, HUGE, 1, 1, 20, 0, NO_ROOM), SCRYPT_E_OUT_OF_MEMORY);
+  meets("mcf: key, memory", scrypt_hash_with_salt(SECRETS, HUGE, 1, 1, 65, 1, NO_ROOM), SCRYPT_E_INVALID_PARAMS);
+  meets("mcf: memory, text", scrypt_hash_with_salt(SECRETS, HUGE, 1, 1, 20, 1, NO_ROOM), SCRYPT_E_OUT_OF_MEMORY);
   meets("phc, in buffers: key, salt, buffers, text",
-        scrypt_hash_with_buffers(NO_SALT, PARAMS, 9, 0, NO_ROOM, NO_BUFFERS), SCRYPT_INVALID_PARAMS);
+        scrypt_hash_with_buffers(NO_SALT, PARAMS, 9, 0, NO_ROOM, NO_BUFFERS), SCRYPT_E_INVALID_PARAMS);
   meets("phc, in buffers: salt, buffers, text", scrypt_hash_with_buffers(NO_SALT, PARAMS, 20, 0, NO_ROOM, NO_BUFFERS),
-        SCRYPT_SALT_INVALID);
+        SCRYPT_E_SALT_INVALID);
   meets("mcf, in buffers: key, buffers, text", scrypt_hash_with_buffers(SECRETS, PARAMS, 9, 1, NO_ROOM, NO_BUFFERS),
-        SCRYPT_INVALID_PARAMS);
+        SCRYPT_E_INVALID_PARAMS);
   meets("mcf, in buffers: text, buffers", scrypt_hash_with_buffers(SECRETS, PARAMS, 20, 1, NO_ROOM, NO_BUFFERS),
-        SCRYPT_BUFFER_SIZE);
+        SCRYPT_E_BUFFER_SIZE);
 }
 
 static void stored_texts(void) {
   static const char SALTS[] = "saltsaltsaltsaltsaltsaltsaltsaltsaltsaltsaltsaltsaltsaltsaltsalt$";
 #define STORED(...) scrypt_stored_text(__VA_ARGS__)
-  meets("stored phc: p, salt, key, text", STORED("", 0, "", 0, 4, 2, 0, 0, NO_ROOM), SCRYPT_INVALID_PARAMS);
-  meets("stored phc: no salt, key, text", STORED("", 0, "", 0, PARAMS, 0, NO_ROOM), SCRYPT_SALT_INVALID);
-  meets("stored phc: a salt of 65 bytes", STORED(SALTS, 65, KEY, 20, PARAMS, 0, TEXT), SCRYPT_SALT_INVALID);
-  meets("stored phc: key, text", STORED(SALTS, 64, KEY, 9, PARAMS, 0, NO_ROOM), SCRYPT_INVALID_OUTPUT_LEN);
-  meets("stored phc: text", STORED("saltsalt", 8, KEY, 20, PARAMS, 0, text, sizeof PHC - 1), SCRYPT_BUFFER_SIZE);
-  meets("stored mcf: p, salt, key, text", STORED("$", 1, "", 0, 4, 2, 0, 1, NO_ROOM), SCRYPT_INVALID_PARAMS);
-  meets("stored mcf: a $, key, text", STORED(SALTS, 65, "", 0, PARAMS, 1, NO_ROOM), SCRYPT_SALT_INVALID);
-  meets("stored mcf: half a letter", STORED("s\xc3lt", 4, KEY, 20, PARAMS, 1, TEXT), SCRYPT_SALT_INVALID);
-  meets("stored mcf: no key, text", STORED("", 0, "", 0, PARAMS, 1, NO_ROOM), SCRYPT_INVALID_OUTPUT_LEN);
-  meets("stored mcf: text", STORED("n34PoBLMgF5", 11, KEY, 20, PARAMS, 1, text, sizeof MCF - 1), SCRYPT_BUFFER_SIZE);
+  meets("stored phc: p, salt, key, text", STORED("", 0, "", 0, 4, 2, 0, 0, NO_ROOM), SCRYPT_E_INVALID_PARAMS);
+  meets("stored phc: no salt, key, text", STORED("", 0, "", 0, PARAMS, 0, NO_ROOM), SCRYPT_E_SALT_INVALID);
+  meets("stored phc: a salt of 65 bytes", STORED(SALTS, 65, KEY, 20, PARAMS, 0, TEXT), SCRYPT_E_SALT_INVALID);
+  meets("stored phc: key, text", STORED(SALTS, 64, KEY, 9, PARAMS, 0, NO_ROOM), SCRYPT_E_INVALID_OUTPUT_LEN);
+  meets("stored phc: text", STORED("saltsalt", 8, KEY, 20, PARAMS, 0, text, sizeof PHC - 1), SCRYPT_E_BUFFER_SIZE);
+  meets("stored mcf: p, salt, key, text", STORED("$", 1, "", 0, 4, 2, 0, 1, NO_ROOM), SCRYPT_E_INVALID_PARAMS);
+  meets("stored mcf: a $, key, text", STORED(SALTS, 65, "", 0, PARAMS, 1, NO_ROOM), SCRYPT_E_SALT_INVALID);
+  meets("stored mcf: half a letter", STORED("s\xc3lt", 4, KEY, 20, PARAMS, 1, TEXT), SCRYPT_E_SALT_INVALID);
+  meets("stored mcf: no key, text", STORED("", 0, "", 0, PARAMS, 1, NO_ROOM), SCRYPT_E_INVALID_OUTPUT_LEN);
+  meets("stored mcf: text", STORED("n34PoBLMgF5", 11, KEY, 20, PARAMS, 1, text, sizeof MCF - 1), SCRYPT_E_BUFFER_SIZE);
 }
 
 /* Each buffer is too short by one, before a wrong password. */
@@ -267,13 +267,13 @@ static void buffers(void) {
   int i;
   for (i = 0; i < 3; i++) {
 #define SHORT chunks, 768 - (i == 0), table, 1024 - (i == 1), scratch, 128 - (i == 2)
-    meets("key_with_buffers", scrypt_key_with_buffers(SECRETS, PARAMS, key, 20, SHORT), SCRYPT_BUFFER_SIZE);
-    meets("key_thin", scrypt_key_thin(SECRETS, PARAMS, 0, key, 20, SHORT), SCRYPT_BUFFER_SIZE);
-    meets("phc, in buffers", scrypt_hash_with_buffers(SECRETS, PARAMS, 20, 0, TEXT, SHORT), SCRYPT_BUFFER_SIZE);
-    meets("mcf, in buffers", scrypt_hash_with_buffers(SECRETS, PARAMS, 20, 1, TEXT, SHORT), SCRYPT_BUFFER_SIZE);
-    meets("verify, in buffers", scrypt_verify_limited_with_buffers("", 0, OF(PHC), NO_LIMITS, 0, SHORT), SCRYPT_BUFFER_SIZE);
+    meets("key_with_buffers", scrypt_key_with_buffers(SECRETS, PARAMS, key, 20, SHORT), SCRYPT_E_BUFFER_SIZE);
+    meets("key_thin", scrypt_key_thin(SECRETS, PARAMS, 0, key, 20, SHORT), SCRYPT_E_BUFFER_SIZE);
+    meets("phc, in buffers", scrypt_hash_with_buffers(SECRETS, PARAMS, 20, 0, TEXT, SHORT), SCRYPT_E_BUFFER_SIZE);
+    meets("mcf, in buffers", scrypt_hash_with_buffers(SECRETS, PARAMS, 20, 1, TEXT, SHORT), SCRYPT_E_BUFFER_SIZE);
+    meets("verify, in buffers", scrypt_verify_limited_with_buffers("", 0, OF(PHC), NO_LIMITS, 0, SHORT), SCRYPT_E_BUFFER_SIZE);
     meets("verify, in buffers", scrypt_verify_limited_with_buffers("", 0, OF(MCF), NO_LIMITS, 0, SHORT),
-          SCRYPT_BUFFER_SIZE);
+          SCRYPT_E_BUFFER_SIZE);
   }
 }
 
@@ -283,27 +283,27 @@ static void texts(void) {
   static const struct {
     const char *text;
     int status;
-  } TEXTS[] = {{"$scrypt$ln=57", SCRYPT_HASH_PARAMS_INVALID},
+  } TEXTS[] = {{"$scrypt$ln=57", SCRYPT_E_HASH_PARAMS_INVALID},
                {"$scrypt$ln=56,r=1,p=1", SCRYPT_MISMATCH},
-               {"$scrypt$ln=56,r=1,p=1$c2FsdHNhbHQ$AAAAAAAAAAAAAAAAAAAA", SCRYPT_OUT_OF_MEMORY}};
+               {"$scrypt$ln=56,r=1,p=1$c2FsdHNhbHQ$AAAAAAAAAAAAAAAAAAAA", SCRYPT_E_OUT_OF_MEMORY}};
   size_t i;
   for (i = 0; i < sizeof TEXTS / sizeof *TEXTS; i++) {
     const int status = TEXTS[i].status;
 #define OF_TEXT "pw", 2, TEXTS[i].text, strlen(TEXTS[i].text)
-#define IF_READ(other) (status == SCRYPT_OUT_OF_MEMORY ? other : status)
-    meets("verify", scrypt_verify(OF_TEXT), IF_READ(SCRYPT_TOO_COSTLY));
+#define IF_READ(other) (status == SCRYPT_E_OUT_OF_MEMORY ? other : status)
+    meets("verify", scrypt_verify(OF_TEXT), IF_READ(SCRYPT_E_TOO_COSTLY));
     meets("verify_unlimited", scrypt_verify_unlimited(OF_TEXT), status);
     meets("verify_limited", scrypt_verify_limited(OF_TEXT, NO_LIMITS, 15), status);
-    meets("key", scrypt_verify_limited(OF_TEXT, NO_LIMITS, 16), IF_READ(SCRYPT_KEY_TOO_SHORT));
-    meets("bytes, key", scrypt_verify_limited(OF_TEXT, 5375, UINT64_MAX, 16), IF_READ(SCRYPT_TOO_COSTLY));
-    meets("work, key", scrypt_verify_limited(OF_TEXT, SIZE_MAX, 1151, 16), IF_READ(SCRYPT_TOO_COSTLY));
-    meets("buffers", scrypt_verify_limited_with_buffers(OF_TEXT, NO_LIMITS, 15, NO_BUFFERS), IF_READ(SCRYPT_BUFFER_SIZE));
+    meets("key", scrypt_verify_limited(OF_TEXT, NO_LIMITS, 16), IF_READ(SCRYPT_E_KEY_TOO_SHORT));
+    meets("bytes, key", scrypt_verify_limited(OF_TEXT, 5375, UINT64_MAX, 16), IF_READ(SCRYPT_E_TOO_COSTLY));
+    meets("work, key", scrypt_verify_limited(OF_TEXT, SIZE_MAX, 1151, 16), IF_READ(SCRYPT_E_TOO_COSTLY));
+    meets("buffers", scrypt_verify_limited_with_buffers(OF_TEXT, NO_LIMITS, 15, NO_BUFFERS), IF_READ(SCRYPT_E_BUFFER_SIZE));
     meets("key, buffers", scrypt_verify_limited_with_buffers(OF_TEXT, NO_LIMITS, 16, NO_BUFFERS),
-          IF_READ(SCRYPT_KEY_TOO_SHORT));
+          IF_READ(SCRYPT_E_KEY_TOO_SHORT));
     meets("work, key, buffers", scrypt_verify_limited_with_buffers(OF_TEXT, SIZE_MAX, 1151, 16, NO_BUFFERS),
-          IF_READ(SCRYPT_TOO_COSTLY));
-    meets("wanted log_n", scrypt_needs_rehash(TEXTS[i].text, strlen(TEXTS[i].text), 57, 1, 1, 20), SCRYPT_INVALID_PARAMS);
-    meets("wanted key", scrypt_needs_rehash(TEXTS[i].text, strlen(TEXTS[i].text), 4, 1, 1, 0), SCRYPT_INVALID_PARAMS);
+          IF_READ(SCRYPT_E_TOO_COSTLY));
+    meets("wanted log_n", scrypt_needs_rehash(TEXTS[i].text, strlen(TEXTS[i].text), 57, 1, 1, 20), SCRYPT_E_INVALID_PARAMS);
+    meets("wanted key", scrypt_needs_rehash(TEXTS[i].text, strlen(TEXTS[i].text), 4, 1, 1, 0), SCRYPT_E_INVALID_PARAMS);
   }
 }
 

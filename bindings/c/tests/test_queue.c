@@ -62,7 +62,7 @@ static void enter_one(int class) {
   now.calls[i].kind = class == 2 ? KEY : VERIFY;
   now.calls[i].cost.log_n = (uint32_t)class;
   now.wanted[i] = is_free ? LEADING : WAITING;
-  if (now.hasher.is_closed) end_in_model(i, SCRYPT_CLOSED);
+  if (now.hasher.is_closed) end_in_model(i, SCRYPT_E_CLOSED);
   enter(&now.hasher, &now.calls[i]);
 }
 
@@ -98,12 +98,12 @@ static void finish_batch(int slot) {
 }
 
 static void time_out(int i) {
-  end_in_model(i, SCRYPT_TIMEOUT);
-  leave(now.hasher.queue, &now.calls[i], SCRYPT_TIMEOUT);
+  end_in_model(i, SCRYPT_E_TIMEOUT);
+  leave(now.hasher.queue, &now.calls[i], SCRYPT_E_TIMEOUT);
 }
 
 static void close_all(void) {
-  while (first_waiting() >= 0) end_in_model(first_waiting(), SCRYPT_CLOSED);
+  while (first_waiting() >= 0) end_in_model(first_waiting(), SCRYPT_E_CLOSED);
   scrypt_hasher_close(&now.hasher);
 }
 

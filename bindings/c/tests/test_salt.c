@@ -28,8 +28,8 @@ static void many(void) {
 static void new_hashes(void) {
   char text[SCRYPT_HASH_CAPACITY + 1], other[SCRYPT_HASH_CAPACITY];
   memset(text, '!', sizeof text);
-  check(scrypt_hash_password("pw", 2, text, SCRYPT_HASH_CAPACITY - 1) == SCRYPT_BUFFER_SIZE, "a byte too few");
-  check(scrypt_hash_password("pw", 2, NULL, 0) == SCRYPT_BUFFER_SIZE && text[0] == '!', "no text, and no capacity");
+  check(scrypt_hash_password("pw", 2, text, SCRYPT_HASH_CAPACITY - 1) == SCRYPT_E_BUFFER_SIZE, "a byte too few");
+  check(scrypt_hash_password("pw", 2, NULL, 0) == SCRYPT_E_BUFFER_SIZE && text[0] == '!', "no text, and no capacity");
   check(scrypt_hash_password(NULL, 0, text, SCRYPT_HASH_CAPACITY) == SCRYPT_OK, "the empty password");
   check(strlen(text) == SCRYPT_HASH_CAPACITY - 1 && text[SCRYPT_HASH_CAPACITY] == '!', "the length of its text");
   check(scrypt_needs_rehash(text, strlen(text), SCRYPT_RECOMMENDED_LOG_N, SCRYPT_RECOMMENDED_R, SCRYPT_RECOMMENDED_P,
@@ -65,8 +65,8 @@ static int refused(void) {
   char text[SCRYPT_HASH_CAPACITY] = "!";
   if (prctl(PR_SET_NO_NEW_PRIVS, 1, 0, 0, 0) != 0) return 2;
   if (prctl(PR_SET_SECCOMP, SECCOMP_MODE_FILTER, &program) != 0) return 3;
-  if (scrypt_generate_salt(salt, sizeof salt) != SCRYPT_NO_RANDOM_BYTES) return 4;
-  return scrypt_hash_password("pw", 2, text, sizeof text) == SCRYPT_NO_RANDOM_BYTES && text[0] == '!' ? 0 : 5;
+  if (scrypt_generate_salt(salt, sizeof salt) != SCRYPT_E_NO_RANDOM_BYTES) return 4;
+  return scrypt_hash_password("pw", 2, text, sizeof text) == SCRYPT_E_NO_RANDOM_BYTES && text[0] == '!' ? 0 : 5;
 }
 
 static void refused_by_the_system(void) { in_a_child(refused, "a system without random bytes"); }

@@ -45,7 +45,7 @@ static void check_call(const char *name, int status, unsigned reports) {
   snprintf(what, sizeof what, "%s of %zu bytes with (%u, %u, %u): status %d, %u reports", name, given.password_len,
            given.log_n, given.r, given.p, status, reports);
   check(reports <= max_reports(name), what);
-  if (has(name, "thin") && status == SCRYPT_BUFFER_SIZE) return; /* it takes one table */
+  if (has(name, "thin") && status == SCRYPT_E_BUFFER_SIZE) return; /* it takes one table */
   check(status == (has(name, "batch") ? SCRYPT_OK : wanted), what);
   if (has(name, "batch")) check(made.statuses[0] == wanted && made.statuses[LOGINS - 1] == wanted, what);
   if (given.password_len == 0) return;

@@ -35,7 +35,7 @@ static void by_time(void) {
     size_t runs = 0;
     int status = scrypt_derivation_new("pw", 2, "salt", 4, log_n, r, p, 0, 32, &it);
     for (; status == SCRYPT_OK && done < 1; runs++, last = done) {
-      check(scrypt_derivation_finish(it, "pw", 2, key, 32) == SCRYPT_UNFINISHED, ROWS[i].why);
+      check(scrypt_derivation_finish(it, "pw", 2, key, 32) == SCRYPT_E_UNFINISHED, ROWS[i].why);
       status = scrypt_derivation_run(it, ROWS[i].milliseconds, &done);
       check(done > last && done <= 1, ROWS[i].why);
     }

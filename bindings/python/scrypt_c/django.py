@@ -67,7 +67,7 @@ class FalseIfRefused:
 
 
 def _invalid(why: str) -> InvalidHashError:
-    return InvalidHashError("SCRYPT_ENCODING_INVALID", why)
+    return InvalidHashError("SCRYPT_E_ENCODING_INVALID", why)
 
 
 class ScryptPasswordHasher(BasePasswordHasher):

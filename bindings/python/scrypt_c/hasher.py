@@ -93,7 +93,7 @@ class PasswordHasher:
         if not MIN_KEY_LEN <= self._params.key_len <= MAX_KEY_LEN:
             lengths = f"{MIN_KEY_LEN} to {MAX_KEY_LEN} bytes"
             words = f"the key of a hash must have {lengths}: key_len={key_len}"
-            raise InvalidParamsError("SCRYPT_INVALID_PARAMS", words)
+            raise InvalidParamsError("SCRYPT_E_INVALID_PARAMS", words)
         salt_len = number(salt_len, "salt_len")
         if not 1 <= salt_len <= MAX_SALT_LEN:
             check(SALT_INVALID, f"salt_len={salt_len}")

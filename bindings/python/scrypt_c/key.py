@@ -46,7 +46,7 @@ def scrypt(
     if status == TOO_COSTLY:
         words = f"n={n}, r={r}, p={p} need {cost.bytes} bytes and a work of {cost.work}"
         words += f", with maxmem={maxmem} and max_work={max_work}"
-        raise TooCostlyError("SCRYPT_TOO_COSTLY", words)
+        raise TooCostlyError("SCRYPT_E_TOO_COSTLY", words)
     if not 1 <= dklen <= MAX_OUTPUT_LEN:
         check(INVALID_OUTPUT_LEN, f"dklen={dklen}")
     return derived(password, salt, params, max_mem if maxmem else 0, dklen, progress)
@@ -55,7 +55,7 @@ def scrypt(
 def log_of(n: int) -> int:
     """Returns the logarithm of a power of two. Raises InvalidParamsError for other numbers."""
     if n < 1 or n & (n - 1):
-        raise InvalidParamsError("SCRYPT_INVALID_PARAMS", f"n must be a power of two: {n}")
+        raise InvalidParamsError("SCRYPT_E_INVALID_PARAMS", f"n must be a power of two: {n}")
     return n.bit_length() - 1
 
 

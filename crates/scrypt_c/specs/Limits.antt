@@ -33,7 +33,7 @@ bytes_that_pay max_tables max_mem c =
 
 -- the status of a cost: 0, or that the parameters are not accepted or exceed the limits
 pub record IsNeedStatus (max_mem max_work log_n r p : ℕ) (status : ℤ) : Type 0 where
-  pub params : (status ≡ pos 2) ↔ (¬ IsTrue (are_accepted log_n r p))
-  pub costly : (status ≡ pos 13)
+  pub params : (status ≡ pos 3) ↔ (¬ IsTrue (are_accepted log_n r p))
+  pub costly : (status ≡ pos 14)
       ↔ (IsTrue (are_accepted log_n r p) × (¬ IsTrue (are_within (limits_of max_mem max_work 0) (params_of log_n r p))))
-  pub one : (status ≡ pos 0) ⊎ (status ≡ pos 2) ⊎ (status ≡ pos 13)
+  pub one : (status ≡ pos 0) ⊎ (status ≡ pos 3) ⊎ (status ≡ pos 14)

@@ -9,15 +9,15 @@ use Rattle.scrypt_c.specs.Texts.{bytes_params}
 -- the status of an error
 abbrev pub refusal_status : Refusal → ℤ
 refusal_status PasswordInvalid = pos 1
-refusal_status OutOfMemory = pos 4
-refusal_status Algorithm = pos 5
-refusal_status EncodingInvalid = pos 6
-refusal_status OutputSize = pos 7
-refusal_status (ParamInvalid name) = pos 8
-refusal_status ParamsInvalid = pos 9
-refusal_status SaltInvalid = pos 10
+refusal_status OutOfMemory = pos 5
+refusal_status Algorithm = pos 6
+refusal_status EncodingInvalid = pos 7
+refusal_status OutputSize = pos 8
+refusal_status (ParamInvalid name) = pos 9
+refusal_status ParamsInvalid = pos 10
 refusal_status Version = pos 11
-refusal_status (TooCostly bytes work) = pos 13
+refusal_status SaltInvalid = pos 12
+refusal_status (TooCostly bytes work) = pos 14
 refusal_status (KeyTooShort key_len) = pos 15
 
 -- the status of a result of reading, with or without limits, or of verifying
@@ -34,18 +34,18 @@ ReadsParams bytes status log_n r p key_len =
 -- the status of verifying: the verdict's, or, only if keys are compared, that an allocation failed
 abbrev pub IsVerifyStatus : List ℕ → Result Stored Refusal → ℤ → Type 0
 IsVerifyStatus password reading status =
-    (status ≡ result_status (verdict password reading)) ⊎ (IsOk reading × (status ≡ pos 4))
+    (status ≡ result_status (verdict password reading)) ⊎ (IsOk reading × (status ≡ pos 5))
 
 -- the status of comparing a hash with the wanted parameters: one without a salt or a key is weaker
 abbrev pub rehash_status : Result Bool Refusal → ℤ
 rehash_status (Ok false) = pos 0
-rehash_status (Ok true) = pos 22
-rehash_status (Err PasswordInvalid) = pos 22
+rehash_status (Ok true) = pos 2
+rehash_status (Err PasswordInvalid) = pos 2
 rehash_status (Err why) = refusal_status why
 
 -- the status of an error of reading: a hash without a salt or a key is damaged
 abbrev pub unread_status : Refusal → ℤ
-unread_status PasswordInvalid = pos 7
+unread_status PasswordInvalid = pos 8
 unread_status why = refusal_status why
 
 -- the status of reading the cost of a hash, with limits
@@ -56,7 +56,7 @@ cost_status (Err why) = unread_status why
 -- the status of an error in the caller's buffers, where `OutOfMemory` means that a buffer is too
 -- short
 abbrev pub short_status : Refusal → ℤ
-short_status OutOfMemory = pos 12
+short_status OutOfMemory = pos 13
 short_status why = refusal_status why
 
 -- the status of hashing or verifying in the caller's buffers
@@ -67,7 +67,7 @@ buffers_status (Err why) = short_status why
 -- the status of a derivation in the caller's buffers: 0, or the error of the first that is not
 -- accepted of the parameters, the length of the output and the buffers
 pub record IsKeyStatus (Accepted Enough : Type 0) (output_len : ℕ) (status : ℤ) : Type 0 where
-  pub params : (status ≡ pos 2) ↔ (¬ Accepted)
-  pub length : (status ≡ pos 3) ↔ (Accepted × ¬ IsTrue (is_output_len output_len))
-  pub buffers : (status ≡ pos 12) ↔ (Accepted × IsTrue (is_output_len output_len) × ¬ Enough)
-  pub one : (status ≡ pos 0) ⊎ (status ≡ pos 2) ⊎ (status ≡ pos 3) ⊎ (status ≡ pos 12)
+  pub params : (status ≡ pos 3) ↔ (¬ Accepted)
+  pub length : (status ≡ pos 4) ↔ (Accepted × ¬ IsTrue (is_output_len output_len))
+  pub buffers : (status ≡ pos 13) ↔ (Accepted × IsTrue (is_output_len output_len) × ¬ Enough)
+  pub one : (status ≡ pos 0) ⊎ (status ≡ pos 3) ⊎ (status ≡ pos 4) ⊎ (status ≡ pos 13)
