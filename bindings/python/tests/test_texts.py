@@ -41,7 +41,7 @@ def outcome(call, *arguments):
     try:
         call(*arguments)
     except scrypt_c.ScryptError as error:
-        return error.name.removeprefix("SCRYPT_"), error
+        return error.name.removeprefix("SCRYPT_").removeprefix("E_"), error
     return "OK", None
 
 
