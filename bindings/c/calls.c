@@ -123,9 +123,9 @@ int scrypt_verify_batch_with_buffers(const scrypt_login *logins, size_t count, i
   size_t i;
   REFUSE_IF((logins == NULL || statuses == NULL) && count > 0);
   TAKE_BUFFERS;
+  if (count > SCRYPT_MAX_LOGINS) return SCRYPT_E_BUFFER_SIZE;
   for (i = 0; i < count; i++)
     REFUSE_IF(is_null(logins[i].password, logins[i].password_len) || is_null(logins[i].text, logins[i].text_len));
-  if (count > SCRYPT_MAX_LOGINS) return SCRYPT_E_BUFFER_SIZE;
   for (i = 0; i < SCRYPT_MAX_LOGINS; i++) {
     each[i] = i < count ? logins[i] : NONE;
     each[i].password = bytes_of(each[i].password);

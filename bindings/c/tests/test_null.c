@@ -43,8 +43,7 @@ static void each_pointer(void) {
 
 /* NULL that is nothing, or meets another error. */
 static void others(void) {
-  static const scrypt_login FIVE[] = {LOGIN, LOGIN, LOGIN, LOGIN, LOGIN}, NO_TEXT[] = {LOGIN, {"p", 1, NULL, 1}},
-                            LAST[] = {LOGIN, LOGIN, LOGIN, LOGIN, {NULL, 1, "$7$", 3}};
+  static const scrypt_login FOUR[] = {LOGIN, LOGIN, LOGIN, LOGIN}, NO_TEXT[] = {LOGIN, {"p", 1, NULL, 1}};
   const struct {
     const char *why;
     int status, wanted;
@@ -64,8 +63,11 @@ static void others(void) {
       {"needs_rehash, an empty text", scrypt_needs_rehash(NULL, 0, 4, 1, 1, 32), SCRYPT_E_ENCODING_INVALID},
       {"a batch of none", scrypt_verify_batch_with_buffers(NULL, 0, NULL, BUFFERS_MADE), SCRYPT_OK},
       {"a batch, a text", scrypt_verify_batch_with_buffers(NO_TEXT, 2, made.statuses, BUFFERS_MADE), SCRYPT_E_NULL_POINTER},
-      {"a batch of five", scrypt_verify_batch_with_buffers(FIVE, 5, made.statuses, BUFFERS_MADE), SCRYPT_E_BUFFER_SIZE},
-      {"the fifth password", scrypt_verify_batch_with_buffers(LAST, 5, made.statuses, BUFFERS_MADE), SCRYPT_E_NULL_POINTER},
+      {"a batch of five", scrypt_verify_batch_with_buffers(FOUR, 5, made.statuses, BUFFERS_MADE), SCRYPT_E_BUFFER_SIZE},
+      {"sizeof in place of a count", scrypt_verify_batch_with_buffers(FOUR, sizeof FOUR, made.statuses, BUFFERS_MADE),
+       SCRYPT_E_BUFFER_SIZE},
+      {"a count that no memory has", scrypt_verify_batch_with_buffers(FOUR, SIZE_MAX, made.statuses, BUFFERS_MADE),
+       SCRYPT_E_BUFFER_SIZE},
   };
   size_t i;
   for (i = 0; i < sizeof ROWS / sizeof *ROWS; i++) check_null(ROWS[i].status, ROWS[i].wanted, ROWS[i].why);
