@@ -5,6 +5,11 @@
 
 #include <string.h>
 
+/* A batch has an array of this size for each login. */
+#if BASE_PAYS > SCRYPT_MAX_LOGINS || (defined HAS_NEWER && NEWER_PAYS > SCRYPT_MAX_LOGINS)
+#error "a level in LEVELS of CMakeLists.txt has more tables than SCRYPT_MAX_LOGINS"
+#endif
+
 #ifdef HAS_NEWER
 #include <stdio.h>
 #include <stdlib.h>

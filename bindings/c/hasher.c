@@ -255,11 +255,11 @@ static void derive(scrypt_hasher *hasher, struct call **batch, size_t count, siz
 /* A batch has no more chunks than the slot has tables, so that no call waits for others' chunks. */
 static void lead(scrypt_hasher *hasher, struct call *call) {
   struct call *batch[SCRYPT_MAX_LOGINS] = {call};
-  int statuses[] = {SCRYPT_E_OUT_OF_MEMORY, SCRYPT_E_OUT_OF_MEMORY, SCRYPT_E_OUT_OF_MEMORY,
-                    SCRYPT_E_OUT_OF_MEMORY};
+  int statuses[SCRYPT_MAX_LOGINS];
   size_t place = (size_t)(call->slot - hasher->queue->slots);
   size_t width = width_of_slot(&hasher->options, hasher->slots, place);
-  size_t count = form_batch(hasher, batch, call->kind == VERIFY ? width / call->cost.p : 1);
+  size_t count = form_batch(hasher, batch, call->kind == VERIFY ? width / call->cost.p : 1), i;
+  for (i = 0; i < count; i++) statuses[i] = SCRYPT_E_OUT_OF_MEMORY;
   mutex_unlock(&hasher->queue->lock);
   derive(hasher, batch, count, width, statuses);
   mutex_lock(&hasher->queue->lock);

@@ -18,6 +18,10 @@ import (
 // that has 10,000 threads.
 const mostInside = 4096
 
+// perSlot is the maximum number of goroutines in C for each slot: those of a batch that derives, and
+// those of the next one.
+const perSlot = 2 * C.SCRYPT_MAX_LOGINS
+
 // Names for tests, which cannot use cgo.
 type (
 	milliseconds = C.int64_t
@@ -101,16 +105,14 @@ func NewHasher(options Options) (*Hasher, error) {
 	if shared.c == nil {
 		return nil, fmt.Errorf("%w: %v: %+v", Error(status), options.Params.cost(), options)
 	}
-	// Each slot derives a batch of up to four calls, and four more wait in C to form the next
-	// batch.
 	derive := C.scrypt_hasher_options(shared.c).processors
 	if tables := C.scrypt_hasher_options(shared.c).max_tables; tables < derive {
 		derive = tables
 	}
-	if derive > mostInside/8 {
-		derive = mostInside / 8
+	if derive > mostInside/perSlot {
+		derive = mostInside / perSlot
 	}
-	shared.inside = make(chan struct{}, 8*derive)
+	shared.inside = make(chan struct{}, perSlot*derive)
 	runtime.SetFinalizer(shared, func(shared *hasher) { C.scrypt_hasher_free(shared.c) })
 	return &Hasher{shared}, nil
 }

@@ -142,8 +142,8 @@ func TestOptions(t *testing.T) {
 	check(t, tables >= 1 && tables <= 2*processors && processors <= runtime.NumCPU(), usual)
 	check(t, large.MaxMem == 536875008 && large.MaxWork == 33556480, large)
 	for given, inside := range map[Options]int{
-		{Params{5, 3, 2, 20}, true, 1, 2, 3, 1 << 20, 1 << 16}:                                         16,
-		{Params{5, 3, 2, 20}, true, 64, 3, 2, 1 << 20, 1 << 16}:                                        16,
+		{Params{5, 3, 2, 20}, true, 1, 2, 3, 1 << 20, 1 << 16}:                                         2 * perSlot,
+		{Params{5, 3, 2, 20}, true, 64, 3, 2, 1 << 20, 1 << 16}:                                        2 * perSlot,
 		{Params{4, 8, 1, 32}, false, 16, math.MaxInt64, math.MaxInt64, math.MaxUint64, math.MaxUint64}: 4096,
 	} {
 		hasher := newHasher(t, given)
