@@ -16,8 +16,9 @@ struct buffers {
 
 /* Its initial state is all zeros. */
 struct arena {
-  uint8_t *mapping; /* HUGE_PAGE longer than the memory, which begins at a multiple of it */
-  size_t room;      /* its length in bytes; 0 if nothing is mapped */
+  void *mapping;   /* the start of its mapping */
+  uint8_t *tables; /* the memory */
+  size_t len;      /* its length in bytes; 0 if nothing is mapped */
 };
 
 /* Reserves memory for `max` derivations with one table each, or for fewer if the system has less,
@@ -29,7 +30,7 @@ size_t arena_reserve(struct arena *arena, const scrypt_cost *one, size_t max);
 struct buffers arena_buffers(const struct arena *arena, const scrypt_cost *one, size_t tables,
                              size_t logins);
 
-/* Wipes and unmaps it. */
+/* Unmaps it, or wipes it if that fails. */
 void arena_free(struct arena *arena);
 
 #endif

@@ -3,13 +3,10 @@
  * with -fno-plt: a linker that binds malloc at its first call saves registers in the stack. */
 #define _GNU_SOURCE
 #include "groups.h"
-#include "system.h"
+#include "tables.h"
 
 #include <stdint.h>
 #include <stdlib.h>
-#include <string.h>
-
-#define CACHE_LINE ((size_t)64)
 
 /* Blocks of this size or more get their own mapping, as in malloc: unmapping is faster than
  * overwriting. */
@@ -23,28 +20,6 @@ struct head {
 };
 static struct head *head_of(void *block) { return (struct head *)block - 1; }
 
-/* The rest of the mapping: the head, and the gap before a huge page. */
-#define BESIDE (LARGEST_PAGE + HUGE_PAGE)
-
-/* Writes zeros, in a way that the compiler must not optimize away. Whole cache lines are written
- * through the cache, where the next call finds them: memset takes a third longer for the table of
- * (14, 8, 1). */
-static void overwrite(uint8_t *block, size_t len) {
-  typedef uint64_t vector __attribute__((vector_size(16), may_alias));
-  const vector zeros = {0, 0};
-  size_t lines = (uintptr_t)block % CACHE_LINE == 0 ? len / CACHE_LINE * CACHE_LINE : 0, i;
-  for (i = 0; i < lines; i += CACHE_LINE) {
-    vector *line = (vector *)(block + i);
-    line[0] = zeros;
-    line[1] = zeros;
-    line[2] = zeros;
-    line[3] = zeros;
-    __asm__ volatile("" ::"r"(line) : "memory");
-  }
-  memset(block + lines, 0, len - lines);
-  __asm__ volatile("" ::"r"(block) : "memory");
-}
-
 void clearing_free(void *block);
 void *clearing_malloc(size_t len);
 void *clearing_realloc(void *block, size_t len);
@@ -54,18 +29,11 @@ void clearing_free(void *block) {
   if (block == NULL) return;
   head = *head_of(block);
   if (head.len >= LARGE) {
-    if (!unmap(head.start, head.len + BESIDE)) overwrite((uint8_t *)block, head.len);
+    unmap_tables(LARGEST_PAGE, (uint8_t *)block, head.len, head.start);
     return;
   }
   overwrite((uint8_t *)block, head.len);
   free(head.start);
-}
-
-static uint8_t *with_head(uint8_t *block, uint8_t *start, size_t len) {
-  head_of(block)->start = start;
-  head_of(block)->len = len;
-  if (len >= 2 * HUGE_PAGE) advise_huge_pages(block, len / HUGE_PAGE * HUGE_PAGE);
-  return block;
 }
 
 /* Writes to the first page, and returns whether it is a huge page: then its end is resident too. */
@@ -74,14 +42,12 @@ static int is_huge(uint8_t *block) {
   return is_resident(block + HUGE_PAGE - LARGEST_PAGE);
 }
 
+/* A page before the tables has the head. */
 static void *map_block(size_t len) {
-  uint8_t *start, *block;
-  if (len > SIZE_MAX - BESIDE) return NULL;
-  start = (uint8_t *)map_zeros(len + BESIDE);
-  if (start == NULL) return NULL;
-  block = start + LARGEST_PAGE;
-  block += (HUGE_PAGE - (uintptr_t)block % HUGE_PAGE) % HUGE_PAGE;
-  with_head(block, start, len);
+  void *start;
+  uint8_t *block = map_tables(LARGEST_PAGE, len, &start);
+  if (block == NULL) return NULL;
+  *head_of(block) = (struct head){start, len};
   /* Huge pages take longer to prefault in one call. */
   if (len <= MAX_INTERLEAVED_MEM && !is_huge(block)) prefault(block, len);
   return block;
@@ -93,11 +59,14 @@ static void *map_block(size_t len) {
  * touched before its use, because the next allocation may fail. */
 void *clearing_malloc(size_t len) {
   size_t unit = len < 2 * HUGE_PAGE ? CACHE_LINE : HUGE_PAGE, more = sizeof(struct head) + unit - 1;
-  uint8_t *start;
+  uint8_t *start, *block;
   if (len >= LARGE) return map_block(len);
   start = (uint8_t *)malloc(len + more);
   if (start == NULL) return NULL;
-  return with_head(start + more - ((uintptr_t)start + more) % unit, start, len);
+  block = start + more - ((uintptr_t)start + more) % unit;
+  if (unit == HUGE_PAGE) advise_huge_pages(block, len / HUGE_PAGE * HUGE_PAGE);
+  *head_of(block) = (struct head){start, len};
+  return block;
 }
 
 /* Never has to grow a table, which is allocated at its full size. */

@@ -322,7 +322,7 @@ typedef struct scrypt_login {
  * the rest are tried again as a batch in the same way. Afterwards the used parts of chunks and
  * scratch are zeros. On x86-64-v3 a batch of two takes 0.56 of the time of two calls, and a batch
  * of four 0.41 of the time of four; on some processors a batch of two takes as long as two calls.
- * SCRYPT_E_BUFFER_SIZE for a greater count; then no status is written. */
+ * SCRYPT_E_BUFFER_SIZE for a greater count; then no login is read, and no status is written. */
 SCRYPT_NODISCARD
 int scrypt_verify_batch_with_buffers(const scrypt_login *logins, size_t count, int *statuses, uint8_t *chunks,
                                      size_t chunks_len, uint32_t *table, size_t table_len, uint32_t *scratch,
@@ -408,8 +408,8 @@ int scrypt_default_limits(uint32_t log_n, uint32_t r, uint32_t p, size_t key_len
  *   the password and the text. So these must not be in memory that only one thread can read
  *   (protection keys); and a thread with a low priority, or with slow signal handlers, can keep
  *   others waiting.
- * Memory: tables hold secrets until scrypt_hasher_close or the end of the process; they are wiped
- *   before they are unmapped. */
+ * Memory: tables hold secrets until scrypt_hasher_close or the end of the process, which unmap
+ *   them. */
 typedef struct scrypt_hasher scrypt_hasher;
 
 /* The options of a hasher. A field that is 0 means its default; log_n, r and p mean theirs only if
@@ -492,7 +492,7 @@ SCRYPT_NODISCARD
 int scrypt_hasher_stats(scrypt_hasher *hasher, scrypt_stats *stats);
 
 /* Closes a hasher: calls that wait, and later ones, return SCRYPT_E_CLOSED; calls that derive run to
- * completion. The memory is wiped and unmapped. Does nothing for NULL. */
+ * completion. The memory is unmapped. Does nothing for NULL. */
 void scrypt_hasher_close(scrypt_hasher *hasher);
 
 /* Closes a hasher, and frees it. All other calls must have returned, and no call may follow. Does

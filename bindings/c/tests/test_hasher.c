@@ -227,6 +227,12 @@ static void memory_refused(void) {
   start_all((enum kind[]){P2, P2, P2, NONE});
   for (int i = 0; i < 2; i++) end_first();
   end("0 1 2");
+  begin("no further memory: the table that a slot has is kept, and used for each of a batch", 1, 4);
+  start(A);
+  WRITE(max_mapped, 10);
+  start_all((enum kind[]){A, A, A, NONE});
+  for (int i = 0; i < 2; i++) end_first();
+  end("0 1 2 3");
   begin("no memory for a larger table: only that call fails", 1, 1);
   start(A);
   WRITE(max_mapped, hasher->cost.bytes + HUGE_PAGE);

@@ -52,11 +52,9 @@ static void *test_map(size_t size) {
   return at;
 }
 
-/* Unmapped memory must be zeros, except for a queue, which is smaller than a huge page. */
+static int is_unmap_refused;
 static int test_unmap(void *at, size_t size) {
-  size_t words = size / sizeof(size_t);
-  while (words > 0 && ((size_t *)at)[words - 1] == 0) words--;
-  expect(words == 0 || size < HUGE_PAGE, "memory is given back that is not wiped");
+  if (is_unmap_refused) return 0;
   (void)ADD(mapped, -size);
   return unmap(at, size);
 }
@@ -223,7 +221,7 @@ static struct look { int leading, is_idle; scrypt_stats stats; } look_at(scrypt_
   expect(waiting == at.stats.waiting && (waiting > 0 || queue->last == NULL), "waiting");
   for (size_t i = 0; i < hasher->slots; i++) {
     if (queue->slots[i].is_taken) at.leading++; /* and another thread has its arena */
-    else at.is_idle &= !(hasher->is_closed && queue->slots[i].arena.room > 0);
+    else at.is_idle &= !(hasher->is_closed && queue->slots[i].arena.len > 0);
   }
   at.is_idle &= at.leading == 0 && waiting == 0 && at.stats.deriving == 0;
   expect(waiting == 0 || (!hasher->is_closed && find_free_slot(hasher) == NULL), "a lost slot");

@@ -154,7 +154,7 @@ static void calls(void) {
   IS(scrypt_hasher_needs_rehash(of_mcf, text, strlen(text)), SCRYPT_NEEDS_REHASH);
   IS(scrypt_hasher_key(of_mcf, "pw", 2, NULL, 0, key, 32, -1), SCRYPT_OK);
   IS(scrypt_hasher_key(of_mcf, "pw", 2, NULL, 0, key, 1, -1), SCRYPT_OK);
-  for (size_t i = 4 * of_mcf->cost.table_len; i < kept->room; i++) IS(front_of(kept)[i], 0);
+  for (size_t i = 4 * of_mcf->cost.table_len; i < kept->len; i++) IS(kept->tables[i], 0);
   IS(verify(phc, good, "right", -1), SCRYPT_OK);
   scrypt_hasher_free(phc);
   scrypt_hasher_free(of_mcf);
@@ -208,12 +208,32 @@ static void memory_of_one_call(void) {
   make_text(text, "right", 4, 8, 1);
   IS(verify(hasher, text, "right", -1), SCRYPT_OK);
   IS(READ(mapped), size_of_queue(hasher) + cost.bytes + HUGE_PAGE);
-  expect((uintptr_t)front_of(arena) % HUGE_PAGE == 0, "not at a huge page");
+  expect((uintptr_t)arena->tables % HUGE_PAGE == 0, "not at a huge page");
   before = READ(maps);
   IS(verify(hasher, text, "right", -1), SCRYPT_OK);
   IS(READ(maps), before);
   cost.bytes = SIZE_MAX / 2 + 1; /* twice that is 0 */
   IS(arena_reserve(arena, &cost, 4), 0);
+  scrypt_hasher_free(hasher);
+}
+
+/* Tables are unmapped, or wiped if the system fails to unmap them. */
+static void memory_that_stays(void) {
+  scrypt_hasher *hasher = new_hasher(1, 1, 4);
+  struct arena kept, *arena = &hasher->queue->slots[0].arena;
+  char text[SCRYPT_PHC_CAPACITY];
+  size_t at, left = 0;
+  make_text(text, "right", 4, 8, 1);
+  IS(verify(hasher, text, "right", -1), SCRYPT_OK);
+  kept = *arena;
+  for (at = 0; at < kept.len; at++) left += kept.tables[at] != 0;
+  expect(left > 0, "no table");
+  is_unmap_refused = 1;
+  scrypt_hasher_close(hasher);
+  is_unmap_refused = 0;
+  for (at = left = 0; at < kept.len; at++) left += kept.tables[at] != 0;
+  expect(left == 0 && arena->len == 0, "a table that is neither unmapped nor wiped");
+  (void)test_unmap(kept.mapping, kept.len + HUGE_PAGE);
   scrypt_hasher_free(hasher);
 }
 
@@ -360,6 +380,7 @@ int main(void) {
   RUN(calls);
   RUN(decoy);
   RUN(memory_of_one_call);
+  RUN(memory_that_stays);
 #if HAS_FORKS
   RUN(generations);
 #endif
