@@ -11,7 +11,7 @@ void arena_free(struct arena *arena) {
 
 /* A mapping with room for a table is kept until there is a larger one, so that no call loses memory
  * that it could use. A mapping without goes first, because both might not fit. */
-size_t arena_reserve(struct arena *arena, const scrypt_cost *one, size_t max) {
+size_t arena_reserve(struct arena *arena, const scrypt_cost *one, size_t max, int is_dropped_on_fork) {
   const size_t have = arena->len / one->bytes;
   if (have == 0) arena_free(arena);
   for (; max > have; max--) {
@@ -20,7 +20,10 @@ size_t arena_reserve(struct arena *arena, const scrypt_cost *one, size_t max) {
     larger.len = max * one->bytes;
     larger.tables = map_tables(0, larger.len, &larger.mapping);
     if (larger.tables == NULL) continue;
-    drop_on_fork(larger.mapping, len_of_mapping(0, larger.len));
+    if (is_dropped_on_fork && !drop_on_fork(larger.mapping, len_of_mapping(0, larger.len))) {
+      arena_free(&larger);
+      continue;
+    }
     arena_free(arena);
     *arena = larger;
     break;

@@ -22,9 +22,10 @@ struct arena {
 };
 
 /* Reserves memory for `max` derivations with one table each, or for fewer if the system has less,
- * and returns their number, possibly 0. The old content is lost. A forked child doesn't have the
- * mapping, so the arena itself must be in memory that is zeroed in the child. */
-size_t arena_reserve(struct arena *arena, const scrypt_cost *one, size_t max);
+ * and returns their number, possibly 0. The old content is lost. If is_dropped_on_fork, a forked
+ * child doesn't have the mapping, so the arena itself must be in memory that is zeroed in the
+ * child. */
+size_t arena_reserve(struct arena *arena, const scrypt_cost *one, size_t max, int is_dropped_on_fork);
 
 /* Buffers for `logins` derivations with the same cost, in `tables` reserved tables. */
 struct buffers arena_buffers(const struct arena *arena, const scrypt_cost *one, size_t tables,

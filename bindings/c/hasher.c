@@ -77,6 +77,7 @@ struct scrypt_hasher {
   scrypt_cost cost; /* of new hashes */
   char decoy[SCRYPT_PHC_CAPACITY];
   int is_closed;
+  int is_wiped_on_fork; /* whether the queue is zeros in a child, whose slots then have no arenas */
   size_t slots;
   struct queue *queue;
 };
@@ -241,7 +242,7 @@ static void derive(scrypt_hasher *hasher, struct call **batch, size_t count, siz
   struct arena *arena = &batch[0]->slot->arena;
   const scrypt_cost *cost = &batch[0]->cost;
   size_t wanted = count * cost->p;
-  size_t tables = arena_reserve(arena, cost, width < wanted ? width : wanted);
+  size_t tables = arena_reserve(arena, cost, width < wanted ? width : wanted, hasher->is_wiped_on_fork);
   size_t most = tables > cost->p ? tables / cost->p : 1, done;
   for (done = 0; done < count && tables > 0; done += most) {
     size_t part = most < count - done ? most : count - done;
@@ -355,21 +356,31 @@ static size_t size_of_queue(const scrypt_hasher *hasher) {
   return sizeof(struct queue) + hasher->slots * sizeof(struct slot);
 }
 
+/* Maps the queue. Without the memory to wipe it on a fork there is none. */
+static int map_queue(scrypt_hasher *hasher) {
+  const size_t size = size_of_queue(hasher);
+  int wiped;
+  hasher->queue = (struct queue *)map_zeros(size);
+  if (hasher->queue == NULL) return 0;
+  wiped = wipe_on_fork(hasher->queue, size);
+  hasher->is_wiped_on_fork = wiped > 0;
+  if (wiped < 0) (void)unmap(hasher->queue, size);
+  return wiped >= 0;
+}
+
 scrypt_hasher *scrypt_hasher_new(const scrypt_options *options, int *status) {
   scrypt_hasher made = {.is_closed = 0}, *hasher = NULL;
   int result = complete_options(options, &made.options, &made.cost);
   if (result == SCRYPT_OK) {
     made.slots = slots_of(&made.options);
     hasher = (scrypt_hasher *)malloc(sizeof *hasher);
-    made.queue = hasher != NULL ? (struct queue *)map_zeros(size_of_queue(&made)) : NULL;
-    if (made.queue == NULL) result = SCRYPT_E_OUT_OF_MEMORY;
+    if (hasher == NULL || !map_queue(&made)) result = SCRYPT_E_OUT_OF_MEMORY;
   }
   if (status != NULL) *status = result;
   if (result != SCRYPT_OK) {
     free(hasher);
     return NULL;
   }
-  wipe_on_fork(made.queue, size_of_queue(&made));
   write_decoy(made.decoy, &made.options);
   *hasher = made;
   return hasher;

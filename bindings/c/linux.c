@@ -56,14 +56,14 @@ void *map_zeros(size_t size) {
 
 int unmap(void *at, size_t size) { return munmap(at, size) == 0; }
 
-/* Fails on Linux before 4.14. */
-void wipe_on_fork(void *at, size_t size) { (void)madvise(at, size, MADV_WIPEONFORK); }
-
-/* If memory cannot be wiped on a fork, tables stay in the child: a child has both a table and its
- * address, or neither. */
-void drop_on_fork(void *at, size_t size) {
-  if (madvise(at, size, MADV_WIPEONFORK) == 0) (void)madvise(at, size, MADV_DONTFORK);
+/* Linux before 4.14 doesn't support it. At the maximum number of mappings of a process it has no
+ * memory for it, which madvise(2) reports as EAGAIN or ENOMEM. */
+int wipe_on_fork(void *at, size_t size) {
+  if (madvise(at, size, MADV_WIPEONFORK) == 0) return 1;
+  return errno == EAGAIN || errno == ENOMEM ? -1 : 0;
 }
+
+int drop_on_fork(void *at, size_t size) { return madvise(at, size, MADV_DONTFORK) == 0; }
 
 void advise_huge_pages(void *at, size_t size) {
 #ifdef MADV_HUGEPAGE

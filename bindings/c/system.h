@@ -60,10 +60,12 @@ void *map_zeros(size_t size);
 /* Unmaps the whole mapping. Returns 0 if that fails. */
 int unmap(void *at, size_t size);
 
-/* In a forked child the memory will be zeros, or not mapped, if the system supports zeros;
- * otherwise it will be a copy. */
-void wipe_on_fork(void *at, size_t size);
-void drop_on_fork(void *at, size_t size);
+/* In a forked child the memory will be zeros. Returns 1; or 0 if the system doesn't support this, and
+ * -1 if it has no memory for it: then it will be a copy. */
+int wipe_on_fork(void *at, size_t size);
+
+/* In a forked child the memory will not be mapped. Returns 0 if that fails. */
+int drop_on_fork(void *at, size_t size);
 
 /* A hint, which may have no effect. */
 void advise_huge_pages(void *at, size_t size);

@@ -44,9 +44,9 @@ void *map_zeros(size_t size) {
 
 int unmap(void *at, size_t size) { return (void)size, VirtualFree(at, 0, MEM_RELEASE) != 0; }
 
-void wipe_on_fork(void *at, size_t size) { (void)at, (void)size; }
+int wipe_on_fork(void *at, size_t size) { return (void)at, (void)size, 0; }
 
-void drop_on_fork(void *at, size_t size) { (void)at, (void)size; }
+int drop_on_fork(void *at, size_t size) { return (void)at, (void)size, 0; }
 
 /* Large pages need the privilege to lock memory, and are locked. */
 void advise_huge_pages(void *at, size_t size) { (void)at, (void)size; }

@@ -6,10 +6,21 @@
 
 #include "test_windows.h"
 #else
-#include "linux.c"
-
+#include <errno.h>
 #include <signal.h>
+#include <sys/mman.h>
 #include <sys/wait.h>
+
+/* Refuses an advice, this number of times. */
+static int refused_advice, refusals, refusal;
+static int test_advice(void *at, size_t size, int advice) {
+  if (advice != refused_advice || refusals == 0) return madvise(at, size, advice);
+  refusals--, errno = refusal;
+  return -1;
+}
+#define madvise test_advice
+#include "linux.c"
+#undef madvise
 #endif
 #if defined _WIN32 || defined IS_EMULATED
 #define HAS_FORKS 0

@@ -213,7 +213,7 @@ static void memory_of_one_call(void) {
   IS(verify(hasher, text, "right", -1), SCRYPT_OK);
   IS(READ(maps), before);
   cost.bytes = SIZE_MAX / 2 + 1; /* twice that is 0 */
-  IS(arena_reserve(arena, &cost, 4), 0);
+  IS(arena_reserve(arena, &cost, 4, 0), 0);
   scrypt_hasher_free(hasher);
 }
 
@@ -238,6 +238,37 @@ static void memory_that_stays(void) {
 }
 
 #if HAS_FORKS
+/* A system that doesn't do what a fork needs: there is no hasher, or it works in a child too. The
+ * advice is refused once, as when memory is short for a moment. */
+static void forks_of_a_short_system(void) {
+  static const struct {
+    const char *why;
+    int advice, error, new, call;
+  } ROWS[] = {{"no memory to wipe a queue", MADV_WIPEONFORK, ENOMEM, SCRYPT_E_OUT_OF_MEMORY, 0},
+              {"the same in Linux's words", MADV_WIPEONFORK, EAGAIN, SCRYPT_E_OUT_OF_MEMORY, 0},
+              {"no memory is wiped", MADV_WIPEONFORK, EINVAL, SCRYPT_OK, SCRYPT_OK},
+              {"no memory to drop a table", MADV_DONTFORK, ENOMEM, SCRYPT_OK, SCRYPT_E_OUT_OF_MEMORY}};
+  const scrypt_options with = OF(4, 8, 1, 0, 0, 0, 0, 0, 0);
+  char text[SCRYPT_PHC_CAPACITY];
+  make_text(text, "right", 4, 8, 1);
+  max_inside = max_tables_inside = 1;
+  for (size_t i = 0; i < sizeof ROWS / sizeof *ROWS; i++) {
+    int status = -1, of_child = -1;
+    pid_t child;
+    scrypt_hasher *hasher;
+    refused_advice = ROWS[i].advice, refusal = ROWS[i].error, refusals = 1;
+    hasher = scrypt_hasher_new(&with, &status);
+    expect(status == ROWS[i].new && (hasher == NULL) == (status != SCRYPT_OK), "%s: %d", ROWS[i].why, status);
+    if (hasher == NULL) continue;
+    expect(verify(hasher, text, "right", -1) == ROWS[i].call, "%s: a call", ROWS[i].why);
+    child = fork();
+    if (child == 0) _exit(verify(hasher, text, "right", 1000));
+    expect(waitpid(child, &of_child, 0) == child && of_child == 0, "%s: a child %#x", ROWS[i].why, of_child);
+    scrypt_hasher_free(hasher);
+  }
+  refused_advice = refusals = 0;
+}
+
 /* A child maps and unmaps its own memory; it has no memory of its parent. */
 static int generation(scrypt_hasher *hasher, const char *text, int more) {
   void *of_parent = hasher->queue->slots[0].arena.mapping;
@@ -382,6 +413,7 @@ int main(void) {
   RUN(memory_of_one_call);
   RUN(memory_that_stays);
 #if HAS_FORKS
+  RUN(forks_of_a_short_system);
   RUN(generations);
 #endif
   RUN(windows);

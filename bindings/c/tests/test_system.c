@@ -109,9 +109,8 @@ static void memory(void) {
   mapped[1] = (uint8_t *)map_zeros(LEN);
   mapped[2] = (uint8_t *)map_zeros(LEN);
   mapped[3] = (uint8_t *)map_zeros(LEN);
-  wipe_on_fork(mapped[1], LEN);
-  wipe_on_fork(mapped[2] + LEN / 2, LEN / 2);
-  drop_on_fork(mapped[3], LEN);
+  check(wipe_on_fork(mapped[1], LEN) == HAS_FORKS && wipe_on_fork(mapped[2] + LEN / 2, LEN / 2) == HAS_FORKS &&
+            drop_on_fork(mapped[3], LEN) == HAS_FORKS, "a system with forks does what they need");
   for (i = 0; i < 4; i++) {
     check(mapped[i] != NULL && are_all(mapped[i], LEN, 0), "zeros are mapped");
     if (mapped[i] == NULL) return;

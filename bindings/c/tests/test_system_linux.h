@@ -5,6 +5,8 @@
 #error "it needs ROOT, a folder of this test in which linux.c looks for files"
 #endif
 
+enum { HAS_FORKS = 1 };
+
 /* ---- Memory ---- */
 
 /* In a child, which the first thread has forked. */

@@ -1,6 +1,8 @@
 /* For test_system.c: the promises of windows.c only. Once in a job a process stays in it, so the
  * jobs come last, each within the one before. */
 
+enum { HAS_FORKS = 0 };
+
 static void while_mapped(void) {}
 
 static void affinity(void) {
