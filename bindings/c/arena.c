@@ -31,9 +31,8 @@ size_t arena_reserve(struct arena *arena, const scrypt_cost *one, size_t max, in
   return max;
 }
 
-struct buffers arena_buffers(const struct arena *arena, const scrypt_cost *one, size_t tables,
-                             size_t logins) {
-  struct buffers buffers;
+scrypt_buffers arena_buffers(const struct arena *arena, const scrypt_cost *one, size_t tables, size_t logins) {
+  scrypt_buffers buffers;
   buffers.table_len = tables * one->table_len;
   buffers.scratch_len = tables * one->scratch_len;
   buffers.chunks_len = logins * one->chunks_len;

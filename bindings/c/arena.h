@@ -4,16 +4,6 @@
 
 #include "groups.h"
 
-struct buffers {
-  uint8_t *chunks;
-  uint32_t *table, *scratch;
-  size_t chunks_len, table_len, scratch_len;
-};
-
-#define ALL_OF(buffers) \
-  buffers.chunks, buffers.chunks_len, buffers.table, buffers.table_len, buffers.scratch, \
-      buffers.scratch_len
-
 /* Its initial state is all zeros. */
 struct arena {
   void *mapping;   /* the start of its mapping */
@@ -28,8 +18,7 @@ struct arena {
 size_t arena_reserve(struct arena *arena, const scrypt_cost *one, size_t max, int is_dropped_on_fork);
 
 /* Buffers for `logins` derivations with the same cost, in `tables` reserved tables. */
-struct buffers arena_buffers(const struct arena *arena, const scrypt_cost *one, size_t tables,
-                             size_t logins);
+scrypt_buffers arena_buffers(const struct arena *arena, const scrypt_cost *one, size_t tables, size_t logins);
 
 /* Unmaps it, or wipes it if that fails. */
 void arena_free(struct arena *arena);

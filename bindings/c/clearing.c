@@ -1,7 +1,7 @@
 /* Chooses which proved code is called, and wipes the stack that it used (SECURITY.md, row "freed
  * memory"). Not proved. The objects that the kit built contain each proved call as base_.., and, if
  * there is code for a newer processor, as newer_... */
-#include "scrypt_c.h"
+#include "groups.h"
 
 #include <string.h>
 
@@ -103,10 +103,3 @@ CLEARS static void clear_stack(void) {
     clear_stack();                                                \
   }
 #include "proved_calls.h"
-
-/* It reads no password or key, so nothing is wiped. */
-void base_scrypt_wipe(uint8_t *, size_t, uint32_t *, size_t, uint32_t *, size_t);
-void scrypt_wipe(uint8_t *chunks, size_t chunks_len, uint32_t *table, size_t table_len,
-                 uint32_t *scratch, size_t scratch_len) {
-  base_scrypt_wipe(chunks, chunks_len, table, table_len, scratch, scratch_len);
-}

@@ -10,6 +10,12 @@ static inline int is_null(const void *bytes, size_t len) { return bytes == NULL 
 static inline const uint8_t *bytes_of(const void *bytes) {
   return bytes != NULL ? (const uint8_t *)bytes : (const uint8_t *)"";
 }
+static inline const char *chars_of(const char *text) { return text != NULL ? text : ""; }
+
+/* The arguments of a proved call for buffers. */
+#define PARTS_OF(buffers)                                                                           \
+  (buffers)->chunks, (buffers)->chunks_len, (buffers)->table, (buffers)->table_len, (buffers)->scratch, \
+      (buffers)->scratch_len
 
 /* Converts log_n for the proved calls, which accept none above 56: truncation must not turn a
  * larger value into an accepted one. */

@@ -212,27 +212,29 @@ static size_t form_batch(scrypt_hasher *hasher, struct call **batch, size_t max)
   return extend_batch(hasher, batch, count, max);
 }
 
-static int write_hash(const scrypt_options *options, const struct call *call, struct buffers buffers) {
+static int write_hash(const scrypt_options *options, const struct call *call, const scrypt_buffers *buffers) {
   return scrypt_hash_with_buffers(call->login.password, call->login.password_len, call->salt,
                                   call->salt_len, options->log_n, options->r, options->p,
                                   options->key_len, options->mcf, (char *)call->output,
-                                  call->output_len, ALL_OF(buffers));
+                                  call->output_len, buffers);
 }
 
-static int write_key(const scrypt_options *options, const struct call *call, struct buffers buffers) {
+static int write_key(const scrypt_options *options, const struct call *call, const scrypt_buffers *buffers) {
   int status = scrypt_key_with_buffers(call->login.password, call->login.password_len, call->salt,
                                        call->salt_len, options->log_n, options->r, options->p,
-                                       (uint8_t *)call->output, call->output_len, ALL_OF(buffers));
-  scrypt_wipe(buffers.chunks, buffers.chunks_len, buffers.table, 0, buffers.scratch, buffers.scratch_len);
+                                       (uint8_t *)call->output, call->output_len, buffers);
+  scrypt_buffers secret = *buffers;
+  secret.table_len = 0; /* it is kept */
+  scrypt_wipe(&secret);
   return status;
 }
 
-static void verify_batch(struct call **batch, size_t count, int *statuses, struct buffers buffers) {
+static void verify_batch(struct call **batch, size_t count, int *statuses, const scrypt_buffers *buffers) {
   scrypt_login logins[SCRYPT_MAX_LOGINS];
   size_t i;
   int status;
   for (i = 0; i < count; i++) logins[i] = batch[i]->login;
-  status = scrypt_verify_batch_with_buffers(logins, count, statuses, ALL_OF(buffers));
+  status = scrypt_verify_batch_with_buffers(logins, count, statuses, buffers);
   (void)status; /* no error: nothing is NULL, and a batch has no more than four calls */
 }
 
@@ -246,10 +248,10 @@ static void derive(scrypt_hasher *hasher, struct call **batch, size_t count, siz
   size_t most = tables > cost->p ? tables / cost->p : 1, done;
   for (done = 0; done < count && tables > 0; done += most) {
     size_t part = most < count - done ? most : count - done;
-    struct buffers buffers = arena_buffers(arena, cost, tables, part);
-    if (batch[0]->kind == VERIFY) verify_batch(batch + done, part, statuses + done, buffers);
-    else if (batch[0]->kind == HASH) statuses[0] = write_hash(&hasher->options, batch[0], buffers);
-    else statuses[0] = write_key(&hasher->options, batch[0], buffers);
+    const scrypt_buffers buffers = arena_buffers(arena, cost, tables, part);
+    if (batch[0]->kind == VERIFY) verify_batch(batch + done, part, statuses + done, &buffers);
+    else if (batch[0]->kind == HASH) statuses[0] = write_hash(&hasher->options, batch[0], &buffers);
+    else statuses[0] = write_key(&hasher->options, batch[0], &buffers);
   }
 }
 

@@ -3,7 +3,6 @@
 #undef _FORTIFY_SOURCE
 #define _GNU_SOURCE
 #include "calls.c"
-#undef BUFFERS
 #include "salt.c"
 #include "status.c"
 #include "hasher.c"

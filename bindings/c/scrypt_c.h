@@ -32,9 +32,8 @@
  *
  * Lengths are in bytes unless words are named; a word has 4 bytes. A password, a salt, a text or an
  * output may be NULL with length 0, and another argument if the call's comment allows it. For any
- * other NULL a call returns SCRYPT_E_NULL_POINTER before any other status; only scrypt_buffer_lens
- * and scrypt_wipe do not check, and gcc and clang warn there. No output may overlap an input or
- * another output. The caller has to free only a scrypt_hasher and a scrypt_derivation.
+ * other NULL a call returns SCRYPT_E_NULL_POINTER before any other status. No output may overlap an
+ * input or another output. The caller has to free only a scrypt_hasher and a scrypt_derivation.
  *
  * All calls are thread-safe, if they share no output or buffer.
  */
@@ -74,13 +73,11 @@
  * limit. */
 #define SCRYPT_STACK_BYTES 16384
 
-/* gcc and clang warn if a status is ignored, or if NULL is passed to a call that does not check. */
+/* gcc and clang warn if a status is ignored. */
 #ifdef __GNUC__
 #define SCRYPT_NODISCARD __attribute__((warn_unused_result))
-#define SCRYPT_NONNULL __attribute__((nonnull))
 #else
 #define SCRYPT_NODISCARD
-#define SCRYPT_NONNULL
 #endif
 
 #ifdef __cplusplus
@@ -129,13 +126,23 @@ SCRYPT_NODISCARD
 int scrypt_key(const void *password, size_t password_len, const void *salt, size_t salt_len, uint32_t log_n, uint32_t r,
                uint32_t p, uint8_t *output, size_t output_len);
 
-/* Writes the lengths of the buffers: of chunks in bytes, of table and scratch in words. With s = 0
- * they are the minimum lengths for scrypt_key_with_buffers; with any s up to log_n they are the
- * exact lengths for scrypt_key_thin with this s.
+/* The caller's buffers for a derivation that allocates nothing, and their lengths: of chunks in bytes,
+ * of table and scratch in words. */
+typedef struct scrypt_buffers {
+  uint8_t *chunks;
+  size_t chunks_len;
+  uint32_t *table;
+  size_t table_len;
+  uint32_t *scratch;
+  size_t scratch_len;
+} scrypt_buffers;
+
+/* Writes the lengths of the buffers, and leaves the pointers. With s = 0 they are the minimum lengths
+ * for scrypt_key_with_buffers; with any s up to log_n they are the exact lengths for scrypt_key_thin
+ * with this s.
  * SCRYPT_E_INVALID_PARAMS, also if s is above log_n. */
-SCRYPT_NODISCARD SCRYPT_NONNULL
-int scrypt_buffer_lens(uint32_t log_n, uint32_t r, uint32_t p, uint8_t s, size_t *chunks_len,
-                       size_t *table_len, size_t *scratch_len);
+SCRYPT_NODISCARD
+int scrypt_buffer_lens(uint32_t log_n, uint32_t r, uint32_t p, uint8_t s, scrypt_buffers *buffers);
 
 /* Writes the same key, in the caller's buffers, each at least as long as scrypt_buffer_lens returns
  * for s = 0. With a table and a scratch of w times that length, up to w chunks are interleaved, but
@@ -145,10 +152,9 @@ int scrypt_buffer_lens(uint32_t log_n, uint32_t r, uint32_t p, uint8_t s, size_t
  * Nothing is allocated. On an error the buffers are unchanged too.
  * SCRYPT_E_INVALID_PARAMS, SCRYPT_E_INVALID_OUTPUT_LEN, SCRYPT_E_BUFFER_SIZE if a buffer is too short. */
 SCRYPT_NODISCARD
-int scrypt_key_with_buffers(const void *password, size_t password_len, const void *salt,
-                            size_t salt_len, uint32_t log_n, uint32_t r, uint32_t p, uint8_t *output,
-                            size_t output_len, uint8_t *chunks, size_t chunks_len, uint32_t *table,
-                            size_t table_len, uint32_t *scratch, size_t scratch_len);
+int scrypt_key_with_buffers(const void *password, size_t password_len, const void *salt, size_t salt_len,
+                            uint32_t log_n, uint32_t r, uint32_t p, uint8_t *output, size_t output_len,
+                            const scrypt_buffers *buffers);
 
 /* Writes the same key, with a table that keeps one row in 2^s: a time-memory trade-off, because the
  * table is 2^s times smaller, and the work is larger. Each buffer must have exactly the length that
@@ -157,16 +163,13 @@ int scrypt_key_with_buffers(const void *password, size_t password_len, const voi
  * SCRYPT_E_INVALID_PARAMS, also if s is above log_n, SCRYPT_E_INVALID_OUTPUT_LEN,
  * SCRYPT_E_BUFFER_SIZE. */
 SCRYPT_NODISCARD
-int scrypt_key_thin(const void *password, size_t password_len, const void *salt,
-                    size_t salt_len, uint32_t log_n, uint32_t r, uint32_t p, uint8_t s,
-                    uint8_t *output, size_t output_len, uint8_t *chunks, size_t chunks_len,
-                    uint32_t *table, size_t table_len, uint32_t *scratch, size_t scratch_len);
+int scrypt_key_thin(const void *password, size_t password_len, const void *salt, size_t salt_len, uint32_t log_n,
+                    uint32_t r, uint32_t p, uint8_t s, uint8_t *output, size_t output_len,
+                    const scrypt_buffers *buffers);
 
-/* Overwrites the buffers of a call with zeros. The data that a call leaves in them makes it
- * possible to guess passwords at far less than scrypt's cost. */
-SCRYPT_NONNULL
-void scrypt_wipe(uint8_t *chunks, size_t chunks_len, uint32_t *table, size_t table_len, uint32_t *scratch,
-                 size_t scratch_len);
+/* Overwrites the buffers of a call with zeros; NULL is a buffer of no length. The data that a call
+ * leaves in them makes it possible to guess passwords at far less than scrypt's cost. */
+void scrypt_wipe(const scrypt_buffers *buffers);
 
 /* ---- Keys in steps, to show the progress of a derivation or to abandon it ---- */
 
@@ -245,8 +248,7 @@ int scrypt_hash_with_salt(const void *password, size_t password_len, const void 
 SCRYPT_NODISCARD
 int scrypt_hash_with_buffers(const void *password, size_t password_len, const void *salt, size_t salt_len, uint32_t log_n,
                              uint32_t r, uint32_t p, size_t key_len, int mcf, char *text, size_t capacity,
-                             uint8_t *chunks, size_t chunks_len, uint32_t *table, size_t table_len, uint32_t *scratch,
-                             size_t scratch_len);
+                             const scrypt_buffers *buffers);
 
 /* Writes the hash of a salt and a key that another program has derived with these parameters,
  * NUL-terminated, to text: a PHC string if mcf is 0, and otherwise a $7$ hash. The text is read as
@@ -297,9 +299,8 @@ int scrypt_verify_unlimited(const void *password, size_t password_len, const cha
  * SCRYPT_E_OUT_OF_MEMORY. */
 SCRYPT_NODISCARD
 int scrypt_verify_limited_with_buffers(const void *password, size_t password_len, const char *text, size_t text_len,
-                                       size_t max_mem, uint64_t max_work, size_t min_key_len, uint8_t *chunks,
-                                       size_t chunks_len, uint32_t *table, size_t table_len, uint32_t *scratch,
-                                       size_t scratch_len);
+                                       size_t max_mem, uint64_t max_work, size_t min_key_len,
+                                       const scrypt_buffers *buffers);
 
 /* A password, and the text of the hash that it is verified against. */
 typedef struct scrypt_login {
@@ -324,9 +325,8 @@ typedef struct scrypt_login {
  * of four 0.41 of the time of four; on some processors a batch of two takes as long as two calls.
  * SCRYPT_E_BUFFER_SIZE for a greater count; then no login is read, and no status is written. */
 SCRYPT_NODISCARD
-int scrypt_verify_batch_with_buffers(const scrypt_login *logins, size_t count, int *statuses, uint8_t *chunks,
-                                     size_t chunks_len, uint32_t *table, size_t table_len, uint32_t *scratch,
-                                     size_t scratch_len);
+int scrypt_verify_batch_with_buffers(const scrypt_login *logins, size_t count, int *statuses,
+                                     const scrypt_buffers *buffers);
 
 /* Compares a hash with wanted parameters: returns SCRYPT_NEEDS_REHASH if its log_n, r, p or key
  * length is less than wanted, or if it is a PHC string without a salt or a key; otherwise

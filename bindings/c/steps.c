@@ -19,13 +19,9 @@ struct steps {
   uint8_t log_n;
   uint32_t r, p;
   scrypt_progress at;
-  uint8_t *chunks;
-  uint32_t *table, *scratch;
-  size_t chunks_len, table_len, scratch_len;
+  scrypt_buffers buffers;
 };
 #define PARAMS_OF(steps) (steps)->log_n, (steps)->r, (steps)->p
-#define BUFFERS_OF(steps) \
-  (steps)->chunks, (steps)->chunks_len, (steps)->table, (steps)->table_len, (steps)->scratch, (steps)->scratch_len
 
 struct scrypt_derivation {
   struct steps steps;
@@ -38,28 +34,28 @@ static uint64_t mixes_of_chunk(const struct steps *steps) { return UINT64_C(2) <
 
 static int is_mixed(const struct steps *steps) { return steps->at.chunks >= steps->p; }
 
-static void free_buffers(struct steps *steps) {
-  clearing_free(steps->chunks);
-  clearing_free(steps->table);
-  clearing_free(steps->scratch);
+static void free_buffers(const scrypt_buffers *buffers) {
+  clearing_free(buffers->chunks);
+  clearing_free(buffers->table);
+  clearing_free(buffers->scratch);
 }
 
 /* Allocates buffers with this number of tables. */
-static int take_buffers(struct steps *steps, const scrypt_cost *cost, size_t tables) {
-  steps->chunks_len = cost->chunks_len;
-  steps->table_len = tables * cost->table_len;
-  steps->scratch_len = tables * cost->scratch_len;
-  steps->chunks = (uint8_t *)clearing_malloc(steps->chunks_len);
-  steps->table = (uint32_t *)clearing_malloc(sizeof(uint32_t) * steps->table_len);
-  steps->scratch = (uint32_t *)clearing_malloc(sizeof(uint32_t) * steps->scratch_len);
-  if (steps->chunks != NULL && steps->table != NULL && steps->scratch != NULL) return 1;
-  free_buffers(steps);
+static int take_buffers(scrypt_buffers *it, const scrypt_cost *cost, size_t tables) {
+  it->chunks_len = cost->chunks_len;
+  it->table_len = tables * cost->table_len;
+  it->scratch_len = tables * cost->scratch_len;
+  it->chunks = (uint8_t *)clearing_malloc(it->chunks_len);
+  it->table = (uint32_t *)clearing_malloc(sizeof(uint32_t) * it->table_len);
+  it->scratch = (uint32_t *)clearing_malloc(sizeof(uint32_t) * it->scratch_len);
+  if (it->chunks != NULL && it->table != NULL && it->scratch != NULL) return 1;
+  free_buffers(it);
   return 0;
 }
 
 void scrypt_derivation_free(scrypt_derivation **derivation) {
   if (derivation == NULL || *derivation == NULL) return;
-  free_buffers(&(*derivation)->steps);
+  free_buffers(&(*derivation)->steps.buffers);
   clearing_free(*derivation);
   *derivation = NULL;
 }
@@ -68,6 +64,7 @@ int scrypt_derivation_new(const void *password, size_t password_len, const void 
                           uint32_t log_n, uint32_t r, uint32_t p, size_t max_mem, size_t output_len,
                           scrypt_derivation **derivation) {
   scrypt_derivation *it;
+  scrypt_buffers *buffers;
   scrypt_cost cost;
   size_t tables;
   int status;
@@ -82,12 +79,13 @@ int scrypt_derivation_new(const void *password, size_t password_len, const void 
   if (it == NULL) return SCRYPT_E_OUT_OF_MEMORY;
   *it = (scrypt_derivation){.steps = {.log_n = (uint8_t)log_n, .r = r, .p = p}, .output_len = output_len,
                             .max_mixes = FIRST_CORES / r + 1};
-  if (!take_buffers(&it->steps, &cost, tables) && (tables == 1 || !take_buffers(&it->steps, &cost, 1))) {
+  buffers = &it->steps.buffers;
+  if (!take_buffers(buffers, &cost, tables) && (tables == 1 || !take_buffers(buffers, &cost, 1))) {
     clearing_free(it);
     return SCRYPT_E_OUT_OF_MEMORY;
   }
   status = cleared_scrypt_key_begin(bytes_of(password), password_len, bytes_of(salt), salt_len, PARAMS_OF(&it->steps),
-                                    BUFFERS_OF(&it->steps), &it->steps.at);
+                                    PARTS_OF(buffers), &it->steps.at);
   if (status != SCRYPT_OK) scrypt_derivation_free(&it);
   else *derivation = it;
   return status;
@@ -100,7 +98,7 @@ static int step(scrypt_derivation *it, int64_t ns) {
   const double wanted = it->mix_ns > 0 ? (double)ns / it->mix_ns : (double)it->max_mixes;
   const size_t mixes = wanted >= (double)it->max_mixes ? it->max_mixes : wanted > 1 ? (size_t)wanted : 1;
   const int64_t begun = now_ns();
-  const int status = cleared_scrypt_key_step(PARAMS_OF(&it->steps), mixes, BUFFERS_OF(&it->steps), &it->steps.at);
+  const int status = cleared_scrypt_key_step(PARAMS_OF(&it->steps), mixes, PARTS_OF(&it->steps.buffers), &it->steps.at);
   const int64_t took = now_ns() - begun;
   it->mix_ns = (double)(took > 0 ? took : 1) / (double)(mixes < left ? mixes : left);
   if (mixes == it->max_mixes && mixes < mixes_of_chunk(&it->steps)) it->max_mixes *= 2;
@@ -141,6 +139,7 @@ int scrypt_derivation_finish(const scrypt_derivation *derivation, const void *pa
     return SCRYPT_E_NULL_POINTER;
   steps = &derivation->steps;
   if (is_mixed(steps) && output_len != derivation->output_len) return SCRYPT_E_INVALID_OUTPUT_LEN;
-  return cleared_scrypt_key_finish(bytes_of(password), password_len, PARAMS_OF(steps), steps->chunks, steps->chunks_len,
-                                   &steps->at, output != NULL ? output : steps->chunks, output_len);
+  return cleared_scrypt_key_finish(bytes_of(password), password_len, PARAMS_OF(steps), steps->buffers.chunks,
+                                   steps->buffers.chunks_len, &steps->at, output != NULL ? output : steps->buffers.chunks,
+                                   output_len);
 }

@@ -58,10 +58,10 @@ def parameters(library, to=None):
 def thin_seconds(library, log_n, s):
     """The seconds of a key from a table that keeps one row in 2^s. ctypes fills the buffers with zeros, so no page is mapped
     during the measurement."""
-    buffers = [ctypes.create_string_buffer(64), 64]
-    for kind, length in zip((ctypes.c_uint8, ctypes.c_uint32, ctypes.c_uint32), ours.buffer_lens(library, (log_n, 8, 1), s)):
-        buffers += (kind * length)(), length
-    return seconds(library.scrypt_key_thin, *SECRETS, log_n, 8, 1, s, *buffers)
+    lens = ours.buffer_lens(library, (log_n, 8, 1), s)
+    kinds = ctypes.c_uint8, ctypes.c_uint32, ctypes.c_uint32
+    buffers = ours.buffers([(kind * length)() for kind, length in zip(kinds, lens)], lens)
+    return seconds(library.scrypt_key_thin, *SECRETS, log_n, 8, 1, s, ctypes.create_string_buffer(64), 64, buffers)
 
 
 def thin(library):

@@ -41,12 +41,14 @@ def in_hasher(library, params, text):
 
 def in_batch(library, params, text, count):
     logins = (Login * count)(*[(PASSWORD, len(PASSWORD), text, len(text))] * count)
-    statuses, buffers = (ctypes.c_int * count)(*[-1] * count), []
-    for length, width in zip(ours.buffer_lens(library, params), (1, 4, 4)):
-        room = mmap.mmap(-1, length * count * width)
+    statuses, rooms = (ctypes.c_int * count)(*[-1] * count), []
+    lens = [length * count for length in ours.buffer_lens(library, params)]
+    for length, width in zip(lens, (1, 4, 4)):
+        room = mmap.mmap(-1, length * width)
         room.madvise(mmap.MADV_HUGEPAGE)
-        buffers += (ctypes.c_char * len(room)).from_buffer(room), length * count
-    return lambda: library.scrypt_verify_batch_with_buffers(logins, count, statuses, *buffers) == 0 and not any(statuses)
+        rooms.append((ctypes.c_char * len(room)).from_buffer(room))
+    buffers = ours.buffers(rooms, lens)
+    return lambda: library.scrypt_verify_batch_with_buffers(logins, count, statuses, buffers) == 0 and not any(statuses)
 
 
 def libxcrypt(library, text):

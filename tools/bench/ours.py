@@ -5,11 +5,11 @@ import datetime
 import os
 import sys
 
-from tools.generate.header import loaded, structure
+from tools.generate.header import buffers, loaded, structure
 
 RUNS = int(os.environ.get("RUNS", 7))
 Options = structure("scrypt_options")
-__all__ = ["RUNS", "buffer_lens", "hasher", "line", "loaded", "machine"]
+__all__ = ["RUNS", "buffer_lens", "buffers", "hasher", "line", "loaded", "machine"]
 
 
 def hasher(library, params, **options):
@@ -21,10 +21,10 @@ def hasher(library, params, **options):
 
 def buffer_lens(library, params, s=0):
     """The bytes of the chunks, and the words of the table and of the scratch."""
-    lens = [ctypes.c_size_t() for _ in range(3)]
-    if library.scrypt_buffer_lens(*params, s, *map(ctypes.byref, lens)):
+    it = structure("scrypt_buffers")()
+    if library.scrypt_buffer_lens(*params, s, it):
         sys.exit(f"no lengths for {params}")
-    return [it.value for it in lens]
+    return [it.chunks_len, it.table_len, it.scratch_len]
 
 
 def machine():

@@ -182,11 +182,8 @@ def proved_calls():
                 " * if it returns a status, and else as PROVED_PROCEDURE, which whoever includes this list defines: clearing.c chooses one of",
                 " * each level, calls it, and clears after it. */")
     for kind, name, arguments in proved():
-        if name != "scrypt_wipe":
-            names = ", ".join(map(header.name_of, arguments))
-            yield f"PROVED_{kind}({name}, ({', '.join(arguments)}), ({names}))"
-        elif arguments != next(given for _, it, given in CALLS if it == name):  # the header declares it, as it sees no password
-            sys.exit(f"{name} has other arguments than in the header: {', '.join(arguments)}")
+        names = ", ".join(map(header.name_of, arguments))
+        yield f"PROVED_{kind}({name}, ({', '.join(arguments)}), ({names}))"
 
 
 def numbers():
@@ -201,14 +198,13 @@ def each_call():
     yield from (f"/* {NOTE}bindings/c/scrypt_c.h: each call that returns a status, as CALL(name, arguments), which",
                 " * whoever includes this list defines. The arguments are variables of arguments.h. P(argument) is a pointer that",
                 " * may not be NULL. */")
-    unchecked = set(re.findall(r"SCRYPT_NONNULL\n\w+ (\w+)\(", header.TEXT))
     for _, name, given in (it for it in CALLS if it[0] == "int" and it[2] != ["int status"]):
         words = []
         for it in given:
             is_opaque = header.word_of(it) in header.OPAQUE and "**" not in it
             is_made = "*" in it and not it.startswith("const") and not is_opaque
             words.append(("made." if is_made else "given.") + header.name_of(it))
-            if "*" in it and name not in unchecked:
+            if "*" in it:
                 words[-1] = f"P({words[-1]})"
         yield f"CALL({name}, ({', '.join(words)}))"
 

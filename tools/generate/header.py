@@ -64,8 +64,15 @@ def kind(declared, address=ctypes.c_void_p):
 @functools.lru_cache(maxsize=None)
 def structure(name):
     """A structure of C."""
-    fields = [(name_of(it), kind(it, ctypes.c_char_p)) for it in STRUCTURES[name]]
+    address = {True: ctypes.c_char_p, False: ctypes.c_void_p}  # of bytes that C reads, or writes
+    fields = [(name_of(it), kind(it, address[it.startswith("const ")])) for it in STRUCTURES[name]]
     return type(name, (ctypes.Structure,), {"_fields_": fields})
+
+
+def buffers(rooms, lens):
+    """A scrypt_buffers of three arrays, which it keeps alive, with these lengths."""
+    at = [ctypes.cast(room, ctypes.c_void_p) for room in rooms]
+    return structure("scrypt_buffers")(at[0], lens[0], at[1], lens[1], at[2], lens[2])
 
 
 def loaded(path):

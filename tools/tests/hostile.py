@@ -153,12 +153,11 @@ def calls(path):
     """The calls that verify a text with the empty password: one allocates, one has limits and uses the buffers.
     The cost of a text has the error of its verification."""
     library = header.loaded(path)
-    cost, rooms = header.structure("scrypt_cost")(), [((ctypes.c_uint32 * length)(), length) for length in LENS]
-    buffers = list(itertools.chain(*rooms))
+    cost, buffers = header.structure("scrypt_cost")(), header.buffers([(ctypes.c_uint32 * it)() for it in LENS], LENS)
 
     def within(*text):
         status = library.scrypt_hash_cost(*text, *BOUNDS, cost)
-        verified = library.scrypt_verify_limited_with_buffers(b"", 0, *text, *BOUNDS, *buffers)
+        verified = library.scrypt_verify_limited_with_buffers(b"", 0, *text, *BOUNDS, buffers)
         # No password matches a hash without a key, and its cost cannot be read.
         is_keyless = (status, verified) == (STATUSES["OutputSize"], STATUSES["PasswordInvalid"])
         return verified if status in (0, verified) or is_keyless else status

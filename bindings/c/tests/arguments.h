@@ -12,9 +12,10 @@ static __thread struct {
   const void *password, *salt, *key;
   const char *text;
   const scrypt_login *logins;
+  scrypt_buffers buffers[1];
   scrypt_hasher *hasher;
   scrypt_derivation *derivation; /* its chunks are mixed by scrypt_derivation_run */
-  size_t password_len, salt_len, text_len, key_len, output_len, capacity, len, count, chunks_len, table_len, scratch_len;
+  size_t password_len, salt_len, text_len, key_len, output_len, capacity, len, count;
   size_t max_mem, min_key_len;
   uint32_t log_n, r, p, milliseconds;
   uint8_t s;
@@ -25,16 +26,15 @@ static __thread struct {
 } given;
 
 static __thread struct {
-  uint8_t *chunks;
-  uint32_t *table, *scratch;
   scrypt_derivation *derivation[1];
   uint8_t output[64], key[64], salt[16];
   char text[SCRYPT_PHC_CAPACITY + SCRYPT_MCF_CAPACITY(64)];
   uint32_t log_n[1], r[1], p[1];
-  size_t chunks_len[1], table_len[1], scratch_len[1], key_len[1], max_mem[1], min_key_len[1];
+  size_t key_len[1], max_mem[1], min_key_len[1];
   uint64_t max_work[1];
   double done[1];
   int statuses[SCRYPT_MAX_LOGINS];
+  scrypt_buffers buffers[1]; /* their lengths */
   scrypt_cost cost[1];
   scrypt_stats stats[1];
 } made;
@@ -42,11 +42,10 @@ static __thread struct {
 /* A pointer that may not be NULL. */
 #define P(pointer) pointer
 
-#define BUFFERS_MADE made.chunks, given.chunks_len, made.table, given.table_len, made.scratch, given.scratch_len
-
 /* Sets the buffers: for up to this number of tables, and no more than a derivation can use. */
 static void take_arguments(const void *password, size_t password_len, const void *salt, size_t salt_len, uint32_t log_n,
                            uint32_t r, uint32_t p, size_t key_len, size_t max_tables) {
+  scrypt_buffers *in = given.buffers;
   scrypt_cost cost;
   if (scrypt_params_cost(log_n, r, p, SIZE_MAX, UINT64_MAX, &cost) != SCRYPT_OK) exit(3);
   if (cost.tables > max_tables) cost.tables = max_tables;
@@ -59,13 +58,13 @@ static void take_arguments(const void *password, size_t password_len, const void
   given.max_mem = SIZE_MAX, given.max_work = UINT64_MAX;
   given.timeout_ms = -1;
   given.seconds = 1e-9; /* too short for any parameters */
-  given.chunks_len = cost.chunks_len;
-  given.table_len = cost.tables * cost.table_len;
-  given.scratch_len = cost.tables * cost.scratch_len;
-  made.chunks = calloc(given.chunks_len, 1);
-  made.table = calloc(given.table_len, 4);
-  made.scratch = calloc(given.scratch_len, 4);
-  if (made.chunks == NULL || made.table == NULL || made.scratch == NULL) exit(3);
+  in->chunks_len = cost.chunks_len;
+  in->table_len = cost.tables * cost.table_len;
+  in->scratch_len = cost.tables * cost.scratch_len;
+  in->chunks = calloc(in->chunks_len, 1);
+  in->table = calloc(in->table_len, 4);
+  in->scratch = calloc(in->scratch_len, 4);
+  if (in->chunks == NULL || in->table == NULL || in->scratch == NULL) exit(3);
   given.milliseconds = 60000, *made.derivation = NULL;
   if (scrypt_derivation_new(password, password_len, salt, salt_len, log_n, r, p, SIZE_MAX, key_len,
                             &given.derivation) != SCRYPT_OK) exit(3);
@@ -78,9 +77,9 @@ static void take_text(const char *text, const scrypt_login *logins, size_t count
 }
 
 static void free_arguments(void) {
-  free(made.chunks);
-  free(made.table);
-  free(made.scratch);
+  free(given.buffers->chunks);
+  free(given.buffers->table);
+  free(given.buffers->scratch);
   scrypt_derivation_free(&given.derivation);
   scrypt_derivation_free(made.derivation);
 }

@@ -36,21 +36,17 @@ static void *filled(size_t len) {
 #define GIVEN of->password, of->password_len, of->salt, of->salt_len, of->log_n, of->r, of->p
 
 static int key_in_buffers(const struct line *of, size_t tables, uint8_t *key) {
-  size_t chunks_len, table_len, scratch_len;
-  int status = scrypt_buffer_lens(of->log_n, of->r, of->p, (uint8_t)of->s, &chunks_len, &table_len, &scratch_len);
-  uint8_t *chunks;
-  uint32_t *table, *scratch;
+  scrypt_buffers in;
+  int status = scrypt_buffer_lens(of->log_n, of->r, of->p, (uint8_t)of->s, &in);
   if (status != SCRYPT_OK) return status;
-  chunks = (uint8_t *)filled(chunks_len);
-  table = (uint32_t *)filled(4 * tables * table_len), scratch = (uint32_t *)filled(4 * tables * scratch_len);
-  if (of->s != 0)
-    status = scrypt_key_thin(GIVEN, (uint8_t)of->s, key, of->len, chunks, chunks_len, table, table_len, scratch, scratch_len);
-  else
-    status = scrypt_key_with_buffers(GIVEN, key, of->len, chunks, chunks_len, table, tables * table_len, scratch,
-                                     tables * scratch_len);
-  free(chunks);
-  free(table);
-  free(scratch);
+  if (of->s == 0) in.table_len *= tables, in.scratch_len *= tables;
+  in.chunks = (uint8_t *)filled(in.chunks_len);
+  in.table = (uint32_t *)filled(4 * in.table_len), in.scratch = (uint32_t *)filled(4 * in.scratch_len);
+  if (of->s != 0) status = scrypt_key_thin(GIVEN, (uint8_t)of->s, key, of->len, &in);
+  else status = scrypt_key_with_buffers(GIVEN, key, of->len, &in);
+  free(in.chunks);
+  free(in.table);
+  free(in.scratch);
   return status;
 }
 

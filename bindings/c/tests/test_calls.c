@@ -28,9 +28,9 @@ static void keys(size_t i) {
   uint8_t key[64], s;
   check(scrypt_key(SECRETS_OF(i), PARAMS_OF(i), key, 64) == SCRYPT_OK && is_key(i, key), "a key of RFC 7914");
   for (s = 0; s < (i == 0 ? 5 : 4); s++) { /* the first one with a single row too */
-    struct buffers in = new_buffers(PARAMS_OF(i), s, 1);
+    scrypt_buffers in = new_buffers(PARAMS_OF(i), s, 1);
     memset(key, 0, sizeof key);
-    check(scrypt_key_thin(SECRETS_OF(i), PARAMS_OF(i), s, key, 64, BUFFERS_OF(in)) == SCRYPT_OK && is_key(i, key),
+    check(scrypt_key_thin(SECRETS_OF(i), PARAMS_OF(i), s, key, 64, &in) == SCRYPT_OK && is_key(i, key),
           "with a smaller table");
     free_buffers(in);
   }
@@ -47,14 +47,14 @@ static void keys(size_t i) {
 static void hashes(uint32_t p, size_t tables, char texts[2][SCRYPT_PHC_CAPACITY]) {
   int i;
   for (i = 0; i < 2; i++) {
-    struct buffers in = new_buffers(6, 1, p, 0, tables);
+    scrypt_buffers in = new_buffers(6, 1, p, 0, tables);
     char same[SCRYPT_PHC_CAPACITY], *text = texts[i];
     check(scrypt_hash_with_salt(INPUTS, p, 32, i, text, SCRYPT_PHC_CAPACITY) == SCRYPT_OK, "a hash");
-    check(scrypt_hash_with_buffers(INPUTS, p, 32, i, same, sizeof same, BUFFERS_OF(in)) == SCRYPT_OK &&
+    check(scrypt_hash_with_buffers(INPUTS, p, 32, i, same, sizeof same, &in) == SCRYPT_OK &&
               strcmp(text, same) == 0, "the same hash in buffers");
     check(scrypt_verify("pw", 2, text, strlen(text)) == SCRYPT_OK, "its password");
-    check(scrypt_verify_limited_with_buffers("pw", 2, TEXT_AND_LIMITS, BUFFERS_OF(in)) == SCRYPT_OK, "in buffers");
-    check(scrypt_verify_limited_with_buffers("PW", 2, TEXT_AND_LIMITS, BUFFERS_OF(in)) == SCRYPT_MISMATCH, "another one");
+    check(scrypt_verify_limited_with_buffers("pw", 2, TEXT_AND_LIMITS, &in) == SCRYPT_OK, "in buffers");
+    check(scrypt_verify_limited_with_buffers("PW", 2, TEXT_AND_LIMITS, &in) == SCRYPT_MISMATCH, "another one");
     check(is_all(0, in.chunks, in.chunks_len) && is_all(0, in.scratch, 4 * in.scratch_len / tables), "zeros");
     free_buffers(in);
   }
@@ -67,7 +67,7 @@ static void batches(uint32_t p, size_t tables, char texts[2][SCRYPT_PHC_CAPACITY
   size_t count, kinds, i;
   for (count = 0; count <= SCRYPT_MAX_LOGINS; count++)
     for (kinds = p; kinds < 81; kinds += 16) {
-      struct buffers in = new_buffers(6, 1, p * (uint32_t)(count > 0 ? count : 1), 0, tables);
+      scrypt_buffers in = new_buffers(6, 1, p * (uint32_t)(count > 0 ? count : 1), 0, tables);
       scrypt_login logins[SCRYPT_MAX_LOGINS];
       int statuses[] = {-1, -1, -1, -1}, wanted[] = {-1, -1, -1, -1};
       size_t kind = kinds;
@@ -76,7 +76,7 @@ static void batches(uint32_t p, size_t tables, char texts[2][SCRYPT_PHC_CAPACITY
         logins[i] = (scrypt_login){PASSWORDS[kind % 3], 2, text, strlen(text)};
         wanted[i] = STATUSES[kind % 3];
       }
-      check(scrypt_verify_batch_with_buffers(logins, count, statuses, BUFFERS_OF(in)) == SCRYPT_OK, "a batch");
+      check(scrypt_verify_batch_with_buffers(logins, count, statuses, &in) == SCRYPT_OK, "a batch");
       check(memcmp(statuses, wanted, sizeof wanted) == 0, "each status is that of a separate call");
       free_buffers(in);
     }
@@ -85,9 +85,9 @@ static void batches(uint32_t p, size_t tables, char texts[2][SCRYPT_PHC_CAPACITY
 static void chunks_in_tables(uint32_t p, size_t tables) {
   char texts[2][SCRYPT_PHC_CAPACITY];
   uint8_t key[32], same[32];
-  struct buffers in = new_buffers(6, 1, p, 0, tables);
+  scrypt_buffers in = new_buffers(6, 1, p, 0, tables);
   check(scrypt_key(INPUTS, p, key, 32) == SCRYPT_OK, "a key of several chunks");
-  check(scrypt_key_with_buffers(INPUTS, p, same, 32, BUFFERS_OF(in)) == SCRYPT_OK && memcmp(key, same, 32) == 0,
+  check(scrypt_key_with_buffers(INPUTS, p, same, 32, &in) == SCRYPT_OK && memcmp(key, same, 32) == 0,
         "the same key in buffers");
   free_buffers(in);
   hashes(p, tables, texts);
@@ -97,10 +97,10 @@ static void chunks_in_tables(uint32_t p, size_t tables) {
 /* Each row of each table changes, except in a second table on processors that use one table for two
  * chunks. Twelve chunks leave no rest, whatever the number of tables. */
 static void several_tables_are_used(size_t tables) {
-  struct buffers in = new_buffers(6, 1, 12, 0, tables);
+  scrypt_buffers in = new_buffers(6, 1, 12, 0, tables);
   uint8_t key[16];
   size_t row, changed = 0;
-  check(scrypt_key_with_buffers(INPUTS, 12, key, sizeof key, BUFFERS_OF(in)) == SCRYPT_OK, "a key in several tables");
+  check(scrypt_key_with_buffers(INPUTS, 12, key, sizeof key, &in) == SCRYPT_OK, "a key in several tables");
   for (row = 0; row < tables * 64; row++) changed += !is_all(FILL, in.table + 32 * row, 128);
   check(changed == (tables == 2 ? USED_OF_TWO : tables) * 64, "the rows of all tables are used");
   free_buffers(in);
@@ -111,9 +111,10 @@ static void several_tables_are_used(size_t tables) {
 static int write_hash(int i, char *text, size_t capacity) {
   static uint8_t chunks[128];
   static uint32_t table[32 * 64], scratch[64];
+  static const scrypt_buffers in = {chunks, sizeof chunks, table, 32 * 64, scratch, 64};
   if (i >= 4) return scrypt_stored_text("saltsalt", 8, "a key of other parts", 20, 6, 1, 1, i - 4, text, capacity);
   if (i < 2) return scrypt_hash_with_salt(INPUTS, 1, 32, i, text, capacity);
-  return scrypt_hash_with_buffers(INPUTS, 1, 32, i - 2, text, capacity, chunks, sizeof chunks, table, 32 * 64, scratch, 64);
+  return scrypt_hash_with_buffers(INPUTS, 1, 32, i - 2, text, capacity, &in);
 }
 
 static void capacities(void) {

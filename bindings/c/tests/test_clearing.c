@@ -93,12 +93,11 @@ __attribute__((noinline)) static void check_stack(const char *name, int (*call)(
 
 /* No key can be derived in so little time, and scrypt_key_thin takes one table. */
 static int wanted_of(int (*call)(void)) {
-  size_t chunks_len, table_len, scratch_len;
+  scrypt_buffers of_one;
   if (call == each_scrypt_calibrate) return SCRYPT_E_TOO_COSTLY;
   if (call != each_scrypt_key_thin) return SCRYPT_OK;
-  if (scrypt_buffer_lens(given.log_n, given.r, given.p, 0, &chunks_len, &table_len, &scratch_len))
-    exit(3);
-  return given.table_len == table_len ? SCRYPT_OK : SCRYPT_E_BUFFER_SIZE;
+  if (scrypt_buffer_lens(given.log_n, given.r, given.p, 0, &of_one)) exit(3);
+  return given.buffers->table_len == of_one.table_len ? SCRYPT_OK : SCRYPT_E_BUFFER_SIZE;
 }
 
 /* A derivation that is abandoned, because one that is not freed keeps its memory. */

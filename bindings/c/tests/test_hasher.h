@@ -137,18 +137,15 @@ static void end_watched(int tables) {
 }
 
 static int all_match; /* each key is taken to match its hash */
-static int watched_batch(const scrypt_login *logins, size_t count, int *statuses, uint8_t *chunks,
-                         size_t chunks_len, uint32_t *table, size_t table_len, uint32_t *scratch,
-                         size_t scratch_len) {
+static int watched_batch(const scrypt_login *logins, size_t count, int *statuses, const scrypt_buffers *buffers) {
   uint32_t log_n = 0, r = 1, p = 0;
   size_t key_len, i;
   int tables, status;
   status = scrypt_hash_params(logins[0].text, logins[0].text_len, &log_n, &r, &p, &key_len);
   for (i = 0; i < count; i++) expect(statuses[i] != SCRYPT_OK, "SCRYPT_OK before the derivation");
-  expect(chunks_len == count * 128 * r * p, "other chunks than those of all logins");
-  tables = begin_watched(logins, count, table_len, log_n, r);
-  status |= scrypt_verify_batch_with_buffers(logins, count, statuses, chunks, chunks_len, table,
-                                             table_len, scratch, scratch_len);
+  expect(buffers->chunks_len == count * 128 * r * p, "other chunks than those of all logins");
+  tables = begin_watched(logins, count, buffers->table_len, log_n, r);
+  status |= scrypt_verify_batch_with_buffers(logins, count, statuses, buffers);
   for (i = 0; i < count && all_match; i++) statuses[i] = SCRYPT_OK;
   end_watched(tables);
   return status;
@@ -156,13 +153,11 @@ static int watched_batch(const scrypt_login *logins, size_t count, int *statuses
 
 static int watched_key(const void *password, size_t password_len, const void *salt, size_t salt_len,
                        uint32_t log_n, uint32_t r, uint32_t p, uint8_t *output, size_t output_len,
-                       uint8_t *chunks, size_t chunks_len, uint32_t *table, size_t table_len,
-                       uint32_t *scratch, size_t scratch_len) {
+                       const scrypt_buffers *buffers) {
   const scrypt_login login = {password, password_len, NULL, 0};
-  int status, tables = begin_watched(&login, 1, table_len, log_n, r);
+  int status, tables = begin_watched(&login, 1, buffers->table_len, log_n, r);
   status = scrypt_key_with_buffers(password, password_len, salt, salt_len, log_n, r, p, output,
-                                   output_len, chunks, chunks_len, table, table_len, scratch,
-                                   scratch_len);
+                                   output_len, buffers);
   end_watched(tables);
   return status;
 }

@@ -50,17 +50,11 @@ static void *filled(size_t len) {
   return memset(room, FILL, len);
 }
 
-struct buffers {
-  uint8_t *chunks;
-  uint32_t *table, *scratch;
-  size_t chunks_len, table_len, scratch_len;
-};
-
 /* Buffers for this number of tables, each with one row in 2^s, filled up to a byte or a word after
  * their end. */
-static struct buffers new_buffers(uint32_t log_n, uint32_t r, uint32_t p, uint8_t s, size_t tables) {
-  struct buffers it;
-  check(scrypt_buffer_lens(log_n, r, p, s, &it.chunks_len, &it.table_len, &it.scratch_len) == SCRYPT_OK, "lens");
+static scrypt_buffers new_buffers(uint32_t log_n, uint32_t r, uint32_t p, uint8_t s, size_t tables) {
+  scrypt_buffers it;
+  check(scrypt_buffer_lens(log_n, r, p, s, &it) == SCRYPT_OK, "lens");
   it.table_len *= tables, it.scratch_len *= tables;
   it.chunks = (uint8_t *)filled(it.chunks_len + 1);
   it.table = (uint32_t *)filled(4 * (it.table_len + 1));
@@ -68,10 +62,8 @@ static struct buffers new_buffers(uint32_t log_n, uint32_t r, uint32_t p, uint8_
   return it;
 }
 
-#define BUFFERS_OF(it) it.chunks, it.chunks_len, it.table, it.table_len, it.scratch, it.scratch_len
-
-static void free_buffers(struct buffers it) {
-  scrypt_wipe(BUFFERS_OF(it));
+static void free_buffers(scrypt_buffers it) {
+  scrypt_wipe(&it);
   check(is_all(0, it.chunks, it.chunks_len) && is_all(0, it.table, 4 * it.table_len) &&
             is_all(0, it.scratch, 4 * it.scratch_len), "wiped");
   check(it.chunks[it.chunks_len] == FILL && is_all(FILL, it.table + it.table_len, 4) &&

@@ -21,15 +21,12 @@ static int is_null(const char *pointer) {
   return 1;
 }
 
-/* Compilers reject NULL for scrypt_buffer_lens. */
-static int has_pointers(const char *call) { return strcmp(call, "scrypt_buffer_lens") != 0; }
-
 /* Each pointer that must not be NULL, one at a time. */
 static void each_pointer(void) {
 #undef P
 #define P(pointer) (is_null(#pointer) ? NULL : pointer)
 #define CALL(name, arguments)                                                    \
-  for (turn = 0, pointers = has_pointers(#name); turn < pointers; turn++) {      \
+  for (turn = 0, pointers = 1; turn < pointers; turn++) {                        \
     const int status = (pointers = 0, name arguments);                           \
     char why[64];                                                                \
     snprintf(why, sizeof why, "%s, %s", #name, null);                            \
@@ -44,6 +41,8 @@ static void each_pointer(void) {
 /* NULL that is nothing, or meets another error. */
 static void others(void) {
   static const scrypt_login FOUR[] = {LOGIN, LOGIN, LOGIN, LOGIN}, NO_TEXT[] = {LOGIN, {"p", 1, NULL, 1}};
+  const scrypt_buffers all = *given.buffers, NO_CHUNKS = {NULL, 0, all.table, 1, all.scratch, 1},
+                       NO_TABLE = {all.chunks, 1, NULL, 0, all.scratch, 1}, NO_SCRATCH = {all.chunks, 1, all.table, 1, NULL, 0};
   const struct {
     const char *why;
     int status, wanted;
@@ -51,7 +50,12 @@ static void others(void) {
       {"key, log_n of 99 too", scrypt_key(NULL, 5, "s", 1, 99, 1, 1, made.output, 32), SCRYPT_E_NULL_POINTER},
       {"key, no output", scrypt_key(SECRETS, 4, 1, 1, NULL, 0), SCRYPT_E_INVALID_OUTPUT_LEN},
       {"key, r of 0, no output", scrypt_key(NULL, 0, NULL, 0, 4, 0, 1, NULL, 0), SCRYPT_E_INVALID_PARAMS},
-      {"buffers, no output", scrypt_key_with_buffers(SECRETS, 4, 1, 1, NULL, 0, BUFFERS_MADE), SCRYPT_E_INVALID_OUTPUT_LEN},
+      {"buffers, no output", scrypt_key_with_buffers(SECRETS, 4, 1, 1, NULL, 0, given.buffers), SCRYPT_E_INVALID_OUTPUT_LEN},
+      {"buffers, no table", scrypt_key_with_buffers(SECRETS, 4, 1, 1, made.output, 0, &NO_TABLE), SCRYPT_E_NULL_POINTER},
+      {"thin, no chunks", scrypt_key_thin(SECRETS, 4, 1, 1, 9, made.output, 0, &NO_CHUNKS), SCRYPT_E_NULL_POINTER},
+      {"hash, no scratch", scrypt_hash_with_buffers(SECRETS, 99, 1, 1, 32, 0, made.text, 99, &NO_SCRATCH), SCRYPT_E_NULL_POINTER},
+      {"verify, no table", scrypt_verify_limited_with_buffers("p", 1, "", 0, 0, 0, 0, &NO_TABLE), SCRYPT_E_NULL_POINTER},
+      {"a batch, no chunks", scrypt_verify_batch_with_buffers(FOUR, 5, made.statuses, &NO_CHUNKS), SCRYPT_E_NULL_POINTER},
       {"generate_salt, no byte", scrypt_generate_salt(NULL, 0), SCRYPT_OK},
       {"phc, p of 0 too", scrypt_hash_with_salt(NULL, 5, "s", 1, 4, 1, 0, 32, 0, made.text, 99), SCRYPT_E_NULL_POINTER},
       {"phc, no salt", scrypt_hash_with_salt("p", 1, NULL, 0, 4, 1, 1, 32, 0, made.text, 99), SCRYPT_E_SALT_INVALID},
@@ -61,16 +65,33 @@ static void others(void) {
       {"verify_limited, an empty text", scrypt_verify_limited(NULL, 0, NULL, 0, 0, 0, 0), SCRYPT_E_ENCODING_INVALID},
       {"verify_limited, no bytes", scrypt_verify_limited("p", 1, NULL, 9, 0, 0, 0), SCRYPT_E_NULL_POINTER},
       {"needs_rehash, an empty text", scrypt_needs_rehash(NULL, 0, 4, 1, 1, 32), SCRYPT_E_ENCODING_INVALID},
-      {"a batch of none", scrypt_verify_batch_with_buffers(NULL, 0, NULL, BUFFERS_MADE), SCRYPT_OK},
-      {"a batch, a text", scrypt_verify_batch_with_buffers(NO_TEXT, 2, made.statuses, BUFFERS_MADE), SCRYPT_E_NULL_POINTER},
-      {"a batch of five", scrypt_verify_batch_with_buffers(FOUR, 5, made.statuses, BUFFERS_MADE), SCRYPT_E_BUFFER_SIZE},
-      {"sizeof in place of a count", scrypt_verify_batch_with_buffers(FOUR, sizeof FOUR, made.statuses, BUFFERS_MADE),
+      {"a batch of none", scrypt_verify_batch_with_buffers(NULL, 0, NULL, given.buffers), SCRYPT_OK},
+      {"a batch, a text", scrypt_verify_batch_with_buffers(NO_TEXT, 2, made.statuses, given.buffers), SCRYPT_E_NULL_POINTER},
+      {"a batch of five", scrypt_verify_batch_with_buffers(FOUR, 5, made.statuses, given.buffers), SCRYPT_E_BUFFER_SIZE},
+      {"sizeof in place of a count", scrypt_verify_batch_with_buffers(FOUR, sizeof FOUR, made.statuses, given.buffers),
        SCRYPT_E_BUFFER_SIZE},
-      {"a count that no memory has", scrypt_verify_batch_with_buffers(FOUR, SIZE_MAX, made.statuses, BUFFERS_MADE),
+      {"a count that no memory has", scrypt_verify_batch_with_buffers(FOUR, SIZE_MAX, made.statuses, given.buffers),
        SCRYPT_E_BUFFER_SIZE},
   };
   size_t i;
   for (i = 0; i < sizeof ROWS / sizeof *ROWS; i++) check_null(ROWS[i].status, ROWS[i].wanted, ROWS[i].why);
+}
+
+/* Wiping takes NULL for nothing. */
+static void wipe(void) {
+  const scrypt_buffers all = *given.buffers;
+  scrypt_buffers rest = {NULL, all.chunks_len, all.table, all.table_len, NULL, all.scratch_len};
+  size_t i, left = 0;
+  memset(all.chunks, 7, all.chunks_len);
+  memset(all.table, 7, 4 * all.table_len);
+  scrypt_wipe(NULL);
+  scrypt_wipe(&rest);
+  for (i = 0; i < all.table_len; i++) left += all.table[i] != 0;
+  check(left == 0 && all.chunks[0] == 7, "what is not NULL is wiped");
+  rest = (scrypt_buffers){all.chunks, all.chunks_len, NULL, 1, NULL, 1};
+  scrypt_wipe(&rest);
+  for (i = 0; i < all.chunks_len; i++) left += all.chunks[i] != 0;
+  check(left == 0, "chunks alone");
 }
 
 int main(void) {
@@ -82,6 +103,7 @@ int main(void) {
   given.hasher = scrypt_hasher_new(NULL, NULL);
   each_pointer();
   others();
+  wipe();
   scrypt_hasher_free(given.hasher);
   scrypt_hasher_close(NULL);
   scrypt_hasher_free(NULL);

@@ -45,7 +45,8 @@ static int a_new_hash(void) {
 }
 static int a_salt(void) { return memcmp(made.salt, made.salt + 8, 8) != 0; }
 static int are_lens(size_t table_len, size_t scratch_len) {
-  return *made.chunks_len == 768 && *made.table_len == table_len && *made.scratch_len == scratch_len;
+  return made.buffers->chunks_len == 768 && made.buffers->table_len == table_len &&
+         made.buffers->scratch_len == scratch_len;
 }
 static int lens(void) { return are_lens(1024, 128); }
 static int lens_of_half(void) { return are_lens(512, 192); }
@@ -115,7 +116,7 @@ static const struct {
     {"scrypt_generate_salt", a_salt, SCRYPT_OK},
 };
 
-/* Fills all outputs but the buffers and the derivation, which are first. */
+/* Fills all outputs but the derivation, which is first. */
 static void forget(void) {
   memset(&made.output, 0xaa, sizeof made - (size_t)((uint8_t *)&made.output - (uint8_t *)&made));
 }
@@ -142,6 +143,7 @@ static void rejected(uint32_t log_n, uint32_t r, uint32_t p) {
 static void *arguments(void *text) {
   static const uint32_t NUMBERS[] = {64, 256, 260, 16384, UINT32_MAX};
   uint32_t half[512], scratch[192];
+  scrypt_buffers smaller;
   size_t i;
   /* The exact cost of (4, 2, 3). */
   const scrypt_options options = {sizeof options, 4, 2, 3, 0, 20, 8, 5376, 1152, 20, 1, 1};
@@ -154,12 +156,13 @@ static void *arguments(void *text) {
 #include "each_call.h"
 #undef CALL
   check_call("scrypt_buffer_lens, of half a table",
-             scrypt_buffer_lens(PARAMS, 1, made.chunks_len, made.table_len, made.scratch_len));
+             scrypt_buffer_lens(PARAMS, 1, made.buffers));
+  smaller = (scrypt_buffers){given.buffers->chunks, 768, half, 512, scratch, 192};
   check_call("scrypt_key_thin, in half a table",
-             scrypt_key_thin(SECRETS, PARAMS, 1, made.output, 20, made.chunks, 768, half, 512, scratch, 192));
+             scrypt_key_thin(SECRETS, PARAMS, 1, made.output, 20, &smaller));
   check_call("scrypt_hash_with_salt, $7$", scrypt_hash_with_salt(SECRETS, PARAMS, 20, 1, made.text, given.capacity));
   check_call("scrypt_hash_with_buffers, $7$",
-             scrypt_hash_with_buffers(SECRETS, PARAMS, 20, 1, made.text, given.capacity, BUFFERS_MADE));
+             scrypt_hash_with_buffers(SECRETS, PARAMS, 20, 1, made.text, given.capacity, given.buffers));
   check_call("scrypt_stored_text, $7$",
              scrypt_stored_text("n34PoBLMgF5", 11, MCF_KEY, 20, PARAMS, 1, made.text, given.capacity));
   check_call("scrypt_params_cost, of two tables", scrypt_params_cost(PARAMS, 9984, 1152, made.cost));
@@ -185,11 +188,12 @@ static void in_threads(void) {
 static uint8_t key[20], chunks[768];
 static uint32_t table[1024], scratch[192];
 static char text[SCRYPT_PHC_CAPACITY];
+static const scrypt_buffers no_buffers = {chunks, 0, table, 0, scratch, 0};
 
 #define TEXT text, sizeof text
 #define NO_ROOM text, 1
 #define NO_SALT "pw", 2, "", 0
-#define NO_BUFFERS chunks, 0, table, 0, scratch, 0
+#define NO_BUFFERS &no_buffers
 #define NO_LIMITS SIZE_MAX, UINT64_MAX
 
 /* The log_n of a table of 2^63 bytes. */
@@ -266,7 +270,8 @@ static void stored_texts(void) {
 static void buffers(void) {
   int i;
   for (i = 0; i < 3; i++) {
-#define SHORT chunks, 768 - (i == 0), table, 1024 - (i == 1), scratch, 128 - (i == 2)
+    const scrypt_buffers in = {chunks, 768 - (i == 0), table, 1024 - (i == 1), scratch, 128 - (i == 2)};
+#define SHORT &in
     meets("key_with_buffers", scrypt_key_with_buffers(SECRETS, PARAMS, key, 20, SHORT), SCRYPT_E_BUFFER_SIZE);
     meets("key_thin", scrypt_key_thin(SECRETS, PARAMS, 0, key, 20, SHORT), SCRYPT_E_BUFFER_SIZE);
     meets("phc, in buffers", scrypt_hash_with_buffers(SECRETS, PARAMS, 20, 0, TEXT, SHORT), SCRYPT_E_BUFFER_SIZE);
