@@ -28,6 +28,8 @@ type (
 	status       = C.int
 )
 
+const timedOut = status(C.SCRYPT_E_TIMEOUT)
+
 // Options are the options of a Hasher. A zero option, or a zero field of Params, means the default
 // that its comment names.
 type Options struct {
@@ -315,10 +317,10 @@ func (h *Hasher) run(ctx context.Context, password []byte,
 	}(append([]byte{}, password...), left(end, isBounded))
 	select {
 	case got := <-ended:
-		if got == C.SCRYPT_E_TIMEOUT || got == C.SCRYPT_E_OUT_OF_MEMORY {
+		if got == timedOut || got == C.SCRYPT_E_OUT_OF_MEMORY {
 			shared.refused.Add(1)
 		}
-		if got == C.SCRYPT_E_TIMEOUT {
+		if got == timedOut {
 			return context.DeadlineExceeded
 		}
 		return failed(got)

@@ -319,7 +319,7 @@ func TestRun(t *testing.T) {
 		wait(func() bool { return hasher.shared.calls.Load() == 0 })
 		check(t, err == nil && string(password) == "pw" && string(own) == "\x00\x00", err, password, own)
 	}
-	check(t, hasher.run(ctx, nil, func([]byte, milliseconds) status { return 18 }) == context.DeadlineExceeded, "TIMEOUT")
+	check(t, hasher.run(ctx, nil, func([]byte, milliseconds) status { return timedOut }) == context.DeadlineExceeded, "TIMEOUT")
 }
 
 // merged has its own Done, and the Err of another context, as code that merges two contexts may.
