@@ -13,10 +13,15 @@ static double now(void) { return (double)now_ns() * 1e-9; }
 /* Measures one derivation in one table, which a hasher keeps: the minimum of several times; the
  * first derivation maps it. */
 static int measure(uint32_t log_n, double *seconds) {
-  scrypt_options options = {sizeof options, log_n, R, 1, 0, 0, 0, SIZE_MAX, UINT64_MAX, 0, 1, 1};
+  scrypt_options options;
   uint8_t key[SCRYPT_KEY_LEN];
   int status, i;
-  scrypt_hasher *hasher = scrypt_hasher_new(&options, &status);
+  scrypt_hasher *hasher;
+  scrypt_options_init(&options);
+  options.log_n = log_n, options.r = R, options.p = 1;
+  options.max_mem = SIZE_MAX, options.max_work = UINT64_MAX;
+  options.max_tables = options.processors = 1;
+  hasher = scrypt_hasher_new(&options, &status);
   for (i = 0; i < TRIES && status == SCRYPT_OK; i++) {
     double begun = now(), taken;
     status = scrypt_hasher_key(hasher, "", 0, "", 0, key, sizeof key, -1);

@@ -8,8 +8,8 @@
 
 #define MAX_SLOTS 8192 /* the maximum number of processors of Linux */
 
-#define DEFAULT(field, value) \
-  if (completed->field == 0) completed->field = (value)
+#define CHOOSE(field, value) \
+  if (completed->field == SCRYPT_AUTO) completed->field = (value)
 
 static size_t usable_memory(void) {
   size_t memory = memory_of_process();
@@ -34,36 +34,50 @@ static size_t default_max_tables(const scrypt_options *options, const scrypt_cos
   return fit == 0 ? 1 : fit < two ? fit : two;
 }
 
+/* Writes the fields of this version. One that adds a field gives the name to another symbol, in its
+ * header, so that programs for this version get no more than they have room for. */
+void scrypt_options_init(scrypt_options *options) {
+  if (options == NULL) return;
+  *options = (scrypt_options){
+      .size = sizeof *options,
+      .log_n = SCRYPT_RECOMMENDED_LOG_N,
+      .r = SCRYPT_RECOMMENDED_R,
+      .p = SCRYPT_RECOMMENDED_P,
+      .key_len = SCRYPT_KEY_LEN,
+      .salt_len = SCRYPT_SALT_LEN,
+      .max_mem = SCRYPT_AUTO,
+      .max_work = SCRYPT_AUTO,
+      .min_key_len = SCRYPT_AUTO,
+      .max_tables = SCRYPT_AUTO,
+      .processors = SCRYPT_AUTO,
+  };
+}
+
 int complete_options(const scrypt_options *options, scrypt_options *completed, scrypt_cost *cost) {
   size_t max_mem, min_key_len;
   uint64_t max_work;
   int status;
   if (options != NULL && options->size != sizeof *completed) return SCRYPT_E_OPTIONS_SIZE;
-  *completed = options != NULL ? *options : (scrypt_options){.size = sizeof *completed};
-  if (completed->log_n == 0 && completed->r == 0 && completed->p == 0) {
-    completed->log_n = SCRYPT_RECOMMENDED_LOG_N;
-    completed->r = SCRYPT_RECOMMENDED_R;
-    completed->p = SCRYPT_RECOMMENDED_P;
-  }
-  DEFAULT(key_len, SCRYPT_KEY_LEN);
-  DEFAULT(salt_len, SCRYPT_SALT_LEN);
-  DEFAULT(processors, processors_of_process());
+  if (options != NULL) *completed = *options;
+  else scrypt_options_init(completed);
+  CHOOSE(processors, processors_of_process());
+  if (completed->processors == 0 || completed->max_tables == 0) return SCRYPT_E_INVALID_PARAMS;
   if (completed->key_len < SCRYPT_MIN_KEY_LEN || completed->key_len > SCRYPT_MAX_KEY_LEN) return SCRYPT_E_INVALID_PARAMS;
   status = scrypt_default_limits(completed->log_n, completed->r, completed->p, completed->key_len, &max_mem,
                                  &max_work, &min_key_len);
   if (status != SCRYPT_OK) return status;
   status = scrypt_params_cost(completed->log_n, completed->r, completed->p, SIZE_MAX, UINT64_MAX, cost);
   if (status != SCRYPT_OK) return status;
-  DEFAULT(max_mem, default_max_mem(max_mem, cost));
-  DEFAULT(max_work, max_work);
-  DEFAULT(min_key_len, min_key_len);
+  CHOOSE(max_mem, default_max_mem(max_mem, cost));
+  CHOOSE(max_work, max_work);
+  CHOOSE(min_key_len, min_key_len);
   /* Otherwise new hashes would be rejected. */
   if (completed->min_key_len > completed->key_len) return SCRYPT_E_INVALID_PARAMS;
-  if (completed->salt_len > SCRYPT_MAX_SALT_LEN) return SCRYPT_E_SALT_INVALID;
+  if (completed->salt_len == 0 || completed->salt_len > SCRYPT_MAX_SALT_LEN) return SCRYPT_E_SALT_INVALID;
   status = scrypt_params_cost(completed->log_n, completed->r, completed->p, completed->max_mem, completed->max_work,
                               cost);
   if (status != SCRYPT_OK) return status;
-  DEFAULT(max_tables, default_max_tables(completed, cost));
+  CHOOSE(max_tables, default_max_tables(completed, cost));
   return SCRYPT_OK;
 }
 

@@ -4,8 +4,8 @@
 
 #include "groups.h"
 
-/* Writes the options, or none if NULL, with zeros replaced by defaults, and the cost of a new
- * hash. Returns the errors of scrypt_hasher_new. */
+/* Writes the options, or the defaults if NULL, with SCRYPT_AUTO replaced by values, and the cost of a
+ * new hash. Returns the errors of scrypt_hasher_new. */
 int complete_options(const scrypt_options *options, scrypt_options *completed, scrypt_cost *cost);
 
 /* The number of slots. */

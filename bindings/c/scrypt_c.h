@@ -412,31 +412,43 @@ int scrypt_default_limits(uint32_t log_n, uint32_t r, uint32_t p, size_t key_len
  *   them. */
 typedef struct scrypt_hasher scrypt_hasher;
 
-/* The options of a hasher. A field that is 0 means its default; log_n, r and p mean theirs only if
- * all three are 0, so that N = 1 is possible. The default limits are those of scrypt_default_limits.
- * More than 8192 processors count as 8192. */
+/* The value of an option that the library chooses: it depends on the machine and on other options. */
+#define SCRYPT_AUTO UINT64_C(18446744073709551614)
+
+/* The options of a hasher. scrypt_options_init writes the defaults; then set those that you choose:
+ *
+ *   scrypt_options options;
+ *   scrypt_options_init(&options);
+ *   options.max_tables = 4;
+ *
+ * Each value is meant as it is, 0 too. The limits that SCRYPT_AUTO chooses are those of
+ * scrypt_default_limits. More than 8192 processors count as 8192. */
 typedef struct scrypt_options {
-  size_t size;              /* sizeof (scrypt_options), so that later versions can add fields; */
-                            /* it has no default */
+  size_t size;              /* sizeof (scrypt_options), so that later versions can add fields */
   uint32_t log_n, r, p;     /* of new hashes and keys: SCRYPT_RECOMMENDED_LOG_N, .. */
   int mcf;                  /* new hashes are PHC strings if 0, otherwise $7$ hashes of crypt(3) */
   size_t key_len, salt_len; /* of new hashes: SCRYPT_KEY_LEN and SCRYPT_SALT_LEN */
+  /* The rest are SCRYPT_AUTO: */
   size_t max_mem;           /* maximum bytes of the buffers for a hash, as in scrypt_hash_cost: */
-                            /* the default, or 7/8 of the memory (see max_tables) if that is */
-                            /* less; but no less than a new hash needs */
+                            /* the default limit, or 7/8 of the memory (see max_tables) if that */
+                            /* is less; but no less than a new hash needs */
   uint64_t max_work;        /* maximum work of a hash */
   size_t min_key_len;       /* minimum key length of a hash that is verified, up to key_len */
   size_t max_tables;        /* maximum number of tables: two for each processor, or the number of */
                             /* tables of max_mem that fit into 7/8 of the memory of the */
                             /* machine and of its control group if that is less; one or more */
   size_t processors;        /* maximum number of slots: the processors that this process may use, */
-                            /* by its affinity and CPU quota */
+                            /* by its affinity and CPU quota; one or more */
 } scrypt_options;
+
+/* Writes the size and the defaults. Does nothing for NULL. */
+void scrypt_options_init(scrypt_options *options);
 
 /* Creates a hasher, with all defaults if options is NULL. The caller frees it. Returns NULL on an
  * error. If status is not NULL, *status becomes SCRYPT_OK or the error. SCRYPT_E_OPTIONS_SIZE,
- * SCRYPT_E_INVALID_PARAMS (also for key_len and min_key_len), SCRYPT_E_SALT_INVALID for a salt_len
- * above 64, SCRYPT_E_TOO_COSTLY if new hashes exceed the limits, SCRYPT_E_OUT_OF_MEMORY. */
+ * SCRYPT_E_INVALID_PARAMS (also for key_len and min_key_len, and without a table or a processor),
+ * SCRYPT_E_SALT_INVALID unless salt_len is 1 to 64, SCRYPT_E_TOO_COSTLY if new hashes exceed the
+ * limits, SCRYPT_E_OUT_OF_MEMORY. */
 SCRYPT_NODISCARD
 scrypt_hasher *scrypt_hasher_new(const scrypt_options *options, int *status);
 

@@ -92,12 +92,21 @@ func NewHasher(options Options) (*Hasher, error) {
 	if options.MaxTables < 0 || options.Processors < 0 {
 		return nil, fmt.Errorf("%w: %+v", ErrInvalidOption, options)
 	}
-	with := C.scrypt_options{
-		size:  C.sizeof_scrypt_options,
-		log_n: number(options.LogN), r: number(options.R), p: number(options.P),
-		key_len: C.size_t(options.KeyLen), salt_len: C.size_t(options.SaltLen),
-		max_mem: C.size_t(options.MaxMem), max_work: C.uint64_t(options.MaxWork),
-		max_tables: C.size_t(options.MaxTables), processors: C.size_t(options.Processors),
+	var with C.scrypt_options
+	C.scrypt_options_init(&with)
+	with.log_n, with.r, with.p = number(options.LogN), number(options.R), number(options.P)
+	set := func(field *C.size_t, value uint64) {
+		if value != 0 {
+			*field = C.size_t(value)
+		}
+	}
+	set(&with.key_len, uint64(options.KeyLen))
+	set(&with.salt_len, uint64(options.SaltLen))
+	set(&with.max_mem, options.MaxMem)
+	set(&with.max_tables, uint64(options.MaxTables))
+	set(&with.processors, uint64(options.Processors))
+	if options.MaxWork != 0 {
+		with.max_work = C.uint64_t(options.MaxWork)
 	}
 	if options.MCF {
 		with.mcf = 1

@@ -15,8 +15,11 @@ __all__ = ["RUNS", "buffer_lens", "buffers", "hasher", "line", "loaded", "machin
 def hasher(library, params, **options):
     """A hasher for hashes with these parameters."""
     log_n, r, p = params
-    made = library.scrypt_hasher_new(Options(ctypes.sizeof(Options), log_n=log_n, r=r, p=p, **options), None)
-    return made or sys.exit("no hasher")
+    with_all = Options()
+    library.scrypt_options_init(with_all)
+    for name, value in {"log_n": log_n, "r": r, "p": p, **options}.items():
+        setattr(with_all, name, value)
+    return library.scrypt_hasher_new(with_all, None) or sys.exit("no hasher")
 
 
 def buffer_lens(library, params, s=0):

@@ -137,13 +137,16 @@ static void check_call(const char *name, int (*call)(void), int wanted, int is_f
 static void all_calls(uint32_t p, size_t max_tables) {
   static char phc[SCRYPT_PHC_CAPACITY];
   static scrypt_login logins[2];
-  scrypt_options with = {sizeof with, 4, 8, p, 0, 64, 0, SIZE_MAX, UINT64_MAX, 0, 2, 1};
+  scrypt_options with;
   char name[100];
   size_t i;
   if (scrypt_hash_with_salt(SECRETS, 4, 8, p, 64, 0, phc, sizeof phc) != SCRYPT_OK) exit(3);
   logins[0] = logins[1] = (scrypt_login){PASSWORD, sizeof PASSWORD - 1, phc, strlen(phc)};
   take_arguments(SECRETS, 4, 8, p, 64, max_tables);
   take_text(phc, logins, 2);
+  scrypt_options_init(&with);
+  with.log_n = 4, with.r = 8, with.p = p, with.key_len = 64, with.max_tables = 2, with.processors = 1;
+  with.max_mem = SIZE_MAX, with.max_work = UINT64_MAX;
   given.hasher = scrypt_hasher_new(&with, NULL);
   for (i = 0; i < sizeof CALLS / sizeof *CALLS; i++) {
     snprintf(name, sizeof name, "%s of %u chunks in %zu tables", CALLS[i].name, p, max_tables);

@@ -192,10 +192,21 @@ static int watched_key(const void *password, size_t password_len, const void *sa
 
 /* ---- Hashers, and texts ---- */
 
+/* With one table and one processor. */
+static scrypt_options options_of(uint32_t log_n, uint32_t r, uint32_t p) {
+  scrypt_options options;
+  scrypt_options_init(&options);
+  options.log_n = log_n, options.r = r, options.p = p;
+  options.max_tables = options.processors = 1;
+  return options;
+}
+
 static scrypt_hasher *new_hasher(size_t processors, size_t max_tables, uint32_t log_n) {
-  scrypt_options with = {sizeof with, log_n, 8, 1, 0, 0, 0, 0, 0, 0, max_tables, processors};
+  scrypt_options with = options_of(log_n, 8, 1);
   int status = -1;
-  scrypt_hasher *hasher = scrypt_hasher_new(&with, &status);
+  scrypt_hasher *hasher;
+  with.max_tables = max_tables, with.processors = processors;
+  hasher = scrypt_hasher_new(&with, &status);
   expect(hasher != NULL && status == SCRYPT_OK, "new: %d", status);
   begun = ended = inside = tables_inside = passed = is_stopped = 0;
   max_inside = (int)hasher->slots;

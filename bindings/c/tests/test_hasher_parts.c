@@ -1,26 +1,41 @@
 /* The hasher: its options, errors, verdicts, slots and tables, many waits, and calibration. */
 #include "test_hasher.h"
 
-#define OF(...) {sizeof(scrypt_options), __VA_ARGS__, 1, 1}
+/* The options of a hasher with one table and one processor, and these changes. */
+#pragma GCC diagnostic ignored "-Woverride-init"
+#define OF(n, its_r, its_p, ...)                                                                          \
+  {.size = sizeof(scrypt_options), .log_n = n, .r = its_r, .p = its_p, .key_len = SCRYPT_KEY_LEN,         \
+   .salt_len = SCRYPT_SALT_LEN, .max_mem = SCRYPT_AUTO, .max_work = SCRYPT_AUTO,                          \
+   .min_key_len = SCRYPT_AUTO, .max_tables = 1, .processors = 1, __VA_ARGS__}
 static const struct {
   const char *why;
   scrypt_options with;
   int status;
 } OPTIONS[] = {
-    {"N = 1", OF(0, 1, 1, 0, 0, 0, 0, 0, 0), SCRYPT_OK},
-    {"only log_n, and then the salt", OF(4, 0, 0, 0, 0, 65, 0, 0, 0), SCRYPT_E_INVALID_PARAMS},
-    {"N in place of log_n", OF(16384, 8, 1, 0, 0, 0, 0, 0, 0), SCRYPT_E_INVALID_PARAMS},
-    {"a key of 9 bytes", OF(4, 8, 1, 0, 9, 65, 0, 0, 0), SCRYPT_E_INVALID_PARAMS},
-    {"a key of 65 bytes", OF(4, 8, 1, 0, 65, 0, 0, 0, 0), SCRYPT_E_INVALID_PARAMS},
-    {"a key below the minimum length", OF(4, 8, 1, 0, 20, 0, 0, 0, 21), SCRYPT_E_INVALID_PARAMS},
-    {"a key of the minimum length", OF(4, 8, 1, 0, 20, 0, 0, 0, 20), SCRYPT_OK},
-    {"a salt of 65 bytes, and then the memory", OF(4, 8, 1, 0, 0, 65, 1, 0, 0), SCRYPT_E_SALT_INVALID},
-    {"too few bytes", OF(14, 8, 1, 0, 0, 0, 1 << 20, 0, 0), SCRYPT_E_TOO_COSTLY},
-    {"too little work", OF(14, 8, 1, 0, 0, 0, 0, 1 << 10, 0), SCRYPT_E_TOO_COSTLY},
-    {"above the default limits, which are raised", OF(20, 8, 4, 0, 0, 0, 0, 0, 0), SCRYPT_OK},
+    {"N = 1", OF(0, 1, 1, .mcf = 0), SCRYPT_OK},
+    {"r of 0, and then the salt", OF(4, 0, 1, .salt_len = 65), SCRYPT_E_INVALID_PARAMS},
+    {"p of 0", OF(4, 8, 0, .mcf = 0), SCRYPT_E_INVALID_PARAMS},
+    {"zeros", {.size = sizeof(scrypt_options)}, SCRYPT_E_INVALID_PARAMS},
+    {"N in place of log_n", OF(16384, 8, 1, .mcf = 0), SCRYPT_E_INVALID_PARAMS},
+    {"no key", OF(4, 8, 1, .key_len = 0), SCRYPT_E_INVALID_PARAMS},
+    {"a key of 9 bytes", OF(4, 8, 1, .key_len = 9, .salt_len = 65), SCRYPT_E_INVALID_PARAMS},
+    {"a key of 65 bytes", OF(4, 8, 1, .key_len = 65), SCRYPT_E_INVALID_PARAMS},
+    {"a key below the minimum length", OF(4, 8, 1, .key_len = 20, .min_key_len = 21), SCRYPT_E_INVALID_PARAMS},
+    {"a key of the minimum length", OF(4, 8, 1, .key_len = 20, .min_key_len = 20), SCRYPT_OK},
+    {"keys of any length", OF(4, 8, 1, .min_key_len = 0), SCRYPT_OK},
+    {"no table, and then the salt", OF(4, 8, 1, .max_tables = 0, .salt_len = 65), SCRYPT_E_INVALID_PARAMS},
+    {"no processor", OF(4, 8, 1, .processors = 0), SCRYPT_E_INVALID_PARAMS},
+    {"no salt", OF(4, 8, 1, .salt_len = 0), SCRYPT_E_SALT_INVALID},
+    {"no salt in a $7$ hash", OF(4, 8, 1, .mcf = 1, .salt_len = 0), SCRYPT_E_SALT_INVALID},
+    {"a salt of 65 bytes, and then the memory", OF(4, 8, 1, .salt_len = 65, .max_mem = 1), SCRYPT_E_SALT_INVALID},
+    {"no bytes", OF(4, 8, 1, .max_mem = 0), SCRYPT_E_TOO_COSTLY},
+    {"too few bytes", OF(14, 8, 1, .max_mem = 1 << 20), SCRYPT_E_TOO_COSTLY},
+    {"no work", OF(4, 8, 1, .max_work = 0), SCRYPT_E_TOO_COSTLY},
+    {"too little work", OF(14, 8, 1, .max_work = 1 << 10), SCRYPT_E_TOO_COSTLY},
+    {"no limit", OF(20, 8, 4, .max_mem = SIZE_MAX, .max_work = UINT64_MAX), SCRYPT_OK},
+    {"above the default limits, which are raised", OF(20, 8, 4, .mcf = 0), SCRYPT_OK},
     {"a size of another version", {.size = 1, .key_len = 9}, SCRYPT_E_OPTIONS_SIZE},
-    {"more slots than any machine has",
-     {sizeof(scrypt_options), 4, 8, 1, 0, 0, 0, 0, 0, 0, SIZE_MAX, SIZE_MAX}, SCRYPT_OK}};
+    {"more slots than any machine has", OF(4, 8, 1, .max_tables = SIZE_MAX, .processors = SIZE_MAX), SCRYPT_OK}};
 
 /* Errors of the options are found before the hasher is allocated. */
 static void options(void) {
@@ -37,6 +52,18 @@ static void options(void) {
 }
 
 static const uint64_t LIMITS[] = {DEFAULT_LIMITS};
+
+/* What a field means that the caller leaves as it is. */
+static void initial_options(void) {
+  static const scrypt_options WANTED = OF(SCRYPT_RECOMMENDED_LOG_N, SCRYPT_RECOMMENDED_R, SCRYPT_RECOMMENDED_P,
+                                          .max_tables = SCRYPT_AUTO, .processors = SCRYPT_AUTO);
+  scrypt_options options;
+  memset(&options, 0, sizeof options);
+  options.mcf = 7;
+  scrypt_options_init(&options);
+  expect(memcmp(&options, &WANTED, sizeof options) == 0, "the defaults");
+  scrypt_options_init(NULL);
+}
 
 static void defaults(void) {
   scrypt_hasher *hasher = scrypt_hasher_new(NULL, NULL);
@@ -95,7 +122,7 @@ static void refused_verifications(void) {
 
 static void refused_hashes(void) {
   char text[SCRYPT_PHC_CAPACITY], mcf[SCRYPT_MCF_CAPACITY(3)], salt[65] = "";
-  scrypt_options with = {sizeof with, 4, 8, 2, 1, 0, 0, 0, 0, 0, 1, 1};
+  scrypt_options with = OF(4, 8, 2, .mcf = 1);
   scrypt_hasher *phc = new_hasher(1, 1, 4), *of_mcf = scrypt_hasher_new(&with, NULL);
   phc->queue->slots[0].is_taken = of_mcf->queue->slots[0].is_taken = 1;
   IS(scrypt_hasher_hash(NULL, "a", 1, NULL, 0, text, sizeof text, -1), SCRYPT_E_NULL_POINTER);
@@ -136,7 +163,7 @@ static void refused_keys(void) {
 
 static void calls(void) {
   char text[SCRYPT_PHC_CAPACITY], mcf[SCRYPT_MCF_CAPACITY(3)], good[SCRYPT_PHC_CAPACITY];
-  scrypt_options with = {sizeof with, 4, 8, 2, 1, 0, 0, 0, 0, 0, 1, 1};
+  scrypt_options with = OF(4, 8, 2, .mcf = 1);
   scrypt_hasher *phc = new_hasher(1, 1, 4), *of_mcf = scrypt_hasher_new(&with, NULL);
   const struct arena *kept = &of_mcf->queue->slots[0].arena;
   uint8_t key[32];
@@ -173,9 +200,9 @@ static size_t letters_of_salt(scrypt_hasher *hasher) {
 /* A login without a hash costs what a new hash costs, and is never accepted. */
 static void decoy(void) {
   static const scrypt_options PARAMS[] = {
-      OF(4, 8, 1, 0, 0, 0, 0, 0, 0),   OF(0, 1, 1, 0, 10, 1, 0, 0, 0),
-      OF(1, 2, 3, 0, 64, 64, 0, 0, 0), OF(5, 1, 1 << 12, 1, 11, 2, 0, 0, 0),
-      OF(1, 100, 1, 0, 12, 3, 0, 0, 0)};
+      OF(4, 8, 1, .mcf = 0), OF(0, 1, 1, .key_len = 10, .salt_len = 1),
+      OF(1, 2, 3, .key_len = 64, .salt_len = 64), OF(5, 1, 1 << 12, .mcf = 1, .key_len = 11, .salt_len = 2),
+      OF(1, 100, 1, .key_len = 12, .salt_len = 3)};
   for (size_t i = 0; i < sizeof PARAMS / sizeof PARAMS[0]; i++) {
     scrypt_hasher *hasher = scrypt_hasher_new(&PARAMS[i], NULL);
     const char *text = hasher->decoy;
@@ -248,7 +275,7 @@ static void forks_of_a_short_system(void) {
               {"the same in Linux's words", MADV_WIPEONFORK, EAGAIN, SCRYPT_E_OUT_OF_MEMORY, 0},
               {"no memory is wiped", MADV_WIPEONFORK, EINVAL, SCRYPT_OK, SCRYPT_OK},
               {"no memory to drop a table", MADV_DONTFORK, ENOMEM, SCRYPT_OK, SCRYPT_E_OUT_OF_MEMORY}};
-  const scrypt_options with = OF(4, 8, 1, 0, 0, 0, 0, 0, 0);
+  const scrypt_options with = OF(4, 8, 1, .mcf = 0);
   char text[SCRYPT_PHC_CAPACITY];
   make_text(text, "right", 4, 8, 1);
   max_inside = max_tables_inside = 1;
@@ -359,16 +386,17 @@ static void memory(void) {
     size_t memory, max_mem, processors, max_tables, default_most;
   } MEMORY[] = {{"two for each processor", SIZE_MAX, 1 << 14, 64, 128},
                 {"two for each of 8192 processors", SIZE_MAX, 1 << 14, SIZE_MAX / 2 + 1, 1 << 14},
-                {"three tables of the default max_mem in 7/8 of the memory", GIB, 0, 64, 3, LIMITS[0]},
+                {"three tables of the default max_mem in 7/8 of the memory", GIB, SCRYPT_AUTO, 64, 3, LIMITS[0]},
                 {"six tables of 129 MiB", GIB, 129 << 20, 64, 6},
-                {"max_mem is 7/8 of the memory by default", GIB / 4, 0, 64, 1, 7 * (GIB / 32)},
-                {"max_mem is no less than a new hash needs", GIB / 16, 0, 64, 1, 134220800},
+                {"max_mem is 7/8 of the memory by default", GIB / 4, SCRYPT_AUTO, 64, 1, 7 * (GIB / 32)},
+                {"max_mem is no less than a new hash needs", GIB / 16, SCRYPT_AUTO, 64, 1, 134220800},
                 {"six tables of new hashes, because none of max_mem fits", GIB, SIZE_MAX, 64, 6},
-                {"at least one table", 1000, 0, 64, 1}};
+                {"at least one table", 1000, SCRYPT_AUTO, 64, 1}};
   for (size_t i = 0; i < sizeof MEMORY / sizeof MEMORY[0]; i++) {
-    scrypt_options with = {.size = sizeof with, .processors = MEMORY[i].processors};
+    scrypt_options with;
     scrypt_hasher *hasher;
-    with.max_mem = MEMORY[i].max_mem;
+    scrypt_options_init(&with);
+    with.processors = MEMORY[i].processors, with.max_mem = MEMORY[i].max_mem;
     if (with.max_mem == 1 << 14) with.log_n = 4, with.r = 1, with.p = 1;
     memory_there = MEMORY[i].memory;
     hasher = scrypt_hasher_new(&with, NULL);
@@ -404,6 +432,7 @@ static void calibrated(void) {
 
 int main(void) {
   RUN(options);
+  RUN(initial_options);
   RUN(defaults);
   RUN(refused_verifications);
   RUN(refused_hashes);

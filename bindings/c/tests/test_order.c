@@ -146,9 +146,12 @@ static void *arguments(void *text) {
   scrypt_buffers smaller;
   size_t i;
   /* The exact cost of (4, 2, 3). */
-  const scrypt_options options = {sizeof options, 4, 2, 3, 0, 20, 8, 5376, 1152, 20, 1, 1};
+  scrypt_options options;
   take_arguments(SECRETS, PARAMS, 20, 1);
   take_text((const char *)text, LOGINS, 4);
+  scrypt_options_init(&options);
+  options.log_n = 4, options.r = 2, options.p = 3, options.key_len = options.min_key_len = 20, options.salt_len = 8;
+  options.max_mem = 5376, options.max_work = 1152, options.max_tables = options.processors = 1;
   given.hasher = scrypt_hasher_new(&options, NULL);
   given.max_mem = 5376, given.max_work = 1152, given.key = KEY;
   forget();

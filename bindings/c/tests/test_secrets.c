@@ -59,7 +59,7 @@ static void all_calls(size_t len, uint32_t log_n, uint32_t r, uint32_t p, size_t
   static char text[SCRYPT_PHC_CAPACITY + 2 * (4 + sizeof key)];
   static scrypt_login logins[LOGINS];
   const size_t key_len = mcf ? sizeof key : KEY_LEN;
-  const scrypt_options with = {sizeof with, log_n, r, p, mcf, KEY_LEN, 0, SIZE_MAX, UINT64_MAX, 0, tables, 1};
+  scrypt_options with;
   unsigned before;
   int status;
   is_wrong = len > 0 && !is_wrong;
@@ -72,6 +72,9 @@ static void all_calls(size_t len, uint32_t log_n, uint32_t r, uint32_t p, size_t
   logins[0] = logins[1] = (scrypt_login){password, len, text, strlen(text)};
   take_text(text, logins, LOGINS);
   given.mcf = mcf;
+  scrypt_options_init(&with);
+  with.log_n = log_n, with.r = r, with.p = p, with.mcf = mcf, with.key_len = KEY_LEN;
+  with.max_mem = SIZE_MAX, with.max_work = UINT64_MAX, with.max_tables = tables, with.processors = 1;
   given.hasher = scrypt_hasher_new(&with, NULL);
 #define CALL(name, arguments)                                                                  \
   if (strcmp(#name, "scrypt_hash_password") != 0 && strcmp(#name, "scrypt_calibrate") != 0) {  \

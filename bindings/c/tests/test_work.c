@@ -12,10 +12,12 @@
 int main(int count, char **words) {
   const uint32_t p = count > 1 ? (uint32_t)atoi(words[1]) : 1;
   const char *phc = p == 1 ? PHC_OF_1 : PHC_OF_4;
-  const scrypt_options options = {sizeof options, 8, 8, p, 0, 0, 0, 0, 0, 0, 1, 1};
+  scrypt_options options;
   const scrypt_login login = {"pw", 2, phc, strlen(phc)};
   take_arguments("pw", 2, "salt", 4, 8, 8, p, 32, 1);
   take_text(phc, &login, 1);
+  scrypt_options_init(&options);
+  options.log_n = 8, options.r = 8, options.p = p, options.max_tables = options.processors = 1;
   given.hasher = scrypt_hasher_new(&options, NULL);
 #define CALL(name, arguments)                                                                        \
   if (strcmp(#name, "scrypt_hash_password") != 0 && strcmp(#name, "scrypt_calibrate") != 0) {        \

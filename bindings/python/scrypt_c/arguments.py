@@ -53,9 +53,8 @@ def number(value: int, what: str) -> int:
 
 
 def in_64_bits(value: int, what: str) -> int:
-    """Clamps a limit to the range of C's types: a limit above 64 bits allows everything, and one
-    below 1 becomes 1, because 0 means the default in C."""
-    return min(max(number(value, what), 1), (1 << 64) - 1)
+    """Clamps a limit to the range of C's types: a limit above 64 bits allows everything."""
+    return min(max(number(value, what), 0), (1 << 64) - 1)
 
 
 def seconds(value: Optional[float], what: str) -> Optional[float]:

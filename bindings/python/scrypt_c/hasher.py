@@ -104,10 +104,13 @@ class PasswordHasher:
         limits = {"max_mem": max_mem, "max_work": max_work, "max_tables": max_tables}
         others = {"salt_len": salt_len, "mcf": bool(mcf), "timeout": timeout}
         self._options: dict[str, Any] = {**others, **limits}
-        set_limits = {name: limit for name, limit in limits.items() if limit is not None}
-        most = {name: in_64_bits(limit, name) for name, limit in set_limits.items()}
-        first = ctypes.sizeof(declared.Options), *self._params[:3], bool(mcf)
-        options = declared.Options(*first, self._params.key_len, salt_len, **most)
+        options = declared.Options()
+        library.options_init(options)
+        options.log_n, options.r, options.p, options.key_len = self._params
+        options.mcf, options.salt_len = bool(mcf), salt_len
+        for name, limit in limits.items():
+            if limit is not None:
+                setattr(options, name, in_64_bits(limit, name))
         status = ctypes.c_int()
         self._c = library.hasher_new(options, status)
         check_costs(status.value, cost_of(self._params)[1], max_mem, max_work)

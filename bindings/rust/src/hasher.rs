@@ -119,25 +119,22 @@ impl Hasher {
     /// limits, and `OutOfMemory`.
     pub fn new(options: Options) -> Result<Hasher, Error> {
         let Options { params, format, salt_len, max_tables, processors, limits, .. } = options;
-        if salt_len == 0 {
-            return Err(Error::SaltInvalid);
+        let mut raw = RawOptions::default();
+        // SAFETY: the pointer is to a local variable.
+        unsafe { scrypt_options_init(&mut raw) };
+        raw.log_n = params.log_n().into();
+        (raw.r, raw.p, raw.key_len) = (params.r(), params.p(), params.key_len());
+        raw.mcf = (format == Format::Mcf).into();
+        raw.salt_len = salt_len;
+        if let Some(Limits { max_mem, max_work }) = limits {
+            (raw.max_mem, raw.max_work) = (max_mem, max_work);
         }
-        // 0 would mean the default; no derivation has a cost of 1 or less.
-        let limits = limits.map_or((0, 0), |most| (most.max_mem.max(1), most.max_work.max(1)));
-        let raw = RawOptions {
-            size: std::mem::size_of::<RawOptions>(),
-            log_n: params.log_n().into(),
-            r: params.r(),
-            p: params.p(),
-            mcf: (format == Format::Mcf).into(),
-            key_len: params.key_len(),
-            salt_len,
-            max_mem: limits.0,
-            max_work: limits.1,
-            min_key_len: 0, // the default
-            max_tables,
-            processors,
-        };
+        if max_tables > 0 {
+            raw.max_tables = max_tables;
+        }
+        if processors > 0 {
+            raw.processors = processors;
+        }
         let mut status = OK;
         // SAFETY: both pointers are to local variables, and `size` is the size of the options.
         match NonNull::new(unsafe { scrypt_hasher_new(&raw, &mut status) }) {
