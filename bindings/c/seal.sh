@@ -4,16 +4,18 @@
 # usage: seal.sh OUTPUT ARCHIVE PREFIX    or    seal.sh OUTPUT OBJECT -- NAME..
 # NM, OBJCOPY and AR are the target's.
 set -eu
-names=$(mktemp)
-trap 'rm -f "$names" "$names.o"' EXIT
+room=$(mktemp -d)
+trap 'rm -r "$room"' EXIT
+names=$room/names all=$room/all.o
 output=$1 from=$2 prefix=$3
 shift 3
 if [ "$prefix" = -- ]; then
   printf '%s\n' "$@" > "$names"
-  exec "$OBJCOPY" --keep-global-symbols="$names" "$from" "$output"
+  "$OBJCOPY" --keep-global-symbols="$names" "$from" "$output"
+  exit
 fi
-"$AR" p "$from" > "$names.o"
-"$NM" -g --defined-only "$names.o" | awk -v prefix="$prefix" '$2 == "T" && $3 ~ /^scrypt_[a-z_]*$/ { print $3, prefix $3 }' > "$names"
-"$OBJCOPY" --redefine-syms="$names" "$names.o"
+"$AR" p "$from" > "$all"
+"$NM" -g --defined-only "$all" | awk -v prefix="$prefix" '$2 == "T" && $3 ~ /^scrypt_[a-z_]*$/ { print $3, prefix $3 }' > "$names"
+"$OBJCOPY" --redefine-syms="$names" "$all"
 sed -i 's/.* //' "$names"
-"$OBJCOPY" --keep-global-symbols="$names" "$names.o" "$output"
+"$OBJCOPY" --keep-global-symbols="$names" "$all" "$output"

@@ -26,4 +26,7 @@ lint '*.antt' the-Rattle-kit "$rattle" fmt --check
 # A user's CDPATH would make cd go elsewhere.
 without=$(grep -lE '^[^#]*\bcd ' .ci/run $(find bindings examples tools -name '*.sh') | xargs grep -Lx 'unset CDPATH' || true)
 test -z "$without" || { echo "no unset CDPATH: $without"; failed=1; }
+# A name beside a file of mktemp is free to every user of the machine, a name in a folder of mktemp is not.
+without=$(find bindings examples tools -name '*.sh' -exec grep -nE '\$\(mktemp\)' {} + || true)
+test -z "$without" || { echo "mktemp without -d: $without"; failed=1; }
 exit $failed
