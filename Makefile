@@ -1,15 +1,17 @@
 # You need the Rattle kit, make and Python 3.11. These commands need nothing built before. As root on Debian they
-# install what else they use (tools/packages.txt), but not with NO_INSTALL=1; elsewhere they name first what they need:
+# install what else they use (tools/packages.txt), but not with NO_INSTALL=1; elsewhere they name first what they need,
+# and what they leave out:
 #   make try       compiles and runs the program, and proves nothing: it prints the first key of RFC 7914,
 #                  section 12, in about a minute
-#   make run       proves and builds the program, and prints that key
+#   make run       proves and builds the program build/bin/scrypt_tool, which prints that key
 #   make test      is the gate: proves everything from nothing, checks that wrong code is rejected, and runs
 #                  every test
 # To use it:
 #   make lib       proves and builds the C libraries into build/lib, with code for x86-64-v2 and x86-64-v3; with
 #                  PRESET=arm64 the libraries for that processor, and the program, or with PRESET=windows the
 #                  libraries for Windows, into build/PRESET
-#   make install   installs the built files below prefix=/usr/local, and honours DESTDIR
+#   make install   installs the built files below prefix=/usr/local, and honours DESTDIR; after make run alone, the
+#                  program with its man page and its completion
 #   make uninstall removes the last installation; use the same DESTDIR
 #   make js        proves and builds the module for JavaScript into bindings/js, and tests it
 #   make doc       makes pages for reading the proof, and prints the address that a browser opens; needs
@@ -26,72 +28,84 @@
 # CONTRIBUTING.md names rarely needed scripts.
 unexport CDPATH # with it, cd would go elsewhere
 PRESET ?= native
-export PRESET
+export PRESET DESTDIR
 prefix = $(or $(PREFIX),/usr/local)
 STEP = PROGRESS=yes tools/gate/step.sh
+FIRST_KEY = key 4 1 1 64 "" < /dev/null
 
 # The libraries below the program, each after the libraries that it uses. The two lowest take about equally
 # long: if there is enough memory, they are proved concurrently with three jobs each.
 LIBRARIES = $(addprefix proved-,password_hash scrypt_kernel scrypt scrypt_commands)
 HAS_ROOM := $(shell [ $$(nproc) -ge 4 ] && awk '/^MemAvailable/ && $$2 > 12000000 { print "yes" }' /proc/meminfo)
 PROVE = $(MAKE) --no-print-directory -j$(if $(HAS_ROOM),2,1)
-.PHONY: help kit setup-run setup-lib setup-test try run lib linked js install uninstall test check documents suites examples \
-  generate promises doc dist clean proved-scrypt_tool $(LIBRARIES)
+.PHONY: help kit setup-run setup-lib setup-js setup-test try run lib linked js install uninstall test check documents \
+  suites examples built generate promises doc dist clean proved-scrypt_tool $(LIBRARIES)
 help:
 	@sed -n '/^#/!q; s/^# \{0,1\}//p' Makefile
 kit:
 	@command -v rt > /dev/null || { echo "The Rattle kit's command rt isn't here: nothing was proved." >&2; exit 1; }
-setup-run setup-lib setup-test: setup-%: kit
-	@tools/setup.sh $*
+setup-run setup-lib setup-js setup-test: setup-%: kit
+	@tools/setup.sh $* $(if $(filter install,$(MAKECMDGOALS)),"$(prefix)")
 proved-password_hash proved-scrypt_kernel: private JOBS = $(if $(HAS_ROOM),--jobs 3)
 $(LIBRARIES): proved-%: kit
 	@$(STEP) $* env -C crates/$* rt lib $(JOBS)
 proved-scrypt: proved-password_hash proved-scrypt_kernel
 proved-scrypt_commands: proved-scrypt
 proved-scrypt_tool: proved-scrypt_commands
-	@$(STEP) scrypt_tool env -C crates/scrypt_tool rt run -- key 4 1 1 64 "" < /dev/null
+	@$(STEP) scrypt_tool env -C crates/scrypt_tool rt run -- $(FIRST_KEY)
 
 try: kit
 	@echo "Compiles and runs the program, which prints the first key of RFC 7914, section 12. It proves nothing: proved=no."
-	@cd crates/scrypt_tool && rt try -- key 4 1 1 64 "" < /dev/null
+	@$(STEP) try env -C crates/scrypt_tool rt try -- $(FIRST_KEY)
+	@grep -xE '[0-9a-f]{128}' build/log/try.log
+	@echo "The program was not kept: make run proves it, and builds build/bin/scrypt_tool."
 
+run: export STEPS = password_hash scrypt_kernel scrypt scrypt_commands scrypt_tool program
 run: setup-run
 	@echo "Proves and builds the program, in about 8 minutes on four idle processors. The steps' logs are in build/log."
 	@$(PROVE) proved-scrypt_tool
+	@rm -f build/bin/scrypt_tool
 	@$(STEP) program --needs cc:gcc /usr/include/bsd/readpassphrase.h:libbsd-dev bindings/cli/build.sh
-	@[ -e build/bin/scrypt_tool ] || echo "build/bin/scrypt_tool, which asks for a password on a terminal, was not linked"
-	@echo "crates/scrypt_tool/out/scrypt_tool prints the first key of RFC 7914, section 12:"
-	@crates/scrypt_tool/out/scrypt_tool key 4 1 1 64 "" < /dev/null
+	@it=build/bin/scrypt_tool; if ! [ -e $$it ]; then it=crates/scrypt_tool/out/scrypt_tool; \
+	   echo "$$it shows a password that is typed: build/bin/scrypt_tool, which does not, was not linked."; fi; \
+	 echo "$$it prints the first key of RFC 7914, section 12:"; $$it $(FIRST_KEY)
 
 # Both levels of x86-64 are built in any case. rt lib gives both one name, so the newer one is moved.
-BUILD_native = cd crates/scrypt_c && rt lib --cpu x86-64-v3 && mkdir -p out/x86-64-v3 && \
-  mv out/libscrypt_c.a out/x86-64-v3/ && rt lib
-BUILD_windows = rm -rf build/given && python3 -m tools.gate.library build/given crates/scrypt_c/out/incremental llvm && \
-  python3 -m bindings.bitcode build/given
+BUILD_native = sh -c 'cd crates/scrypt_c && rt lib --cpu x86-64-v3 && mkdir -p out/x86-64-v3 && \
+  mv out/libscrypt_c.a out/x86-64-v3/ && rt lib'
+BUILD_windows = sh -c 'rm -rf build/given && python3 -m tools.gate.library build/given crates/scrypt_c/out/incremental llvm && \
+  python3 -m bindings.bitcode build/given'
+IS_CROSS = $(if $(BUILD_$(PRESET)),,yes)
+lib: export STEPS = password_hash scrypt_kernel scrypt $(if $(IS_CROSS),scrypt_commands) library linked \
+  $(if $(IS_CROSS),program)
 lib: setup-lib
-	$(PROVE) proved-scrypt$(if $(BUILD_$(PRESET)),,_commands)
-	$(or $(BUILD_$(PRESET)),python3 -m bindings.cross $(PRESET) scrypt_c scrypt_tool)
-	@$(MAKE) --no-print-directory linked
-	@$(if $(BUILD_$(PRESET)),,bindings/cli/build.sh)
+	@echo "Proves and builds the C libraries, in about 8 minutes on four idle processors. The steps' logs are in build/log."
+	@$(PROVE) proved-scrypt$(if $(IS_CROSS),_commands)
+	@$(STEP) library $(or $(BUILD_$(PRESET)),python3 -m bindings.cross $(PRESET) scrypt_c scrypt_tool)
+	@$(STEP) linked $(MAKE) --no-print-directory linked
+	@$(if $(IS_CROSS),$(STEP) program bindings/cli/build.sh)
 linked: # compiles and links the proved code
-	@cd bindings/c && cmake --preset $(PRESET) > /dev/null
+	@cd bindings/c && LACKING= cmake --preset $(PRESET) > /dev/null
 	@cmake --build build/$(PRESET) -- --quiet
-js: kit
-	$(PROVE) proved-scrypt
-	python3 -m bindings.js.build
-	bindings/js/test/test.sh || [ $$? = 77 ]
-install:
-	@[ -e build/$(PRESET)/cmake_install.cmake ] || { echo "first run make lib" >&2; exit 1; }
-	@DESTDIR="$(DESTDIR)" cmake --install build/$(PRESET) --prefix "$(prefix)" > build/install.log
-	@echo "installed; programs find the library after ldconfig, or by LD_LIBRARY_PATH=$(prefix)/lib"
+js: export STEPS = password_hash scrypt_kernel scrypt module javascript
+js: setup-js
+	@echo "Proves and builds the module for JavaScript. The steps' logs are in build/log."
+	@$(PROVE) proved-scrypt
+	@$(STEP) module python3 -m bindings.js.build
+	@$(STEP) javascript bindings/js/test/test.sh
+install: | $(filter run lib,$(MAKECMDGOALS))
+	@tools/install.sh "$(prefix)"
 uninstall:
-	@sed "s|^|$(DESTDIR)|" build/$(PRESET)/install_manifest.txt | tr '\n' '\0' | xargs -0 rm -f
+	@tools/install.sh --remove
 test: setup-test; @tools/gate/run.sh
 check: kit documents # from nothing, the libraries are proved first, with more jobs for each
 	$(if $(wildcard crates/scrypt_commands/out/incremental),,$(PROVE) $(LIBRARIES))
 	@$(STEP) what-changed env RT_SECONDS=300 rt all test --jobs $(if $(HAS_ROOM),4,1)
 	@tools/gate/run.sh answers
 documents: generate
+suites examples: | built
+built:
+	@[ -e build/lib/libscrypt_c.so ] || { echo "the libraries that are tested are not here: make lib builds them" >&2; exit 1; }
 documents suites examples:
 	@tools/gate/run.sh $@
 generate:; @python3 -m tools.generate.declarations

@@ -7,7 +7,7 @@
 #   CC         its compiler
 #   emulator   the command that runs what is built, or nothing
 #   bundled    the name of the static library in the folders of the Go module and of the Rust crate
-PRESET=${PRESET:-native}
+PRESET=${PRESET:-native} top=$PWD
 build=build/$PRESET
 if [ "$PRESET" = native ]; then build=build; fi
 if ! [ -e "$build/machine.sh" ]; then
@@ -33,6 +33,6 @@ begin_test() {
 # Whether a command is here, or else which package brings it, and what was left out.
 has() {
   command -v "$1" > /dev/null && return
-  echo "$1 is not installed (package $2): not run"
+  "$top/tools/lacks" "$@"
   return 1
 }

@@ -125,7 +125,7 @@ def main():
         ("C", run_c, "cc", "gcc"),
     ]:
         if not shutil.which(command):
-            print(f"{command} is not installed (package {package}): not run")
+            run([os.path.join(TOP, "tools/lacks"), command, package])
             continue
         with tempfile.TemporaryDirectory() as room:
             runs(room)

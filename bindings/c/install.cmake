@@ -1,4 +1,4 @@
-# What is installed, which can be moved afterwards, and packed by CPack. The program is there after `make run`.
+# What is installed, which can be moved afterwards, and packed by CPack.
 install(TARGETS scrypt_c scrypt_c_static EXPORT scrypt_c-targets)
 install(TARGETS scrypt_calibrate)
 set(cmake_files ${CMAKE_INSTALL_LIBDIR}/cmake/scrypt_c)
@@ -25,14 +25,20 @@ else()
     file(CREATE_LINK libscrypt_c.so.0 \"\$ENV{DESTDIR}\${link}\" SYMBOLIC)
     list(APPEND CMAKE_INSTALL_MANIFEST_FILES \"\${link}\")")
   set(cli ${TOP}/bindings/cli)
-  install(PROGRAMS ${BUILT}/bin/scrypt_tool TYPE BIN OPTIONAL)
-  install(FILES ${cli}/scrypt_tool.1 DESTINATION ${CMAKE_INSTALL_MANDIR}/man1)
   install(FILES ${cli}/scrypt_tool.1 DESTINATION ${CMAKE_INSTALL_MANDIR}/man1 RENAME scrypt_calibrate.1)
-  install(FILES ${cli}/scrypt_tool.bash RENAME scrypt_tool
-          DESTINATION ${CMAKE_INSTALL_DATADIR}/bash-completion/completions)
-  set(PYTHONDIR lib/python3/dist-packages CACHE STRING "where Python looks")
-  install(DIRECTORY ${TOP}/bindings/python/scrypt_c DESTINATION ${PYTHONDIR} FILES_MATCHING PATTERN *.py
-          PATTERN py.typed PATTERN __pycache__ EXCLUDE)
+  # The program is there after `make run`.
+  install(CODE "if(EXISTS \"${BUILT}/bin/scrypt_tool\")
+      execute_process(COMMAND \"${cli}/install.sh\" \"${BUILT}/bin/scrypt_tool\" \"\${CMAKE_INSTALL_PREFIX}\"
+                      OUTPUT_VARIABLE paths OUTPUT_STRIP_TRAILING_WHITESPACE COMMAND_ERROR_IS_FATAL ANY)
+      string(REPLACE \"\\n\" \";\" paths \"\${paths}\")
+      list(APPEND CMAKE_INSTALL_MANIFEST_FILES \${paths})
+    endif()")
+  # Debian's Python looks here only below /usr; elsewhere pip installs the package.
+  set(PYTHONDIR lib/python3/dist-packages)
+  install(CODE "if(CMAKE_INSTALL_PREFIX MATCHES \"/usr$\")
+      file(INSTALL \"${TOP}/bindings/python/scrypt_c\" DESTINATION \"\${CMAKE_INSTALL_PREFIX}/${PYTHONDIR}\"
+           FILES_MATCHING PATTERN *.py PATTERN py.typed PATTERN __pycache__ EXCLUDE)
+    endif()")
 endif()
 
 # ---- An archive for any system, and a package for Debian ----

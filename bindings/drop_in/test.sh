@@ -31,7 +31,7 @@ if $python -c 'import nacl' 2> /dev/null; then
   $client check < "$room/ours"
   binds ${scheme}_str_verify $client check < "$room/theirs"
   echo "called by PyNaCl, with hashes of libsodium and of this library"
-else echo "PyNaCl is not installed (package python3-nacl): not run"; fi
+else tools/lacks PyNaCl python3-nacl; fi
 
 # minisign makes a key with a password with libsodium, signs with this library, and rejects another
 # password.

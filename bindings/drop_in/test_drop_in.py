@@ -11,6 +11,7 @@ import hashlib
 import os
 import random
 import resource
+import subprocess
 import sys
 
 from tools.tests import crypt64
@@ -23,7 +24,7 @@ MANY = 1 << 32
 def loaded(name, package):
     path = ctypes.util.find_library(name)
     if not path:
-        print(f"lib{name} is not installed (package {package}): not run")
+        subprocess.run(["tools/lacks", f"lib{name}", package], check=True)
     return ctypes.CDLL(path, use_errno=True) if path else None
 
 

@@ -66,7 +66,10 @@ func newHasher(t *testing.T, options Options) *Hasher {
 func rows(t *testing.T, path string) (found [][]string) {
 	file, err := os.ReadFile(path)
 	if err != nil {
-		t.Skip(err) // a release's module does not have it
+		if _, notHere := os.Stat("test.sh"); notHere != nil {
+			t.Skip(err) // a release's module has neither
+		}
+		t.Fatal(err)
 	}
 	for _, line := range strings.Split(strings.TrimSuffix(string(file), "\n"), "\n")[1:] {
 		found = append(found, strings.Split(line, "\t"))

@@ -15,12 +15,12 @@ if [ "$system" != windows ]; then
   quiet $python -W error -m unittest test_hasher test_keys test_library test_texts test_threads
   for framework in django passlib; do
     if $python -c "import $framework" 2> /dev/null; then quiet $python -m unittest test_$framework
-    else echo "$framework is not installed (package python3-$framework): not run"; fi
+    else "$top/tools/lacks" $framework python3-$framework; fi
   done
   echo "called from Python"
 fi
 if ! $python -c 'import venv, ensurepip, hatchling' 2> /dev/null; then
-  echo "what makes wheels is not installed (packages python3-venv, python3-hatchling): not run"
+  "$top/tools/lacks" "what makes wheels" python3-venv python3-hatchling
   exit
 fi
 cd ..

@@ -5,7 +5,7 @@ unset CDPATH
 cd "$(dirname "$0")"
 export PATH="/usr/bin:$PATH"
 if ! { command -v scrypt && command -v chromedriver && python3 -c 'import selenium'; } > /dev/null 2>&1; then
-  echo "what it needs is not installed (packages scrypt, chromium-driver, python3-selenium): not run"
+  ../../tools/lacks "what it needs" scrypt chromium-driver python3-selenium
   exit 77
 fi
 python3 -B test_file_page.py "$@"

@@ -5,10 +5,10 @@ unset CDPATH
 cd "$(dirname "$0")"
 export PATH="/usr/bin:$PATH" PYTHONPATH=../../bindings/python SCRYPT_C_LIBRARY=../../build/lib
 if ! python3 -c 'import Cryptodome' 2> /dev/null; then
-  echo "Cryptodome is not installed (package python3-pycryptodome): not run"
+  ../../tools/lacks Cryptodome python3-pycryptodome
   exit 77
 fi
 for program in age scrypt; do
-  if ! command -v $program > /dev/null; then echo "$program is not installed (package $program): not run"; fi
+  if ! command -v $program > /dev/null; then ../../tools/lacks $program $program; fi
 done
 python3 -B test_key_files.py "$@"

@@ -1,15 +1,18 @@
 #!/bin/bash
-# Checks the first step of make lib and make run where packages are missing, and what the gate prints.
+# Checks the first step of make where packages are missing, what the gate prints, and the end of make run with its
+# installation. Nothing is proved: the prover, the packages and what is built are stubs.
 set -eu
 unset CDPATH
 cd "$(dirname "$0")/../.."
 room=$(mktemp -d)
 trap 'rm -rf "$room"' EXIT
-mkdir -p "$room"/{bin,tools/gate}
-cp tools/setup.sh "$room/tools"
+mkdir -p "$room"/{bin,tools/gate,bindings/cli,build,crates/scrypt_tool}
+cp Makefile "$room"
+cp tools/{setup,install}.sh tools/lacks "$room/tools"
 cp tools/gate/{run,step}.sh "$room/tools/gate"
+cp bindings/cli/{install.sh,scrypt_tool.1,scrypt_tool.bash} "$room/bindings/cli"
 cd "$room"
-unset NO_INSTALL PRESET PROGRESS NICE JOBS # of who runs this
+unset NO_INSTALL PRESET PROGRESS STEPS NICE LIMIT JOBS DESTDIR MAKEFLAGS # of who runs this
 export PATH="$room/bin:$PATH"
 is() { if [ "$1" != "$2" ]; then printf '%s\nand not: %s\n' "$1" "$2"; exit 1; fi; }
 fake() { # COMMAND LINE: a command that prints this line, and notes how it is called
@@ -17,47 +20,94 @@ fake() { # COMMAND LINE: a command that prints this line, and notes how it is ca
   chmod +x "bin/$1"
 }
 
+# ---- The first step ----
 cat > tools/packages.txt << 'END'
-run uses unused
+run uses no-cc:gcc sh:dash
 lib needs sh:dash no-cc:gcc /no/cmake:cmake
+js uses no-node:nodejs unknown
 END
 lacks="make lib needs these packages of Debian, and nothing was proved: apt-get install gcc cmake
 1"
 fake id 1000
 fake apt-get ""
 fake dpkg-query ""
-is "$(tools/setup.sh run 2>&1; echo $?)" 0
+is "$(tools/setup.sh run 2>&1; echo $?)" "make run leaves out what uses these packages of Debian: apt-get install gcc
+0"
+is "$(tools/setup.sh js 2>&1; echo $?)" "make js leaves out what uses these packages of Debian: apt-get install nodejs unknown
+0"
+is "$(DESTDIR="$room" tools/setup.sh run /usr 2>&1; echo $?)" "${lacks/lib needs*/run needs these packages of Debian, and nothing was proved: apt-get install gcc
+1}"
 is "$(tools/setup.sh lib 2>&1; echo $?)" "$lacks"
+is "$(tools/setup.sh lib "$room/Makefile/no" 2>&1; echo $?)" "make lib install cannot write to $room/Makefile, and nothing was proved: prefix=\$HOME/.local?
+1"
 fake id 0
 is "$(NO_INSTALL=1 tools/setup.sh lib 2>&1; echo $?)" "$lacks"
 if grep apt-get asked; then echo "installs packages, not as root or with NO_INSTALL=1"; exit 1; fi
-is "$(tools/setup.sh lib 2>&1; echo $?)" "Installs these packages of Debian, in some minutes (NO_INSTALL=1 prevents it): gcc cmake
+is "$(tools/setup.sh lib 2>&1; echo $?)" \
+  "Installs these packages of Debian, in some minutes (NO_INSTALL=1 prevents it): gcc cmake
 $lacks"
 grep -q '^apt-get install .* gcc cmake$' asked
 
+# ---- Steps, and the last lines ----
 cat > tools/gate/gate.mk << 'MK'
-documents = proved counted part none needs wrong after
+documents = proved counted parts part none needs wrong hangs after
 tasks:; @echo $($(OF))
 documents: $(documents)
 STEP = @tools/gate/step.sh $@
 proved:; $(STEP) bash -c 'echo "logic=proved functions=7 axioms=0"; echo "so far: 1 of 7 functions checked"'
 counted:; $(STEP) bash -c 'echo "logic=proved functions=7 axioms=0"; echo "2 passed, 0 failed"'
-part:; $(STEP) bash -c 'echo "it is not installed (packages a, b): not run"'
-none:; $(STEP) bash -c 'echo "it is not installed (package c): not run"; exit 77'
+parts:; $(STEP) printf '%s\n' "a: 3 of 3 as they should be" "# pass 4" "Ran 5 tests in 1s" "100% tests passed, 0 tests failed out of 6"
+part:; $(STEP) tools/lacks it a b
+none:; $(STEP) bash -c 'tools/lacks it c; exit 77'
 needs: none; $(STEP) --needs nothing:d no-cc:gcc true
 wrong:; $(STEP) bash -c 'echo why; exit 3'
+hangs:; @LIMIT=1 tools/gate/step.sh $@ bash -c 'sleep 7914 & echo $$! > child; sleep 7914'
 after: wrong
 MK
-is "$(JOBS=1 tools/gate/run.sh documents 2> /dev/null | sed 's/ (.:.*//; /processor minutes$/d')" "proved: proved, 7 functions
-counted: 2 passed, 0 failed
+no_times() { sed 's/ (.:.*//; /processor minutes$/d'; }
+is "$(JOBS=1 tools/gate/run.sh documents 2> /dev/null | no_times)" "proved: proved, 7 functions
+counted: 2 of 2 passed
+parts: 18 of 18 passed
 part: passed, in part (needs a b)
 none: skipped (needs c)
 needs: skipped (needs d gcc)
 why
 wrong: FAILED
+
+hangs: FAILED after its limit, 1
 wrong: FAILED (build/log/wrong.log)
+hangs: FAILED (build/log/hangs.log)
 after: did not begin, since what it needs failed
 in part: part (needs a b)
 skipped: none (needs c); needs (needs d gcc)
-3 passed, 2 failed, 2 skipped"
-echo "the first step of make, skipped steps, and the last lines"
+4 passed, 3 failed, 2 skipped"
+if grep -s '^State:.[^Z]' "/proc/$(cat child)/status"; then echo "a child of a task that hangs is left"; exit 1; fi
+
+export PROGRESS=yes STEPS="proved other"
+is "$(tools/gate/step.sh proved sh -c 'echo "so far: 3 of 7 functions checked"; sleep 1.5; echo "logic=proved functions=7"' | no_times)" \
+  "step 1 of 2, proved: begins
+proved: 42 % is checked
+step 1 of 2, proved: proved, 7 functions"
+is "$(tools/gate/step.sh proved true | no_times)" "step 1 of 2, proved: begins
+step 1 of 2, proved: nothing to do: proved, 7 functions"
+grep -q '^logic=proved functions=7' build/log/proved.log
+unset PROGRESS STEPS
+
+# ---- The program, installed beside an installation whose folder has the name that & of sed makes ----
+echo "run uses sh:dash" > tools/packages.txt
+fake rt "$room/kit"
+printf '#!/bin/sh\nmkdir -p build/bin && printf "#!/bin/sh\\necho the key of \\$*" > build/bin/scrypt_tool && chmod +x build/bin/*\n' > bindings/cli/build.sh
+chmod +x bindings/cli/build.sh
+for it in ab 'a&b' 'a|b'; do
+  is "$(make --no-print-directory run install PROVE=: prefix=/usr DESTDIR="$room/$it" | tail -n 3)" \
+    "build/bin/scrypt_tool prints the first key of RFC 7914, section 12:
+the key of key 4 1 1 64
+installed below $room/$it/usr: scrypt_tool, its man page and its completion; make lib builds the libraries"
+  is "$(cd "$it/usr" && find . -type f | sort | xargs)" "./bin/scrypt_tool ./share/bash-completion/completions/scrypt_tool ./share/man/man1/scrypt_tool.1"
+done
+make --no-print-directory uninstall DESTDIR="$room/a|b"
+make --no-print-directory uninstall DESTDIR="$room/a&b"
+is "$(find ab 'a&b' 'a|b' -type f | cut -d/ -f1 | xargs)" "ab ab ab"
+rm build/bin/scrypt_tool
+is "$(make --no-print-directory install 2>&1 | head -n 1)" "nothing is built: make run builds the program, make lib the libraries"
+echo "the first step of make, its steps and last lines, and the installed program"

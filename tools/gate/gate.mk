@@ -1,7 +1,8 @@
 # The tasks of the gate. Each prints one line (tools/gate/step.sh), and its failure does not stop the
 # others; `tools/gate/run.sh` runs them. Two groups are useful separately: `make documents` needs nothing
 # built, and `make suites` calls the files that `make lib`, `make js` and `make run` have built (with BUILT=1).
-TASK = @NICE=$(or $(NICE),10) tools/gate/step.sh $@ $(NEEDS)
+# A task that hangs is ended after LIMIT.
+TASK = @NICE=$(or $(NICE),10) LIMIT=$(or $(LIMIT),2h) tools/gate/step.sh $@ $(NEEDS)
 NEEDS =
 PY = python3 -B -m
 
@@ -40,6 +41,7 @@ tasks: # of the targets OF
 
 # ---- The proofs ----
 proofs: private export PROGRESS = yes
+proofs: private LIMIT = 6h
 proofs:
 	+$(TASK) tools/gate/prove.sh
 # A task that needs a proved crate begins when `rt ci` has proved it: what follows there, tests and edits, takes
@@ -74,6 +76,7 @@ library: $(call proved,proved-scrypt)
 	$(TASK) --needs cc:gcc $(PY) tools.gate.library crates/scrypt_c/out $(KEPT) llvm
 linked: $(call proved,library)
 	$(TASK) $(MAKE) --no-print-directory -f Makefile linked
+linked native asan tsan by-rattle: private NEEDS = --needs cmake:cmake ninja:ninja-build
 native asan tsan by-rattle: linked
 	$(TASK) tools/gate/c_tests.sh $@
 $(CROSS:%=library-%): library-%: library

@@ -8,7 +8,7 @@ lint() {
   kind=$1 package=$2
   shift 2
   if ! command -v "$1" > /dev/null; then
-    echo "$1 is not installed (package $package): not run"
+    tools/lacks "$1" $package
     return
   fi
   wrong=$(find bindings crates examples tools -name "$kind" -not -path '*/out/*' \

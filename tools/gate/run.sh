@@ -26,10 +26,16 @@ else
 fi
 mkdir -p build/log
 : > $results
+tasks=$(gate tasks OF="$*")
+minutes() { printf '%d:%02d' $(((SECONDS - begun) / 60)) $(((SECONDS - begun) % 60)); }
+while sleep 60 > /dev/null 2>&1; do
+  echo "$(minutes) minutes: $(wc -l < $results) of $(wc -w <<< "$tasks") tasks have ended"
+done &
+trap "kill $! 2> /dev/null" EXIT
 gate --keep-going --output-sync=target -j"$jobs" "$@"
 
 passed=0 failed=0 skipped=0 without='' in_part=''
-for task in $(gate tasks OF="$*"); do
+for task in $tasks; do
   read -r status _ needs < <(sed -n "s/^$task //p" $results)
   case $status in
     0) passed=$((passed + 1)) && in_part=$in_part${needs:+"; $task (needs $needs)"} ;;
@@ -46,7 +52,7 @@ if [ "$*" = gate ]; then
 fi
 if [ -n "$in_part" ]; then echo "in part: ${in_part#; }"; fi
 if [ -n "$without" ]; then echo "skipped: ${without#; }"; fi
-awk -v all=$((SECONDS - begun)) '{ used += $3 } END { printf "%d:%02d minutes, %.1f processor minutes\n", all / 60, all % 60, used / 60 }' $results
+awk -v all="$(minutes)" '{ used += $3 } END { printf "%s minutes, %.1f processor minutes\n", all, used / 60 }' $results
 if [ "$skipped" = 0 ]; then skipped=; fi
 echo "$passed passed, $failed failed${skipped:+, $skipped skipped}"
 [ "$failed" = 0 ]

@@ -13,6 +13,7 @@ import html
 import json
 import re
 import shutil
+import subprocess
 import sys
 from collections import Counter
 from pathlib import Path
@@ -138,7 +139,7 @@ def main(what="pages"):
     if jinja2:
         wrong += made(proof)
     elif what == "check":
-        print("jinja2 is not installed (package python3-jinja2): not run")
+        subprocess.run(["tools/lacks", "jinja2", "python3-jinja2"], check=True)
     else:
         wrong.append("make doc needs Debian's python3-jinja2")
     sys.exit("\n".join([*wrong, *proof.wrong()]) or 0)

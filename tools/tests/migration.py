@@ -20,6 +20,7 @@ import os
 import random
 import shutil
 import string
+import subprocess
 import sys
 import tempfile
 
@@ -95,11 +96,12 @@ func main() {
 """
 
 
+def lacks(*what_and_packages):
+    subprocess.run(["tools/lacks", *what_and_packages], check=True)
+
+
 class Missing(Exception):
     """A program or library that a part needs is not installed."""
-
-    def __init__(self, what, package):
-        super().__init__(f"{what} is not installed (package {package}): not run")
 
 
 def imported(module, package):
@@ -194,7 +196,7 @@ def django(trial):
         settings.configure()
         from django.contrib.auth.hashers import ScryptPasswordHasher
     except ImportError:
-        print("Django 4 is not installed: only texts of its own tests")
+        lacks("Django 4", "python3-django>=4")  # its encoder: its texts above were verified
         return
     for case in trial.texts():
         yield from trial.converted(migration.from_django, ScryptPasswordHasher().encode(*case), case[0])
@@ -314,7 +316,7 @@ def main():
         try:
             is_well = report(part.__name__, part(trial)) and is_well
         except Missing as missing:
-            print(f"{part.__name__}: {missing}")
+            lacks(*missing.args)
     sys.exit(not is_well)
 
 

@@ -11,7 +11,7 @@ trap 'rm -rf "$room"' EXIT
 # Whether this succeeds, or else which package brings it, and what was left out.
 has() {
   ("$3" "$4" "${5:-}") > /dev/null 2>&1 && return
-  echo "$1 is not installed, or is too old (package $2): not run"
+  tools/lacks "$1" "$2"
   return 1
 }
 

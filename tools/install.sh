@@ -1,0 +1,31 @@
+#!/bin/sh
+# `make install` and `make uninstall`, with DESTDIR and PRESET as make has them. After `make lib` CMake installs what
+# is built, and the program if it is linked; otherwise only the program is installed. build/installed has the paths.
+# usage: install.sh PREFIX      installs
+#        install.sh --remove    removes the files of the last installation, and the empty folders with our name
+set -eu
+unset CDPATH
+cd "$(dirname "$0")/.."
+folder=build/${PRESET:=native} list=build/installed program=build/bin/scrypt_tool
+if [ "$PRESET" != native ]; then program=$folder/bin/scrypt_tool; fi
+
+if [ "$1" = --remove ]; then
+  [ -e $list ] || { echo "nothing is installed" >&2; exit 1; }
+  while IFS= read -r it || [ -n "$it" ]; do rm -f "${DESTDIR:-}$it"; done < $list
+  sed -n 's|/[^/]*$||p' $list | grep -E '/scrypt_c(/|$)' | sort -ru | while IFS= read -r it; do
+    rmdir "${DESTDIR:-}$it" 2> /dev/null || true # it can have other files
+  done
+  exit
+fi
+if [ -e "$folder/cmake_install.cmake" ]; then
+  cmake --install "$folder" --prefix "$1" > build/install.log
+  cp "$folder/install_manifest.txt" $list
+  echo "installed below ${DESTDIR:-}$1; programs find the library after ldconfig, or by LD_LIBRARY_PATH=$1/lib"
+  if [ "$PRESET" != windows ] && ! [ -e "$program" ]; then echo "scrypt_tool is not installed: make run builds it"; fi
+elif [ -e "$program" ]; then
+  bindings/cli/install.sh "$program" "$1" > $list
+  echo "installed below ${DESTDIR:-}$1: scrypt_tool, its man page and its completion; make lib builds the libraries"
+else
+  echo "nothing is built: make run builds the program, make lib the libraries" >&2
+  exit 1
+fi
