@@ -2,7 +2,6 @@
  * it, and fail on request. */
 #define _GNU_SOURCE
 #include "child.h"
-#include "numbers.h"
 #include "scrypt_c.h"
 
 #include <errno.h>
@@ -24,15 +23,21 @@ static int is_granted(size_t len) {
 void *__libc_malloc(size_t len);
 void *malloc(size_t len) { return is_granted(len) ? __libc_malloc(len) : NULL; }
 
+static size_t mapped;
 void *mmap(void *at, size_t len, int protection, int flags, int file, off_t offset) {
-  return is_granted(len) ? (void *)syscall(SYS_mmap, at, len, protection, flags, file, offset) : MAP_FAILED;
+  void *made = is_granted(len) ? (void *)syscall(SYS_mmap, at, len, protection, flags, file, offset) : MAP_FAILED;
+  if (made != MAP_FAILED) mapped += len;
+  return made;
 }
 
 static int keeps;
 static uint8_t *kept;
 static size_t kept_len;
 int munmap(void *at, size_t len) {
-  if (!keeps) return (int)syscall(SYS_munmap, at, len);
+  if (!keeps) {
+    mapped -= len;
+    return (int)syscall(SYS_munmap, at, len);
+  }
   kept = at, kept_len = len, errno = ENOMEM;
   return -1;
 }
@@ -70,8 +75,8 @@ static int derive(uint32_t log_n, uint32_t p, size_t max_mem) {
   return status;
 }
 
-/* The most chunks for four tables of 32 MiB and their scratches. */
-enum { MOST = (MAX_INTERLEAVED_MEM - 4 * ((128 * R << 15) + 256 * R)) / (128 * R) };
+/* The most chunks for four tables of 32 MiB and their scratches, in the 129 MiB that the header states. */
+enum { MOST = ((129 << 20) - 4 * ((128 * R << 15) + 256 * R)) / (128 * R) };
 
 static void tables_of_keys(size_t that_pay) {
   static const struct {
@@ -195,5 +200,6 @@ int main(void) {
   no_table();
   one_of_several();
   not_unmapped();
+  check(mapped == 0, "what was mapped is unmapped");
   return failed;
 }

@@ -131,6 +131,7 @@ static const struct {
     {"batches of four", 1, 4, 4, {A, A, A, A, A, A, A, B, B}, "0 1234 56 78"},
     {"a processor that interleaves up to three chunks", 1, 4, 3, {A, A, A, A, A, A, A}, "0 123 456"},
     {"with p of 2, batches of two in four tables", 1, 4, 4, {P2, P2, P2, P2, P2}, "0 12 34"},
+    {"with p of 2, no batches in three tables", 1, 3, 4, {P2, P2, P2}, "0 1 2"},
     {"with p of 4 and of 16, no batches in four tables", 1, 4, 4, {P4, P4, P16, P16}, "0 1 2 3"},
     {"p of 1 doesn't join p of 16", 1, 4, 4, {P16, A, P16, A}, "0 13 2"},
     {"the same N * r * p with other parameters", 1, 4, 4, {A, P2, R16, B, R16, A}, "0 1 24 3 5"},
@@ -172,6 +173,13 @@ static void in_a_window(void) {
   start_all((enum kind[]){SLOW, SLOW, A, SLOW, NONE});
   let_windows_last(0);
   end("0~ 1234~ 5 6~");
+  begin("and up to the tables of the slot", 1, 2);
+  start(SLOW);
+  let_windows_last(1);
+  end_first();
+  start_all((enum kind[]){SLOW, SLOW, SLOW, NONE});
+  let_windows_last(0);
+  end("0~ 12~ 3~");
   begin("a full batch has no window", 1, 2);
   start_all((enum kind[]){SLOW, SLOW, SLOW, NONE});
   end("0~ 12");

@@ -82,8 +82,13 @@ static void test_free(void *block) {
   (void)ADD(allocated, -(block != NULL));
   free(block);
 }
+/* The last salt that this thread drew. */
+static __thread uint8_t drawn[SCRYPT_MAX_SALT_LEN];
+static __thread size_t drawn_len;
 static int test_random(uint8_t *bytes, size_t len) {
-  return !is_random_refused && random_bytes(bytes, len);
+  if (is_random_refused || !random_bytes(bytes, len)) return 0;
+  memcpy(drawn, bytes, drawn_len = len);
+  return 1;
 }
 
 /* ---- Sleeps ---- */
@@ -246,14 +251,17 @@ static struct look { int leading, is_idle; scrypt_stats stats; } look_at(scrypt_
   return at;
 }
 
+/* Calls that wait for each other never return: then the name of the test is the last output, which ctest
+ * prints after its timeout. */
 #define RUN(test) run_test(test, #test)
 static void run_test(void (*test)(void), const char *name) {
   int64_t begun_at = now_ns();
   int failed_before = failed;
+  printf("%s: ", name);
+  (void)fflush(stdout);
   failed = 0;
   test();
   expect(READ(mapped) == 0 && READ(allocated) == 0, "memory is left");
-  printf("%s: %s, %d ms\n", name, failed ? "FAILED" : "ok",
-         (int)((now_ns() - begun_at) / NS_OF_MS));
+  printf("%s, %d ms\n", failed ? "FAILED" : "ok", (int)((now_ns() - begun_at) / NS_OF_MS));
   failed |= failed_before;
 }

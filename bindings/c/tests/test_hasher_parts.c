@@ -166,6 +166,7 @@ static void calls(void) {
   scrypt_options with = OF(4, 8, 2, .mcf = 1);
   scrypt_hasher *phc = new_hasher(1, 1, 4), *of_mcf = scrypt_hasher_new(&with, NULL);
   const struct arena *kept = &of_mcf->queue->slots[0].arena;
+  static const char of_16_bytes[] = TEXT_OF("4,r=8,p=1", "AA");
   uint8_t key[32];
   make_text(good, "right", 4, 8, 1);
   IS(scrypt_hasher_hash(phc, "right", 5, NULL, 0, text, sizeof text, -1), SCRYPT_OK);
@@ -179,6 +180,7 @@ static void calls(void) {
   IS(verify(phc, mcf, "a", -1), SCRYPT_MISMATCH);
   IS(scrypt_hasher_needs_rehash(phc, text, strlen(text)), SCRYPT_OK);
   IS(scrypt_hasher_needs_rehash(of_mcf, text, strlen(text)), SCRYPT_NEEDS_REHASH);
+  IS(scrypt_hasher_needs_rehash(phc, of_16_bytes, strlen(of_16_bytes)), SCRYPT_NEEDS_REHASH);
   IS(scrypt_hasher_key(of_mcf, "pw", 2, NULL, 0, key, 32, -1), SCRYPT_OK);
   IS(scrypt_hasher_key(of_mcf, "pw", 2, NULL, 0, key, 1, -1), SCRYPT_OK);
   for (size_t i = 4 * of_mcf->cost.table_len; i < kept->len; i++) IS(kept->tables[i], 0);
@@ -187,14 +189,17 @@ static void calls(void) {
   scrypt_hasher_free(of_mcf);
 }
 
-/* The number of letters of a random salt, which differs in the next hash. */
-static size_t letters_of_salt(scrypt_hasher *hasher) {
-  char text[SCRYPT_PHC_CAPACITY], other[SCRYPT_PHC_CAPACITY];
+/* The salt of a new hash is drawn, each byte of it, and differs in the next hash. */
+static void new_salts(scrypt_hasher *hasher) {
+  const scrypt_options *with = &hasher->options;
+  char text[SCRYPT_PHC_CAPACITY], other[SCRYPT_PHC_CAPACITY], same[SCRYPT_PHC_CAPACITY];
   IS(scrypt_hasher_hash(hasher, "a", 1, NULL, 0, text, sizeof text, -1), SCRYPT_OK);
   IS(scrypt_hasher_hash(hasher, "a", 1, NULL, 0, other, sizeof other, -1), SCRYPT_OK);
-  expect(hasher->options.salt_len < 16 || strcmp(text, other) != 0, "the same salt twice");
-  *strrchr(text, '$') = '\0';
-  return strlen(strrchr(text, '$')) - (hasher->options.mcf ? 12 : 1);
+  expect(with->salt_len < 16 || strcmp(text, other) != 0, "the same salt twice");
+  IS(drawn_len, with->salt_len);
+  IS(scrypt_hash_with_salt("a", 1, drawn, drawn_len, with->log_n, with->r, with->p, with->key_len, with->mcf, same,
+                           sizeof same), SCRYPT_OK);
+  IS(strcmp(same, other), 0);
 }
 
 /* A login without a hash costs what a new hash costs, and is never accepted. */
@@ -215,7 +220,7 @@ static void decoy(void) {
     expect(cost.log_n == new->log_n && cost.r == new->r && cost.p == new->p, "parameters");
     IS(cost.key_len, hasher->options.key_len);
     IS(strlen(text) - 15 - (8 * cost.key_len + 5) / 6, hasher->options.salt_len);
-    IS(letters_of_salt(hasher), (8 * hasher->options.salt_len + 5) / 6);
+    new_salts(hasher);
     all_match = 1;
     IS(scrypt_hasher_verify(hasher, "right", 5, NULL, 0, -1), SCRYPT_MISMATCH);
     all_match = 0;

@@ -1,11 +1,37 @@
-/* The heap of the proved calls: what kit_heap.c is trusted to do, by the kit's crate libc
- * (src/heap.rt). No tested call of the library reaches rattle_realloc. */
+/* The heap of the proved calls: what kit_heap.c, or kit_heap.ll (IS_BY_LL), is trusted to do, by the kit's
+ * crate libc (src/heap.rt). No tested call of the library reaches rattle_realloc. */
 #define _GNU_SOURCE
 #include "check.h"
 #include "linux.c"
 
+#include <stdbool.h>
+#include <stdlib.h>
+
+/* The block that is freed next, unless it is a mapping. */
+static const uint8_t *to_free;
+static size_t to_free_len;
+
+static void free_wiped(void *start) {
+  size_t i, left = 0;
+  for (i = 0; i < to_free_len; i++) left += to_free[i] != 0;
+  check(left == 0, "freed memory is not wiped");
+  free(start);
+}
+
+#define free free_wiped
 #include "blocks.c"
+#undef free
+#ifdef IS_BY_LL
+struct tried {
+  bool ok;
+  void *p;
+};
+struct tried rattle_alloc(size_t n, size_t align);
+struct tried rattle_realloc(void *p, size_t kept, size_t n, size_t align);
+void rattle_dealloc(void *p);
+#else
 #include "kit_heap.c"
+#endif
 
 enum { ALIGN = 16 };
 
@@ -31,11 +57,13 @@ static void resized(size_t from, size_t to) {
   struct tried old = checked(rattle_alloc(from, ALIGN), 1, "a block");
   struct tried new;
   fill((uint8_t *)old.p, from);
+  to_free = (const uint8_t *)old.p, to_free_len = from;
   new = checked(rattle_realloc(old.p, from, to, ALIGN), 1, "a resized block");
   check(is_filled((const uint8_t *)new.p, from < to ? from : to), "the bytes of a resized block");
   fill((uint8_t *)new.p, to);
   (void)checked(rattle_realloc(new.p, to, SIZE_MAX / 2, ALIGN), 0, "a size that no system has");
   check(is_filled((const uint8_t *)new.p, to), "the bytes of a block that is not resized");
+  to_free = (const uint8_t *)new.p, to_free_len = to;
   rattle_dealloc(new.p);
 }
 

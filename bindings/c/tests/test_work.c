@@ -1,5 +1,5 @@
-/* Each call of the header, once, for valgrind, which counts its instructions: test_work.sh. Two calls choose
- * their own parameters.
+/* Each call of the header, once, and a login without a hash, for valgrind, which counts their instructions:
+ * test_work.sh. Two calls choose their own parameters.
  * usage: test_work P */
 #include "arguments.h"
 
@@ -26,6 +26,9 @@ int main(int count, char **words) {
     CALLGRIND_DUMP_STATS_AT(#name);                                                                  \
   }
 #include "each_call.h"
+  CALLGRIND_ZERO_STATS;
+  (void)!scrypt_hasher_verify(given.hasher, "pw", 2, NULL, 0, -1);
+  CALLGRIND_DUMP_STATS_AT("scrypt_hasher_verify_without_hash");
   scrypt_hasher_free(given.hasher);
   free_arguments();
   return 0;

@@ -8,7 +8,7 @@ rm -f "$2"/counts.*
 for p in 1 4; do valgrind -q --tool=callgrind --callgrind-out-file="$2/counts.$p" "$1" "$p"; done
 awk '
   function derives(name) {
-    return name ~ /^scrypt_((hasher_)?(key|verify|hash)(_(limited|unlimited|with_salt|thin|batch|with_buffers))*|derivation_run)$/
+    return name ~ /^scrypt_((hasher_)?(key|verify|hash)(_(limited|unlimited|with_salt|thin|batch|with_buffers|without_hash))*|derivation_run)$/
   }
   function max_part(name) { return derives(name) ? 1.03 : name ~ /_new$/ ? 0.15 : name ~ /_finish$/ ? 0.06 : 0.02 }
   FNR == 1 { p = FILENAME ~ /counts\.4/ ? 4 : 1 }
