@@ -1,6 +1,5 @@
 """What the benchmarks share: calls of this library, by ctypes, and tables in Markdown."""
 
-import ctypes
 import datetime
 import os
 import sys
