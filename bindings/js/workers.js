@@ -105,10 +105,16 @@ const starting = () => [...workers].filter((worker) => !worker.isReady).length;
 
 // FIFO. But of the calls that only a signal ends, those that have waited long in an overload are
 // about to be aborted, and then their work is lost: while more than two calls wait for each worker,
-// the newest starts first (LIFO) if it is such a call. A timeout ends no call that has started.
+// the newest of them starts first (LIFO), in turns with the oldest of the others, so that neither
+// starve. A timeout ends no call that has started.
+let isTurnOfOthers = false;
 function next() {
-  const isOverloaded = waiting.length > 2 * workers.size;
-  return isOverloaded && waiting.at(-1).isEndedBySignal ? waiting.pop() : waiting.shift();
+  if (waiting.length <= 2 * workers.size) return waiting.shift();
+  isTurnOfOthers = !isTurnOfOthers;
+  const oldest = waiting.findIndex((call) => !call.isEndedBySignal);
+  const newest = waiting.findLastIndex((call) => call.isEndedBySignal);
+  const isOldest = newest < 0 || (oldest >= 0 && isTurnOfOthers);
+  return waiting.splice(isOldest ? oldest : newest, 1)[0];
 }
 
 // Gives waiting calls to idle workers, and starts more workers.

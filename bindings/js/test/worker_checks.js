@@ -33,7 +33,8 @@ const withWorkers = (check, starts = () => true) => async () => {
   await instead(globalThis, 'Worker', Acting, async () => {
     const { call, configure } = await import(`../workers.js?${copies++}`);
     configure({ maxWorkers: 1 });
-    const calls = (options = {}) => call('scrypt', [Uint8Array.of(1), Uint8Array.of(1), {}], options);
+    const calls = (options = {}, secret = Uint8Array.of(1)) =>
+      call('scrypt', [secret, Uint8Array.of(1), {}], options);
     await check(calls, made, busy, answer, configure);
   });
 };
@@ -110,16 +111,51 @@ const endings = {
     await refused('INVALID_LIMIT', () => configure({ maxWorkers: 0 }));
     await refused('INVALID_LIMIT', () => configure({ maxQueue: NaN }));
   }),
+  'bytes that no worker got are wiped': withWorkers(async (call, made, busy, answer, configure) => {
+    configure({ maxQueue: 2 });
+    const first = call();
+    await busy();
+    const [abort, secrets] = [new AbortController(), [1, 2, 3, 4].map((it) => Uint8Array.of(it))];
+    await Promise.all([
+      refused('AbortError', () => call({ signal: AbortSignal.abort() }, secrets[0])),
+      refused('AbortError', () => call({ signal: abort.signal }, secrets[1])),
+      refused('TIMEOUT', () => call({ timeout: 1 }, secrets[2])),
+      refused('QUEUE_FULL', () => call({}, secrets[3])).then(() => abort.abort()),
+    ]);
+    equal(secrets.join(), '0,0,0,0');
+    await answer(KEY);
+    await first;
+  }),
+  'an idle worker ends': withWorkers(async (call, made, busy, answer) => {
+    const [own, idle] = [setTimeout, []];
+    const timer = (work, ms, ...args) => (ms > 1000 ? idle.push(() => work(...args)) : own(work, ms, ...args));
+    const answered = async (at) => {
+      const called = call();
+      await answer(KEY, at);
+      await called;
+    };
+    await instead(globalThis, 'setTimeout', timer, async () => {
+      await answered(0);
+      await answered(0);
+      equal(made.map((it) => it.isEnded).join(), '', 'it is kept');
+      idle.at(-1)();
+      equal(made.map((it) => it.isEnded).join(), 'true', 'it ended');
+      await answered(1);
+    });
+  }),
   // The calls that wait behind the first one, and the order in which they start.
   ...Object.fromEntries(Object.entries({
     'FIFO in an overload with timeouts': [['timeout', 'timeout', 'timeout'], '1,2,3'],
     'FIFO in an overload with signals and timeouts': [['both', 'both', 'both'], '1,2,3'],
     'LIFO in an overload that only signals end': [['signal', 'signal', 'signal'], '3,1,2'],
     'FIFO for two calls that only signals end': [['signal', 'signal'], '1,2'],
-    'FIFO if the newest call has a timeout': [['signal', 'signal', 'timeout'], '1,2,3'],
+    'in an overload of both kinds, turns': [
+      ['signal', 'timeout', 'signal', 'none', 'signal', 'signal'], '2,6,4,5,1,3',
+    ],
+    'turns if the newest calls have a timeout': [['signal', 'signal', 'timeout', 'timeout'], '3,2,1,4'],
   }).map(([name, [kinds, wanted]]) => [name, withWorkers(async (call, made, busy, answer) => {
     const { signal } = new AbortController();
-    const options = { timeout: { timeout: 9000 }, signal: { signal }, both: { signal, timeout: 9000 } };
+    const options = { timeout: { timeout: 9000 }, signal: { signal }, both: { signal, timeout: 9000 }, none: {} };
     const [order, first] = [[], call()];
     await busy();
     const calls = kinds.map((kind, i) => call(options[kind]).then(() => order.push(i + 1)));
