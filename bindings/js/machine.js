@@ -8,7 +8,9 @@ const memory = Math.min(globalThis.process?.constrainedMemory?.() || Infinity, o
 /** The bytes that calls may use; the rest is for the program. A page does not know: Infinity. */
 export const MEMORY = Math.floor((memory * 7) / 8);
 
-const processors = os?.availableParallelism() ?? globalThis.navigator?.hardwareConcurrency ?? 4;
+// Node before 18.14 lacks availableParallelism.
+const processors = os?.availableParallelism?.() ?? os?.cpus().length
+  ?? globalThis.navigator?.hardwareConcurrency ?? 4;
 
 // The memory of a verification within the default limits; its worker takes about 15 MiB more.
 const OF_WORKER = DEFAULT_MAX_MEM + 15 * 2 ** 20;

@@ -52,10 +52,21 @@ test('the examples of README print what they say', () => {
   }
 });
 
-test('an old Node is named', () => {
-  deepStrictEqual(prints(`const versions = { ...process.versions, node: '16.20.2' };
-    Object.defineProperty(process, 'versions', { value: versions });
-    const { load } = await import('scrypt-proved');
+// Makes Node look like this version, without what Node lacks before 18.14.
+const asBefore = (version) => `import { createRequire, syncBuiltinESMExports } from 'node:module';
+  delete createRequire('/')('node:os').availableParallelism;
+  delete process.constrainedMemory;
+  syncBuiltinESMExports();
+  Object.defineProperty(process, 'versions', { value: { ...process.versions, node: '${version}' } });
+  const { hash, load, verify } = await import('scrypt-proved');`;
+
+test('the oldest Node computes', () => {
+  deepStrictEqual(prints(`${asBefore('18.0.0')}
+    console.log(await verify('a', await hash('a', { N: 2 })));`), 'true\n');
+});
+
+test('an older Node is named', () => {
+  deepStrictEqual(prints(`${asBefore('16.20.2')}
     await load().catch(({ code, message }) => console.log(code, message));`),
   'LOAD_FAILED scrypt-proved needs Node 18 or later, this is 16.20.2\n');
 });
