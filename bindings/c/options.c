@@ -11,9 +11,11 @@
 #define CHOOSE(field, value) \
   if (completed->field == SCRYPT_AUTO) completed->field = (value)
 
+#define LEFT_FREE 8 /* one part in 8 of the memory is left to the program, in JavaScript too */
+
 static size_t usable_memory(void) {
   size_t memory = memory_of_process();
-  return memory - memory / 8;
+  return memory - memory / LEFT_FREE;
 }
 
 /* The limit, or 7/8 of the memory if that is less, as in a small container, but no less than a new

@@ -22,6 +22,8 @@ TOP = Path(__file__).resolve().parents[2]
 TARGET = "wasm64-unknown-unknown"
 MADE = TOP / "build/wasm/scrypt64.wasm"
 MODULE = TOP / "bindings/js/scrypt.wasm"
+INSTANCE = TOP / "bindings/js/instance.js"
+GLOBALS = 6  # the section of them
 
 # The calls that the package makes. Others are left out: those that allocate have no allocator on
 # this target.
@@ -57,6 +59,27 @@ def prove(room, kept):
     return archive
 
 
+def stack_of(module):
+    """The size of the stack in bytes: it begins at address 0, and ends where the linker has put the stack pointer,
+    the one global number that changes."""
+    it = lower.Reader(module[8:])  # after the version
+    while it.more():
+        kind, inside = it.byte(), lower.Reader(it.take(it.number()))
+        if kind == GLOBALS:
+            # Its type, whether it changes, i64.const, a number that is not negative, and end.
+            made = [(inside.take(3), inside.number(), inside.take(1)) for _ in range(inside.number())]
+            found = [number for head, number, _ in made if head == bytes([lower.I64, 1, 0x42])]
+            return found[0] if len(found) == 1 else None
+    return None
+
+
+def check_stack(module):
+    """Fails if the stack is not what instance.js wipes after a call."""
+    wiped = re.search(r"^export const STACK = 2 \*\* (\d+);$", INSTANCE.read_text("utf-8"), re.M)
+    if not wiped or stack_of(module) != 2 ** int(wiped[1]):
+        sys.exit(f"the stack of the module has {stack_of(module)} bytes, and {INSTANCE} wipes another number")
+
+
 def main(kept):
     declarations.main()
     MADE.parent.mkdir(parents=True, exist_ok=True)
@@ -65,6 +88,7 @@ def main(kept):
         archive = prove(Path(room), kept)
         own = prover_command.kit()
         copies.run(f"{own}/bin/rattle-link", "--target", TARGET, "--toolchain", f"{own}/toolchain", "-o", MADE, archive)
+    check_stack(MADE.read_bytes())
     # Binaryen's wasm-opt can do this too, but what is packed must not depend on which version of it
     # is installed, if any.
     lower.main(MADE, MODULE)

@@ -1,10 +1,11 @@
 // An instance of the module: allocates in its memory, and calls its functions.
 import { NO_LIMIT } from './arguments.js';
-import { KEY_TOO_SHORT, MISMATCH, NEEDS_REHASH, OK, TOO_COSTLY } from './declared.js';
+import { COST, KEY_TOO_SHORT, MISMATCH, NEEDS_REHASH, OK, TOO_COSTLY } from './declared.js';
 import { errorOf, outOfMemory } from './errors.js';
 
 const PAGE = 65536;
-const STACK = 2 ** 20; // of the module, at the bottom of its memory
+/** The bytes of the module's stack, which is at the bottom of its memory: build.py compares it. */
+export const STACK = 2 ** 20;
 const AT_ONCE = 2; // interleaved chunks
 
 /** An instance with an empty memory. Memory that is taken is zeros, and lasts until it is wiped. */
@@ -110,35 +111,36 @@ export class Instance {
     return Number(this.big(taken));
   }
 
-  // Takes memory for a scrypt_cost. Returns it, and its fields after log_n, r and p.
-  #takeCost() {
-    const { at } = this.take(72);
-    return [at, ...Array.from({ length: 7 }, (_, i) => ({ at: at + BigInt(16 + 8 * i) }))];
+  /** Takes memory for a structure. Returns its address, and the places of its fields. */
+  structure({ size, fields }) {
+    const { at } = this.take(size);
+    const placed = Object.entries(fields).map(([name, offset]) => [name, { at: at + BigInt(offset) }]);
+    return { at, ...Object.fromEntries(placed) };
   }
 
-  /** The buffers of a derivation within limits. */
-  buffersFor(params, maxMem, maxWork) {
-    const [cost, , ...sizes] = this.#takeCost();
-    const status = this.#status('scrypt_params_cost', [...params, maxMem, maxWork, cost]);
-    this.#cost = inWords(sizes.slice(4).map((size) => this.big(size)), [maxMem, maxWork]);
-    if (status !== OK) throw this.#refusal(status);
-    return this.buffers(sizes);
+  /** The buffers of a derivation, within limits on memory and work. */
+  buffersFor(params, ...limits) {
+    return this.#within('scrypt_params_cost', params, limits);
   }
 
-  /** The buffers for verifying a hash. */
+  /** The buffers for verifying a hash, within these limits and one on the length of its key. */
   buffersOf(text, limits) {
-    const [cost, keyLength, ...sizes] = this.#takeCost();
-    const status = this.#status('scrypt_hash_cost', [text, ...limits, cost]);
-    this.#cost = inWords([...sizes.slice(4), keyLength].map((size) => this.big(size)), limits);
-    if (status !== OK) throw this.#refusal(status);
-    return this.buffers(sizes);
+    return this.#within('scrypt_hash_cost', [text], limits);
   }
 
-  /**
-   * The chunks, the table and the scratch of these sizes, for the number of interleaved chunks that
-   * the memory allows.
-   */
-  buffers(sizes) {
+  #within(name, args, limits) {
+    const cost = this.structure(COST);
+    const status = this.#status(name, [...args, ...limits, cost.at]);
+    const costs = [cost.bytes, cost.work, cost.key_len].map((place) => this.big(place));
+    this.#cost = inWords(costs.slice(0, limits.length), limits);
+    if (status !== OK) throw this.#refusal(status);
+    return this.#buffers(cost);
+  }
+
+  // The chunks, the table and the scratch, for the number of interleaved chunks that the memory
+  // allows.
+  #buffers(cost) {
+    const sizes = [cost.tables, cost.chunks_len, cost.table_len, cost.scratch_len];
     const [tables, chunks, table, scratch] = sizes.map((size) => this.number(size));
     const top = this.#top;
     for (let atOnce = Math.min(tables, AT_ONCE); ; atOnce -= 1) {

@@ -1,12 +1,12 @@
 // The memory and the processors of the machine, or of the container.
-import { DEFAULT_MAX_MEM } from './declared.js';
+import { DEFAULT_MAX_MEM, LEFT_FREE } from './declared.js';
 import { host } from './host.js';
 
 const { os } = host;
 const memory = Math.min(globalThis.process?.constrainedMemory?.() || Infinity, os?.totalmem() ?? Infinity);
 
 /** The bytes that calls may use; the rest is for the program. A page does not know: Infinity. */
-export const MEMORY = Math.floor((memory * 7) / 8);
+export const MEMORY = Math.ceil(memory * (1 - 1 / LEFT_FREE));
 
 // Node before 18.14 lacks availableParallelism.
 const processors = os?.availableParallelism?.() ?? os?.cpus().length

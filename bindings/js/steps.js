@@ -1,4 +1,5 @@
 // Keys and verdicts in steps of about 10 ms.
+import { PROGRESS } from './declared.js';
 import { places } from './instance.js';
 
 const STEP_MS = 10;
@@ -13,23 +14,16 @@ export const turn = () => new Promise((resolve) => {
   port2.postMessage(undefined);
 });
 
-// Takes memory for a scrypt_progress.
-function takeProgress(instance) {
-  const { at } = instance.take(24);
-  const [chunks, width, mixes] = [0n, 8n, 16n].map((i) => ({ at: at + i }));
-  return { at, chunks, width, mixes };
-}
-
 // Mixes all chunks, and yields the fraction that is done, from 0 to 1.
 function* mixedInSteps(instance, params, buffers, progress) {
   const [logN, r, p] = params;
   const inChunk = 2 ** (logN + 1);
   const all = p * inChunk;
   const number = (name) => instance.number(progress[name]);
-  const mixed = () => number('chunks') * inChunk + number('width') * number('mixes');
+  const mixed = () => number('chunks') * inChunk + number('interleaved') * number('mixes');
   let [count, shown] = [Math.ceil(512 / r), performance.now()];
   for (let before = 0; before < all;) {
-    const [begun, width] = [performance.now(), number('width')];
+    const [begun, width] = [performance.now(), number('interleaved')];
     instance.call('scrypt_key_step', ...params, BigInt(count), ...buffers, progress.at);
     const [done, ended] = [mixed(), performance.now()];
     // A step ends with its chunk, so it may be shorter. A page's clock may stand still during it.
@@ -44,7 +38,7 @@ function* mixedInSteps(instance, params, buffers, progress) {
 
 /** Derives a key. Nothing else may change the buffers between its steps. */
 export function* keyInSteps(instance, password, salt, params, key, buffers) {
-  const progress = takeProgress(instance);
+  const progress = instance.structure(PROGRESS);
   instance.call('scrypt_key_begin', password, salt, ...params, ...buffers, progress.at);
   yield* mixedInSteps(instance, params, buffers, progress);
   instance.call('scrypt_key_finish', password, ...params, buffers[0], progress.at, key);
@@ -52,7 +46,7 @@ export function* keyInSteps(instance, password, salt, params, key, buffers) {
 
 /** Verifies a password against a text. Nothing else may change the buffers between its steps. */
 export function* verdictInSteps(instance, password, text, limits, buffers) {
-  const [words, progress] = [instance.words(3), takeProgress(instance)];
+  const [words, progress] = [instance.words(3), instance.structure(PROGRESS)];
   const args = [password, text, ...limits, ...places(words), ...buffers, progress.at];
   if (!instance.isOk('scrypt_verify_begin', ...args)) return false;
   const params = [instance.number(words[0]), instance.number(words[1]), instance.number(words[2])];

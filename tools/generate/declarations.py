@@ -109,19 +109,41 @@ def rust():
 
 # ---- JavaScript ----
 
+# The sizes of numbers in the module, which is proved for a 64-bit memory.
+SIZES = {"uint32_t": 4, "uint64_t": 8, "size_t": 8}
+
+
+def layout(fields):
+    """The offsets of the fields of a structure, and its size."""
+    places, end = [], 0
+    for field in fields:
+        size = SIZES[header.word_of(field)]
+        at = -(-end // size) * size
+        places.append(f"{header.name_of(field)}: {at}")
+        end = at + size
+    return f"{{ size: {-(-end // 8) * 8}, fields: {{ {', '.join(places)} }} }}"
+
+
 def javascript():
     """The statuses of proved calls. The messages speak of N, which is an option there, and not of its logarithm."""
     proved = dict(re.findall(r"^pub const (\w+): i32 = (\d+);", read("crates/scrypt_c/src/statuses.rt"), re.M))
     for name, number in proved.items():
         if number != str(STATUSES.get(name)):
             sys.exit(f"crates/scrypt_c/src/statuses.rt: {name} is {number}, and {STATUSES.get(name)} in the header")
-    yield f"// {NOTE}bindings/c: the recommended parameters, the default limits, the statuses and their words. DO NOT EDIT."
+    yield f"// {NOTE}bindings/c: numbers, structures, the statuses and their words. DO NOT EDIT."
     yield from (f"export const {name} = {NUMBERS[name]};" for name in
                 ("RECOMMENDED_LOG_N", "RECOMMENDED_R", "RECOMMENDED_P", "SALT_LEN", "KEY_LEN", "MAX_KEY_LEN", *header.LIMITS))
+    left_free = re.search(r"^#define LEFT_FREE (\d+)", read("bindings/c/options.c"), re.M)[1]
+    yield from ("", "/** One part in this many of the memory is left to the program. */", f"export const LEFT_FREE = {left_free};")
+    structures = STRUCTURES | header.structures_of(read("bindings/c/groups.h"))
+    yield from ("", "/** The size of each structure in bytes, and the offsets of its fields. */")
+    yield from (f"export const {name.upper()} = {layout(structures[f'scrypt_{name}'])};" for name in ("cost", "progress"))
     yield from ("", *(f"export const {name} = {number};" for name, number in proved.items()))
     yield from ("", "/** The name and the words of each status. */", "export const WORDS = new Map([")
     for name, words in re.findall(r'ROW\((?:E_)?(\w+), ((?:"[^"]*"\s*)+)\)', read("bindings/c/status.c")):
         in_n = re.sub(r'"\s*"|"', "", words).replace("2^log_n", "N").replace("; log_n is the logarithm of N, 14 for 16384", "")
+        if "log_n" in in_n:
+            sys.exit(f"bindings/c/status.c: the words of {name} speak of log_n in JavaScript too: {in_n}")
         if name in proved:
             yield f"  [{name}, ['{name}', '{in_n}']],"
     yield "]);"

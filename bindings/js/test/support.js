@@ -1,6 +1,7 @@
 // Shared by the checks.
 import { Scrypt } from '../core.js';
 import { ScryptError } from '../errors.js';
+import { STACK } from '../instance.js';
 
 /** Parameters of minimum cost. */
 export const OF = { N: 2, r: 1, p: 1 };
@@ -54,7 +55,7 @@ export async function opened(module, others = {}) {
   it.isWiped = () => {
     const [words, last] = [new Uint32Array(it.memory.buffer), it.base / 4];
     for (let at = 0; at < words.length; at++) {
-      if (words[at] !== 0 && (at < 2 ** 18 || at > last)) throw new Error(`not wiped at ${4 * at}`);
+      if (words[at] !== 0 && (at < STACK / 4 || at > last)) throw new Error(`not wiped at ${4 * at}`);
     }
   };
   return it;
