@@ -3,8 +3,10 @@
 import { deepStrictEqual, rejects } from 'node:assert';
 import { spawnSync } from 'node:child_process';
 import { randomBytes, randomInt, scryptSync } from 'node:crypto';
-import { readFileSync, writeFileSync } from 'node:fs';
+import { mkdirSync, mkdtempSync, readFileSync, rmSync, symlinkSync, writeFileSync } from 'node:fs';
+import { tmpdir } from 'node:os';
 import { test } from 'node:test';
+import { fileURLToPath } from 'node:url';
 import { ScryptError, storedText } from '../node.js';
 import { checks } from './checks.js';
 import { hex } from './support.js';
@@ -45,10 +47,26 @@ function prints(program) {
   return `${stdout}${status || ''}`;
 }
 
+// The same for a file beside the installed package. Node 18 has no global `crypto` in a file.
+function printsOfFile(program) {
+  const room = mkdtempSync(`${tmpdir()}/scrypt-`);
+  try {
+    mkdirSync(`${room}/node_modules`);
+    symlinkSync(fileURLToPath(at('bindings/js')), `${room}/node_modules/scrypt-proved`, 'dir');
+    writeFileSync(`${room}/as18.cjs`, 'delete globalThis.crypto;');
+    writeFileSync(`${room}/login.mjs`, program);
+    const files = ['as18.cjs', 'login.mjs'].map((name) => `${room}/${name}`);
+    const { stdout, status } = spawnSync(process.execPath, ['--require', ...files]);
+    return `${stdout}${status || ''}`;
+  } finally {
+    rmSync(room, { recursive: true });
+  }
+}
+
 test('the examples of README print what they say', () => {
   for (const [, program] of read('bindings/js/README.md').matchAll(/^```js$(.*?)^```$/gms)) {
     const said = [...program.matchAll(/^console\.log\(.*\); \/\/ (\w+)/gm)];
-    deepStrictEqual(prints(program), said.map(([, it]) => `${it}\n`).join(''));
+    deepStrictEqual(printsOfFile(program), said.map(([, it]) => `${it}\n`).join(''));
   }
 });
 

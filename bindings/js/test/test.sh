@@ -38,12 +38,22 @@ by_esbuild() {
   echo "bundled by esbuild"
 }
 
+# What npm runs for a folder, in one that has no module yet.
+says_what_makes_it() {
+  script=$(node -p 'require("./bindings/js/package.json").scripts.prepare')
+  if (cd "$room" && sh -c "$script") 2> "$room/said"; then exit 1; fi
+  grep -q 'make js' "$room/said"
+  (cd bindings/js && sh -c "$script")
+}
+
 has "Node 18" nodejs node -e 'process.exit(Number(parseInt(process.versions.node) < 18))' || exit 77
 # Node 18 does not compile each instruction on a 64-bit memory.
 later='process.exit(Number(parseInt(process.versions.node) < 20))'
 if has "Node 20, for the module before lower.py," "nodejs>=20" node -e "$later"; then
   python3 -B -m bindings.js.test.test_lower
 fi
+python3 -B -m bindings.js.test.test_build
+says_what_makes_it
 node --test --test-reporter=tap $here/node.test.js > "$room/log" || { cat "$room/log"; exit 1; }
 grep -E '^# (pass|fail) ' "$room/log"
 if has esbuild esbuild esbuild --version; then by_esbuild; fi
