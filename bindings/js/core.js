@@ -123,10 +123,10 @@ export class Scrypt {
 
   storedText(salt, key, given) {
     const options = optionsOf(given, 'stored');
-    const params = parameters(options);
     const { N } = options;
-    const hint = `N of ${N} may be its logarithm: ${2 ** N} is N = 2 ** ${N}`;
-    if (N < 64) wrong(hint, 'INVALID_PARAMS');
+    const hint = `N is at least 64, and ${N} may be its logarithm: ${2 ** N} is N = 2 ** ${N}`;
+    if (N >= 1 && N < 64) wrong(hint, 'INVALID_PARAMS');
+    const params = parameters(options);
     return this.#run({ salt, key }, (it, ...slices) => {
       const text = it.take(TEXT_CAPACITY + 2 * (slices[0].length + slices[1].length));
       const [textLen] = it.words(1);
@@ -184,7 +184,9 @@ export class Scrypt {
   }
 }
 
+// As in node:crypto, the N of a key is above 1. That of a hash may be 1.
 function keyOptions(options) {
+  if (options.N === 1) wrong('N must be a power of two above 1: 1', 'INVALID_PARAMS');
   const maxMem = limit(options.maxmem, 'maxmem', MAX_MEMORY);
   const limits = [maxMem, limit(options.maxwork, 'maxwork', NO_LIMIT)];
   return { params: parameters(options), length: lengthOf(options.dkLen), limits };

@@ -3,7 +3,10 @@
 export type Bytes = string | ArrayBuffer | ArrayBufferView;
 
 export interface Params {
-  /** The cost, a power of two. A derivation takes 128 * N * r bytes of memory. */
+  /**
+   * The cost, a power of two; for `scrypt` above 1, as in node:crypto. A derivation takes 128 * N *
+   * r bytes of memory.
+   */
   N: number;
   /** The block size. */
   r: number;

@@ -37,6 +37,7 @@ test('the texts of bindings/stored.tsv', async () => {
     const stored = () => storedText(...bytes, { N: Number(N), r: Number(r), p: Number(p) });
     if (wanted) deepStrictEqual(await stored(), wanted);
     else await rejects(stored, ScryptError, line);
+    if (N >= 1 && N < 64) await rejects(stored, /may be its logarithm/, line);
   }
 });
 
