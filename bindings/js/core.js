@@ -1,7 +1,7 @@
 // The proved calls, in memory that is wiped after each of them.
 import {
-  NO_LIMIT, attempt, bytesOf, copyOf, isNone, lengthOf, limit, optionsOf, parameters, withDefaults,
-  wrong,
+  NO_LIMIT, attempt, bytesOf, copiesOf, copyOf, isNone, lengthOf, limit, optionsOf, parameters,
+  withDefaults, wrong,
 } from './arguments.js';
 import { MAX_KEY_LEN, SALT_LEN } from './declared.js';
 import { ScryptError, errorFor, errorOfHash } from './errors.js';
@@ -103,6 +103,31 @@ export class Scrypt {
       const buffers = instance.buffersOf(textSlice, limits);
       return yield* verdictInSteps(instance, passwordSlice, textSlice, limits, buffers);
     }, onProgress, signal) && canMatch;
+  }
+
+  verifyAndUpdate(...args) {
+    const { copies, options, canMatch } = updating(args);
+    try {
+      return this.#updated(this.verify(...copies, options) && canMatch, copies, options);
+    } finally {
+      for (const copy of copies) copy?.fill(0);
+    }
+  }
+
+  /** The same, with the verification in steps. */
+  async verifyAndUpdateAsync(...args) {
+    const { copies, options, canMatch } = updating(args);
+    try {
+      const verified = await this.verifyAsync(...copies, options) && canMatch;
+      return this.#updated(verified, copies, options);
+    } finally {
+      for (const copy of copies) copy?.fill(0);
+    }
+  }
+
+  #updated(verified, [password, text], options) {
+    const isWeak = verified && this.needsRehash(text, options);
+    return { verified, newHash: isWeak ? this.hash(password, options) : undefined };
   }
 
   needsRehash(text, given) {
@@ -212,6 +237,13 @@ function limitsOf(instance, { options, params, length }) {
     limit(maxmem, 'maxmem', ofMachine(bytes)), limit(maxwork, 'maxwork', work),
     limit(minKeyLength, 'minKeyLength', keyLen),
   ];
+}
+
+// The bytes are copied, because the caller may change them before the new hash is made.
+function updating(args) {
+  const { password, text, options, canMatch } = attempt(args);
+  const [copy, textCopy] = copiesOf(isNone(text) ? { password } : { password, text });
+  return { copies: [copy, textCopy], options: optionsOf(options, 'update', 'steps'), canMatch };
 }
 
 // Without a hash: does the work of a wrong password for a new hash.

@@ -70,6 +70,16 @@ export interface VerifyOptions extends PartialParams {
   minKeyLength?: number | undefined;
 }
 
+/** `format` is that of a new hash. */
+export type UpdateOptions = VerifyOptions & Pick<HashOptions, 'format'>;
+
+export interface Verification {
+  /** Whether the password is that of the hash. */
+  verified: boolean;
+  /** The text of a new hash, or `undefined` if the stored one is kept. */
+  newHash: string | undefined;
+}
+
 export interface CallOptions {
   /**
    * Ends the call while it waits, and a key or a verification between two steps: the promise is
@@ -181,6 +191,14 @@ export function verify(
   password: Bytes, text: Bytes | null | undefined,
   options?: VerifyOptions & StepOptions & CallOptions,
 ): Promise<boolean>;
+/**
+ * The same; and if the password is right, and the hash is weaker than a new hash with these options,
+ * the text of a new hash to store in its place. That is made in the same worker.
+ */
+export function verifyAndUpdate(
+  password: Bytes, text: Bytes | null | undefined,
+  options?: UpdateOptions & StepOptions & CallOptions,
+): Promise<Verification>;
 /** Whether a hash is weaker than a new hash with these options. */
 export function needsRehash(text: Bytes, options?: PartialParams): Promise<boolean>;
 /** The parameters of a hash, and the length of its key: 0 if it has none. */
@@ -218,6 +236,13 @@ export interface Scrypt {
   verifyAsync(
     password: Bytes, text: Bytes | null | undefined, options?: VerifyOptions & StepOptions,
   ): Promise<boolean>;
+  verifyAndUpdate(
+    password: Bytes, text: Bytes | null | undefined, options?: UpdateOptions,
+  ): Verification;
+  /** The same, with the verification in steps. */
+  verifyAndUpdateAsync(
+    password: Bytes, text: Bytes | null | undefined, options?: UpdateOptions & StepOptions,
+  ): Promise<Verification>;
   needsRehash(text: Bytes, options?: PartialParams): boolean;
   storedText(salt: Bytes, key: Bytes, options: { N: number; r: number; p: number }): string;
   params(text: Bytes): ReadParams;

@@ -24,13 +24,25 @@ export async function hash(password, options) {
   return call('hash', [copy, { ...others, salt: saltCopy }], how);
 }
 
+async function withHash(name, kind, { password, text, options }) {
+  const [how, others] = parted(optionsOf(options, kind, 'steps', 'worker'));
+  const [copy, textCopy] = copiesOf(isNone(text) ? { password } : { password, text });
+  return call(name, [copy, textCopy, others], how);
+}
+
 /** Verifies a password against the text of a hash, in a worker. Without a text the result is false,
  * after the work of a new hash. */
 export async function verify(...args) {
-  const { password, text, options, canMatch } = attempt(args);
-  const [how, others] = parted(optionsOf(options, 'verify', 'steps', 'worker'));
-  const [copy, textCopy] = copiesOf(isNone(text) ? { password } : { password, text });
-  return await call('verify', [copy, textCopy, others], how) && canMatch;
+  const given = attempt(args);
+  return await withHash('verify', 'verify', given) && given.canMatch;
+}
+
+/** The same, and the text of a new hash, if the password is right and the hash is weaker. */
+export async function verifyAndUpdate(...args) {
+  const given = attempt(args);
+  if (given.canMatch) return withHash('verifyAndUpdate', 'update', given);
+  await withHash('verify', 'verify', given);
+  return { verified: false, newHash: undefined };
 }
 
 // Calls that only read a text take microseconds. The memory for a long text is not kept.

@@ -26,11 +26,14 @@ function* mixedInSteps(instance, params, buffers, progress) {
     const [begun, width] = [performance.now(), number('interleaved')];
     instance.call('scrypt_key_step', ...params, BigInt(count), ...buffers, progress.at);
     const [done, ended] = [mixed(), performance.now()];
-    // A step ends with its chunk, so it may be shorter. A page's clock may stand still during it.
+    // A page's clock may stand still during a step: then the event loop runs after it, and the next
+    // one takes at most twice as long. A step ends with its chunk, so it may be shorter.
+    const isWhole = done - before === width * count;
     const inTime = Math.floor(((done - before) * STEP_MS) / (width * (ended - begun)));
     count = Math.max(1, Math.min(2 * count, inTime, all));
     before = done;
-    if (ended - shown < STEP_MS / 2 && done < all) continue;
+    const isSoon = ended === shown ? !isWhole : ended - shown < STEP_MS / 2;
+    if (isSoon && done < all) continue;
     yield done / all;
     shown = performance.now();
   }

@@ -51,6 +51,7 @@ const REFUSED = [
   ['INVALID_TYPE', 'hash', null], ['INVALID_TYPE', 'hash', 'secret', { format: 'bcrypt' }],
   ['INVALID_TYPE', 'hash', 'secret', { ...OF, salt: 5 }],
   ['INVALID_PARAMS', 'verify', '', '$7$', { N: 3 }], ['INVALID_PARAMS', 'needsRehash', '', { N: 3 }],
+  ['INVALID_PARAMS', 'scrypt', '', '', { ...OF, N: 1 }], // as in node:crypto; a hash may have it
   ['INVALID_PARAMS', 'hash', '', { dkLen: 9 }], ['INVALID_OUTPUT_LEN', 'scrypt', '', '', { ...OF, dkLen: 0 }],
   ['SALT_INVALID', 'hash', '', { salt: new Uint8Array(65) }], ['SALT_INVALID', 'hash', '', { salt: '' }],
   ['ENCODING_INVALID', 'verify', 'secret', Uint8Array.of(0xff, 0xfe)],
@@ -90,6 +91,33 @@ const OF_EACH = {
     }
     const long = await api.hash('', { ...of, salt: new Uint8Array(1000), format: 'mcf' });
     equal(await api.verify('', long), true, 'a long salt');
+    const least = await api.hash('', { ...of, N: 1 });
+    equal(await api.verify('', least, { ...of, N: 1 }), true, 'N of 1');
+  },
+  'a verification with a new hash': async (api) => {
+    const [of, weak] = [{ N: 32, r: 3, p: 5, dkLen: 20 }, await api.hash('pw', OF)];
+    for (const [password, text, options, starts] of [
+      ['pw', weak, OF, ''], ['pw', weak, { ...OF, dkLen: 31 }, ''], // not weaker
+      ['pw', weak, of, '$scrypt$ln=5,r=3,p=5$'], ['pw', weak, { ...of, format: 'mcf' }, '$7$31....3....'],
+      ['pw', weak, {}, '$scrypt$ln=17,r=8,p=1$'], ['pw', utf8(weak), undefined, '$scrypt$ln=17,r=8,p=1$'],
+    ]) {
+      const { verified, newHash = '' } = await api.verifyAndUpdate(password, text, options);
+      equal(`${verified} ${newHash.slice(0, starts.length || undefined)}`, `true ${starts}`, 'right');
+      if (newHash) equal(await api.verify(password, newHash), true, newHash);
+    }
+    const replaced = await api.hash('\ufffd', OF);
+    for (const [password, text] of [['Pw', weak], ['pw', null], ['\ud800', replaced]]) {
+      const { verified, newHash } = await api.verifyAndUpdate(password, text, of);
+      equal(`${verified} ${newHash}`, 'false undefined', 'wrong');
+    }
+    const [secret, given] = [utf8('pw'), utf8(weak)];
+    const answer = api.verifyAndUpdate(secret, given, of);
+    for (const it of [secret, given]) it.fill(0); // the caller's bytes change later
+    const { newHash } = await answer;
+    equal(await api.verify('pw', newHash), true, 'of the same password');
+    await refused('ENCODING_INVALID', () => api.verifyAndUpdate('$7$', 'pw'), 'the password comes first');
+    await refused('TOO_COSTLY', () => api.verifyAndUpdate('', COSTLY));
+    await refused('INVALID_TYPE', () => api.verifyAndUpdate('pw'), 'a password and a hash');
   },
   'the verifications of bindings/cases.tsv': async (api, { lines }) => {
     for (const line of lines.trimEnd().split('\n').slice(1)) {
@@ -213,6 +241,33 @@ const OF_MODULE = {
       it.most = most;
       equal(hex(it.own.scrypt(...given)), key, `${most}`);
       it.isWiped();
+    }
+  },
+  // Its time must not tell that there is no hash.
+  'no hash takes the memory of a new one': async (module) => {
+    for (const how of ['', 'Async']) {
+      const { own } = await opened(module);
+      equal(await own[`verify${how}`]('', null, { N: 1024, r: 8, p: 1 }), false);
+      equal(own.memory > 2 ** 20, true, `${own.memory} bytes`);
+    }
+  },
+  // A page is not blocked before the first step, nor while its clock stands still.
+  'the first steps': async (module) => {
+    const text = `$scrypt$ln=16,r=8,p=1$AAAAAAAA$${'A'.repeat(43)}`;
+    const costs = { N: 2 ** 16, r: 8, p: 1 };
+    for (const call of [
+      (own, it) => own.scryptAsync('', '', { ...costs, ...it }),
+      (own, it) => own.verifyAsync('', text, it),
+      (own, it) => own.verifyAsync('', null, { ...costs, ...it }),
+    ]) {
+      const [{ own }, at] = [await opened(module), [performance.now()]];
+      const onProgress = () => at.push(performance.now());
+      await call(own, { onProgress });
+      const [begun, first] = at;
+      equal(first - begun < (at.at(-1) - begun) / 4, true, `progress at ${at.slice(0, 5)} .. ${at.at(-1)}`);
+      at.length = 0;
+      await instead(performance, 'now', () => 0, () => call(own, { onProgress }));
+      equal(at.length >= 5, true, `${at.length} steps without a clock`);
     }
   },
   'a call that the engine aborts drops its instance': async (module) => {

@@ -74,6 +74,6 @@ export async function wiping(module, isInSteps) {
       isWiped();
     }
   });
-  const names = ['scrypt', 'hash', 'verify', 'needsRehash', 'params'];
+  const names = ['scrypt', 'hash', 'verify', 'verifyAndUpdate', 'needsRehash', 'params'];
   return Object.fromEntries(names.map((name) => [name, call(name)]));
 }

@@ -1,5 +1,5 @@
 // Compiled and not run: the types accept correct calls, and reject wrong ones.
-import { Bytes, ErrorCode, RefusedHashError, Scrypt, ScryptError, configure, hash, isSupported, load, needsRehash, params, scrypt, storedText, verify } from 'scrypt-proved';
+import { Bytes, ErrorCode, RefusedHashError, Scrypt, ScryptError, configure, hash, isSupported, Verification, load, needsRehash, params, scrypt, storedText, verify, verifyAndUpdate } from 'scrypt-proved';
 
 const signal = new AbortController().signal;
 // An undefined option is left out.
@@ -10,6 +10,8 @@ export async function calls(password: Bytes): Promise<unknown> {
   const text: string = await hash(new DataView(key.buffer), { ...none, p: 2, salt: 'salt', format: 'mcf' });
   const isRight: boolean = await verify(password, text, { ...none, maxwork: 2 ** 30, minKeyLength: 10, timeout: 1000 });
   const isOfNobody: boolean = await verify(password, null) || await verify(password, undefined);
+  const { verified, newHash }: Verification = await verifyAndUpdate(password, text, { N: 2 ** 18, format: 'mcf', timeout: 1000 });
+  const stored: string | undefined = verified ? newHash : undefined;
   configure({ maxWorkers: 1, maxQueue: Infinity });
   const own: Scrypt = await load(new URL('./scrypt.wasm', 'https://example.org/'));
   await own.scryptAsync('', '', { N: 2, r: 8, p: 1, signal, onProgress: (fraction) => fraction.toFixed() });
@@ -17,7 +19,7 @@ export async function calls(password: Bytes): Promise<unknown> {
   const same: typeof own.params extends (text: Bytes) => infer R ? R : never = await params(text);
   const needs: boolean = own.needsRehash(text) && (await needsRehash(text, { N, r, p, dkLen }));
   try {
-    return own.verify(password, own.hash(password)) && own.scrypt(password, key, same);
+    return own.verifyAndUpdate(password, stored ?? own.hash(password)).verified && own.scrypt(password, key, same);
   } catch (error) {
     const code: ErrorCode | null = error instanceof RefusedHashError || error instanceof ScryptError ? error.code : null;
     return code === 'TOO_COSTLY' || isRight || isOfNobody || needs && isSupported() ? own.memory : undefined;
