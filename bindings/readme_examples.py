@@ -63,8 +63,7 @@ static double seconds_of(const char *name) {{
   return log_in(name, "x", 1) == WRONG_NAME_OR_PASSWORD ? (double)(clock() - begun) : 0;
 }}
 int main(void) {{
-  hasher = scrypt_hasher_new(NULL, NULL);
-  return !(seconds_of("nobody") > 0 && seconds_of("damaged") > seconds_of("nobody") / 2);
+  return scrypt_hasher_new(NULL, &hasher) || !(seconds_of("nobody") > 0 && seconds_of("damaged") > seconds_of("nobody") / 2);
 }}
 """
 

@@ -15,20 +15,20 @@ static double now(void) { return (double)now_ns() * 1e-9; }
 static int measure(uint32_t log_n, double *seconds) {
   scrypt_options options;
   uint8_t key[SCRYPT_KEY_LEN];
+  scrypt_hasher *hasher = NULL;
   int status, i;
-  scrypt_hasher *hasher;
   scrypt_options_init(&options);
   options.log_n = log_n, options.r = R, options.p = 1;
   options.max_mem = SIZE_MAX, options.max_work = UINT64_MAX;
   options.max_tables = options.processors = 1;
-  hasher = scrypt_hasher_new(&options, &status);
+  status = scrypt_hasher_new(&options, &hasher);
   for (i = 0; i < TRIES && status == SCRYPT_OK; i++) {
     double begun = now(), taken;
     status = scrypt_hasher_key(hasher, "", 0, "", 0, key, sizeof key, -1);
     taken = now() - begun;
     if (i == 0 || taken < *seconds) *seconds = taken;
   }
-  scrypt_hasher_free(hasher);
+  scrypt_hasher_free(&hasher);
   return status;
 }
 

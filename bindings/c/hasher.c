@@ -344,7 +344,7 @@ int scrypt_hasher_needs_rehash(const scrypt_hasher *hasher, const char *text, si
   return scrypt_needs_rehash(text, text_len, options->log_n, options->r, options->p, options->key_len);
 }
 
-int scrypt_hasher_stats(scrypt_hasher *hasher, scrypt_stats *stats) {
+int scrypt_hasher_stats(const scrypt_hasher *hasher, scrypt_stats *stats) {
   if (hasher == NULL || stats == NULL) return SCRYPT_E_NULL_POINTER;
   mutex_lock(&hasher->queue->lock);
   *stats = hasher->queue->stats;
@@ -370,22 +370,22 @@ static int map_queue(scrypt_hasher *hasher) {
   return wiped >= 0;
 }
 
-scrypt_hasher *scrypt_hasher_new(const scrypt_options *options, int *status) {
-  scrypt_hasher made = {.is_closed = 0}, *hasher = NULL;
-  int result = complete_options(options, &made.options, &made.cost);
-  if (result == SCRYPT_OK) {
-    made.slots = slots_of(&made.options);
-    hasher = (scrypt_hasher *)malloc(sizeof *hasher);
-    if (hasher == NULL || !map_queue(&made)) result = SCRYPT_E_OUT_OF_MEMORY;
-  }
-  if (status != NULL) *status = result;
-  if (result != SCRYPT_OK) {
-    free(hasher);
-    return NULL;
+int scrypt_hasher_new(const scrypt_options *options, scrypt_hasher **hasher) {
+  scrypt_hasher made = {.is_closed = 0}, *it;
+  int status;
+  if (hasher == NULL) return SCRYPT_E_NULL_POINTER;
+  status = complete_options(options, &made.options, &made.cost);
+  if (status != SCRYPT_OK) return status;
+  made.slots = slots_of(&made.options);
+  it = (scrypt_hasher *)malloc(sizeof *it);
+  if (it == NULL || !map_queue(&made)) {
+    free(it);
+    return SCRYPT_E_OUT_OF_MEMORY;
   }
   write_decoy(made.decoy, &made.options);
-  *hasher = made;
-  return hasher;
+  *it = made;
+  *hasher = it;
+  return SCRYPT_OK;
 }
 
 const scrypt_options *scrypt_hasher_options(const scrypt_hasher *hasher) {
@@ -405,9 +405,10 @@ void scrypt_hasher_close(scrypt_hasher *hasher) {
   mutex_unlock(&queue->lock);
 }
 
-void scrypt_hasher_free(scrypt_hasher *hasher) {
-  if (hasher == NULL) return;
-  scrypt_hasher_close(hasher);
-  (void)unmap(hasher->queue, size_of_queue(hasher));
-  free(hasher);
+void scrypt_hasher_free(scrypt_hasher **hasher) {
+  if (hasher == NULL || *hasher == NULL) return;
+  scrypt_hasher_close(*hasher);
+  (void)unmap((*hasher)->queue, size_of_queue(*hasher));
+  free(*hasher);
+  *hasher = NULL;
 }

@@ -381,8 +381,10 @@ int scrypt_default_limits(uint32_t log_n, uint32_t r, uint32_t p, size_t key_len
  *
  * A hasher makes and verifies password hashes, within limits, for any number of threads.
  *
- *   scrypt_hasher *hasher = scrypt_hasher_new(NULL, NULL);
- *   status = scrypt_hasher_verify(hasher, password, password_len, text, text_len, 1000);
+ *   scrypt_hasher *hasher = NULL;
+ *   int status = scrypt_hasher_new(NULL, &hasher);
+ *   if (status == SCRYPT_OK)
+ *     status = scrypt_hasher_verify(hasher, password, password_len, text, text_len, 1000);
  *
  * A hasher has a slot for each processor, but no more slots than max_tables. A call derives in a
  * slot; the others wait in the wait queue, in FIFO order. Up to four waiting verifications with the
@@ -444,13 +446,12 @@ typedef struct scrypt_options {
 /* Writes the size and the defaults. Does nothing for NULL. */
 void scrypt_options_init(scrypt_options *options);
 
-/* Creates a hasher, with all defaults if options is NULL. The caller frees it. Returns NULL on an
- * error. If status is not NULL, *status becomes SCRYPT_OK or the error. SCRYPT_E_OPTIONS_SIZE,
- * SCRYPT_E_INVALID_PARAMS (also for key_len and min_key_len, and without a table or a processor),
- * SCRYPT_E_SALT_INVALID unless salt_len is 1 to 64, SCRYPT_E_TOO_COSTLY if new hashes exceed the
- * limits, SCRYPT_E_OUT_OF_MEMORY. */
+/* Creates a hasher, with all defaults if options is NULL, and writes it; the caller frees it.
+ * SCRYPT_E_NULL_POINTER if hasher is NULL, SCRYPT_E_OPTIONS_SIZE, SCRYPT_E_INVALID_PARAMS (also for
+ * key_len and min_key_len, and without a table or a processor), SCRYPT_E_SALT_INVALID unless
+ * salt_len is 1 to 64, SCRYPT_E_TOO_COSTLY if new hashes exceed the limits, SCRYPT_E_OUT_OF_MEMORY. */
 SCRYPT_NODISCARD
-scrypt_hasher *scrypt_hasher_new(const scrypt_options *options, int *status);
+int scrypt_hasher_new(const scrypt_options *options, scrypt_hasher **hasher);
 
 /* Returns the options of a hasher, with the values of the defaults, valid until the hasher is
  * freed; or NULL for NULL. */
@@ -501,15 +502,15 @@ typedef struct scrypt_stats {
 
 /* Writes the statistics. SCRYPT_E_NULL_POINTER. */
 SCRYPT_NODISCARD
-int scrypt_hasher_stats(scrypt_hasher *hasher, scrypt_stats *stats);
+int scrypt_hasher_stats(const scrypt_hasher *hasher, scrypt_stats *stats);
 
 /* Closes a hasher: calls that wait, and later ones, return SCRYPT_E_CLOSED; calls that derive run to
  * completion. The memory is unmapped. Does nothing for NULL. */
 void scrypt_hasher_close(scrypt_hasher *hasher);
 
-/* Closes a hasher, and frees it. All other calls must have returned, and no call may follow. Does
- * nothing for NULL. */
-void scrypt_hasher_free(scrypt_hasher *hasher);
+/* Closes and frees a hasher, and sets it to NULL. All other calls must have returned, and no call may
+ * follow. Does nothing if it is NULL. */
+void scrypt_hasher_free(scrypt_hasher **hasher);
 
 /* Finds parameters by measuring how long a hasher takes on this machine, now: the maximum log_n
  * whose table has no more than max_mem bytes, and then the maximum p, such that one derivation

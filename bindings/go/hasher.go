@@ -111,9 +111,8 @@ func NewHasher(options Options) (*Hasher, error) {
 	if options.MCF {
 		with.mcf = 1
 	}
-	var status C.int
-	shared := &hasher{c: C.scrypt_hasher_new(&with, &status)}
-	if shared.c == nil {
+	shared := &hasher{}
+	if status := C.scrypt_hasher_new(&with, &shared.c); status != C.SCRYPT_OK {
 		return nil, fmt.Errorf("%w: %v: %+v", Error(status), options.Params.cost(), options)
 	}
 	derive := C.scrypt_hasher_options(shared.c).processors
@@ -124,7 +123,7 @@ func NewHasher(options Options) (*Hasher, error) {
 		derive = mostInside / perSlot
 	}
 	shared.inside = make(chan struct{}, perSlot*derive)
-	runtime.SetFinalizer(shared, func(shared *hasher) { C.scrypt_hasher_free(shared.c) })
+	runtime.SetFinalizer(shared, func(shared *hasher) { C.scrypt_hasher_free(&shared.c) })
 	return &Hasher{shared}, nil
 }
 

@@ -98,7 +98,7 @@ def logins(library, clients=16):
         for tables in 1, 2, 4:
             hasher = ours.hasher(library, (log_n, 8, 1), max_tables=tables * processors)
             waits = waits_of(library, hasher, login_of(library, log_n), clients)
-            library.scrypt_hasher_free(hasher)
+            library.scrypt_hasher_free(ctypes.byref(hasher))
             cuts = statistics.quantiles(waits, n=100)
             print(ours.line(log_n, tables, f"{tables * processors << (log_n - 10):,}", f"{len(waits) / (0.9 * SECONDS):.1f}",
                             *(f"{1e3 * cuts[at]:.0f}" for at in (49, 98))), flush=True)

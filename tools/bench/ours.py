@@ -1,5 +1,6 @@
 """What the benchmarks share: calls of this library, by ctypes, and tables in Markdown."""
 
+import ctypes
 import datetime
 import os
 import sys
@@ -18,7 +19,8 @@ def hasher(library, params, **options):
     library.scrypt_options_init(with_all)
     for name, value in {"log_n": log_n, "r": r, "p": p, **options}.items():
         setattr(with_all, name, value)
-    return library.scrypt_hasher_new(with_all, None) or sys.exit("no hasher")
+    made = ctypes.c_void_p()
+    return made if library.scrypt_hasher_new(with_all, ctypes.byref(made)) == 0 else sys.exit("no hasher")
 
 
 def buffer_lens(library, params, s=0):

@@ -216,6 +216,9 @@ def numbers():
     yield f"#define DEFAULT_LIMITS {', '.join(map(str, header.LIMITS.values()))} /* crates/scrypt/src/limits.rt */"
 
 
+OPTIONAL = {"options", "needs_rehash"}  # arguments that may be NULL
+
+
 def each_call():
     yield from (f"/* {NOTE}bindings/c/scrypt_c.h: each call that returns a status, as CALL(name, arguments), which",
                 " * whoever includes this list defines. The arguments are variables of arguments.h. P(argument) is a pointer that",
@@ -226,7 +229,7 @@ def each_call():
             is_opaque = header.word_of(it) in header.OPAQUE and "**" not in it
             is_made = "*" in it and not it.startswith("const") and not is_opaque
             words.append(("made." if is_made else "given.") + header.name_of(it))
-            if "*" in it:
+            if "*" in it and header.name_of(it) not in OPTIONAL:
                 words[-1] = f"P({words[-1]})"
         yield f"CALL({name}, ({', '.join(words)}))"
 

@@ -13,6 +13,7 @@ static __thread struct {
   const char *text;
   const scrypt_login *logins;
   scrypt_buffers buffers[1];
+  const scrypt_options *options;
   scrypt_hasher *hasher;
   scrypt_derivation *derivation; /* its chunks are mixed by scrypt_derivation_run */
   size_t password_len, salt_len, text_len, key_len, output_len, capacity, len, count;
@@ -27,6 +28,7 @@ static __thread struct {
 
 static __thread struct {
   scrypt_derivation *derivation[1];
+  scrypt_hasher *hasher[1];
   uint8_t output[64], key[64], salt[16];
   char text[SCRYPT_PHC_CAPACITY + SCRYPT_MCF_CAPACITY(64)];
   uint32_t log_n[1], r[1], p[1];
@@ -65,7 +67,7 @@ static void take_arguments(const void *password, size_t password_len, const void
   in->table = calloc(in->table_len, 4);
   in->scratch = calloc(in->scratch_len, 4);
   if (in->chunks == NULL || in->table == NULL || in->scratch == NULL) exit(3);
-  given.milliseconds = 60000, *made.derivation = NULL;
+  given.milliseconds = 60000, *made.derivation = NULL, *made.hasher = NULL;
   if (scrypt_derivation_new(password, password_len, salt, salt_len, log_n, r, p, SIZE_MAX, key_len,
                             &given.derivation) != SCRYPT_OK) exit(3);
 }
@@ -82,6 +84,7 @@ static void free_arguments(void) {
   free(given.buffers->scratch);
   scrypt_derivation_free(&given.derivation);
   scrypt_derivation_free(made.derivation);
+  scrypt_hasher_free(made.hasher);
 }
 
 #endif

@@ -121,16 +121,24 @@ static const struct {
 #include "each_call.h"
 };
 
+static int new_and_freed(void) {
+  int status = each_scrypt_hasher_new();
+  scrypt_hasher_free(made.hasher);
+  return status;
+}
+
 /* These two choose their own parameters. */
 static void check_call(const char *name, int (*call)(void), int wanted, int is_first) {
 #ifndef _WIN32
   size_t from = used, before = blocks;
 #endif
+  const int is_without_secrets = call == each_scrypt_calibrate || call == each_scrypt_hasher_new;
   if (call == each_scrypt_derivation_new) call = left_and_freed;
+  if (call == each_scrypt_hasher_new) call = new_and_freed;
   if (!is_first && (call == each_scrypt_hash_password || call == each_scrypt_calibrate)) return;
   check_stack(name, call, wanted);
 #ifndef _WIN32
-  if (call != each_scrypt_calibrate) check_blocks(name, from, blocks - before); /* it reads files */
+  if (!is_without_secrets) check_blocks(name, from, blocks - before);
 #endif
 }
 
@@ -147,14 +155,14 @@ static void all_calls(uint32_t p, size_t max_tables) {
   scrypt_options_init(&with);
   with.log_n = 4, with.r = 8, with.p = p, with.key_len = 64, with.max_tables = 2, with.processors = 1;
   with.max_mem = SIZE_MAX, with.max_work = UINT64_MAX;
-  given.hasher = scrypt_hasher_new(&with, NULL);
+  if (scrypt_hasher_new(&with, &given.hasher) != SCRYPT_OK) exit(3);
   for (i = 0; i < sizeof CALLS / sizeof *CALLS; i++) {
     snprintf(name, sizeof name, "%s of %u chunks in %zu tables", CALLS[i].name, p, max_tables);
     check_call(name, CALLS[i].call, wanted_of(CALLS[i].call), p == 1 && max_tables == 1);
   }
   check_call("a wrong password", verify_wrong, SCRYPT_MISMATCH, 0);
   check_call("a text that does not fit", no_room, SCRYPT_E_BUFFER_SIZE, 0);
-  scrypt_hasher_free(given.hasher);
+  scrypt_hasher_free(&given.hasher);
   free_arguments();
 }
 
@@ -189,13 +197,13 @@ static void drawn_texts(void) {
       "$scrypt$ln=4,r=8,p=1$c2FsdHNhbHQ$AAAAAAAAAAAAAAAAAAAAAA",
       "$7$2/..../....saltsalt$......................"};
   int i;
-  given.hasher = scrypt_hasher_new(NULL, NULL);
+  if (scrypt_hasher_new(NULL, &given.hasher) != SCRYPT_OK) exit(3);
   for (i = 0; i < 2000; i++) {
     draw_text(TEXTS[i % 3], strlen(TEXTS[i % 3]));
     check_stack("scrypt_hasher_verify of a drawn text", verify_drawn, -1);
     check_stack("scrypt_needs_rehash of a drawn text", rehash_drawn, -1);
   }
-  scrypt_hasher_free(given.hasher);
+  scrypt_hasher_free(&given.hasher);
 }
 
 /* A thread whose stack has 8 KiB more, for the system's data. */

@@ -115,7 +115,7 @@ static void end(const char *wanted_batches) {
   WRITE(max_mapped, SIZE_MAX);
   scrypt_hasher_close(hasher);
   expect(READ(mapped) == size_of_queue(hasher), "%s: closed", scenario);
-  scrypt_hasher_free(hasher);
+  scrypt_hasher_free(&hasher);
 }
 
 /* ---- Batches: all calls arrive while the first ones derive ---- */

@@ -208,11 +208,11 @@ static scrypt_options options_of(uint32_t log_n, uint32_t r, uint32_t p) {
 
 static scrypt_hasher *new_hasher(size_t processors, size_t max_tables, uint32_t log_n) {
   scrypt_options with = options_of(log_n, 8, 1);
-  int status = -1;
-  scrypt_hasher *hasher;
+  scrypt_hasher *hasher = NULL;
+  int status;
   with.max_tables = max_tables, with.processors = processors;
-  hasher = scrypt_hasher_new(&with, &status);
-  expect(hasher != NULL && status == SCRYPT_OK, "new: %d", status);
+  status = scrypt_hasher_new(&with, &hasher);
+  expect(status == SCRYPT_OK && hasher != NULL, "new: %d", status);
   begun = ended = inside = tables_inside = passed = is_stopped = 0;
   max_inside = (int)hasher->slots;
   max_tables_inside = (int)max_tables;

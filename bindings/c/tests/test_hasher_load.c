@@ -82,7 +82,7 @@ static void at_any_time(void) {
     for (int i = 0; i < 16; i++) pthread_join(all[i], NULL);
     expect(look_at(hasher).is_idle, "idle after load");
     fork_here(hasher, "closed");
-    scrypt_hasher_free(hasher);
+    scrypt_hasher_free(&hasher);
   }
 }
 
@@ -104,7 +104,7 @@ static void freed_when_they_returned(void) {
     WRITE(is_stopped, 0);
     scrypt_hasher_close(hasher);
     for (int i = 0; i < 5; i++) pthread_join(all[i], NULL);
-    scrypt_hasher_free(hasher);
+    scrypt_hasher_free(&hasher);
   }
 }
 

@@ -37,15 +37,22 @@ static const struct {
     {"a size of another version", {.size = 1, .key_len = 9}, SCRYPT_E_OPTIONS_SIZE},
     {"more slots than any machine has", OF(4, 8, 1, .max_tables = SIZE_MAX, .processors = SIZE_MAX), SCRYPT_OK}};
 
+static scrypt_hasher *made_of(const scrypt_options *options) {
+  scrypt_hasher *hasher = NULL;
+  IS(scrypt_hasher_new(options, &hasher), SCRYPT_OK);
+  return hasher;
+}
+
 /* Errors of the options are found before the hasher is allocated. */
 static void options(void) {
   for (size_t i = 0; i < sizeof OPTIONS / sizeof OPTIONS[0]; i++) {
     for (is_malloc_refused = 0; is_malloc_refused < 2; is_malloc_refused++) {
-      int status = -1, wanted = OPTIONS[i].status;
-      scrypt_hasher *hasher = scrypt_hasher_new(&OPTIONS[i].with, &status);
+      int wanted = OPTIONS[i].status, status;
+      scrypt_hasher *hasher = NULL;
+      status = scrypt_hasher_new(&OPTIONS[i].with, &hasher);
       if (is_malloc_refused && wanted == SCRYPT_OK) wanted = SCRYPT_E_OUT_OF_MEMORY;
       expect(status == wanted && (hasher != NULL) == (wanted == SCRYPT_OK), "%s", OPTIONS[i].why);
-      scrypt_hasher_free(hasher);
+      scrypt_hasher_free(&hasher);
     }
     is_malloc_refused = 0;
   }
@@ -66,9 +73,8 @@ static void initial_options(void) {
 }
 
 static void defaults(void) {
-  scrypt_hasher *hasher = scrypt_hasher_new(NULL, NULL);
+  scrypt_hasher *hasher = made_of(NULL), *none = NULL;
   const scrypt_options *with = scrypt_hasher_options(hasher);
-  int status = -1;
   IS(with->log_n, SCRYPT_RECOMMENDED_LOG_N);
   IS(with->r, SCRYPT_RECOMMENDED_R);
   IS(with->p, SCRYPT_RECOMMENDED_P);
@@ -80,10 +86,10 @@ static void defaults(void) {
   IS(with->processors, processors_of_process());
   IS(with->max_tables, 2 * with->processors);
   IS(scrypt_hasher_options(NULL), NULL);
-  scrypt_hasher_free(hasher);
+  scrypt_hasher_free(&hasher);
   WRITE(max_mapped, 10);
-  IS(scrypt_hasher_new(NULL, &status), NULL);
-  IS(status, SCRYPT_E_OUT_OF_MEMORY);
+  IS(scrypt_hasher_new(NULL, &none), SCRYPT_E_OUT_OF_MEMORY);
+  expect(hasher == NULL && none == NULL, "a hasher that is freed, or not created");
   WRITE(max_mapped, SIZE_MAX);
 }
 
@@ -117,13 +123,13 @@ static void refused_verifications(void) {
   expect(look_at(hasher).is_idle, "closed");
   IS(verify(hasher, "", "", -1), SCRYPT_E_ENCODING_INVALID); /* the errors of the text come first */
   IS(verify(hasher, good, "right", -1), SCRYPT_E_CLOSED);
-  scrypt_hasher_free(hasher);
+  scrypt_hasher_free(&hasher);
 }
 
 static void refused_hashes(void) {
   char text[SCRYPT_PHC_CAPACITY], mcf[SCRYPT_MCF_CAPACITY(3)], salt[65] = "";
   scrypt_options with = OF(4, 8, 2, .mcf = 1);
-  scrypt_hasher *phc = new_hasher(1, 1, 4), *of_mcf = scrypt_hasher_new(&with, NULL);
+  scrypt_hasher *phc = new_hasher(1, 1, 4), *of_mcf = made_of(&with);
   phc->queue->slots[0].is_taken = of_mcf->queue->slots[0].is_taken = 1;
   IS(scrypt_hasher_hash(NULL, "a", 1, NULL, 0, text, sizeof text, -1), SCRYPT_E_NULL_POINTER);
   IS(scrypt_hasher_hash(phc, NULL, 1, NULL, 0, text, sizeof text, -1), SCRYPT_E_NULL_POINTER);
@@ -141,8 +147,8 @@ static void refused_hashes(void) {
   phc->queue->slots[0].is_taken = of_mcf->queue->slots[0].is_taken = 0;
   scrypt_hasher_close(phc);
   IS(scrypt_hasher_hash(phc, "a", 1, NULL, 0, text, sizeof text, -1), SCRYPT_E_CLOSED);
-  scrypt_hasher_free(phc);
-  scrypt_hasher_free(of_mcf);
+  scrypt_hasher_free(&phc);
+  scrypt_hasher_free(&of_mcf);
 }
 
 static void refused_keys(void) {
@@ -158,13 +164,13 @@ static void refused_keys(void) {
   IS(scrypt_hasher_key(hasher, "pw", 2, "", 0, key, LONGEST + 1, -1), SCRYPT_E_INVALID_OUTPUT_LEN);
   IS(scrypt_hasher_key(hasher, "pw", 2, "", 0, key, LONGEST, 0), SCRYPT_E_TIMEOUT);
   hasher->queue->slots[0].is_taken = 0;
-  scrypt_hasher_free(hasher);
+  scrypt_hasher_free(&hasher);
 }
 
 static void calls(void) {
   char text[SCRYPT_PHC_CAPACITY], mcf[SCRYPT_MCF_CAPACITY(3)], good[SCRYPT_PHC_CAPACITY];
   scrypt_options with = OF(4, 8, 2, .mcf = 1);
-  scrypt_hasher *phc = new_hasher(1, 1, 4), *of_mcf = scrypt_hasher_new(&with, NULL);
+  scrypt_hasher *phc = new_hasher(1, 1, 4), *of_mcf = made_of(&with);
   const struct arena *kept = &of_mcf->queue->slots[0].arena;
   static const char of_16_bytes[] = TEXT_OF("4,r=8,p=1", "AA");
   uint8_t key[32];
@@ -185,8 +191,8 @@ static void calls(void) {
   IS(scrypt_hasher_key(of_mcf, "pw", 2, NULL, 0, key, 1, -1), SCRYPT_OK);
   for (size_t i = 4 * of_mcf->cost.table_len; i < kept->len; i++) IS(kept->tables[i], 0);
   IS(verify(phc, good, "right", -1), SCRYPT_OK);
-  scrypt_hasher_free(phc);
-  scrypt_hasher_free(of_mcf);
+  scrypt_hasher_free(&phc);
+  scrypt_hasher_free(&of_mcf);
 }
 
 /* The salt of a new hash is drawn, each byte of it, and differs in the next hash. */
@@ -209,7 +215,7 @@ static void decoy(void) {
       OF(1, 2, 3, .key_len = 64, .salt_len = 64), OF(5, 1, 1 << 12, .mcf = 1, .key_len = 11, .salt_len = 2),
       OF(1, 100, 1, .key_len = 12, .salt_len = 3)};
   for (size_t i = 0; i < sizeof PARAMS / sizeof PARAMS[0]; i++) {
-    scrypt_hasher *hasher = scrypt_hasher_new(&PARAMS[i], NULL);
+    scrypt_hasher *hasher = made_of(&PARAMS[i]);
     const char *text = hasher->decoy;
     scrypt_cost cost = {0}, *new = &hasher->cost;
     max_inside = max_tables_inside = 4;
@@ -226,7 +232,7 @@ static void decoy(void) {
     all_match = 0;
     scrypt_hasher_close(hasher);
     IS(scrypt_hasher_verify(hasher, "right", 5, NULL, 0, -1), SCRYPT_E_CLOSED);
-    scrypt_hasher_free(hasher);
+    scrypt_hasher_free(&hasher);
   }
 }
 
@@ -246,7 +252,7 @@ static void memory_of_one_call(void) {
   IS(READ(maps), before);
   cost.bytes = SIZE_MAX / 2 + 1; /* twice that is 0 */
   IS(arena_reserve(arena, &cost, 4, 0), 0);
-  scrypt_hasher_free(hasher);
+  scrypt_hasher_free(&hasher);
 }
 
 /* Tables are unmapped, or wiped if the system fails to unmap them. */
@@ -266,7 +272,7 @@ static void memory_that_stays(void) {
   for (at = left = 0; at < kept.len; at++) left += kept.tables[at] != 0;
   expect(left == 0 && arena->len == 0, "a table that is neither unmapped nor wiped");
   (void)test_unmap(kept.mapping, kept.len + HUGE_PAGE);
-  scrypt_hasher_free(hasher);
+  scrypt_hasher_free(&hasher);
 }
 
 #if HAS_FORKS
@@ -285,18 +291,18 @@ static void forks_of_a_short_system(void) {
   make_text(text, "right", 4, 8, 1);
   max_inside = max_tables_inside = 1;
   for (size_t i = 0; i < sizeof ROWS / sizeof *ROWS; i++) {
-    int status = -1, of_child = -1;
+    int status, of_child = -1;
     pid_t child;
-    scrypt_hasher *hasher;
+    scrypt_hasher *hasher = NULL;
     refused_advice = ROWS[i].advice, refusal = ROWS[i].error, refusals = 1;
-    hasher = scrypt_hasher_new(&with, &status);
+    status = scrypt_hasher_new(&with, &hasher);
     expect(status == ROWS[i].new && (hasher == NULL) == (status != SCRYPT_OK), "%s: %d", ROWS[i].why, status);
     if (hasher == NULL) continue;
     expect(verify(hasher, text, "right", -1) == ROWS[i].call, "%s: a call", ROWS[i].why);
     child = fork();
     if (child == 0) _exit(verify(hasher, text, "right", 1000));
     expect(waitpid(child, &of_child, 0) == child && of_child == 0, "%s: a child %#x", ROWS[i].why, of_child);
-    scrypt_hasher_free(hasher);
+    scrypt_hasher_free(&hasher);
   }
   refused_advice = refusals = 0;
 }
@@ -329,7 +335,7 @@ static void generations(void) {
   IS(verify(hasher, text, "right", -1), SCRYPT_OK);
   expect(generation(hasher, text, 8), "a child");
   IS(verify(hasher, text, "right", -1), SCRYPT_OK);
-  scrypt_hasher_free(hasher);
+  scrypt_hasher_free(&hasher);
 }
 #endif
 
@@ -379,7 +385,7 @@ static void many_waits(void) {
   mutex_unlock(&queue->lock);
   expect(look_at(hasher).is_idle, "not idle");
   expect(clock() - begun_at < 5 * CLOCKS_PER_SEC, "not linear");
-  scrypt_hasher_free(hasher);
+  scrypt_hasher_free(&hasher);
   free(all);
 }
 
@@ -404,11 +410,11 @@ static void memory(void) {
     with.processors = MEMORY[i].processors, with.max_mem = MEMORY[i].max_mem;
     if (with.max_mem == 1 << 14) with.log_n = 4, with.r = 1, with.p = 1;
     memory_there = MEMORY[i].memory;
-    hasher = scrypt_hasher_new(&with, NULL);
+    hasher = made_of(&with);
     expect(scrypt_hasher_options(hasher)->max_tables == MEMORY[i].max_tables, "%s", MEMORY[i].why);
     if (MEMORY[i].default_most != 0)
       IS(scrypt_hasher_options(hasher)->max_mem, MEMORY[i].default_most);
-    scrypt_hasher_free(hasher);
+    scrypt_hasher_free(&hasher);
   }
   memory_there = SIZE_MAX;
 }

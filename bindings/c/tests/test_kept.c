@@ -91,13 +91,13 @@ static size_t tables(void) {
 
 int main(void) {
   check(tables() == (strstr(scrypt_version(), "x86-64-v2") != NULL ? 3 : 4), "the tables of scrypt_key");
-  hasher = scrypt_hasher_new(NULL, NULL);
+  check(scrypt_hasher_new(NULL, &hasher) == SCRYPT_OK, "a hasher");
   check(changed_by(changes_two) == 2, "a change is found");
   check(changed_by(key) == 0, "scrypt_key");
   check(changed_by(large_key) == 0, "scrypt_key, in a separate mapping");
   check(changed_by(hash) == 0, "scrypt_hash_with_salt");
   check(changed_by(verify) == 0, "scrypt_verify");
   check(changed_by(by_hasher) == 0, "scrypt_hasher_verify");
-  scrypt_hasher_free(hasher);
+  scrypt_hasher_free(&hasher);
   return failed;
 }

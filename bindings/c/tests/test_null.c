@@ -100,11 +100,11 @@ int main(void) {
   take_arguments(SECRETS, 4, 1, 1, 32, 1);
   take_text("$7$", &ONE, 1);
   memcpy(before, &made, sizeof made);
-  given.hasher = scrypt_hasher_new(NULL, NULL);
+  if (scrypt_hasher_new(NULL, &given.hasher) != SCRYPT_OK) exit(3);
   each_pointer();
   others();
   wipe();
-  scrypt_hasher_free(given.hasher);
+  scrypt_hasher_free(&given.hasher);
   scrypt_hasher_close(NULL);
   scrypt_hasher_free(NULL);
   scrypt_derivation_free(NULL);

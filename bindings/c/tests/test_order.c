@@ -34,6 +34,12 @@ static int is_new(void) {
   scrypt_derivation_free(made.derivation);
   return status == SCRYPT_OK && done == 1 && *made.derivation == NULL && a_key();
 }
+static int a_hasher(void) {
+  const scrypt_options *options = scrypt_hasher_options(*made.hasher);
+  const int has_them = options != NULL && options->log_n == 4 && options->max_tables == 1;
+  scrypt_hasher_free(made.hasher);
+  return has_them && *made.hasher == NULL;
+}
 static int a_hashers_key(void) { return memcmp(made.key, KEY, sizeof KEY) == 0; }
 static int a_phc(void) { return memcmp(made.text, PHC, sizeof PHC) == 0; }
 static int an_mcf(void) { return memcmp(made.text, MCF, sizeof MCF) == 0; }
@@ -107,6 +113,7 @@ static const struct {
     {"scrypt_params_cost, of two tables", needs_of_two, SCRYPT_OK},
     {"scrypt_default_limits", limits, SCRYPT_OK},
     {"scrypt_default_limits, of short keys", limits_of_short_keys, SCRYPT_OK},
+    {"scrypt_hasher_new", a_hasher, SCRYPT_OK},
     {"scrypt_hasher_verify", nothing, SCRYPT_OK},
     {"scrypt_hasher_hash", a_phc, SCRYPT_OK},
     {"scrypt_hasher_key", a_hashers_key, SCRYPT_OK},
@@ -116,7 +123,7 @@ static const struct {
     {"scrypt_generate_salt", a_salt, SCRYPT_OK},
 };
 
-/* Fills all outputs but the derivation, which is first. */
+/* Fills all outputs but the derivation and the hasher, which are first. */
 static void forget(void) {
   memset(&made.output, 0xaa, sizeof made - (size_t)((uint8_t *)&made.output - (uint8_t *)&made));
 }
@@ -152,7 +159,8 @@ static void *arguments(void *text) {
   scrypt_options_init(&options);
   options.log_n = 4, options.r = 2, options.p = 3, options.key_len = options.min_key_len = 20, options.salt_len = 8;
   options.max_mem = 5376, options.max_work = 1152, options.max_tables = options.processors = 1;
-  given.hasher = scrypt_hasher_new(&options, NULL);
+  given.options = &options;
+  if (scrypt_hasher_new(&options, &given.hasher) != SCRYPT_OK) exit(3);
   given.max_mem = 5376, given.max_work = 1152, given.key = KEY;
   forget();
 #define CALL(name, arguments) check_call(#name, name arguments);
@@ -173,7 +181,7 @@ static void *arguments(void *text) {
              scrypt_default_limits(PARAMS, 10, made.max_mem, made.max_work, made.min_key_len));
   for (i = 0; i < sizeof NUMBERS / sizeof *NUMBERS; i++) rejected(NUMBERS[i], 2, 3);
   rejected(4, 1 << 15, 1 << 15);
-  scrypt_hasher_free(given.hasher);
+  scrypt_hasher_free(&given.hasher);
   free_arguments();
   return NULL;
 }

@@ -75,7 +75,7 @@ static void all_calls(size_t len, uint32_t log_n, uint32_t r, uint32_t p, size_t
   scrypt_options_init(&with);
   with.log_n = log_n, with.r = r, with.p = p, with.mcf = mcf, with.key_len = KEY_LEN;
   with.max_mem = SIZE_MAX, with.max_work = UINT64_MAX, with.max_tables = tables, with.processors = 1;
-  given.hasher = scrypt_hasher_new(&with, NULL);
+  if (scrypt_hasher_new(&with, &given.hasher) != SCRYPT_OK) exit(3);
 #define CALL(name, arguments)                                                                  \
   if (strcmp(#name, "scrypt_hash_password") != 0 && strcmp(#name, "scrypt_calibrate") != 0) {  \
     before = VALGRIND_COUNT_ERRORS;                                                            \
@@ -83,7 +83,7 @@ static void all_calls(size_t len, uint32_t log_n, uint32_t r, uint32_t p, size_t
     check_call(#name, status, VALGRIND_COUNT_ERRORS - before);                                 \
   }
 #include "each_call.h"
-  scrypt_hasher_free(given.hasher);
+  scrypt_hasher_free(&given.hasher);
   free_arguments();
 }
 

@@ -18,7 +18,7 @@ int main(int count, char **words) {
   take_text(phc, &login, 1);
   scrypt_options_init(&options);
   options.log_n = 8, options.r = 8, options.p = p, options.max_tables = options.processors = 1;
-  given.hasher = scrypt_hasher_new(&options, NULL);
+  if (scrypt_hasher_new(&options, &given.hasher) != SCRYPT_OK) exit(3);
 #define CALL(name, arguments)                                                                        \
   if (strcmp(#name, "scrypt_hash_password") != 0 && strcmp(#name, "scrypt_calibrate") != 0) {        \
     CALLGRIND_ZERO_STATS;                                                                            \
@@ -29,7 +29,7 @@ int main(int count, char **words) {
   CALLGRIND_ZERO_STATS;
   (void)!scrypt_hasher_verify(given.hasher, "pw", 2, NULL, 0, -1);
   CALLGRIND_DUMP_STATS_AT("scrypt_hasher_verify_without_hash");
-  scrypt_hasher_free(given.hasher);
+  scrypt_hasher_free(&given.hasher);
   free_arguments();
   return 0;
 }

@@ -111,9 +111,8 @@ class PasswordHasher:
         for name, limit in limits.items():
             if limit is not None:
                 setattr(options, name, in_64_bits(limit, name))
-        status = ctypes.c_int()
-        self._c = library.hasher_new(options, status)
-        check_costs(status.value, cost_of(self._params)[1], max_mem, max_work)
+        status, self._c = library.hasher_new(options)
+        check_costs(status, cost_of(self._params)[1], max_mem, max_work)
 
     @property
     def params(self) -> Params:

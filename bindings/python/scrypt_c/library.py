@@ -44,17 +44,16 @@ class Cost(declared.Cost):
 
 
 class Hasher(ctypes.c_void_p):
-    """A scrypt_hasher, which is freed with this object. ctypes creates the object, so that no
-    signal handler can raise an exception before it exists."""
+    """A scrypt_hasher, or NULL. The library writes it and frees it, each in one call, so that a
+    signal handler's exception finds it in one of these two states; then it is freed with this
+    object."""
 
-    def __del__(self, free: Any = _lib.scrypt_hasher_free) -> None:
-        free(self)
+    def __del__(self, free: Any = _lib.scrypt_hasher_free, at: Any = ctypes.byref) -> None:
+        free(at(self))
 
 
 class Derivation(ctypes.c_void_p):
-    """A scrypt_derivation, or NULL. The library writes it and frees it, each in one call, so that a
-    signal handler's exception finds it in one of these two states; then it is freed with this
-    object."""
+    """The same of a scrypt_derivation."""
 
     def __del__(self, free: Any = _lib.scrypt_derivation_free, at: Any = ctypes.byref) -> None:
         free(at(self))
@@ -99,16 +98,14 @@ if sys.implementation.name == "cpython":
     _untrack = _declared("PyObject_GC_UnTrack", _interpreter)
 
 
-def hasher_new(
-    options: Optional[declared.Options], status: Optional[ctypes.c_int]
-) -> Hasher:
-    """Creates a hasher. The garbage collector finalizes the objects of a cycle in any order, so it
+def hasher_new(options: Optional[declared.Options]) -> tuple[int, Hasher]:
+    """Creates a hasher, and returns the status and it. The garbage collector finalizes the objects of a cycle in any order, so it
     could free a hasher that other objects still use. A hasher refers to nothing, so it is
     untracked: it is freed when its last reference is gone."""
-    hasher: Hasher = _hasher_new(options, status)
+    hasher = Hasher()
     if sys.implementation.name == "cpython":
         _untrack(hasher)
-    return hasher
+    return _hasher_new(options, hasher), hasher
 
 
 def text_capacity(salt_len: int) -> int:

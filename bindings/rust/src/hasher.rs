@@ -3,7 +3,7 @@
 use crate::calls::*;
 use crate::{Cost, Error, Limits, Params};
 use std::os::raw::c_int;
-use std::ptr::{null, NonNull};
+use std::ptr::{null, null_mut, NonNull};
 use std::sync::Arc;
 use std::time::Duration;
 
@@ -95,7 +95,7 @@ unsafe impl Sync for Inner {}
 impl Drop for Inner {
     fn drop(&mut self) {
         // SAFETY: no clone is left, so no call is running, and no call follows.
-        unsafe { scrypt_hasher_free(self.raw.as_ptr()) }
+        unsafe { scrypt_hasher_free(&mut self.raw.as_ptr()) }
     }
 }
 
@@ -135,9 +135,10 @@ impl Hasher {
         if processors > 0 {
             raw.processors = processors;
         }
-        let mut status = OK;
-        // SAFETY: both pointers are to local variables, and `size` is the size of the options.
-        match NonNull::new(unsafe { scrypt_hasher_new(&raw, &mut status) }) {
+        let mut hasher = null_mut();
+        // SAFETY: both pointers are to local variables.
+        let status = unsafe { scrypt_hasher_new(&raw, &mut hasher) };
+        match NonNull::new(hasher) {
             Some(raw) => Ok(Hasher(Arc::new(Inner { raw, options }))),
             None if status == TOO_COSTLY => {
                 let limits = options.limits.unwrap_or_default();
