@@ -284,7 +284,7 @@ static int run(scrypt_hasher *hasher, struct call *call, int64_t timeout_ms) {
 
 /* Without a text, the decoy is verified, in the time of a wrong password. */
 int scrypt_hasher_verify(scrypt_hasher *hasher, const void *password, size_t password_len,
-                         const char *text, size_t text_len, int64_t timeout_ms) {
+                         const char *text, size_t text_len, int *needs_rehash, int64_t timeout_ms) {
   struct call call = {.kind = VERIFY, .login = {password, password_len, text, text_len}};
   const scrypt_options *options = scrypt_hasher_options(hasher);
   int status;
@@ -297,7 +297,10 @@ int scrypt_hasher_verify(scrypt_hasher *hasher, const void *password, size_t pas
   status = scrypt_hash_cost(call.login.text, call.login.text_len, options->max_mem,
                             options->max_work, options->min_key_len, &call.cost);
   if (status == SCRYPT_OK) status = run(hasher, &call, timeout_ms);
-  return text == NULL && status == SCRYPT_OK ? SCRYPT_MISMATCH : status;
+  if (text == NULL && status == SCRYPT_OK) status = SCRYPT_MISMATCH;
+  if (status == SCRYPT_OK && needs_rehash != NULL)
+    *needs_rehash = scrypt_hasher_needs_rehash(hasher, text, text_len) == SCRYPT_NEEDS_REHASH;
+  return status;
 }
 
 int scrypt_hasher_hash(scrypt_hasher *hasher, const void *password, size_t password_len,

@@ -17,6 +17,7 @@
  *   whether a stored hash is too weak now            scrypt_needs_rehash                      yes
  *   the cost of a stored hash, within limits         scrypt_hash_cost; scrypt_hash_params     yes
  *   hashes for a service: threads, limits, memory    scrypt_hasher_new; _verify; _hash; ..    no
+ *   the options of a hasher                          scrypt_options_init                      no
  *   parameters that take a given time                scrypt_calibrate                         no
  *   a salt for a new key or hash                     scrypt_generate_salt                     no
  *   the version of the library                       scrypt_version                           no
@@ -384,7 +385,7 @@ int scrypt_default_limits(uint32_t log_n, uint32_t r, uint32_t p, size_t key_len
  *   scrypt_hasher *hasher = NULL;
  *   int status = scrypt_hasher_new(NULL, &hasher);
  *   if (status == SCRYPT_OK)
- *     status = scrypt_hasher_verify(hasher, password, password_len, text, text_len, 1000);
+ *     status = scrypt_hasher_verify(hasher, password, password_len, text, text_len, NULL, 1000);
  *
  * A hasher has a slot for each processor, but no more slots than max_tables. A call derives in a
  * slot; the others wait in the wait queue, in FIFO order. Up to four waiting verifications with the
@@ -458,9 +459,11 @@ int scrypt_hasher_new(const scrypt_options *options, scrypt_hasher **hasher);
 const scrypt_options *scrypt_hasher_options(const scrypt_hasher *hasher);
 
 /* Verifies a password against the text of a hash, like scrypt_verify, within the limits of the
- * hasher. This and the next two calls wait for a slot of the hasher for up to timeout_ms
- * milliseconds, or without a limit if that is negative, and then return SCRYPT_E_TIMEOUT; the timeout
- * doesn't end a derivation.
+ * hasher. If the password is right and needs_rehash is not NULL, *needs_rehash becomes 1 if the hash
+ * is weaker than new hashes, so that a new one should be stored, and otherwise 0.
+ * This and the next two calls wait for a slot of the hasher for up to timeout_ms milliseconds, or
+ * without a limit if that is negative, and then return SCRYPT_E_TIMEOUT; the timeout doesn't end a
+ * derivation.
  * For a login whose name doesn't exist, pass NULL with text_len 0: the call derives with the
  * parameters of new hashes, and returns SCRYPT_MISMATCH after the time of a wrong password, so that
  * a timing attack doesn't tell which names exist.
@@ -468,7 +471,7 @@ const scrypt_options *scrypt_hasher_options(const scrypt_hasher *hasher);
  * SCRYPT_E_TIMEOUT, SCRYPT_E_OUT_OF_MEMORY, and last SCRYPT_MISMATCH if the password is wrong. */
 SCRYPT_NODISCARD
 int scrypt_hasher_verify(scrypt_hasher *hasher, const void *password, size_t password_len, const char *text,
-                         size_t text_len, int64_t timeout_ms);
+                         size_t text_len, int *needs_rehash, int64_t timeout_ms);
 
 /* Writes the text of a new hash, NUL-terminated. If the salt is NULL, with length 0, a random salt
  * of salt_len bytes is used. The capacity must be SCRYPT_PHC_CAPACITY or more or, for a $7$ hash,

@@ -242,7 +242,7 @@ func (h *Hasher) Verify(ctx context.Context, text string, password []byte) error
 		if len(raw) == 0 {
 			at = nil
 		}
-		return C.scrypt_hasher_verify(h.shared.c, pointer(password), size(password), at, size(raw), ms)
+		return C.scrypt_hasher_verify(h.shared.c, pointer(password), size(password), at, size(raw), nil, ms)
 	})
 }
 

@@ -80,7 +80,7 @@ def waits_of(library, hasher, login, clients):
     def client(_):
         waits = []
         while (start := time.perf_counter()) < end:
-            if library.scrypt_hasher_verify(hasher, *login, -1):
+            if library.scrypt_hasher_verify(hasher, *login, None, -1):
                 raise ValueError("a login is rejected")
             if start > end - 0.9 * SECONDS:
                 waits.append(time.perf_counter() - start)

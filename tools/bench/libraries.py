@@ -36,7 +36,7 @@ def timed(verify, count=1):
 def in_hasher(library, params, text):
     """In up to four tables, on one processor."""
     hasher = ours.hasher(library, params, max_tables=4, processors=1)
-    return lambda: library.scrypt_hasher_verify(hasher, PASSWORD, len(PASSWORD), text, len(text), -1) == 0
+    return lambda: library.scrypt_hasher_verify(hasher, PASSWORD, len(PASSWORD), text, len(text), None, -1) == 0
 
 
 def in_batch(library, params, text, count):

@@ -35,7 +35,7 @@ static __thread struct {
   size_t key_len[1], max_mem[1], min_key_len[1];
   uint64_t max_work[1];
   double done[1];
-  int statuses[SCRYPT_MAX_LOGINS];
+  int statuses[SCRYPT_MAX_LOGINS], needs_rehash[1];
   scrypt_buffers buffers[1]; /* their lengths */
   scrypt_cost cost[1];
   scrypt_stats stats[1];

@@ -187,7 +187,7 @@ static void draw_text(const char *text, size_t len) {
 }
 
 static int verify_drawn(void) {
-  return scrypt_hasher_verify(given.hasher, PASSWORD, 40, drawn, drawn_len, -1);
+  return scrypt_hasher_verify(given.hasher, PASSWORD, 40, drawn, drawn_len, NULL, -1);
 }
 static int rehash_drawn(void) { return scrypt_needs_rehash(drawn, drawn_len, 1, 1, 1, 32); }
 

@@ -224,7 +224,7 @@ static void make_text(char *text, const char *password, uint8_t log_n, uint32_t 
 }
 
 static int verify(scrypt_hasher *hasher, const char *text, const char *password, int64_t ms) {
-  return scrypt_hasher_verify(hasher, password, strlen(password), text, strlen(text), ms);
+  return scrypt_hasher_verify(hasher, password, strlen(password), text, strlen(text), NULL, ms);
 }
 
 /* The number of slots that are taken; whether no slot is taken, no call waits or derives, and no

@@ -53,7 +53,7 @@ static void *verify_until_closed(void *hasher) {
   do {
     int wrong = rand_r(&seed) & 1, ms = rand_r(&seed) % 4 - 1;
     const char *text = texts[rand_r(&seed) % 3];
-    status = scrypt_hasher_verify(hasher, wrong ? "wrong" : "right", 5, text, strlen(text), ms);
+    status = scrypt_hasher_verify(hasher, wrong ? "wrong" : "right", 5, text, strlen(text), NULL, ms);
     is_right = status == wrong || status == SCRYPT_E_CLOSED || (ms >= 0 && status == SCRYPT_E_TIMEOUT);
     expect(is_right, "status %d where %d is right", status, wrong);
   } while (status != SCRYPT_E_CLOSED);

@@ -109,8 +109,8 @@ static void refused_verifications(void) {
   IS(verify(hasher, "$scrypt$ln=4,r=8,p=1$c2FsdHNhbHQ", "", -1), SCRYPT_E_OUTPUT_SIZE);
   IS(verify(hasher, "$scrypt$ln=4,r=8,p=1", "", -1), SCRYPT_E_OUTPUT_SIZE);
   IS(verify(NULL, good, "", -1), SCRYPT_E_NULL_POINTER);
-  IS(scrypt_hasher_verify(hasher, NULL, 1, good, strlen(good), -1), SCRYPT_E_NULL_POINTER);
-  IS(scrypt_hasher_verify(hasher, "", 0, NULL, 1, -1), SCRYPT_E_NULL_POINTER);
+  IS(scrypt_hasher_verify(hasher, NULL, 1, good, strlen(good), NULL, -1), SCRYPT_E_NULL_POINTER);
+  IS(scrypt_hasher_verify(hasher, "", 0, NULL, 1, NULL, -1), SCRYPT_E_NULL_POINTER);
   IS(scrypt_hasher_needs_rehash(NULL, good, 1), SCRYPT_E_NULL_POINTER);
   IS(scrypt_hasher_stats(NULL, &stats), SCRYPT_E_NULL_POINTER);
   IS(scrypt_hasher_stats(hasher, NULL), SCRYPT_E_NULL_POINTER);
@@ -195,6 +195,32 @@ static void calls(void) {
   scrypt_hasher_free(&of_mcf);
 }
 
+/* A verification says whether to rehash, if the password is right. */
+static void rehashes(void) {
+  static const struct {
+    const char *why, *password, *text;
+    uint32_t log_n, r, p;
+    int status, needs_rehash;
+  } ROWS[] = {{"the parameters of new hashes", "right", "", 4, 8, 1, SCRYPT_OK, 0},
+              {"stronger than new hashes", "right", "", 5, 8, 1, SCRYPT_OK, 0},
+              {"a smaller N", "right", "", 3, 8, 1, SCRYPT_OK, 1},
+              {"a smaller r, and a larger N", "right", "", 9, 1, 1, SCRYPT_OK, 1},
+              {"a wrong password", "wrong", "", 3, 8, 1, SCRYPT_MISMATCH, 7},
+              {"no hash", "right", NULL, 3, 8, 1, SCRYPT_MISMATCH, 7},
+              {"a hash that is refused", "right", "$7$", 3, 8, 1, SCRYPT_E_ENCODING_INVALID, 7}};
+  scrypt_hasher *hasher = new_hasher(1, 1, 4);
+  for (size_t i = 0; i < sizeof ROWS / sizeof *ROWS; i++) {
+    char made[SCRYPT_PHC_CAPACITY];
+    const char *text = ROWS[i].text;
+    int needs_rehash = 7, status;
+    if (text != NULL && *text == '\0') text = made;
+    make_text(made, "right", (uint8_t)ROWS[i].log_n, ROWS[i].r, ROWS[i].p);
+    status = scrypt_hasher_verify(hasher, ROWS[i].password, 5, text, text != NULL ? strlen(text) : 0, &needs_rehash, -1);
+    expect(status == ROWS[i].status && needs_rehash == ROWS[i].needs_rehash, "%s: %d, %d", ROWS[i].why, status, needs_rehash);
+  }
+  scrypt_hasher_free(&hasher);
+}
+
 /* The salt of a new hash is drawn, each byte of it, and differs in the next hash. */
 static void new_salts(scrypt_hasher *hasher) {
   const scrypt_options *with = &hasher->options;
@@ -219,19 +245,19 @@ static void decoy(void) {
     const char *text = hasher->decoy;
     scrypt_cost cost = {0}, *new = &hasher->cost;
     max_inside = max_tables_inside = 4;
-    IS(scrypt_hasher_verify(hasher, "right", 5, NULL, 0, -1), SCRYPT_MISMATCH);
-    IS(scrypt_hasher_verify(hasher, NULL, 0, NULL, 0, -1), SCRYPT_MISMATCH);
-    IS(scrypt_hasher_verify(hasher, NULL, 1, NULL, 0, -1), SCRYPT_E_NULL_POINTER);
+    IS(scrypt_hasher_verify(hasher, "right", 5, NULL, 0, NULL, -1), SCRYPT_MISMATCH);
+    IS(scrypt_hasher_verify(hasher, NULL, 0, NULL, 0, NULL, -1), SCRYPT_MISMATCH);
+    IS(scrypt_hasher_verify(hasher, NULL, 1, NULL, 0, NULL, -1), SCRYPT_E_NULL_POINTER);
     IS(scrypt_hash_cost(text, strlen(text), SIZE_MAX, UINT64_MAX, 0, &cost), SCRYPT_OK);
     expect(cost.log_n == new->log_n && cost.r == new->r && cost.p == new->p, "parameters");
     IS(cost.key_len, hasher->options.key_len);
     IS(strlen(text) - 15 - (8 * cost.key_len + 5) / 6, hasher->options.salt_len);
     new_salts(hasher);
     all_match = 1;
-    IS(scrypt_hasher_verify(hasher, "right", 5, NULL, 0, -1), SCRYPT_MISMATCH);
+    IS(scrypt_hasher_verify(hasher, "right", 5, NULL, 0, NULL, -1), SCRYPT_MISMATCH);
     all_match = 0;
     scrypt_hasher_close(hasher);
-    IS(scrypt_hasher_verify(hasher, "right", 5, NULL, 0, -1), SCRYPT_E_CLOSED);
+    IS(scrypt_hasher_verify(hasher, "right", 5, NULL, 0, NULL, -1), SCRYPT_E_CLOSED);
     scrypt_hasher_free(&hasher);
   }
 }
@@ -449,6 +475,7 @@ int main(void) {
   RUN(refused_hashes);
   RUN(refused_keys);
   RUN(calls);
+  RUN(rehashes);
   RUN(decoy);
   RUN(memory_of_one_call);
   RUN(memory_that_stays);

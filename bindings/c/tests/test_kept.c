@@ -25,7 +25,7 @@ static int hash(void) {
 }
 static int verify(void) { return scrypt_verify("pw", 2, TEXT, sizeof TEXT - 1) == SCRYPT_MISMATCH ? SCRYPT_OK : -1; }
 static int by_hasher(void) {
-  int status = scrypt_hasher_verify(hasher, "pw", 2, TEXT, sizeof TEXT - 1, -1);
+  int status = scrypt_hasher_verify(hasher, "pw", 2, TEXT, sizeof TEXT - 1, NULL, -1);
   return status == SCRYPT_MISMATCH ? SCRYPT_OK : -1;
 }
 

@@ -34,6 +34,7 @@ static int is_new(void) {
   scrypt_derivation_free(made.derivation);
   return status == SCRYPT_OK && done == 1 && *made.derivation == NULL && a_key();
 }
+static int no_rehash(void) { return *made.needs_rehash == 0; }
 static int a_hasher(void) {
   const scrypt_options *options = scrypt_hasher_options(*made.hasher);
   const int has_them = options != NULL && options->log_n == 4 && options->max_tables == 1;
@@ -114,7 +115,7 @@ static const struct {
     {"scrypt_default_limits", limits, SCRYPT_OK},
     {"scrypt_default_limits, of short keys", limits_of_short_keys, SCRYPT_OK},
     {"scrypt_hasher_new", a_hasher, SCRYPT_OK},
-    {"scrypt_hasher_verify", nothing, SCRYPT_OK},
+    {"scrypt_hasher_verify", no_rehash, SCRYPT_OK},
     {"scrypt_hasher_hash", a_phc, SCRYPT_OK},
     {"scrypt_hasher_key", a_hashers_key, SCRYPT_OK},
     {"scrypt_hasher_needs_rehash", nothing, SCRYPT_OK},

@@ -27,7 +27,7 @@ int main(int count, char **words) {
   }
 #include "each_call.h"
   CALLGRIND_ZERO_STATS;
-  (void)!scrypt_hasher_verify(given.hasher, "pw", 2, NULL, 0, -1);
+  (void)!scrypt_hasher_verify(given.hasher, "pw", 2, NULL, 0, NULL, -1);
   CALLGRIND_DUMP_STATS_AT("scrypt_hasher_verify_without_hash");
   scrypt_hasher_free(&given.hasher);
   free_arguments();

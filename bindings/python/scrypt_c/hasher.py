@@ -173,7 +173,7 @@ class PasswordHasher:
         that its time does not reveal whether there is such a user.
         """
         raw, secret = None if hash is None else raw_text(hash), raw_password(password)
-        status = self._run(library.hasher_verify, secret, len(secret), raw, len(raw or b""))
+        status = self._run(library.hasher_verify, secret, len(secret), raw, len(raw or b""), None)
         if library.status_is_invalid_hash(status) and secret.startswith((b"$scrypt$", b"$7$")):
             check(status, "the hash comes first, and then the password")
         self._check(status, raw)

@@ -262,7 +262,7 @@ impl Hasher {
         #[rustfmt::skip]
         let status = unsafe {
             scrypt_hasher_verify(self.raw(), password.as_ptr().cast(), password.len(),
-                at.cast(), len, self.timeout_ms())
+                at.cast(), len, null_mut(), self.timeout_ms())
         };
         match (status, text) {
             (TOO_COSTLY | KEY_TOO_SHORT, Some(text)) => Err(self.refusal(status, text)),
