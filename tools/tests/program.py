@@ -23,16 +23,6 @@ from tools.tests.known import CRYPT, EMPTY, EMPTY_OF_64, EMPTY_PHC, HASHLIB, PAS
 from tools.tests.runs import USAGE, run
 from tools.tests.streams import memory, streams
 
-# The lines for options that do not fit the command, for one without its value, and for one after the command.
-MISFIT = {
-    "key": "key takes no option except --progress, --raw and --strip-newline: see --help",
-    "hash": "hash takes no option except --generate-salt, --recommended and --strip-newline: see --help",
-    "verify": "verify does not take --generate-salt, --progress, --raw and --recommended: see --help",
-    "rehash": "rehash does not take --progress, --raw and --recommended: see --help",
-}
-NO_FILE = "--hash-file needs a value: --hash-file=FILE"
-OPTIONS_FIRST = "options come before the command: see --help"
-
 FIRST_KEY = (
     "77d6576238657b203b19ca42c18a0497f16b4844e3074ae8dfdffa3fede21442"
     "fcd0069ded0948f8326a753a0fc81f17e8d3e0fb2e0d3628cf35e20c38d18906"
@@ -124,9 +114,10 @@ NO_COMMANDS = {
     "no format": ["hash md5 4 1 1 00", "hash PHC 4 1 1 00", f"rehash 4 1 1 32 00 {EMPTY}", f"verify phc {EMPTY_PHC}"],
 }
 
-# Lines with a word that begins with two minuses after the command, which are not commands.
+# Options after the command, which are wrong words there.
 OPTIONS_AFTER = [f"verify --default-limits {EMPTY}", f"verify {EMPTY} --default-limits", "key --help", "key --version", "hash phc --recommended",
-                 f"rehash phc 4 1 1 --generate-salt 32 {EMPTY}", "key 4 1 1 64 00 --raw", f"verify -- {EMPTY}"]
+                 f"rehash phc 4 1 1 --generate-salt 32 {EMPTY}", "key 4 1 1 64 00 --raw", f"verify -- {EMPTY}",
+                 "key -- 4 1 1 64 "]
 
 # Texts that are not numbers, and each argument that is a number.
 NO_NUMBERS = {"": "nothing", "04": "a leading zero", "00": "two digits for 0", "+4": "a plus", "-4": "a minus", "4.": "a dot",
@@ -145,7 +136,7 @@ NOT_ACCEPTED = {"4 0 1": "r is 0", "4 1 0": "p is 0", "57 1 1": "N * r is 2^57",
 # Each fault: bindings/cases.tsv has those of verifications, without the name of a parameter.
 FAULTS = [
     *((line, "", 2, USAGE, reason) for reason, lines in NO_COMMANDS.items() for line in lines),
-    *((line, "", 2, OPTIONS_FIRST, "an option after the command") for line in OPTIONS_AFTER),
+    *((line, "", 2, USAGE, "an option after the command") for line in OPTIONS_AFTER),
     *((place.format(it), "", 2, USAGE, reason) for place in NUMBER_PLACES for it, reason in NO_NUMBERS.items()),
     *((place.format(greatest + 1), "", 2, USAGE, "a number above its range") for place, greatest in GREATEST),
     *((place.format(greatest), "", 2, "invalid scrypt parameters", "the maximum number")
@@ -160,8 +151,8 @@ FAULTS = [
     (f"--max-work= verify {EMPTY}", "", 2, USAGE, "no number"),
     (f"--max-mem=18446744073709551616 verify {EMPTY}", "", 2, USAGE, "a number of 2^64"),
     (f"--max-work 192 verify {EMPTY}", "", 2, USAGE, "a number in a separate argument"),
-    ("--hash-file hash verify", "", 2, NO_FILE, "a file in a separate argument"),
-    ("--hash-file --help", "", 2, NO_FILE, "later arguments are not read"),
+    ("--hash-file hash verify", "", 2, USAGE, "a file in a separate argument"),
+    ("--hash-file --help", "", 2, USAGE, "later arguments are not read"),
     (f"--default-limits --hash-files verify {EMPTY}", "", 2, USAGE, "an unknown option"),
     (f"-- verify {EMPTY}", "", 2, USAGE, "-- does not end the options"),
     ("key 4 1 1 64 0", "", 2, "salt is not hexadecimal", "half a byte of salt"),
@@ -227,19 +218,19 @@ LIMITS = [
 # Each option before each command that it does not fit, and the passwords that --strip-newline
 # leaves.
 OPTIONS = [
-    *((f"{limit} {command}", "", 2, MISFIT[command.split()[0]], "limits are those of verify and rehash")
+    *((f"{limit} {command}", "", 2, USAGE, "limits are those of verify and rehash")
       for limit in ("--default-limits", "--max-mem=1", "--max-work=1", "--min-key-len=1")
       for command in ("key 4 1 1 16 ", "hash phc 4 1 1 00")),
-    ("--generate-salt key 4 1 1 16", "", 2, MISFIT["key"], "the salt of a key is named"),
-    (f"--generate-salt verify {EMPTY}", "", 2, MISFIT["verify"], "a verdict has no salt"),
-    ("--recommended key 16", "", 2, MISFIT["key"], "the recommended parameters are those of a hash"),
-    (f"--recommended rehash phc 32 {EMPTY}", "", 2, MISFIT["rehash"], "the same"),
+    ("--generate-salt key 4 1 1 16", "", 2, USAGE, "the salt of a key is named"),
+    (f"--generate-salt verify {EMPTY}", "", 2, USAGE, "a verdict has no salt"),
+    ("--recommended key 16", "", 2, USAGE, "the recommended parameters are those of a hash"),
+    (f"--recommended rehash phc 32 {EMPTY}", "", 2, USAGE, "the same"),
     ("--recommended hash phc 17 8 1", "", 2, USAGE, "they are not named"),
     *((f"--hash-file=/nowhere{command}", "", 2, USAGE, "no file is read without a command") for command in ("", " foo", " --")),
-    ("--hash-file=/nowhere key 4 1 1 16 ", "", 2, MISFIT["key"], "nor for a command without HASH"),
-    ("--hash-file=/nowhere hash phc 4 1 1 00", "", 2, MISFIT["hash"], "the same"),
+    ("--hash-file=/nowhere key 4 1 1 16 ", "", 2, USAGE, "nor for a command without HASH"),
+    ("--hash-file=/nowhere hash phc 4 1 1 00", "", 2, USAGE, "the same"),
     ("--hash-file=/nowhere verify", "", 4, "/nowhere: No such file or directory (os error 2)", "no file"),
-    *((f"{option} {command}", "", 2, MISFIT[command.split()[0]], "only a key is written raw, and has a bar")
+    *((f"{option} {command}", "", 2, USAGE, "only a key is written raw, and has a bar")
       for option in ("--raw", "--progress") for command in ("hash phc 4 1 1 00", f"verify {EMPTY}", f"rehash phc 4 1 1 32 00 {EMPTY}")),
     ("--raw key 4 1 1 0 ", "", 2, "invalid output buffer length", "a raw key of no bytes"),
     (f"--default-limits --generate-salt --strip-newline rehash phc 4 1 1 32 {EMPTY}", "\n", 0, "ok", "three options"),

@@ -18,7 +18,7 @@ use Rattle.std.proofs.lemmas.Bool.{false_from_ne_true}
 use Rattle.std.proofs.lemmas.Bool.Decides.{nat_tests}
 use Rattle.scrypt_commands.specs.CliError.{ErrorLine, FailsWith, error_line, hash_error, status_of}
 use Rattle.scrypt_commands.specs.Command.{request_of}
-use Rattle.scrypt_commands.specs.Invocation.{CommandLine, Tell, asked_by, command_by, command_line_of, invocation_by, invocation_of, name_of, text_of_words, wants_file}
+use Rattle.scrypt_commands.specs.Invocation.{CommandLine, Tell, asked_by, command_by, command_line_of, invocation_by, invocation_of, name_of, text_of_words}
 use Rattle.scrypt_commands.specs.Options.{no_options, options_of}
 use Rattle.scrypt_commands.specs.Outcome.{Reply, is_salt_len, new_hash, outcome, phc_text, reply_by}
 use Rattle.scrypt_commands.specs.Run.{AppendsReply, HasOutcome, OnInput, Streams, plan_of, plan_of_command, plan_of_words}
@@ -145,10 +145,10 @@ of_command salt (word ∷ words) = of_name (name_of word)
     of_name (Err error) = refl
 
 pub without_options : (salt : List ℕ) (words : List (List ℕ)) → text_of_words words ≡ None → options_of words ≡ (no_options, words)
-    → wants_file words ≡ false → plan_of salt None (invocation_of words) ≡ plan_of_words words
-without_options salt words no_text none no_file =
+    → plan_of salt None (invocation_of words) ≡ plan_of_words words
+without_options salt words no_text none =
     ap (λ text. plan_of salt None (option_map_or Tell text (invocation_by (options_of words)))) no_text
-    ∙ ap (λ read. plan_of salt None (invocation_by read)) none ∙ rw no_file (of_command salt words)
+    ∙ ap (λ read. plan_of salt None (invocation_by read)) none ∙ of_command salt words
 
 -- the ends of a run
 pub ruleset endings = (refused_args, refused_input)

@@ -9,9 +9,8 @@ use Rattle.scrypt.specs.declared.errors.LimitedError.{LimitedError}
 use Rattle.scrypt.specs.declared.errors.LimitedError.TheVariants.{Hash}
 use Rattle.scrypt.specs.declared.limits.Limits.{Limits}
 use Rattle.scrypt.specs.declared.limits.TheConstants.Limits.{DEFAULT}
-use Rattle.scrypt_commands.specs.declared.command_line.Name.TheVariants as names
 use Rattle.scrypt_commands.specs.declared.error.CliError.{CliError}
-use Rattle.scrypt_commands.specs.declared.error.CliError.TheVariants.{NoHashFile, Misfit, OptionsFirst, Usage, SaltNotHex, InvalidParams, InvalidOutputLen, Refused, OutOfMemory, InputFailed, OutputFailed}
+use Rattle.scrypt_commands.specs.declared.error.CliError.TheVariants.{Usage, SaltNotHex, InvalidParams, InvalidOutputLen, Refused, OutOfMemory, InputFailed, OutputFailed}
 
 -- the exit status
 abbrev pub status_of : CliError → ℕ
@@ -45,12 +44,6 @@ limited_line limits why = refused_line why
 abbrev pub fixed_line : CliError → List ℕ
 fixed_line Usage =
     codes "usage: key LOG_N R P LEN SALT_HEX | hash phc|mcf LOG_N R P SALT_HEX [LEN] | verify HASH | rehash phc|mcf LOG_N R P LEN SALT_HEX HASH\n"
-fixed_line OptionsFirst = codes "options come before the command: see --help\n"
-fixed_line NoHashFile = codes "--hash-file needs a value: --hash-file=FILE\n"
-fixed_line (Misfit names.Key) = codes "key takes no option except --progress, --raw and --strip-newline: see --help\n"
-fixed_line (Misfit names.Hash) = codes "hash takes no option except --generate-salt, --recommended and --strip-newline: see --help\n"
-fixed_line (Misfit names.Verify) = codes "verify does not take --generate-salt, --progress, --raw and --recommended: see --help\n"
-fixed_line (Misfit names.Rehash) = codes "rehash does not take --progress, --raw and --recommended: see --help\n"
 fixed_line SaltNotHex = codes "salt is not hexadecimal\n"
 fixed_line InvalidParams = codes "invalid scrypt parameters\n"
 fixed_line InvalidOutputLen = codes "invalid output buffer length\n"

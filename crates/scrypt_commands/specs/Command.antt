@@ -1,11 +1,9 @@
 -- The request of a command, or the error of the first thing that is wrong with it. After the words
 -- and their decimals, these are read in this order: the salt, the parameters, the length of the
 -- key, the text of a hash.
-use Rattle.std.specs.Prelude.{ℕ, ◌^◌, ◌&&◌, ◌||◌, Bool, false, true, bytes_eq, if◌then◌else◌, codes, ⊤, List, [], ◌∷◌, Option, None, Some, is_some, nat_eq, ok_or, option_map, Result, Ok, Err, String}
+use Rattle.std.specs.Prelude.{ℕ, ◌^◌, ◌&&◌, Bool, false, true, bytes_eq, if◌then◌else◌, codes, ⊤, List, [], ◌∷◌, Option, None, Some, is_some, ok_or, option_map, Result, Ok, Err, String}
 use Rattle.std.specs.Borrow.{Bor}
 use Rattle.std.specs.Global.{Global}
-use Rattle.std.specs.List.{starts_with}
-use Rattle.std.specs.Result.{result_map_both}
 use Rattle.hex.specs.Hex.{decode_of}
 use Rattle.password_hash.specs.declared.error.Error.TheVariants.{EncodingInvalid}
 use Rattle.password_hash.specs.Decimal.{decimal_below}
@@ -27,7 +25,7 @@ use Rattle.scrypt_commands.specs.declared.command.Salt.TheVariants.{Digits, Draw
 use Rattle.scrypt_commands.specs.declared.command.Target.{Target}
 use Rattle.scrypt_commands.specs.declared.command.Target.TheVariants.{Key, Hash}
 use Rattle.scrypt_commands.specs.declared.command.UncheckedParams.{UncheckedParams}
-use Rattle.scrypt_commands.specs.declared.error.CliError.TheVariants.{InvalidOutputLen, InvalidParams, OptionsFirst, SaltNotHex, Usage}
+use Rattle.scrypt_commands.specs.declared.error.CliError.TheVariants.{InvalidOutputLen, InvalidParams, SaltNotHex, Usage}
 
 -- a key or a hash that is to be made from a password
 pub record Making : Type 0 where
@@ -178,19 +176,9 @@ requested_by command_line names.Hash = hash_words command_line.options.is_recomm
 requested_by command_line names.Verify = verify_words command_line.file_text command_line.words
 requested_by command_line names.Rehash = rehash_words command_line.salt command_line.file_text command_line.words
 
--- whether one of these words begins with `--`, as an option does
-unfoldable pub has_option : List (List ℕ) → Bool
-has_option [] = false
-has_option (word ∷ words) = starts_with nat_eq word (codes "--") || has_option words
-
--- the error line of these words: the usage line, if they have no option
-abbrev pub with_hint : List (List ℕ) → ErrorLine → ErrorLine
-with_hint words line = if bytes_eq line (error_line Usage) && has_option words then error_line OptionsFirst else line
-
 -- the request of a command
 unfoldable pub request_of : CommandLine → Result Request ErrorLine
-request_of command_line =
-    result_map_both (λ request. request) (with_hint command_line.words) (requested_by command_line command_line.name)
+request_of command_line = requested_by command_line command_line.name
 
 -- the salt of a command: its hexadecimal digits, or bytes that were drawn
 abbrev pub salt_of : Salt → Result (List ℕ) ErrorLine

@@ -1,6 +1,5 @@
 -- Parsed command lines.
-use Rattle.std.specs.Prelude.{ℕ, ◌||◌, Bool, false, bytes_eq, codes, if◌then◌else◌, is_some, List, [], ◌∷◌, Option, None, Some, Result, Ok, Err}
-use Rattle.std.specs.Bool.{then_some}
+use Rattle.std.specs.Prelude.{ℕ, ◌||◌, Bool, bytes_eq, codes, if◌then◌else◌, is_some, List, [], ◌∷◌, Option, None, Some, Result, Ok, Err}
 use Rattle.std.specs.Option.{option_copied, option_map_or}
 use Rattle.scrypt.specs.Reading.{◌and_then◌}
 use Rattle.scrypt_commands.specs.Options.{Options, no_options, options_of, texts_of}
@@ -8,7 +7,7 @@ use Rattle.scrypt_commands.specs.declared.command_line.CommandLine.{CommandLine 
 use Rattle.scrypt_commands.specs.declared.command_line.Name.{Name}
 use Rattle.scrypt_commands.specs.declared.command_line.Name.TheVariants.{Key, Hash, Verify, Rehash}
 use Rattle.scrypt_commands.specs.declared.error.CliError.{CliError}
-use Rattle.scrypt_commands.specs.declared.error.CliError.TheVariants.{Misfit, NoHashFile, Usage}
+use Rattle.scrypt_commands.specs.declared.error.CliError.TheVariants.{Usage}
 use Rattle.scrypt_commands.specs.declared.invocation.Invocation.{Invocation as InvocationOf}
 use Rattle.scrypt_commands.specs.declared.invocation.Invocation.TheVariants as typed
 use Rattle.scrypt_commands.specs.declared.options.Options.{Options as OptionsOf}
@@ -47,24 +46,15 @@ is_unfit o Hash = ((is_some o.limit_options || is_some o.hash_file) || o.is_raw)
 is_unfit o Verify = (o.draws_salt || o.is_raw) || o.shows_progress
 is_unfit o Rehash = (o.is_recommended || o.is_raw) || o.shows_progress
 
--- the error of options that do not fit a command
-abbrev pub misfit : Options → Name → Option CliError
-misfit o name = then_some (is_unfit o name) (Misfit name)
-
 -- this command with these options, if they fit it
 abbrev pub command_line_of : Options → List (List ℕ) → Name → Result CommandLine CliError
-command_line_of o words name = option_map_or Err (misfit o name)
-    (Ok (record { name = name; options = o; words = words; salt = None; file_text = None }))
+command_line_of o words name = if is_unfit o name then Err Usage
+    else Ok (record { name = name; options = o; words = words; salt = None; file_text = None })
 
 -- the command of these words with these options
 abbrev pub command_by : Options → List (List ℕ) → Result CommandLine CliError
 command_by o [] = Err Usage
 command_by o (word ∷ words) = name_of word and_then command_line_of o words
-
--- whether the first word is `--hash-file`, which is not an option without a file
-abbrev pub wants_file : List (List ℕ) → Bool
-wants_file [] = false
-wants_file (word ∷ words) = bytes_eq word (codes "--hash-file")
 
 -- the invocation of a command, or its error
 abbrev pub asked_by : Result CommandLine CliError → Invocation
@@ -86,7 +76,7 @@ text_of_words others = None
 
 -- the invocation of these options and the words after them
 abbrev pub invocation_by : Options × List (List ℕ) → Invocation
-invocation_by (o, words) = if wants_file words then Refuse NoHashFile else asked_by (command_by o words)
+invocation_by (o, words) = asked_by (command_by o words)
 
 -- the invocation of these words, which can begin with options
 abbrev pub invocation_of : List (List ℕ) → Invocation

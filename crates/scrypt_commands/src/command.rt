@@ -4,7 +4,7 @@ ghost use Rattle.std.specs.Prelude.{◌≡◌, ◌^◌};
 ghost use Rattle.std.specs.Option.{option_copied};
 ghost use Rattle.password_hash.specs.Decimal.{decimal_below};
 ghost use Rattle.scrypt_commands.specs.CliError.{Gives};
-ghost use Rattle.scrypt_commands.specs.Command.{before_words, checked_params, end_of, first_word, format_word, has_option, hash_word, hash_words, key_words, len_word, making_of, making_view, optional_len, params_words, rehash_words, request_of, requested_by, request_view, salt_of, salt_word, verify_words};
+ghost use Rattle.scrypt_commands.specs.Command.{before_words, checked_params, end_of, first_word, format_word, hash_word, hash_words, key_words, len_word, making_of, making_view, optional_len, params_words, rehash_words, request_of, request_view, salt_of, salt_word, verify_words};
 ghost use Rattle.scrypt_commands.specs.Invocation.{command_line_view};
 ghost use Rattle.scrypt_commands.specs.Options.{texts_of};
 
@@ -83,46 +83,21 @@ impl<'a> Command<'a> {
     /// Reads the words of a command. There are no words for the recommended parameters of `hash`,
     /// for a drawn salt, and for a hash that is read from a file.
     ///
-    /// Returns the error of the first of these that is wrong: `Usage`, or `OptionsFirst` in place
-    /// of it, `SaltNotHex`, `InvalidParams`, `InvalidOutputLen`, and `EncodingInvalid`. Returns
-    /// `OutOfMemory` if the allocation of the salt fails.
+    /// Returns the error of the first of these that is wrong: `Usage`, `SaltNotHex`,
+    /// `InvalidParams`, `InvalidOutputLen`, and `EncodingInvalid`. Returns `OutOfMemory` if the
+    /// allocation of the salt fails.
     #[tactic(auto, unfolding(crate::specs::Command::request_of))]
     pub fn read(alloc: Global, given: CommandLine<'a>) -> Result<Command<'a>>
         ensures command { Gives request_view (request_of (command_line_view given.entry)) result }
     {
-        match read_words(alloc, given) {
-            Err(CliError::Usage) if has_option(given.words) => Err(CliError::OptionsFirst),
-            read => read,
+        let (options, words, drawn) = (given.options, given.words, given.drawn);
+        match given.name {
+            Name::Key => key_words(alloc, options.is_raw, words),
+            Name::Hash => hash_words(alloc, options.is_recommended, drawn, words),
+            Name::Verify => verify_words(given.file_text, words),
+            Name::Rehash => rehash_words(alloc, drawn, given.file_text, words),
         }
     }
-}
-
-// Reads the words of a command.
-fn read_words<'a>(alloc: Global, given: CommandLine<'a>) -> Result<Command<'a>>
-    ensures { Gives request_view (requested_by (command_line_view given.entry) given.entry.name) result }
-{
-    let (options, words, drawn) = (given.options, given.words, given.drawn);
-    match given.name {
-        Name::Key => key_words(alloc, options.is_raw, words),
-        Name::Hash => hash_words(alloc, options.is_recommended, drawn, words),
-        Name::Verify => verify_words(given.file_text, words),
-        Name::Rehash => rehash_words(alloc, drawn, given.file_text, words),
-    }
-}
-
-// Returns whether one of these words begins with `--`, as an option does.
-#[tactic(auto, unfolding(crate::specs::Command::has_option))]
-fn has_option(words: &[String]) -> bool
-    ensures { result ≡ has_option (texts_of words.now) }
-{
-    let mut rest = words;
-    while let Some((word, after)) = rest.split_first() {
-        if word.as_bytes().starts_with(b"--") {
-            return true;
-        }
-        rest = after;
-    }
-    false
 }
 
 // Reads the words after `key`.

@@ -52,7 +52,7 @@ impl<'a> CommandLine<'a> {
     /// Returns the command of these words with these options, without a salt and without the text
     /// of a file.
     ///
-    /// Returns `Usage` if the words name no command, and the error of options that do not fit it.
+    /// Returns `Usage` if the words name no command, or the options do not fit it.
     pub fn new(options: Options<'a>, words: &'a [String]) -> Result<CommandLine<'a>>
         ensures value { mapped command_line_view result ≡ command_by (options_view options.entry) (texts_of words.now) }
         ensures refused { IfErr result (λ error. status_of error ≡ 2) }
@@ -61,15 +61,15 @@ impl<'a> CommandLine<'a> {
             return Err(CliError::Usage);
         };
         let name = Name::of(word.as_str())?;
-        match options.misfit(name) {
-            Some(error) => Err(error),
-            None => Ok(CommandLine {
-                name,
-                options,
-                words,
-                drawn: None,
-                file_text: None,
-            }),
+        if options.is_unfit(name) {
+            return Err(CliError::Usage);
         }
+        Ok(CommandLine {
+            name,
+            options,
+            words,
+            drawn: None,
+            file_text: None,
+        })
     }
 }

@@ -7,7 +7,6 @@ ghost use Rattle.scrypt.specs.WithinLimits.{limited_refusal};
 ghost use Rattle.scrypt_commands.specs.CliError.{error_line, error_of, fixed_line, hash_error, limited_line, refused_line, status_of};
 ghost use Rattle.scrypt_commands.specs.declared.error.CliError.TheVariants.{OutOfMemory};
 
-use crate::command_line::Name;
 use crate::usage::USAGE;
 use password_hash::Error;
 use scrypt::{LimitedError, Limits};
@@ -21,14 +20,9 @@ pub type Result<T> = std::result::Result<T, CliError>;
 /// An error that ends a run without an answer.
 #[derive(Clone, Copy)]
 pub enum CliError {
-    /// The words are not a command, or one of them is not a decimal below its bound.
+    /// The words are not a command, an option does not fit it, or one of them is not a decimal
+    /// below its bound.
     Usage,
-    /// The same, and one of the words after the command begins with `--`.
-    OptionsFirst,
-    /// `--hash-file` has no value.
-    NoHashFile,
-    /// The options do not fit the command of this name.
-    Misfit(Name),
     /// The salt is not an even number of hexadecimal digits.
     SaltNotHex,
     /// The parameters are not accepted.
@@ -84,20 +78,6 @@ impl CliError {
     {
         match self {
             CliError::Usage => USAGE,
-            CliError::OptionsFirst => b"options come before the command: see --help\n",
-            CliError::NoHashFile => b"--hash-file needs a value: --hash-file=FILE\n",
-            CliError::Misfit(Name::Key) => {
-                b"key takes no option except --progress, --raw and --strip-newline: see --help\n"
-            }
-            CliError::Misfit(Name::Hash) => {
-                b"hash takes no option except --generate-salt, --recommended and --strip-newline: see --help\n"
-            }
-            CliError::Misfit(Name::Verify) => {
-                b"verify does not take --generate-salt, --progress, --raw and --recommended: see --help\n"
-            }
-            CliError::Misfit(Name::Rehash) => {
-                b"rehash does not take --progress, --raw and --recommended: see --help\n"
-            }
             CliError::SaltNotHex => b"salt is not hexadecimal\n",
             CliError::InvalidParams => b"invalid scrypt parameters\n",
             CliError::InvalidOutputLen => b"invalid output buffer length\n",

@@ -4,7 +4,7 @@ ghost use Rattle.std.specs.Prelude.{◌≡◌, ◌⊎◌, ℕ, IfOk, IsTrue, Lis
 ghost use Rattle.std.specs.Io.KnownBytes.{Keeps};
 ghost use Rattle.std.specs.Bool.{then_some};
 ghost use Rattle.std.specs.Option.{option_copied};
-ghost use Rattle.scrypt_commands.specs.Invocation.{invocation_of, invocation_view, options_in, options_view, text_of, text_of_words, wants_file};
+ghost use Rattle.scrypt_commands.specs.Invocation.{invocation_of, invocation_view, options_in, options_view, text_of, text_of_words};
 ghost use Rattle.scrypt_commands.specs.Options.{texts_of};
 ghost use Rattle.scrypt_commands.specs.Run.{EndsUnread, IsRefusedUnread, IsRun, unread_plan, plan_of};
 
@@ -55,9 +55,6 @@ impl<'a> Invocation<'a> {
             return Invocation::Tell(text);
         }
         let (options, words) = parse_options(words);
-        if wants_file(words) {
-            return Invocation::Refuse(CliError::NoHashFile);
-        }
         match CommandLine::new(options, words) {
             Ok(command_line) => Invocation::Command(command_line),
             Err(error) => Invocation::Refuse(error),
@@ -171,16 +168,6 @@ fn text_of(word: &str) -> Option<&'static str>
         "--help" | "-h" => Some(HELP),
         "--version" => Some(VERSION),
         _ => None,
-    }
-}
-
-// Returns whether the first word is `--hash-file`, which is not an option without a file.
-fn wants_file(words: &[String]) -> bool
-    ensures { result ≡ wants_file (texts_of words.now) }
-{
-    match words.split_first() {
-        Some((word, _)) => word.as_str() == "--hash-file",
-        None => false,
     }
 }
 

@@ -1,7 +1,7 @@
 //! Laws of the definitions. Each function does nothing at run time: its contract is the law.
 
-ghost use Rattle.std.specs.Prelude.{◌≡◌, ℕ, List, None, false};
-ghost use Rattle.scrypt_commands.specs.Invocation.{invocation_of, text_of_words, wants_file};
+ghost use Rattle.std.specs.Prelude.{◌≡◌, ℕ, List, None};
+ghost use Rattle.scrypt_commands.specs.Invocation.{invocation_of, text_of_words};
 ghost use Rattle.scrypt_commands.specs.Options.{no_options, options_of};
 ghost use Rattle.scrypt_commands.specs.Run.{plan_of, plan_of_words};
 
@@ -11,6 +11,5 @@ ghost use Rattle.scrypt_commands.specs.Run.{plan_of, plan_of_words};
 #[tactic(auto, using(crate::proofs::OutcomeFacts::without_options))]
 pub fn run_has_no_options()
     ensures same { (salt : List ℕ) (words : List (List ℕ)) → text_of_words words ≡ None
-        → options_of words ≡ (no_options, words) → wants_file words ≡ false
-        → plan_of salt None (invocation_of words) ≡ plan_of_words words }
+        → options_of words ≡ (no_options, words) → plan_of salt None (invocation_of words) ≡ plan_of_words words }
 {}

@@ -1,12 +1,10 @@
 // The options before a command.
 
-ghost use Rattle.std.specs.Prelude.{◌≡◌, IfSome, option_map};
-ghost use Rattle.scrypt_commands.specs.CliError.{status_of};
-ghost use Rattle.scrypt_commands.specs.Invocation.{is_unfit, misfit, options_view};
+ghost use Rattle.std.specs.Prelude.{◌≡◌, option_map};
+ghost use Rattle.scrypt_commands.specs.Invocation.{is_unfit, options_view};
 ghost use Rattle.scrypt_commands.specs.Options.{options_of, password_of, texts_of, with_option, with_value, without_newline};
 
 use crate::command_line::Name;
-use crate::error::CliError;
 use crate::limit_options::LimitOptions;
 
 /// The options before a command.
@@ -98,17 +96,9 @@ impl<'a> Options<'a> {
         Some(options)
     }
 
-    /// Returns why the options do not fit this command, if they don't.
-    pub fn misfit(self, name: Name) -> Option<CliError>
-        ensures value { result ≡ misfit (options_view self.entry) name }
-        ensures refused { IfSome result (λ error. status_of error ≡ 2) }
-    {
-        self.is_unfit(name).then_some(CliError::Misfit(name))
-    }
-
-    // Returns whether an option does not fit this command.
-    fn is_unfit(self, name: Name) -> bool
-        ensures { result ≡ is_unfit (options_view self.entry) name }
+    /// Returns whether an option does not fit this command.
+    pub fn is_unfit(self, name: Name) -> bool
+        ensures value { result ≡ is_unfit (options_view self.entry) name }
     {
         match name {
             Name::Key => self.limit_options.is_some()
