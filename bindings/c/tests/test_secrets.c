@@ -1,10 +1,8 @@
-/* That no branch and no address depends on a password or a key, in each call of the header: by valgrind's
- * memcheck, which reports each branch and each address that depends on undefined bytes, as passwords and keys
- * are here (as in ctgrind). It reports the verdict too, and the letters of a key that is written as text: their
- * numbers are checked. With N = 1 there is one row, whose address depends on nothing. With a larger N
- * secrets.supp suppresses the addresses in the function that reads a row at an address that scrypt requires to
- * depend on them.
- * usage: valgrind --error-limit=no test_secrets 0    or, with --suppressions=secrets.supp, test_secrets LOG_N */
+/* No branch and no address depends on a password or a key, in any call of the header: valgrind's memcheck
+ * reports each that depends on undefined bytes, and passwords and keys are undefined here, as in ctgrind. N = 1
+ * leaves a single row, so that its address depends on nothing, and nothing is suppressed. With a larger N,
+ * secrets.supp suppresses the addresses in the function that reads the row which scrypt requires.
+ * usage: test_secrets LOG_N, by test_secrets.sh */
 #include "arguments.h"
 #include "check.h"
 
@@ -29,22 +27,34 @@ static int is_hidden(const uint8_t *key) {
 
 static int has(const char *name, const char *word) { return strstr(name, word) != NULL; }
 
-/* How often a call may depend on the verdict of a login, or on the letters of a key: a PHC string is written by
- * a table of letters, and a $7$ hash in allocated memory is checked to be UTF-8. */
-static unsigned max_reports(const char *name) {
-  if (has(name, "verify_batch")) return LOGINS * (is_wrong ? 2 : 1);
-  if (has(name, "verify_limited_with") || has(name, "hasher_verify")) return is_wrong ? 2 : 1;
-  if (given.mcf) return has(name, "hash_with_salt") ? OF_UTF8 : 0;
-  return has(name, "hash_with") || has(name, "hasher_hash") || has(name, "stored") ? LETTERS : 0;
+/* How often a call may depend on the verdict that it returns, or on the key that it writes as text. */
+static const struct {
+  const char *name, *why;
+  unsigned most[2]; /* with the right password and a wrong one; of a PHC string and a $7$ hash */
+} ALLOWED[] = {
+    {"scrypt_verify_limited_with_buffers", "the verdict becomes a status", {1, 2}},
+    {"scrypt_verify_batch_with_buffers", "the same, of each login", {LOGINS, 2 * LOGINS}},
+    {"scrypt_hasher_verify", "the same, in a batch of one", {1, 2}},
+    {"scrypt_hash_with_salt", "PHC's letters are in a table; a $7$ text is checked to be UTF-8", {LETTERS, OF_UTF8}},
+    {"scrypt_hash_with_buffers", "PHC's letters", {LETTERS, 0}},
+    {"scrypt_hasher_hash", "PHC's letters", {LETTERS, 0}},
+    {"scrypt_stored_text", "PHC's letters", {LETTERS, 0}},
+};
+
+static unsigned max_reports(const char *name, int is_mismatch) {
+  const size_t count = sizeof ALLOWED / sizeof *ALLOWED;
+  size_t i = 0;
+  while (i < count && strcmp(ALLOWED[i].name, name) != 0) i++;
+  return i < count ? ALLOWED[i].most[has(name, "verify") ? is_mismatch : given.mcf] : 0;
 }
 
-static void check_call(const char *name, int status, unsigned reports) {
-  const int wanted = is_wrong && has(name, "verify") ? SCRYPT_MISMATCH : SCRYPT_OK;
+static void check_call(const char *name, int status, int is_mismatch, unsigned reports) {
+  const int wanted = is_mismatch && has(name, "verify") ? SCRYPT_MISMATCH : SCRYPT_OK;
   char what[150];
   SHOW(status), SHOW(made.statuses);
   snprintf(what, sizeof what, "%s of %zu bytes with (%u, %u, %u): status %d, %u reports", name, given.password_len,
            given.log_n, given.r, given.p, status, reports);
-  check(reports <= max_reports(name), what);
+  check(reports <= max_reports(name, is_mismatch), what);
   if (has(name, "thin") && status == SCRYPT_E_BUFFER_SIZE) return; /* it takes one table */
   check(status == (has(name, "batch") ? SCRYPT_OK : wanted), what);
   if (has(name, "batch")) check(made.statuses[0] == wanted && made.statuses[LOGINS - 1] == wanted, what);
@@ -53,15 +63,14 @@ static void check_call(const char *name, int status, unsigned reports) {
   if (has(name, "hasher_key")) check(is_hidden(made.key), what);
 }
 
-/* Each call, except two that choose their own parameters. The key of a $7$ hash is compared in three pieces. */
+/* Each call, except two that choose their own parameters, and a login without a hash. The key of a $7$ hash is
+ * compared in three pieces. */
 static void all_calls(size_t len, uint32_t log_n, uint32_t r, uint32_t p, size_t tables, int mcf) {
   static uint8_t key[200];
   static char text[SCRYPT_PHC_CAPACITY + 2 * (4 + sizeof key)];
   static scrypt_login logins[LOGINS];
   const size_t key_len = mcf ? sizeof key : KEY_LEN;
   scrypt_options with;
-  unsigned before;
-  int status;
   is_wrong = len > 0 && !is_wrong;
   SHOW(password);
   if (scrypt_key(password, len, "salt", 4, log_n, r, p, key, key_len) ||
@@ -76,13 +85,17 @@ static void all_calls(size_t len, uint32_t log_n, uint32_t r, uint32_t p, size_t
   with.log_n = log_n, with.r = r, with.p = p, with.mcf = mcf, with.key_len = KEY_LEN;
   with.max_mem = SIZE_MAX, with.max_work = UINT64_MAX, with.max_tables = tables, with.processors = 1;
   if (scrypt_hasher_new(&with, &given.hasher) != SCRYPT_OK) exit(3);
-#define CALL(name, arguments)                                                                  \
-  if (strcmp(#name, "scrypt_hash_password") != 0 && strcmp(#name, "scrypt_calibrate") != 0) {  \
-    before = VALGRIND_COUNT_ERRORS;                                                            \
-    status = name arguments;                                                                   \
-    check_call(#name, status, VALGRIND_COUNT_ERRORS - before);                                 \
-  }
+#define WATCH(name, is_mismatch, arguments)                                 \
+  do {                                                                      \
+    const unsigned before = VALGRIND_COUNT_ERRORS;                          \
+    const int status = name arguments;                                      \
+    check_call(#name, status, is_mismatch, VALGRIND_COUNT_ERRORS - before); \
+  } while (0)
+#define CALL(name, arguments)                                                               \
+  if (strcmp(#name, "scrypt_hash_password") != 0 && strcmp(#name, "scrypt_calibrate") != 0) \
+    WATCH(name, is_wrong, arguments);
 #include "each_call.h"
+  WATCH(scrypt_hasher_verify, 1, (given.hasher, password, len, NULL, 0, NULL, -1));
   scrypt_hasher_free(&given.hasher);
   free_arguments();
 }
