@@ -96,8 +96,11 @@ static int test_random(uint8_t *bytes, size_t len) {
 /* Whether batching windows last, how many leaders are in one, and how many ended in the future. */
 static int windows_last, in_windows, windows_ahead;
 static __thread int had_window, late_waits;
+static __thread int64_t last_deadline;
 static void test_wait(condition *it, mutex *with, int64_t deadline_ns) {
-  late_waits += deadline_ns <= now_ns();
+  /* A slow thread can be late for each window; one that spins waits for the same time again. */
+  late_waits = deadline_ns == last_deadline && deadline_ns <= now_ns() ? late_waits + 1 : 0;
+  last_deadline = deadline_ns;
   expect(late_waits < 100, "a thread spins in place of sleeping");
   if (deadline_ns - now_ns() <= 1000000) {
     had_window = 1;
