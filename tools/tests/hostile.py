@@ -23,10 +23,16 @@ import sys
 from tools.generate import header
 from tools.tests import crypt64, known, phc, reference, runs
 
+def numbered(names):
+    """The status of each error of the Rust crate, by the name of the status in the header."""
+    return {error: header.STATUSES[name] for error, name in names.items()}
+
+
 # the statuses of the verdicts on the empty password, and within limits
-STATUSES = {"Ok": 0, "PasswordInvalid": 1, "OutOfMemory": 4, "Algorithm": 5, "EncodingInvalid": 6, "OutputSize": 7}
-STATUSES |= {"ParamInvalid": 8, "ParamsInvalid": 9, "Version": 11}
-WITHIN = {"BufferSize": 12, "TooCostly": 13, "KeyTooShort": 15}
+STATUSES = numbered({"Ok": "OK", "PasswordInvalid": "MISMATCH", "OutOfMemory": "OUT_OF_MEMORY", "Algorithm": "ALGORITHM",
+                     "EncodingInvalid": "ENCODING_INVALID", "OutputSize": "OUTPUT_SIZE", "Version": "VERSION",
+                     "ParamInvalid": "HASH_PARAM_INVALID", "ParamsInvalid": "HASH_PARAMS_INVALID"})
+WITHIN = numbered({"BufferSize": "BUFFER_SIZE", "TooCostly": "TOO_COSTLY", "KeyTooShort": "KEY_TOO_SHORT"})
 
 # the maximum cost of a text
 MEMORY = 4 << 30
