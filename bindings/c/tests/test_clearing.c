@@ -132,13 +132,13 @@ static void check_call(const char *name, int (*call)(void), int wanted, int is_f
 #ifndef _WIN32
   size_t from = used, before = blocks;
 #endif
-  const int is_without_secrets = call == each_scrypt_calibrate || call == each_scrypt_hasher_new;
   if (call == each_scrypt_derivation_new) call = left_and_freed;
   if (call == each_scrypt_hasher_new) call = new_and_freed;
   if (!is_first && (call == each_scrypt_hash_password || call == each_scrypt_calibrate)) return;
   check_stack(name, call, wanted);
 #ifndef _WIN32
-  if (!is_without_secrets) check_blocks(name, from, blocks - before);
+  /* One reads files, and the other reads no secret. */
+  if (call != each_scrypt_calibrate && call != new_and_freed) check_blocks(name, from, blocks - before);
 #endif
 }
 
