@@ -44,7 +44,11 @@
 #include <stddef.h>
 #include <stdint.h>
 
-#define SCRYPT_VERSION_STRING "0.12.0+proved.1"
+/* The version of this header; scrypt_version returns that of the library. */
+#define SCRYPT_VERSION_MAJOR 1
+#define SCRYPT_VERSION_MINOR 0
+#define SCRYPT_VERSION_PATCH 0
+#define SCRYPT_VERSION_STRING "1.0.0"
 
 /* The recommended parameters, which take 128 MiB, and the recommended lengths of salt and key. */
 #define SCRYPT_RECOMMENDED_LOG_N 17
@@ -533,8 +537,8 @@ SCRYPT_NODISCARD
 int scrypt_generate_salt(uint8_t *salt, size_t len);
 
 /* Returns the version of the linked library, and the processor that its proved code was built for,
- * as in "0.12.0 x86-64-v2" or "0.12.0 arm64". If the library has code for two, it chooses the newer
- * one that the processor can run. SCRYPT_VERSION_STRING is the version of this header. */
+ * as in "1.0.0 x86-64-v2" or "1.0.0 arm64". If the library has code for two, it chooses the newer
+ * one that the processor can run. */
 const char *scrypt_version(void);
 
 /* ---- Statuses ---- */

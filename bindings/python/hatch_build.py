@@ -13,13 +13,10 @@ import platform
 
 from hatchling.builders.hooks.plugin.interface import BuildHookInterface
 
-# The names of the library, on Linux and on Windows.
-NAMES = ["libscrypt_c.so.0", "scrypt_c.dll"]
 
-
-def found(folder):
+def found(folder, names):
     """Returns the library in a folder, or None."""
-    return next((folder / name for name in NAMES if (folder / name).exists()), None)
+    return next((folder / name for name in names if (folder / name).exists()), None)
 
 
 def tag_of(library):
@@ -39,16 +36,18 @@ class Library(BuildHookInterface):
         is_archive = (root / "PKG-INFO").exists()
         top = root if is_archive else root / "../.."
         named = pathlib.Path(os.environ.get("SCRYPT_C_LIBRARY") or top / "build/lib")
+        names = [f"libscrypt_c.so.{self.metadata.version.split('.')[0]}", "scrypt_c.dll"]
+        library = named if named.is_file() else found(named, names)
+        inside = found(root / "scrypt_c", names)
         files = build_data["force_include"]
-        library, inside = named if named.is_file() else found(named), found(root / "scrypt_c")
         if library:
-            name = NAMES[library.read_bytes()[:2] == b"MZ"]
+            name = names[library.read_bytes()[:2] == b"MZ"]
             files[str(library.resolve())] = f"scrypt_c/{name}"
         elif inside:
             library = inside
         else:
             how = "build it by `make lib`, or name its folder in SCRYPT_C_LIBRARY"
-            raise SystemExit(f"no {NAMES[0]} in {named}: {how}")
+            raise SystemExit(f"no {names[0]} in {named}: {how}")
         is_wheel = self.target_name == "wheel"
         folder = f"{self.build_config.builder.artifact_project_id}.dist-info/" if is_wheel else ""
         places = top, top / "tools/release", root

@@ -25,9 +25,9 @@ if ! $python -c 'import venv, ensurepip, hatchling' 2> /dev/null; then
 fi
 cd ..
 if has musl-gcc musl-tools; then
-  musl-gcc -shared -o "$room/libscrypt_c.so.0" \
+  musl-gcc -shared -o "$room/libscrypt_c.so" \
     -Wl,--whole-archive "$lib/libscrypt_c.a" -Wl,--no-whole-archive
-  (SCRYPT_C_LIBRARY="$room/libscrypt_c.so.0" && packed wheel -d "$room")
+  (SCRYPT_C_LIBRARY="$room/libscrypt_c.so" && packed wheel -d "$room")
   rm "$room"/scrypt_c-*-py3-none-musllinux_1_2_x86_64.whl
 fi
 packed sdist -d "$room/source"
@@ -40,6 +40,6 @@ if [ "$system" = windows ]; then
 fi
 $python -m venv "$room/venv"
 "$room/venv/bin/pip" install --quiet --no-index "$room"/*.whl
-cmp "$room"/venv/lib/python3*/site-packages/scrypt_c/libscrypt_c.so.0 "$lib/libscrypt_c.so.0"
+cmp "$room"/venv/lib/python3*/site-packages/scrypt_c/libscrypt_c.so.? "$lib/libscrypt_c.so"
 (cd tests && quiet "$room/venv/bin/python" -m unittest test_hasher)
 echo "installed by pip from the wheel of the source archive"

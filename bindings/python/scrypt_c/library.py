@@ -9,7 +9,7 @@ from typing import Any, Optional
 
 from . import declared
 
-FILE = "scrypt_c.dll" if sys.platform == "win32" else "libscrypt_c.so.0"
+FILE = "scrypt_c.dll" if sys.platform == "win32" else f"libscrypt_c.so.{declared.VERSION_MAJOR}"
 
 
 def _place() -> str:

@@ -5,7 +5,7 @@ pub const USAGE: &[u8] =
     b"usage: key LOG_N R P LEN SALT_HEX | hash phc|mcf LOG_N R P SALT_HEX [LEN] | verify HASH | rehash phc|mcf LOG_N R P LEN SALT_HEX HASH\n";
 
 /// The output of `--version`.
-pub const VERSION: &str = "scrypt_tool 0.12.0+proved.1\n";
+pub const VERSION: &str = "scrypt_tool 1.0.0\n";
 
 /// The output of `--help`.
 pub const HELP: &str = "\
