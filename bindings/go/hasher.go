@@ -5,10 +5,8 @@ import "C"
 
 import (
 	"context"
-	"errors"
 	"fmt"
 	"runtime"
-	"strings"
 	"sync/atomic"
 	"time"
 	"unsafe"
@@ -232,9 +230,7 @@ func (h *Hasher) Verify(ctx context.Context, text string, password []byte) error
 		return ErrClosed
 	}
 	raw := []byte(text)
-	if err := h.refusal(raw); errors.Is(err, ErrInvalidHash) && looksLikeHash(password) {
-		return fmt.Errorf("%w: the hash comes first, and then the password", err)
-	} else if err != nil {
+	if err := h.refusal(raw); err != nil {
 		return err
 	}
 	return h.run(ctx, password, func(password []byte, ms milliseconds) status {
@@ -244,10 +240,6 @@ func (h *Hasher) Verify(ctx context.Context, text string, password []byte) error
 		}
 		return C.scrypt_hasher_verify(h.shared.c, pointer(password), size(password), at, size(raw), nil, ms)
 	})
-}
-
-func looksLikeHash(text []byte) bool {
-	return strings.HasPrefix(string(text), "$scrypt$") || strings.HasPrefix(string(text), "$7$")
 }
 
 // refusal returns the error of a hash that is rejected, with its cost; nil for an empty text.

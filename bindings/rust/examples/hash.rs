@@ -4,7 +4,7 @@ use scrypt_c::{Error, Hasher};
 
 fn main() -> Result<(), Error> {
     let hasher = Hasher::default();
-    let text = hasher.hash("hunter42")?;
+    let text = hasher.hash(b"hunter42")?;
     println!("{text}");
-    hasher.verify(&text, "hunter42")
+    hasher.verify(b"hunter42", &text)
 }

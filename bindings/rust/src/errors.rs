@@ -40,9 +40,6 @@ pub enum Error {
     Algorithm,
     /// The text does not have the grammar of its format.
     EncodingInvalid,
-    /// The text is not a hash, and the password begins like one: the hash comes first, and then the
-    /// password.
-    ArgumentsSwapped,
     /// The text has no key, or one that is too long.
     OutputSize,
     /// A parameter in the text is not a decimal in its range.
@@ -127,7 +124,6 @@ impl Error {
             Error::TooCostly(_) => TOO_COSTLY,
             Error::KeyTooShort { .. } => KEY_TOO_SHORT,
             Error::Status(status) => *status,
-            Error::ArgumentsSwapped => ENCODING_INVALID,
             plain => BY_STATUS.iter().find(|it| it.1 == *plain).map_or(OK, |it| it.0),
         }
     }
@@ -188,9 +184,6 @@ impl fmt::Display for Error {
         match self {
             Error::NoParams => {
                 f.write_str("even log_n=10, r=8, p=1 exceeds the time or memory limit")
-            }
-            Error::ArgumentsSwapped => {
-                write!(f, "{words}: the hash comes first, and then the password")
             }
             Error::Cancelled => f.write_str("the derivation was cancelled"),
             Error::Status(status) => write!(f, "status {status}: {words}"),

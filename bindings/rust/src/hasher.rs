@@ -180,8 +180,8 @@ impl Hasher {
     /// # Errors
     ///
     /// `NoRandomBytes`, `Closed`, `Timeout` and `OutOfMemory`.
-    pub fn hash(&self, password: impl AsRef<[u8]>) -> Result<String, Error> {
-        self.text(password.as_ref(), None)
+    pub fn hash(&self, password: &[u8]) -> Result<String, Error> {
+        self.text(password, None)
     }
 
     /// Returns a new hash, with the caller's salt.
@@ -190,8 +190,8 @@ impl Hasher {
     ///
     /// `SaltInvalid` unless the salt of a PHC hash has 1 to 64 bytes, `Closed`, `Timeout` and
     /// `OutOfMemory`.
-    pub fn hash_with_salt(&self, password: impl AsRef<[u8]>, salt: &[u8]) -> Result<String, Error> {
-        self.text(password.as_ref(), Some(salt))
+    pub fn hash_with_salt(&self, password: &[u8], salt: &[u8]) -> Result<String, Error> {
+        self.text(password, Some(salt))
     }
 
     fn text(&self, password: &[u8], salt: Option<&[u8]>) -> Result<String, Error> {
@@ -213,13 +213,7 @@ impl Hasher {
     ///
     /// `InvalidOutputLen` if the output is empty or longer than scrypt allows, `Closed`, `Timeout`
     /// and `OutOfMemory`, which leave the output unchanged.
-    pub fn key(
-        &self,
-        password: impl AsRef<[u8]>,
-        salt: &[u8],
-        output: &mut [u8],
-    ) -> Result<(), Error> {
-        let password = password.as_ref();
+    pub fn key(&self, password: &[u8], salt: &[u8], output: &mut [u8]) -> Result<(), Error> {
         // SAFETY: the hasher lives until this returns, and each pointer and the length after it are
         // from one slice.
         #[rustfmt::skip]
@@ -230,7 +224,13 @@ impl Hasher {
         Error::check(status)
     }
 
-    /// Verifies a password against a hash of either format.
+    /// Verifies a password against a hash of either format. Swapped, they do not compile:
+    ///
+    /// ```compile_fail
+    /// # fn log_in(hasher: scrypt_c::Hasher, text: &str) -> Result<(), scrypt_c::Error> {
+    /// hasher.verify(text, b"hunter42")
+    /// # }
+    /// ```
     ///
     /// # Errors
     ///
@@ -238,8 +238,8 @@ impl Hasher {
     /// without waiting: `TooCostly` if it exceeds the limits, `KeyTooShort` if its key is too short,
     /// and other errors if the text is not a hash, or has no key. `Closed`, `Timeout` and
     /// `OutOfMemory`.
-    pub fn verify(&self, text: &str, password: impl AsRef<[u8]>) -> Result<(), Error> {
-        self.verify_optional(Some(text), password)
+    pub fn verify(&self, password: &[u8], text: &str) -> Result<(), Error> {
+        self.verify_optional(password, Some(text))
     }
 
     /// Like [`Hasher::verify`], with `None` for a user who does not exist: this derives as for a
@@ -249,12 +249,7 @@ impl Hasher {
     /// # Errors
     ///
     /// The errors of [`Hasher::verify`].
-    pub fn verify_optional(
-        &self,
-        text: Option<&str>,
-        password: impl AsRef<[u8]>,
-    ) -> Result<(), Error> {
-        let password = password.as_ref();
+    pub fn verify_optional(&self, password: &[u8], text: Option<&str>) -> Result<(), Error> {
         // NULL means no hash. The pointer of a `str` is never NULL.
         let (at, len) = text.map_or((null(), 0), |it| (it.as_ptr(), it.len()));
         // SAFETY: the hasher lives until this returns, and each pointer and the length after it are
@@ -266,9 +261,6 @@ impl Hasher {
         };
         match (status, text) {
             (TOO_COSTLY | KEY_TOO_SHORT, Some(text)) => Err(self.refusal(status, text)),
-            _ if looks_like_hash(password) && Error::of(status).is_invalid_hash() => {
-                Err(Error::ArgumentsSwapped)
-            }
             _ => Error::check(status),
         }
     }
@@ -314,10 +306,6 @@ impl Hasher {
         // SAFETY: the hasher lives until this returns.
         unsafe { scrypt_hasher_close(self.raw()) }
     }
-}
-
-fn looks_like_hash(password: &[u8]) -> bool {
-    password.starts_with(b"$scrypt$") || password.starts_with(b"$7$")
 }
 
 // The hash that `write` writes, with a salt of up to `salt_len` bytes.

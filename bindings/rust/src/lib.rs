@@ -7,9 +7,9 @@
 //!
 //! # fn main() -> Result<(), Error> {
 //! let hasher = Hasher::default();
-//! let text = hasher.hash("hunter42")?; // store this
-//! hasher.verify(&text, "hunter42")?;
-//! assert_eq!(hasher.verify(&text, "hunter2"), Err(Error::PasswordInvalid));
+//! let text = hasher.hash(b"hunter42")?; // store this
+//! hasher.verify(b"hunter42", &text)?;
+//! assert_eq!(hasher.verify(b"hunter2", &text), Err(Error::PasswordInvalid));
 //! assert!(!hasher.needs_rehash(&text)?);
 //! # Ok(())
 //! # }

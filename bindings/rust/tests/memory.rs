@@ -21,7 +21,7 @@ fn memory() {
     let before = resident();
     let hashers: Vec<_> = (0..4).map(|_| Hasher::new(options).unwrap()).collect();
     for hasher in &hashers {
-        hasher.clone().hash("pw").unwrap();
+        hasher.clone().hash(b"pw").unwrap();
     }
     let held = resident().saturating_sub(before);
     drop(hashers);

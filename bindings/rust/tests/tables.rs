@@ -14,7 +14,7 @@ fn cases() {
     let hasher = Hasher::default();
     for row in rows("../cases.tsv") {
         let text = row[2].replace("\\0", "\0");
-        let found = hasher.verify(&text, &row[1]);
+        let found = hasher.verify(row[1].as_bytes(), &text);
         let camel = |word: &str| word[..1].to_string() + &word[1..].to_lowercase();
         let name: String = row[0].trim_start_matches("HASH_").split('_').map(camel).collect();
         let (wanted, is_refused) = match row[0].as_str() {
@@ -53,7 +53,7 @@ const KEY: &str = "a654820bed363305ebd71eadddfd68bfae03c33f55772d985b059be2cfb2a
 fn simple_scrypt() {
     let simple = format!("1024$8$1$73656173616c74${KEY}");
     let text = from_simple_scrypt(&simple);
-    assert_eq!(text.and_then(|text| Hasher::default().verify(&text, "pw")), Ok(()));
+    assert_eq!(text.and_then(|text| Hasher::default().verify(b"pw", &text)), Ok(()));
     for (part, other, wanted) in [
         ("1024", "1000", Error::InvalidParams),
         ("$8$", "$0$", Error::InvalidParams),

@@ -21,7 +21,7 @@ fn hashes() {
         assert_eq!(Params::try_from(&hash), Ok(params));
         assert_eq!(Scrypt.verify_password(b"pw", &hash), Ok(()));
         assert_eq!(hash.verify_password(&[&Scrypt], b"PW"), Err(Error::Password));
-        let by_hasher = Hasher::default().verify(&text, "pw");
+        let by_hasher = Hasher::default().verify(b"pw", &text);
         assert_eq!(by_hasher.is_ok(), len >= 16, "{by_hasher:?}");
     }
 }
