@@ -29,6 +29,9 @@ IN_CRATES = {
         "MIN_KEY_LEN": r"type Output = ShortBytes<(\d+), \d+>",
         "MAX_KEY_LEN": r"type Output = ShortBytes<\d+, (\d+)>",
     },
+    "crates/password_hash/src/traits.rt": {"SALT_LEN": r"drawn: \[u8; (\d+)\]"},
+    "crates/scrypt_commands/src/invocation.rt": {"SALT_LEN": r"fn draw_salt\(&self\) -> io::Result<\[u8; (\d+)\]>"},
+    "crates/scrypt_c/src/with_buffers.rt": {"MAX_LOGINS": r"statuses: &mut \[i32; (\d+)\]"},
 }
 
 

@@ -45,7 +45,7 @@ impl Default for Options {
         Options {
             params: Params::RECOMMENDED,
             format: Format::Phc,
-            salt_len: 16,
+            salt_len: SALT_LEN as usize,
             max_tables: 0,
             processors: 0,
             timeout: None,

@@ -116,7 +116,7 @@ impl Params {
     pub const fn key_len(&self) -> usize {
         match self.len {
             Some(len) => len,
-            None => 32,
+            None => Params::RECOMMENDED_LEN,
         }
     }
 }

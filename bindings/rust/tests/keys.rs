@@ -63,6 +63,7 @@ fn params() {
         assert_eq!(Params::new_with_output_len(4, 8, 1, len), Err(InvalidParams), "{len}");
     }
     assert_eq!(Params::new_with_output_len(4, 1, 1, 64).unwrap().key_len(), 64);
+    assert_eq!(params.key_len(), Params::RECOMMENDED_LEN);
     let largest = Params::new(56, 1, (1 << 30) - 1).unwrap();
     assert!(largest.memory() > 1 << 63, "memory above 63 bits");
     assert_eq!(largest.cores(), (4 * ((1 << 30) - 1)) << 56, "cores above 64 bits");
