@@ -26,18 +26,21 @@ pub struct Options {
     pub format: Format,
     /// The length of the salt of a new hash, 1 to 64 bytes.
     pub salt_len: usize,
-    /// The maximum number of tables. 0, the default, means two for each processor, or the number of
-    /// tables of `max_mem` that fit in 7/8 of the memory, if that is less.
-    pub max_tables: usize,
-    /// The number of slots, that is, of concurrent derivations. 0, the default, means the number of
-    /// processors that the affinity and the CPU quota of the process allow.
-    pub processors: usize,
+    /// The maximum number of tables. `None`, the default, means two for each processor, or the
+    /// number of tables of `max_mem` that fit in 7/8 of the memory, if that is less.
+    pub max_tables: Option<usize>,
+    /// The number of slots, that is, of concurrent derivations. `None`, the default, means the
+    /// number of processors that the affinity and the CPU quota of the process allow.
+    pub processors: Option<usize>,
     /// How long a call waits for a slot before it returns `Timeout`, rounded up to milliseconds.
     /// The time of the derivation does not count. `None`, the default, means no timeout.
     pub timeout: Option<Duration>,
     /// The limits above which a hash is rejected: by default [`Limits::DEFAULT`], with 7/8 of the
     /// memory if that is less, or the cost of new hashes if that is more.
     pub limits: Option<Limits>,
+    /// The minimum key length of a hash that is verified, in bytes, up to that of new keys. `None`,
+    /// the default, means [`Limits::DEFAULT_MIN_KEY_LEN`], or the length of new keys if that is less.
+    pub min_key_len: Option<usize>,
 }
 
 impl Default for Options {
@@ -46,10 +49,11 @@ impl Default for Options {
             params: Params::RECOMMENDED,
             format: Format::Phc,
             salt_len: SALT_LEN as usize,
-            max_tables: 0,
-            processors: 0,
+            max_tables: None,
+            processors: None,
             timeout: None,
             limits: None,
+            min_key_len: None,
         }
     }
 }
@@ -74,8 +78,7 @@ pub struct Stats {
 ///
 /// A hasher holds at most [`Options::max_tables`] tables, whatever p is, and keeps their memory for
 /// later calls until it is closed or dropped. It rejects, without waiting, a hash that exceeds the
-/// limits, and a hash whose key has fewer than [`Limits::DEFAULT_MIN_KEY_LEN`] bytes, or fewer than
-/// new keys if that is less.
+/// limits, and a hash whose key has fewer than [`Options::min_key_len`] bytes.
 ///
 /// A hasher is fork-safe: the child can use it, without the calls and the memory of the parent.
 #[derive(Clone, Debug)]
@@ -115,26 +118,24 @@ impl Hasher {
     ///
     /// # Errors
     ///
-    /// `SaltInvalid` unless the salt has 1 to 64 bytes, `TooCostly` if new hashes exceed the
-    /// limits, and `OutOfMemory`.
+    /// `InvalidParams` if the minimum key length exceeds the length of new keys, or without a table
+    /// or a processor; `SaltInvalid` unless the salt has 1 to 64 bytes; `TooCostly` if new hashes
+    /// exceed the limits; and `OutOfMemory`.
     pub fn new(options: Options) -> Result<Hasher, Error> {
-        let Options { params, format, salt_len, max_tables, processors, limits, .. } = options;
+        let params = options.params;
         let mut raw = RawOptions::default();
         // SAFETY: the pointer is to a local variable.
         unsafe { scrypt_options_init(&mut raw) };
         raw.log_n = params.log_n().into();
         (raw.r, raw.p, raw.key_len) = (params.r(), params.p(), params.key_len());
-        raw.mcf = (format == Format::Mcf).into();
-        raw.salt_len = salt_len;
-        if let Some(Limits { max_mem, max_work }) = limits {
+        raw.mcf = (options.format == Format::Mcf).into();
+        raw.salt_len = options.salt_len;
+        if let Some(Limits { max_mem, max_work }) = options.limits {
             (raw.max_mem, raw.max_work) = (max_mem, max_work);
         }
-        if max_tables > 0 {
-            raw.max_tables = max_tables;
-        }
-        if processors > 0 {
-            raw.processors = processors;
-        }
+        raw.min_key_len = options.min_key_len.unwrap_or(raw.min_key_len);
+        raw.max_tables = options.max_tables.unwrap_or(raw.max_tables);
+        raw.processors = options.processors.unwrap_or(raw.processors);
         let mut hasher = null_mut();
         // SAFETY: both pointers are to local variables.
         let status = unsafe { scrypt_hasher_new(&raw, &mut hasher) };
@@ -162,8 +163,13 @@ impl Hasher {
     pub fn options(&self) -> Options {
         // SAFETY: the hasher lives until this returns, and its options do not change.
         let raw = unsafe { &*scrypt_hasher_options(self.raw()) };
-        let limits = Some(Limits { max_mem: raw.max_mem, max_work: raw.max_work });
-        Options { max_tables: raw.max_tables, processors: raw.processors, limits, ..self.0.options }
+        Options {
+            max_tables: Some(raw.max_tables),
+            processors: Some(raw.processors),
+            limits: Some(Limits { max_mem: raw.max_mem, max_work: raw.max_work }),
+            min_key_len: Some(raw.min_key_len),
+            ..self.0.options
+        }
     }
 
     /// Returns the current statistics, for metrics.
@@ -250,18 +256,41 @@ impl Hasher {
     ///
     /// The errors of [`Hasher::verify`].
     pub fn verify_optional(&self, password: &[u8], text: Option<&str>) -> Result<(), Error> {
+        self.verified(password, text).map(drop)
+    }
+
+    // Verifies, and returns whether the hash is weaker than new ones.
+    fn verified(&self, password: &[u8], text: Option<&str>) -> Result<bool, Error> {
+        let mut is_weak = 0;
         // NULL means no hash. The pointer of a `str` is never NULL.
         let (at, len) = text.map_or((null(), 0), |it| (it.as_ptr(), it.len()));
-        // SAFETY: the hasher lives until this returns, and each pointer and the length after it are
-        // from one slice.
+        // SAFETY: the hasher lives until this returns, each pointer and the length after it are from
+        // one slice, and the other is to a local variable.
         #[rustfmt::skip]
         let status = unsafe {
             scrypt_hasher_verify(self.raw(), password.as_ptr().cast(), password.len(),
-                at.cast(), len, null_mut(), self.timeout_ms())
+                at.cast(), len, &mut is_weak, self.timeout_ms())
         };
         match (status, text) {
             (TOO_COSTLY | KEY_TOO_SHORT, Some(text)) => Err(self.refusal(status, text)),
-            _ => Error::check(status),
+            _ => Error::check(status).map(|()| is_weak == 1),
+        }
+    }
+
+    /// Verifies like [`Hasher::verify_optional`], and returns a new hash to store in place of one
+    /// that is weaker than new hashes, or otherwise `None`: a login in one call.
+    ///
+    /// # Errors
+    ///
+    /// The errors of [`Hasher::verify`], and those of [`Hasher::hash`] for the new hash.
+    pub fn verify_and_update(
+        &self,
+        password: &[u8],
+        text: Option<&str>,
+    ) -> Result<Option<String>, Error> {
+        match self.verified(password, text)? {
+            true => self.hash(password).map(Some),
+            false => Ok(None),
         }
     }
 

@@ -33,6 +33,15 @@ fn hashes() {
     let longer = Hasher::new(Options { params, ..small() }).unwrap();
     assert_eq!(longer.hash_with_salt(b"", b""), Err(Error::SaltInvalid), "not a random one");
     assert_eq!(longer.needs_rehash(PHC), Ok(true));
+    let new = longer.verify_and_update(b"pass\0word", Some(PHC)).unwrap().unwrap();
+    assert_eq!(longer.verify_and_update(b"pass\0word", Some(&new)), Ok(None), "not weaker: {new}");
+    for (text, wanted) in [
+        (Some(PHC), Error::PasswordInvalid),
+        (None, Error::PasswordInvalid),
+        (Some("$7$"), Error::EncodingInvalid),
+    ] {
+        assert_eq!(longer.verify_and_update(b"pw", text), Err(wanted), "{text:?}");
+    }
     let (mut key, mut wanted) = ([0; 100], [0; 100]);
     scrypt(b"pw", b"salt", &params, &mut wanted).unwrap();
     assert_eq!((longer.key(b"pw", b"salt", &mut key), key), (Ok(()), wanted));
@@ -48,14 +57,23 @@ fn hashes() {
 fn options() {
     let usual = Hasher::default().options();
     let Options { max_tables, processors, .. } = usual;
-    assert!((1..=2 * processors).contains(&max_tables), "{usual:?}");
-    let limits = Some(Limits::DEFAULT);
-    assert_eq!(usual, Options { max_tables, processors, limits, ..Options::default() });
-    let limits = Some(Limits { max_mem: 1 << 20, max_work: 1 << 16 });
-    let given = Options { max_tables: 3, processors: 2, limits, ..small() };
+    assert!(Some(1) <= max_tables && max_tables <= processors.map(|it| 2 * it), "{usual:?}");
+    let (limits, min_key_len) = (Some(Limits::DEFAULT), Some(Limits::DEFAULT_MIN_KEY_LEN));
+    let values = Options { max_tables, processors, limits, min_key_len, ..Options::default() };
+    assert_eq!(usual, values);
+    let (limits, min_key_len) = (Some(Limits { max_mem: 1 << 20, max_work: 1 << 16 }), Some(32));
+    let given =
+        Options { max_tables: Some(3), processors: Some(2), limits, min_key_len, ..small() };
     assert_eq!(Hasher::new(given).unwrap().options(), given);
     for salt_len in [0, 16 + (1 << 32)] {
         assert_eq!(Hasher::new(Options { salt_len, ..small() }).err(), Some(Error::SaltInvalid));
+    }
+    for rejected in [
+        Options { min_key_len: Some(33), ..small() }, // above that of new keys
+        Options { max_tables: Some(0), ..small() },
+        Options { processors: Some(0), ..small() },
+    ] {
+        assert_eq!(Hasher::new(rejected).err(), Some(Error::InvalidParams), "{rejected:?}");
     }
     let large = Options { params: Params::new(56, 1, 1).unwrap(), ..small() };
     assert_eq!(Hasher::new(large).unwrap().hash(b"").err(), Some(Error::OutOfMemory));
@@ -99,6 +117,15 @@ fn limits() {
     let costly = words(&PHC.replace("ln=4", "ln=19"));
     assert!(costly.ends_with(&wanted), "{costly}");
     assert!(words(&text).ends_with(": its length is 15, and at least 16 is required"));
+    for (min_key_len, wanted) in [
+        (Some(15), Ok(())),
+        (Some(0), Ok(())),
+        (Some(17), Err(Error::KeyTooShort { len: 15, min: 17 })),
+        (None, Err(Error::KeyTooShort { len: 15, min: 16 })),
+    ] {
+        let hasher = Hasher::new(Options { min_key_len, ..small() }).unwrap();
+        assert_eq!(hasher.verify(b"pw", &text), wanted, "{min_key_len:?}");
+    }
     for damaged in [PHC.split_at(20).0, PHC.rsplit_once('$').unwrap().0] {
         let verdict = Hasher::default().verify(b"", damaged);
         assert_eq!(verdict, Err(Error::OutputSize), "{damaged} has no key");
@@ -136,7 +163,7 @@ fn timeouts() {
         (Duration::from_millis(50), 50),
         (Duration::MAX, u128::MAX),
     ] {
-        let options = Options { max_tables: 1, timeout: Some(timeout), ..small() };
+        let options = Options { max_tables: Some(1), timeout: Some(timeout), ..small() };
         let hasher = Hasher::new(options).unwrap();
         thread::scope(|scope| {
             let deriving = scope.spawn(|| hasher.verify(b"pw", &costly));

@@ -17,7 +17,7 @@ fn resident() -> usize {
 #[test]
 fn memory() {
     let params = Params::new(16, 8, 4).unwrap();
-    let options = Options { params, max_tables: 1, processors: 4, ..Options::default() };
+    let options = Options { params, max_tables: Some(1), processors: Some(4), ..Options::default() };
     let before = resident();
     let hashers: Vec<_> = (0..4).map(|_| Hasher::new(options).unwrap()).collect();
     for hasher in &hashers {
