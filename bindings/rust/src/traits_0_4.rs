@@ -1,18 +1,21 @@
 //! scrypt as a value, with the traits of the crate `password-hash` 0.4.
 
-use crate::{scrypt, DeriveError, InvalidParams, Limits, Params};
+use crate::{scrypt, DeriveError, Hasher, InvalidParams, Limits, Options, Params};
 use password_hash_0_4::errors::InvalidValue;
 use password_hash_0_4::{
     Decimal, Error, Ident, Output, ParamsString, PasswordHash, PasswordHasher, Result, Salt,
 };
+use std::sync::{Condvar, Mutex, MutexGuard, PoisonError};
 
 /// The identifier of scrypt in a PHC string.
 pub const ALG_ID: Ident<'static> = Ident::new_unwrap("scrypt");
 
 /// scrypt with the parameters of new hashes, like the type of the same name in the crate `scrypt`.
 ///
-/// It allocates memory for each derivation. A [`Hasher`](crate::Hasher) keeps its memory, limits
-/// the number of concurrent derivations, and lets the caller set limits on hashes.
+/// It allocates memory for each derivation. All values together derive as many keys at a time as a
+/// default [`Hasher`]; other threads wait, in no order and without a timeout. In a process that is
+/// forked while threads derive, their slots stay taken. A [`Hasher`] keeps its memory, has a queue
+/// with a timeout, is fork-safe, and lets the caller set limits on hashes.
 #[derive(Clone, Copy, Debug, Default, PartialEq, Eq)]
 pub struct Scrypt {
     params: Params,
@@ -43,6 +46,34 @@ impl From<Params> for Scrypt {
     }
 }
 
+/// The number of derivations that may begin, or `None` before the first.
+static FREE: Mutex<Option<usize>> = Mutex::new(None);
+static ENDED: Condvar = Condvar::new();
+
+fn free() -> MutexGuard<'static, Option<usize>> {
+    FREE.lock().unwrap_or_else(PoisonError::into_inner)
+}
+
+/// Waits for one of the slots, and derives. This bounds the memory of a server that verifies each
+/// login in a separate thread.
+fn in_slot(derive: impl FnOnce() -> Result<()>) -> Result<()> {
+    let mut slots = free();
+    if slots.is_none() {
+        let hasher = Hasher::new(Options::default()).map_err(|_| Error::Crypto)?;
+        let Options { max_tables, processors, .. } = hasher.options();
+        *slots = max_tables.min(processors);
+    }
+    let waited = ENDED.wait_while(slots, |free| *free == Some(0));
+    let mut slots = waited.unwrap_or_else(PoisonError::into_inner);
+    *slots = slots.map(|it| it - 1);
+    drop(slots);
+    let derived = derive();
+    let mut slots = free();
+    *slots = slots.map(|it| it + 1);
+    ENDED.notify_one();
+    derived
+}
+
 impl PasswordHasher for Scrypt {
     type Params = Params;
 
@@ -64,7 +95,7 @@ impl PasswordHasher for Scrypt {
         let mut decoded = [0; Salt::MAX_LENGTH];
         let decoded = salt.b64_decode(&mut decoded)?;
         let output = Output::init_with(params.key_len(), |output| {
-            Ok(scrypt(password, decoded, &params, output)?)
+            in_slot(|| Ok(scrypt(password, decoded, &params, output)?))
         })?;
         Ok(PasswordHash {
             algorithm: ALG_ID,
