@@ -169,6 +169,7 @@ def passlib(trial):
     for case in trial.texts():
         yield trial.verified(made(*case), case[0])
         yield trial.verified(made(*case, ident="$7$"), case[0])
+        yield trial.verified(migration.from_passlib(made(*case, ident="$7$")), case[0])
     for salt in ["", *(trial.word(65, 200) for _ in range(9))]:
         yield from trial.converted(migration.from_passlib, made("pass", salt, *trial.params()), "pass")
     text = made("password", "s", 16, 8, 1)

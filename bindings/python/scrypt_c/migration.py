@@ -40,8 +40,8 @@ def _text(salt: Bytes, key: Bytes, n: int, r: int, p: int, key_len: int = 0) -> 
     salt, key, n = raw_bytes(salt, "a salt"), raw_bytes(key, "a key"), number(n, "n")
     if key_len and len(key) != key_len:
         raise ValueError(f"the key has {len(key)} bytes, where the program writes {key_len}")
-    if n < 1 or n & (n - 1):
-        raise ValueError(f"n must be a power of two: {n}")
+    if n < 2 or n & (n - 1):  # no other program makes hashes with N = 1
+        raise ValueError(f"n must be a power of two above 1: {n}")
     params = accepted(n.bit_length() - 1, r, p)
     room = ctypes.create_string_buffer(PHC_CAPACITY + 2 * (len(salt) + len(key)))
     for mcf, part in (0, key[:MAX_KEY_LEN]), (1, key):
@@ -66,16 +66,26 @@ def _unpadded(letters: str) -> bytes:
 
 
 def from_passlib(stored: str) -> str:
-    """Converts a hash of passlib that this package does not accept unchanged."""
+    """Converts a hash of passlib. This package accepts most of them unchanged."""
+    if stored.startswith("$7$"):
+        return from_crypt(stored)
     pattern = r"\$scrypt\$ln=(\d+),r=(\d+),p=(\d+)\$([^$]*)\$([^$]*)"
     log_n, r, p, *letters = _matched(pattern, stored, "passlib")
     salt, key = (_unpadded(it.rstrip("=")) for it in letters)
     return _text(salt, key, 1 << min(int(log_n), 64), int(r), int(p), 32)
 
 
+def from_powerdns(stored: str) -> str:
+    """Converts a hash of PowerDNS: `$scrypt$ln=..,p=..,r=..$salt$key`, in padded Base64."""
+    pattern = r"\$scrypt\$ln=(\d+),p=(\d+),r=(\d+)\$([^$]*)\$([^$]*)"
+    log_n, p, r, *letters = _matched(pattern, stored, "PowerDNS")
+    salt, key = (base64.b64decode(it, validate=True) for it in letters)
+    return _text(salt, key, 1 << min(int(log_n), 64), int(r), int(p), 32)
+
+
 def from_django(stored: str) -> str:
     """Converts a hash of Django 4.0 or later: `scrypt$n$salt$r$p$key`, with the salt as text."""
-    pattern = r"scrypt\$(\d+)\$([^$]+)\$(\d+)\$(\d+)\$([^$]*)"
+    pattern = r"scrypt\$([1-9]\d*)\$([^$]+)\$([1-9]\d*)\$([1-9]\d*)\$([^$]*)"
     n, salt, r, p, letters = _matched(pattern, stored, "Django")
     key = base64.b64decode(letters, validate=True)
     if base64.b64encode(key).decode() != letters:

@@ -10,7 +10,7 @@ import unittest
 import scrypt_c
 from scrypt_c import PasswordHasher, params_of
 from scrypt_c.migration import from_crypt, from_django, from_libscrypt
-from scrypt_c.migration import from_passlib, from_werkzeug, stored_text
+from scrypt_c.migration import from_passlib, from_powerdns, from_werkzeug, stored_text
 
 SALT, KEY = b"seasalt", hashlib.scrypt(b"pw", salt=b"seasalt", n=1024, r=8, p=1, dklen=64)
 B64, PASSLIB = base64.b64encode(KEY).decode(), base64.b64encode(KEY[:32]).decode().rstrip("=")
@@ -20,15 +20,20 @@ HASHES = [
     (from_werkzeug, "pw", "scrypt:1024:8:1$seasalt$", KEY.hex()),
     (from_passlib, "pw", "$scrypt$ln=10,r=8,p=1$c2Vhc2FsdA$", PASSLIB),
     (from_passlib, "pw", "$scrypt$ln=010,r=8,p=1$c2Vhc2FsdA==$", PASSLIB),
+    (from_passlib, "pw", "$7$66..../....seasalt$", "iAwQILgEcMvP0G/qucemJSXvqZe26/uYa9KGpGvt5dA"),
+    (from_powerdns, "pw", "$scrypt$ln=10,p=1,r=8$c2Vhc2FsdA==$", f"{PASSLIB}="),
     (from_libscrypt, "pw", "$s1$0a0801$c2Vhc2FsdA==$", B64),
     (from_crypt, "password", "$7$66..../....a$b$", "CGyY/8u9Q9D5eanoScbBcdq6lOSvHl8LkXgfxQONWH/"),
 ]
-# Parts of a hash and their replacements, after which it is rejected.
+# Parts of a hash and their replacements, after which it is rejected. No program makes N = 1.
 DAMAGES = [
+    ("1024", "1"), ("ln=10", "ln=0"), ("0a0801", "000801"), ("$7$6", "$7$."),
     ("1024", "1000"), ("1024", "1_024"), ("1024", "+1024"), ("scrypt", "bcrypt"), ("$8$", "$0$"),
+    (",r=8", ""), ("p=1,r=8", "r=8,p=1"),
     ("ln=10", "ln=64"), ("ln=10", f"ln={4000 * '9'}"), ("ln=10,r=8", "r=8,ln=10"), ("$7$", "$6$"),
     ("0a0801", "0a081"), ("c2Vhc2FsdA==", "c2V!c2FsdA=="), ("$7$6", "$7$z"),
 ]
+LEADING_ZEROS = ["scrypt$01024$seasalt$8$1$", "scrypt$1024$seasalt$08$1$", "scrypt$1024$seasalt$8$01$"]
 
 
 def rows(table):
@@ -90,7 +95,10 @@ class Texts(unittest.TestCase):
             wrong = [key + it for it in ("$", "AA", "..")] + [key[:-1] + "z"] * (costs[1] == "7")
             for at in range(len(key)):
                 wrong += [key[:at], *(key[:at] + it + key[at + 1 :] for it in "! \n")]
+            if convert is from_django:  # it compares texts, so the last letter has no spare bits
+                wrong.append(f"{key[:-3]}{chr(ord(key[-3]) + 1)}==")
             changed = [costs.replace(*it) + key for it in DAMAGES if it[0] in costs]
+            changed += [it + key for it in LEADING_ZEROS if convert is from_django]
             for stored in [costs + it for it in wrong] + changed:
                 self.assertRaises(ValueError, convert, stored)
 
