@@ -10,13 +10,15 @@ The first class in the list makes new hashes; a hash of another class is replace
 docs/MIGRATION.md of the repository has classes that hash the hashes of PBKDF2 and bcrypt once more,
 for users who don't log in.
 
-Parameters and limits are attributes. To change them, put your own subclass into the list:
+A PasswordHasher makes and verifies the hashes of both classes: it has the limits, the slots and the
+queue. By default both classes, and the handler for passlib, share one. Parameters and limits are
+attributes. To change them, put your own subclass into the list:
 
     class OurPasswordHasher(PHCPasswordHasher):
         hasher = PasswordHasher(log_n=16, max_mem=1 << 30)
 
     class OurDjangoHasher(ScryptPasswordHasher):
-        work_factor, max_mem = 2**16, 1 << 30
+        work_factor, max_mem, timeout = 2**16, 1 << 30, 10
 
 For a hash that is damaged or exceeds the limits, check_password raises a RefusedHashError. If no
 view catches it, put FalseIfRefused before the class: check_password returns False after the time of
@@ -30,22 +32,27 @@ from __future__ import annotations
 
 import base64
 import logging
-from typing import Any
+import re
+from typing import Any, Optional
 
-from django.contrib.auth.hashers import BasePasswordHasher, mask_hash, must_update_salt
-from django.utils.crypto import constant_time_compare
+from django.contrib.auth.hashers import (
+    BasePasswordHasher,
+    BCryptSHA256PasswordHasher,
+    PBKDF2PasswordHasher,
+    mask_hash,
+    must_update_salt,
+)
 from django.utils.translation import gettext_noop as _
 
 from .arguments import raw_password
-from .declared import DEFAULT_MAX_MEM, DEFAULT_MAX_WORK, RECOMMENDED_LOG_N, RECOMMENDED_P, RECOMMENDED_R
-from .errors import InvalidHashError, InvalidParamsError, RefusedHashError, VerifyMismatchError
-from .hasher import PasswordHasher
-from .key import derive_within, log_of
-from .params import Params
+from .declared import RECOMMENDED_LOG_N, RECOMMENDED_P, RECOMMENDED_R
+from .errors import InvalidHashError, RefusedHashError, TooCostlyError, VerifyMismatchError
+from .hasher import PasswordHasher, shared
+from .key import log_of
+from .migration import from_django
+from .params import params_of
 
 LOG = logging.getLogger(__name__)
-
-_KEY_LEN = 64  # in Django's own format
 
 
 class FalseIfRefused:
@@ -59,130 +66,21 @@ class FalseIfRefused:
             LOG.error("a stored hash is refused: %s", error)
         return self.verify_no_hash(password)  # type: ignore[attr-defined]
 
-    def must_update(self, encoded: str) -> bool:
-        try:
-            return super().must_update(encoded)  # type: ignore[misc]
-        except RefusedHashError:
-            return True
-
 
 def _invalid(why: str) -> InvalidHashError:
     return InvalidHashError("SCRYPT_E_ENCODING_INVALID", why)
 
 
-class ScryptPasswordHasher(BasePasswordHasher):
-    """The format of Django's own ScryptPasswordHasher: scrypt$N$SALT$r$p$KEY."""
+class _Hasher(BasePasswordHasher):
+    """The methods of both formats: a PasswordHasher verifies."""
 
-    algorithm = "scrypt"
-    work_factor = 2**RECOMMENDED_LOG_N
-    block_size = RECOMMENDED_R
-    parallelism = RECOMMENDED_P
-    max_mem = DEFAULT_MAX_MEM
-    max_work = DEFAULT_MAX_WORK
-
-    def encode(
-        self, password: str, salt: str, n: Any = None, r: Any = None, p: Any = None
-    ) -> str:
-        if password is None:
-            raise TypeError("password must be provided.")
-        if not salt or "$" in salt:
-            raise ValueError("salt must be provided and cannot contain $.")
-        n = self.work_factor if n is None else n  # 0 does not mean the default, and is rejected
-        r = self.block_size if r is None else r
-        p = self.parallelism if p is None else p
-        params = Params(log_of(n), r, p)
-        limits = self.max_mem, self.max_work
-        key = derive_within(raw_password(password), salt.encode(), params, *limits, _KEY_LEN)
-        return self._text(salt, n, r, p, key)
-
-    def _text(self, salt: str, n: int, r: int, p: int, key: bytes) -> str:
-        return f"{self.algorithm}${n}${salt}${r}${p}${base64.b64encode(key).decode()}"
-
-    def decode(self, encoded: str) -> dict[str, Any]:
-        try:
-            encoded.encode()  # rejects lone surrogates
-            algorithm, n, salt, r, p, key = encoded.split("$", 6)
-            numbers = {"work_factor": int(n), "block_size": int(r), "parallelism": int(p)}
-        except ValueError:
-            raise _invalid("the text is not scrypt$N$SALT$r$p$KEY") from None
-        if algorithm != self.algorithm:
-            raise ValueError(f"{algorithm} is not {self.algorithm}")
-        if not salt or not key:
-            raise _invalid(f"the hash has no {'key' if salt else 'salt'}")
-        return {"algorithm": algorithm, "salt": salt, "hash": key, **numbers}
-
-    def verify(self, password: str, encoded: str) -> bool:
-        parts = self.decode(encoded)
-        inputs = parts["salt"], parts["work_factor"], parts["block_size"], parts["parallelism"]
-        try:
-            key = base64.b64decode(parts["hash"], validate=True)
-        except ValueError:
-            key = b""
-        if len(key) != _KEY_LEN or encoded != self._text(*inputs, key):  # encode never returns this
-            words = "N, r or p is not a plain decimal, or the key is not the Base64 of 64 bytes"
-            raise _invalid(words)
-        try:
-            made = self.encode(password, *inputs)
-        except InvalidParamsError as error:
-            raise _invalid(str(error)) from None
-        return constant_time_compare(encoded, made)
-
-    def verify_no_hash(self, password: str) -> bool:
-        """Returns False after the time of a wrong password, as for a name that doesn't exist."""
-        self.encode(password, self.salt())
-        return False
-
-    def must_update(self, encoded: str) -> bool:
-        parts = self.decode(encoded)
-        costs = "work_factor", "block_size", "parallelism"
-        weaker = any(parts[name] < getattr(self, name) for name in costs)
-        return weaker or must_update_salt(parts["salt"], self.salt_entropy)
-
-    def safe_summary(self, encoded: str) -> dict[str, Any]:
-        parts = self.decode(encoded)
-        return {
-            _("algorithm"): parts["algorithm"],
-            _("work factor"): parts["work_factor"],
-            _("block size"): parts["block_size"],
-            _("parallelism"): parts["parallelism"],
-            _("salt"): mask_hash(parts["salt"]),
-            _("hash"): mask_hash(parts["hash"]),
-        }
-
-    def harden_runtime(self, password: str, encoded: str) -> None:
-        """Does nothing: additional work cannot give a hash with smaller parameters the time of a
-        hash with larger ones."""
-
-
-class PHCPasswordHasher(BasePasswordHasher):
-    """PHC strings, after the hasher's name in Django: scrypt_c$scrypt$ln=..,r=..,p=..$SALT$KEY."""
-
-    algorithm = "scrypt_c"
-    hasher = PasswordHasher()
+    hasher: PasswordHasher
 
     def _text(self, encoded: str) -> str:
-        algorithm, text = encoded[: len(self.algorithm)], encoded[len(self.algorithm) :]
-        if algorithm != self.algorithm:
-            raise ValueError(f"not a hash of {self.algorithm}")
-        return text
-
-    def encode(self, password: str, salt: str) -> str:
-        if password is None:
-            raise TypeError("password must be provided.")
-        return self.algorithm + self.hasher.hash(password, salt=salt.encode())
-
-    def decode(self, encoded: str) -> dict[str, Any]:
-        """Returns the parts of a hash, with the salt that `encode` was given. A salt of another
-        program is decoded as Latin-1."""
-        scheme, *parts = self._text(encoded).split("$")[1:]
-        if scheme == "7":  # the salt is not encoded, and follows eleven letters of parameters
-            parts[:1] = parts[0][:11], parts[0][11:]
-        if len(parts) != 3:
-            raise _invalid("the text lacks its parameters, its salt or its key")
-        params, salt, key = parts
-        if scheme != "7":
-            salt = base64.b64decode(salt + "=" * (-len(salt) % 4)).decode("latin1")
-        return {"algorithm": self.algorithm, "params": params, "salt": salt, "hash": key}
+        """Returns what `hasher` reads. Raises InvalidHashError."""
+        if not encoded.startswith(self.algorithm):
+            raise _invalid(f"not a hash of {self.algorithm}")
+        return encoded[len(self.algorithm) :]
 
     def verify(self, password: str, encoded: str) -> bool:
         try:
@@ -197,12 +95,100 @@ class PHCPasswordHasher(BasePasswordHasher):
 
     def must_update(self, encoded: str) -> bool:
         """Returns whether a login should replace the hash: it is weaker than new hashes, or its
-        salt is shorter than Django's 22 letters."""
+        salt is shorter than Django's 22 letters, or it is damaged."""
         try:
             weaker = self.hasher.check_needs_rehash(self._text(encoded))
+            return weaker or must_update_salt(self.decode(encoded)["salt"], self.salt_entropy)
         except InvalidHashError:
             return True
-        return weaker or must_update_salt(self.decode(encoded)["salt"], self.salt_entropy)
+
+    def harden_runtime(self, password: str, encoded: str) -> None:
+        """Does nothing: additional work cannot give a hash with smaller parameters the time of a
+        hash with larger ones."""
+
+
+class ScryptPasswordHasher(_Hasher):
+    """The format of Django's own ScryptPasswordHasher: scrypt$N$SALT$r$p$KEY."""
+
+    algorithm = "scrypt"
+    work_factor = 2**RECOMMENDED_LOG_N
+    block_size = RECOMMENDED_R
+    parallelism = RECOMMENDED_P
+    # The options of PasswordHasher; None means its default.
+    max_mem: Optional[int] = None
+    max_work: Optional[int] = None
+    max_tables: Optional[int] = None
+    timeout: Optional[float] = None
+
+    @property
+    def hasher(self) -> PasswordHasher:  # type: ignore[override]
+        names = "max_mem", "max_work", "max_tables", "timeout"
+        options = {name: getattr(self, name) for name in names}
+        return shared(log_of(self.work_factor), self.block_size, self.parallelism, **options)
+
+    def encode(
+        self, password: str, salt: str, n: Any = None, r: Any = None, p: Any = None
+    ) -> str:
+        if password is None:
+            raise TypeError("password must be provided.")
+        if not salt or "$" in salt:
+            raise ValueError("salt must be provided and cannot contain $.")
+        own = self.hasher.params  # 0 does not mean a default, and is rejected
+        log_n = own.log_n if n is None else log_of(n)
+        hasher = self.hasher._with_costs(log_n, own.r if r is None else r, own.p if p is None else p)
+        log_n, r, p = hasher.params[:3]
+        key = base64.b64encode(hasher.key(password, salt=salt.encode(), key_len=64)).decode()
+        return f"{self.algorithm}${1 << log_n}${salt}${r}${p}${key}"
+
+    def _text(self, encoded: str) -> str:
+        try:
+            return from_django("scrypt" + super()._text(encoded))
+        except ValueError as error:
+            raise _invalid(str(error)) from None
+
+    def decode(self, encoded: str) -> dict[str, Any]:
+        self._text(encoded)  # rejects all others
+        algorithm, n, salt, r, p, key = encoded.split("$")
+        numbers = {"work_factor": int(n), "block_size": int(r), "parallelism": int(p)}
+        return {"algorithm": algorithm, "salt": salt, "hash": key, **numbers}
+
+    def safe_summary(self, encoded: str) -> dict[str, Any]:
+        parts = self.decode(encoded)
+        return {
+            _("algorithm"): parts["algorithm"],
+            _("work factor"): parts["work_factor"],
+            _("block size"): parts["block_size"],
+            _("parallelism"): parts["parallelism"],
+            _("salt"): mask_hash(parts["salt"]),
+            _("hash"): mask_hash(parts["hash"]),
+        }
+
+
+class PHCPasswordHasher(_Hasher):
+    """PHC strings, after the hasher's name in Django: scrypt_c$scrypt$ln=..,r=..,p=..$SALT$KEY."""
+
+    algorithm = "scrypt_c"
+    hasher = shared()
+
+    def encode(self, password: str, salt: str) -> str:
+        if password is None:
+            raise TypeError("password must be provided.")
+        return self.algorithm + self.hasher.hash(password, salt=salt.encode())
+
+    def decode(self, encoded: str) -> dict[str, Any]:
+        """Returns the parts of a hash, with the salt that `encode` was given. A salt of another
+        program is decoded as Latin-1."""
+        text = self._text(encoded)
+        params_of(text)  # rejects what is not a hash
+        scheme, *parts = text.split("$")[1:]
+        if scheme == "7":  # the salt is not encoded, and follows eleven letters of parameters
+            parts[:1] = parts[0][:11], parts[0][11:]
+        if len(parts) != 3:
+            raise _invalid("the text lacks its parameters, its salt or its key")
+        params, salt, key = parts
+        if scheme != "7":
+            salt = base64.b64decode(salt + "=" * (-len(salt) % 4)).decode("latin1")
+        return {"algorithm": self.algorithm, "params": params, "salt": salt, "hash": key}
 
     def safe_summary(self, encoded: str) -> dict[str, Any]:
         parts = self.decode(encoded)
@@ -213,6 +199,79 @@ class PHCPasswordHasher(BasePasswordHasher):
             _("hash"): mask_hash(parts["hash"]),
         }
 
-    def harden_runtime(self, password: str, encoded: str) -> None:
-        """Does nothing: additional work cannot give a hash with smaller parameters the time of a
-        hash with larger ones."""
+
+class OverPasswordHasher(PHCPasswordHasher):
+    """The base of the next two: hashes a hash of another hasher of Django, `inner`, once more, and
+    keeps its cost and its salt in the new salt. A hash of `inner` whose cost is above `max_cost` is
+    rejected, like one above the limits of `hasher`, before any work."""
+
+    inner: type[BasePasswordHasher]
+    max_cost: int
+    _settings: str  # the pattern of the cost and the salt of `inner`
+    _key: str  # the pattern of what follows them in a hash of `inner`
+
+    def wrap(self, old: str) -> str:
+        """Returns what to store in place of a hash of `inner`. Raises a RefusedHashError."""
+        name, _, parts = old.partition("$")
+        found = re.fullmatch(f"({self._settings}){self._key}", parts, re.ASCII)
+        if found is None or name != self.inner.algorithm:
+            raise _invalid(f"not a hash of {self.inner.algorithm}")
+        self._judge(found[1])
+        return super().encode(old, found[1])
+
+    def salt(self) -> Any:
+        return self.inner().salt()
+
+    def encode(self, password: str, salt: Any) -> str:
+        return self.wrap(self.inner().encode(password, salt))
+
+    def verify(self, password: str, encoded: str) -> bool:
+        self.hasher._judge(self._text(encoded))
+        settings = self.decode(encoded)["salt"]
+        self._judge(settings)
+        raw_password(password)  # whose errors have nothing of the password
+        return super().verify(self._old(password, settings), encoded)
+
+    def verify_no_hash(self, password: str) -> bool:
+        raw_password(password)
+        self.inner().encode(password, self.salt())
+        return super().verify_no_hash(password)
+
+    def _judge(self, settings: str) -> None:
+        found = re.fullmatch(self._settings, settings, re.ASCII)
+        if found is None:
+            raise _invalid(f"the salt is not a cost and a salt of {self.inner.algorithm}")
+        if int(found["cost"]) > self.max_cost:
+            words = f"{self.inner.algorithm} has a cost of {found['cost']}"
+            raise TooCostlyError("SCRYPT_E_TOO_COSTLY", f"{words}, with max_cost={self.max_cost}")
+
+    def _old(self, password: str, settings: str) -> str:
+        """Returns the hash of `inner`."""
+        raise NotImplementedError
+
+
+class OverPBKDF2(OverPasswordHasher):
+    """Over PBKDF2PasswordHasher. A cost is the number of iterations."""
+
+    algorithm = "scrypt_pbkdf2"
+    inner = PBKDF2PasswordHasher
+    max_cost = 4 * PBKDF2PasswordHasher.iterations
+    _settings = r"(?P<cost>[1-9]\d{0,8})\$[!-#%-~]+"
+    _key = r"\$[A-Za-z\d+/]+=*"
+
+    def _old(self, password: str, settings: str) -> str:
+        cost, salt = settings.split("$")
+        return self.inner().encode(password, salt, int(cost))
+
+
+class OverBCrypt(OverPasswordHasher):
+    """Over BCryptSHA256PasswordHasher. A cost is the logarithm of the number of rounds."""
+
+    algorithm = "scrypt_bcrypt"
+    inner = BCryptSHA256PasswordHasher
+    max_cost = 2 + BCryptSHA256PasswordHasher.rounds
+    _settings = r"\$2[aby]\$(?P<cost>0[4-9]|[12]\d|3[01])\$[./A-Za-z\d]{22}"
+    _key = r"[./A-Za-z\d]{31}"
+
+    def _old(self, password: str, settings: str) -> str:
+        return self.inner().encode(password, settings.encode())

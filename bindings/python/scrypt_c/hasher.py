@@ -20,8 +20,10 @@ from .arguments import (
     seconds,
 )
 from .declared import (
+    INVALID_OUTPUT_LEN,
     KEY_TOO_SHORT,
     MAX_KEY_LEN,
+    MAX_OUTPUT_LEN,
     MAX_SALT_LEN,
     MIN_KEY_LEN,
     NEEDS_REHASH,
@@ -142,6 +144,14 @@ class PasswordHasher:
         attributes = {name: value for name, value in vars(self).items() if name != "_c"}
         return _copied, (type(self), self._params, self._options), attributes
 
+    def _with_costs(self, *costs: int) -> PasswordHasher:
+        """Returns this hasher if its new hashes have this log_n, r and p, otherwise another one with
+        the same limits."""
+        if costs == self._params[:3]:
+            return self
+        limits = {"max_mem": self.options.max_mem, "max_work": self.options.max_work}
+        return PasswordHasher(*costs, **self._options | limits)
+
     def close(self) -> None:
         """Frees the memory that is kept. Derivations that have begun run to completion; waiting and
         later calls raise ValueError."""
@@ -162,6 +172,19 @@ class PasswordHasher:
         arguments = secret, len(secret), raw_salt, salt_len, text, len(text)
         self._check(self._run(library.hasher_hash, *arguments))
         return text.value.decode("ascii")
+
+    def key(self, password: Password, *, salt: Bytes, key_len: int) -> bytes:
+        """Returns the key of a password and a salt, with the parameters of new hashes. It waits for
+        a slot, as the other calls do."""
+        secret, raw_salt = raw_password(password), raw_bytes(salt, "a salt")
+        if not 1 <= number(key_len, "key_len") <= MAX_OUTPUT_LEN:
+            check(INVALID_OUTPUT_LEN, f"key_len={key_len}")
+        key = ctypes.create_string_buffer(key_len)
+        arguments = secret, len(secret), raw_salt, len(raw_salt), key, key_len
+        self._check(self._run(library.hasher_key, *arguments))
+        made = key.raw
+        ctypes.memset(key, 0, key_len)
+        return made
 
     def verify(self, hash: Union[str, bytes, None], password: Password) -> Literal[True]:
         """Returns True if the password matches the hash, in either format.
@@ -209,6 +232,12 @@ class PasswordHasher:
             timeout = min(self._timeout, timeout)
         return call(self._c, *arguments, math.ceil(1000 * timeout))
 
+    def _judge(self, hash: str) -> None:
+        """Raises the RefusedHashError of `verify` for this hash, without deriving."""
+        raw, options = raw_text(hash), self.options
+        limits = options.max_mem, options.max_work, options.min_key_len
+        self._check(library.hash_cost(raw, len(raw), *limits, library.Cost()), raw)
+
     def _check(self, status: int, text: Optional[bytes] = None) -> None:
         """Raises the error of a status for this hash, or for a new one. The hash is only read for a
         message that has its parameters."""
@@ -231,3 +260,20 @@ def _copied(kind: type[PasswordHasher], params: Params, options: dict[str, Any])
     hasher = kind.__new__(kind)
     PasswordHasher.__init__(hasher, *params, **options)
     return hasher
+
+
+_SHARED: dict[tuple[object, ...], PasswordHasher] = {}
+
+
+def shared(
+    log_n: int = declared.RECOMMENDED_LOG_N,
+    r: int = declared.RECOMMENDED_R,
+    p: int = declared.RECOMMENDED_P,
+    **options: Any,
+) -> PasswordHasher:
+    """Returns the hasher with these arguments that all callers of this process share, so that its
+    slots and its `max_tables` are for all of them together. It is kept."""
+    named = {name: it for name, it in options.items() if it is not None}
+    at = *accepted(log_n, r, p), *sorted(named.items())
+    # Two threads can make one each; setdefault keeps the first, and the other has no tables yet.
+    return _SHARED.get(at) or _SHARED.setdefault(at, PasswordHasher(log_n, r, p, **named))

@@ -7,7 +7,7 @@ from typing import Callable, Optional
 from .arguments import Bytes, in_64_bits, number, raw_bytes
 from .declared import INVALID_OUTPUT_LEN, MAX_OUTPUT_LEN, TOO_COSTLY
 from .errors import InvalidParamsError, TooCostlyError, check
-from .params import NO_LIMIT, Params, accepted, check_costs, cost_of
+from .params import NO_LIMIT, Params, accepted, cost_of
 from .steps import derived
 
 
@@ -23,7 +23,7 @@ def scrypt(
     max_work: Optional[int] = None,
     progress: Optional[Callable[[float], object]] = None,
 ) -> bytes:
-    """Derives a key of `dklen` bytes, like hashlib.scrypt; `n` is a power of two.
+    """Derives a key of `dklen` bytes, like hashlib.scrypt; `n` is a power of two above 1.
 
     Set limits if `n`, `r` and `p` are untrusted: TooCostlyError, which is a ValueError, is raised
     if the derivation needs more than `maxmem` bytes, or if its `Params.work` is above `max_work`. A
@@ -53,17 +53,9 @@ def scrypt(
 
 
 def log_of(n: int) -> int:
-    """Returns the logarithm of a power of two. Raises InvalidParamsError for other numbers."""
-    if n < 1 or n & (n - 1):
-        raise InvalidParamsError("SCRYPT_E_INVALID_PARAMS", f"n must be a power of two: {n}")
+    """Returns the logarithm of a power of two above 1. Raises InvalidParamsError for other numbers,
+    as hashlib rejects them."""
+    if n < 2 or n & (n - 1):
+        words = f"n must be a power of two above 1: {n}"
+        raise InvalidParamsError("SCRYPT_E_INVALID_PARAMS", words)
     return n.bit_length() - 1
-
-
-def derive_within(
-    password: bytes, salt: bytes, params: Params, max_mem: int, max_work: int, dklen: int
-) -> bytes:
-    """Derives a key if the limits allow a derivation with these parameters. Raises TooCostlyError
-    and InvalidParamsError."""
-    limits = in_64_bits(max_mem, "max_mem"), in_64_bits(max_work, "max_work")
-    check_costs(*cost_of(params, *limits), max_mem, max_work)
-    return derived(password, salt, params, limits[0], dklen)

@@ -1,35 +1,66 @@
-"""A handler for passlib: passlib.hash.scrypt, with keys that this library derives.
+"""A handler for passlib: passlib.hash.scrypt, with keys and verdicts from this library.
 
     from passlib.context import CryptContext
     from scrypt_c.passlib import scrypt
 
     context = CryptContext(schemes=[scrypt])
 
-It reads and writes the hashes of passlib.hash.scrypt, and has its options. A hash with fewer rounds
-than new hashes needs an update, so verify_and_update replaces it, unless min_rounds allows it.
+It reads and writes the hashes of passlib.hash.scrypt, and has its options, except that a salt of
+more than 64 bytes must be UTF-8 without a `$`. A hash with fewer rounds than new hashes needs an
+update, so verify_and_update replaces it, unless min_rounds allows it.
+
+All handlers with the same attributes share a PasswordHasher, `scrypt.hasher()`, with the hashers
+for Django too: it has the limits, the slots and the queue. To change them, set the attributes of a
+subclass, for instance `max_tables` or `timeout`.
 """
 
 from __future__ import annotations
 
-import passlib.hash
+from typing import Optional
 
-from .arguments import raw_password
-from .declared import DEFAULT_MAX_MEM, DEFAULT_MAX_WORK, RECOMMENDED_LOG_N
-from .key import derive_within
-from .params import Params
+import passlib.exc
+import passlib.hash
+from passlib.utils.handlers import validate_secret
+
+from .declared import RECOMMENDED_LOG_N
+from .errors import VerifyMismatchError
+from .hasher import PasswordHasher, shared
+from .migration import from_passlib, stored_text
 
 
 class scrypt(passlib.hash.scrypt):  # passlib names handlers as their scheme
-    """passlib.hash.scrypt, with keys from libscrypt_c."""
+    """passlib.hash.scrypt, with keys and verdicts from libscrypt_c."""
 
     default_rounds = RECOMMENDED_LOG_N
-    max_mem = DEFAULT_MAX_MEM
-    max_work = DEFAULT_MAX_WORK
+    # The options of PasswordHasher; None means its default.
+    max_mem: Optional[int] = None
+    max_work: Optional[int] = None
+    max_tables: Optional[int] = None
+    timeout: Optional[float] = None
+
+    @classmethod
+    def hasher(cls) -> PasswordHasher:
+        """Returns the hasher of this class, for instance for its `stats`."""
+        names = "max_mem", "max_work", "max_tables", "timeout"
+        options = {name: getattr(cls, name) for name in names}
+        return shared(cls.default_rounds, cls.block_size, cls.parallelism, **options)
+
+    @classmethod
+    def verify(cls, secret: str | bytes, hash: str | bytes) -> bool:
+        validate_secret(secret)
+        stored = cls.from_string(hash)
+        if stored.checksum is None:
+            raise passlib.exc.MissingDigestError(cls)
+        try:
+            return cls.hasher().verify(from_passlib(stored.to_string()), secret)
+        except VerifyMismatchError:
+            return False
 
     def _calc_checksum(self, secret: str | bytes) -> bytes:
-        params = Params(self.rounds, self.block_size, self.parallelism)
-        limits = self.max_mem, self.max_work
-        return derive_within(raw_password(secret), self.salt, params, *limits, self.checksum_size)
+        stored_text(self.salt, bytes(self.checksum_size), 64, 8, 1)  # as `verify` reads it
+        costs = self.rounds, self.block_size, self.parallelism
+        hasher = self.hasher()._with_costs(*costs)
+        return hasher.key(secret, salt=self.salt, key_len=self.checksum_size)
 
     def _calc_needs_update(self, **kwds: object) -> bool:
         # With vary_rounds new hashes may have fewer than default_rounds too.

@@ -2,11 +2,13 @@
 
 import base64
 import hashlib
+import importlib.util
 import math
 import pathlib
 import re
 import time
 import unittest
+from concurrent.futures import ThreadPoolExecutor
 from unittest import mock
 
 import django
@@ -14,20 +16,18 @@ from django.conf import settings
 
 settings.configure(PASSWORD_HASHERS=[
     f"{__name__}.Small", "scrypt_c.django.ScryptPasswordHasher",
-    f"{__name__}.OverPBKDF2", "django.contrib.auth.hashers.PBKDF2PasswordHasher"])
+    "scrypt_c.django.OverPBKDF2", "django.contrib.auth.hashers.PBKDF2PasswordHasher"])
 django.setup()
 
 from django.contrib.auth import hashers  # noqa: E402  after the settings
+from django.utils.module_loading import import_string  # noqa: E402
 
 import scrypt_c  # noqa: E402
-from scrypt_c.django import FalseIfRefused, PHCPasswordHasher, ScryptPasswordHasher  # noqa: E402
+from scrypt_c.django import FalseIfRefused, OverBCrypt, OverPBKDF2  # noqa: E402
+from scrypt_c.django import PHCPasswordHasher, ScryptPasswordHasher  # noqa: E402
+from scrypt_c.hasher import shared  # noqa: E402
 from test_hasher import KEY, refuse_a_lone_surrogate  # noqa: E402
-
-# The classes of the page, unchanged.
-PAGE = pathlib.Path(__file__).parents[3] / "docs/MIGRATION.md"
-of_page = {}
-exec(re.search(r"(?ms)^```python\n(from django.*?)^```", PAGE.read_text("utf-8"))[1], of_page)
-OverPBKDF2 = of_page["OverPBKDF2"]
+from test_keys import growth  # noqa: E402
 
 NO_KEY = f"{86 * 'A'}=="  # 64 bytes of zeros, which no password has
 COSTLY = [
@@ -35,6 +35,8 @@ COSTLY = [
     f"scrypt_c$scrypt$ln=1,r=1,p=2000000{KEY}",
 ]
 DAMAGED = [
+    "scrypt_c", "scrypt_c$", "scrypt_c$7", "scrypt_c$7$", "scrypt_c$scrypt$ln=4", "scrypt_c$scrypt$a$b$c",
+    "scrypt", "scrypt$", f"scrypt_c$scrypt$ln=6,r=8,p=1$c2V!c2FsdA${43 * 'A'}",
     f"scrypt_c$scrypt$ln=6,r=8,p=1{KEY}", f"scrypt_c$argon2$ln=6,r=8,p=1{KEY}",
     "scrypt_c$7$46..../....saltsalt$..", "scrypt$16$seasalt$8", f"scrypt$16$$8$1${NO_KEY}",
     f"scrypt$16$sea\ud800$8$1${NO_KEY}", f"scrypt$x$seasalt$8$1${NO_KEY}",
@@ -73,6 +75,17 @@ class Hashers(unittest.TestCase):
             self.assertTrue(hashers.check_password("lètmein", text))
             self.assertFalse(hashers.check_password("letmein", text))
 
+    def test_settings_of_the_page(self):
+        """The first class makes a hash, and each class reads its own."""
+        page = pathlib.Path(__file__).parents[1] / "README.md"
+        names = re.search(r"(?m)^PASSWORD_HASHERS = \[\n([^]]*)^\]$", page.read_text("utf-8"))[1]
+        kinds = [import_string(name)() for name in re.findall('"(.*?)"', names)]
+        with mock.patch.object(hashers, "get_hashers", lambda: kinds):
+            with mock.patch.object(hashers, "get_hashers_by_algorithm", lambda: {it.algorithm: it for it in kinds}):
+                self.assertTrue(hashers.make_password("pw").startswith("scrypt_c$scrypt$ln=17,"))
+                for it in kinds:
+                    self.assertTrue(hashers.check_password("pw", it.encode("pw", it.salt())))
+
     def test_weaker_hashes_are_replaced(self):
         """At a login Django replaces a weaker hash, a hash of another hasher, and a wrapped hash."""
         weak = "scrypt_c" + scrypt_c.PasswordHasher(log_n=5).hash("lètmein")
@@ -84,8 +97,41 @@ class Hashers(unittest.TestCase):
             self.assertFalse(hashers.check_password("letmein", old, setter=new.append))
             self.assertTrue(hashers.check_password("lètmein", old, setter=new.append))
             self.assertEqual(new, is_replaced * ["lètmein"], old)
-        most = OverPBKDF2().wrap(f"pbkdf2_sha256$1500000${22 * 's'}${43 * 'A'}=")
-        self.assertLessEqual(len(most), 128, "Django's column, with the most iterations so far")
+
+    def test_all_share_one_hasher(self):
+        """Its max_tables is for both formats, and for the hashes over others. An attribute that
+        differs makes another hasher."""
+        usual = scrypt_c.PasswordHasher().options
+        for kind in (ScryptPasswordHasher, PHCPasswordHasher, OverPBKDF2, OverBCrypt):
+            self.assertIs(kind().hasher, PHCPasswordHasher.hasher)
+            self.assertEqual(kind().hasher.options, usual)
+        given = {"max_mem": 1 << 20, "max_work": 1 << 16, "max_tables": 3, "timeout": 0.5}
+        kind = type("Ours", (ScryptPasswordHasher,), {"work_factor": 64, **given})
+        self.assertIs(kind().hasher, kind().hasher)
+        found = {**kind().hasher.options._asdict(), "timeout": kind().hasher._timeout}
+        self.assertEqual({name: found[name] for name in given}, given)
+
+    def test_one_hasher_of_threads(self):
+        """Threads that ask at the same time for a new hasher get the same one."""
+        with ThreadPoolExecutor(24) as pool:
+            asked = [pool.submit(shared, 5, 1, 1) for _ in range(24)]
+        self.assertEqual(len({id(it.result()) for it in asked}), 1)
+
+    def test_memory_of_many_threads(self):
+        """Logins of known and unknown names, and new hashes, take no more than max_tables tables."""
+        costs = {"work_factor": 1 << 15, "max_tables": 2}  # 32 MiB each
+        it = type("Ours", (ScryptPasswordHasher,), costs)()
+        stored = it.encode("pw", 22 * "s")
+        it.hasher.close()
+        type(it).timeout = 60  # another hasher, which has no memory yet
+        calls = [lambda: it.verify("PW", stored), lambda: it.verify_no_hash("PW"), lambda: it.encode("pw", "salt") == ""]
+
+        def log_in():
+            with ThreadPoolExecutor(24) as pool:
+                answers = [pool.submit(calls[place % 3]) for place in range(24)]
+            self.assertEqual({answer.result() for answer in answers}, {False})
+
+        self.assertLess(growth(log_in)[0], 3 << 25)
 
     def test_salts_and_weak_hashes(self):
         """decode returns the salt that encode was given; a hash with a short salt is weak."""
@@ -93,9 +139,9 @@ class Hashers(unittest.TestCase):
             (Small(), Small().encode("pw", "sea$" + 18 * "s"), "sea$" + 18 * "s", False),
             (Small(), f"scrypt_c$7$46..../....seasalt${43 * '.'}", "seasalt", True),
             (Small(), "scrypt_c" + Small.hasher.hash("pw", salt=b"\xff\x00"), "\xff\x00", True),
-            (ScryptPasswordHasher(), f"scrypt$131072${21 * 's'}$8$1$AAAA", 21 * "s", True),
-            (ScryptPasswordHasher(), f"scrypt$131072${22 * 's'}$8$1$AAAA", 22 * "s", False),
-            (ScryptPasswordHasher(), f"scrypt$65536${22 * 's'}$8$1$AAAA", 22 * "s", True),
+            (ScryptPasswordHasher(), f"scrypt$131072${21 * 's'}$8$1${NO_KEY}", 21 * "s", True),
+            (ScryptPasswordHasher(), f"scrypt$131072${22 * 's'}$8$1${NO_KEY}", 22 * "s", False),
+            (ScryptPasswordHasher(), f"scrypt$65536${22 * 's'}$8$1${NO_KEY}", 22 * "s", True),
         ]:
             self.assertEqual(it.decode(encoded)["salt"], salt, encoded)
             self.assertTrue(it.safe_summary(encoded)["salt"].startswith(salt[:6]), encoded)
@@ -117,6 +163,18 @@ class Hashers(unittest.TestCase):
                         found = hashers.check_password("pw", stored, new.append, preferred)
                     self.assertEqual((found, new, len(log.output)), (False, [], 1), stored)
                     self.assertNotIn("AAAA", log.output[0], "the key")
+
+    def test_methods_of_damaged_hashes(self):
+        """decode and safe_summary, which pages of the admin call, raise nothing but InvalidHashError."""
+        good = Small().encode("pw", "saltsalt"), ScryptPasswordHasher().encode("pw", "salt", 16, 1, 1)
+        cut = [text[:end] for text in good for end in range(len("scrypt_c"), len(text))]
+        for stored in COSTLY + DAMAGED + cut + ["argon2$x", ""]:
+            it = Small() if stored.startswith("scrypt_c") else ScryptPasswordHasher()
+            for method in (it.decode, it.safe_summary):
+                try:
+                    self.assertIn("salt", map(str, method(stored)))
+                except scrypt_c.InvalidHashError:
+                    self.assertTrue(it.must_update(stored), stored)
 
     def test_time_of_a_rejected_hash(self):
         """It is the time of a wrong password, so that it does not reveal whose hash is rejected. Each
@@ -142,7 +200,10 @@ class Hashers(unittest.TestCase):
         self.assertIs(ours.verify_no_hash("pw"), False)
         calls = [name for name, *_ in hasher.method_calls]
         self.assertEqual(calls, ["verify", "verify_and_update", "verify_and_update"])
-        self.assertIs(or_false(ScryptPasswordHasher, work_factor=64).verify_no_hash("pw"), False)
+        theirs, hasher.method_calls[:] = or_false(ScryptPasswordHasher, hasher=hasher), []
+        self.assertIs(theirs.verify("pw", f"scrypt$16$seasalt$8$1${NO_KEY}"), False)
+        self.assertIs(theirs.verify_no_hash("pw"), False)
+        self.assertEqual([name for name, *_ in hasher.method_calls], ["verify", "verify_and_update"])
 
     def test_other_errors(self):
         """Other errors are raised too, and none contains the password. The limits are exact."""
@@ -163,3 +224,91 @@ class Hashers(unittest.TestCase):
             self.assertRaises(ValueError, theirs.encode, "pw", salt, *costs)
         ours.hasher.close()
         self.assertRaisesRegex(ValueError, "closed", ours.verify, "pw", stored)
+
+
+# For OverPBKDF2 and OverBCrypt: a cost and a salt of an old hash, and whether they are rejected.
+SETTINGS = [
+    (OverPBKDF2, "1000$salt", None),
+    (OverPBKDF2, "1001$salt", scrypt_c.TooCostlyError),
+    *((OverPBKDF2, it, scrypt_c.InvalidHashError) for it in [
+        "salt", "x$salt", "0$salt", "-1$salt", "01$salt", "1_0$salt", "\u0663$salt", "1$", "$salt", "1$sal$t",
+        "1$s\xe4lt", "1$sa t", f"{10**9}$salt", f"{'9' * 60}$", "1"]),
+    (OverBCrypt, f"$2b$05${22 * 'a'}", None),
+    (OverBCrypt, f"$2b$06${22 * 'a'}", scrypt_c.TooCostlyError),
+    (OverBCrypt, f"$2a$31${22 * 'a'}", scrypt_c.TooCostlyError),
+    *((OverBCrypt, it, scrypt_c.InvalidHashError) for it in [
+        "$2b$", "$2b$05$", f"$2b$05${21 * 'a'}", f"$2b$05${23 * 'a'}", f"$2b$05${21 * 'a'}!", f"$2x$05${22 * 'a'}",
+        f"$2b$03${22 * 'a'}", f"$2b$32${22 * 'a'}", f"$2b$99${22 * 'a'}", f"$2b$5${22 * 'a'}", "1000$salt"]),
+]
+HAS_BCRYPT = importlib.util.find_spec("bcrypt") is not None
+
+
+class Over(unittest.TestCase):
+    """Hashes of PBKDF2 and bcrypt, hashed once more."""
+
+    small = {"hasher": scrypt_c.PasswordHasher(log_n=4)}
+    kinds = [OverPBKDF2, OverBCrypt][: 1 + HAS_BCRYPT]
+
+    def limited(self, kind):
+        most = {OverPBKDF2: 1000, OverBCrypt: 5}[kind]
+        cheap = {OverPBKDF2: {"iterations": 1000}, OverBCrypt: {"rounds": 5}}[kind]
+        inner = type("Inner", (kind.inner,), cheap)
+        return or_false(kind, inner=inner, max_cost=most, **self.small)
+
+    def test_verdicts(self):
+        for kind in self.kinds:
+            it = self.limited(kind)
+            for stored in (it.wrap(it.inner().encode("l\xe8tmein", it.salt())), it.encode("l\xe8tmein", it.salt())):
+                self.assertTrue(it.verify("l\xe8tmein", stored))
+                self.assertFalse(it.verify("letmein", stored))
+                self.assertLessEqual(len(stored), 128, "Django's column")
+                self.assertIn("salt", map(str, it.safe_summary(stored)))
+            refuse_a_lone_surrogate(self, lambda wrong: it.verify(wrong, stored), it.verify_no_hash)
+
+    def test_rejected_settings(self):
+        """The limit is exact, and nothing is derived above it, nor for a damaged hash, nor if the
+        outer hash is rejected. With FalseIfRefused the time is that of a wrong password."""
+        for kind, kept, error in SETTINGS:
+            if kind not in self.kinds:
+                continue
+            it = self.limited(kind)
+            good = it.algorithm + it.hasher.hash("pw", salt=kept.encode())
+            if error is None:
+                self.assertFalse(it.verify("pw", good))
+            else:
+                self.assert_rejected(it, good, error)
+            key = good.rpartition("$")[2]
+            self.assert_rejected(it, good.replace("ln=4", "ln=30"), scrypt_c.TooCostlyError)
+            self.assert_rejected(it, good.replace(key, 14 * "A"), scrypt_c.KeyTooShortError)
+            for damaged in (good[:-2], good[: -len(key)], good.replace("r=8", "r=0"), it.algorithm, f"{it.algorithm}$7"):
+                self.assert_rejected(it, damaged, scrypt_c.InvalidHashError)
+
+    def assert_rejected(self, it, stored, error):
+        with mock.patch.object(it.inner, "encode", side_effect=AssertionError("derived")):
+            with mock.patch.object(scrypt_c.PasswordHasher, "verify", side_effect=AssertionError("derived")):
+                with self.assertRaises(error, msg=stored):
+                    super(FalseIfRefused, it).verify("pw", stored)
+        with mock.patch.object(it.inner, "encode", autospec=True, side_effect=it.inner.encode) as old:
+            with mock.patch.object(it.hasher, "verify_and_update", return_value=(False, None)) as new:
+                with self.assertLogs("scrypt_c.django"):
+                    self.assertIs(it.verify("pw", stored), False)
+        self.assertEqual((old.call_count, new.call_args), (1, mock.call(None, "pw")))
+
+    def test_wrap_rejects(self):
+        """What is not a hash of the inner hasher, and what it could not verify."""
+        pbkdf2, bcrypt = (self.limited(kind) for kind in (OverPBKDF2, OverBCrypt))
+        letters = 53 * "a"
+        for it, old, error in [
+            (pbkdf2, f"pbkdf2_sha256$1001$salt${43 * 'A'}=", scrypt_c.TooCostlyError),
+            (bcrypt, f"bcrypt_sha256$$2b$06${letters}", scrypt_c.TooCostlyError),
+            *((pbkdf2, it, scrypt_c.InvalidHashError) for it in [
+                "pbkdf2_sha256$9$salt$", "pbkdf2_sha1$9$salt$AAAA", "pbkdf2_sha256", "", f"bcrypt_sha256$$2b$05${letters}"]),
+            *((bcrypt, it, scrypt_c.InvalidHashError) for it in [
+                f"bcrypt$$2b$05${letters}", f"bcrypt_sha256$$2b$05${letters}a", "bcrypt_sha256$$2b$05$", "bcrypt_sha256"]),
+        ]:
+            with self.assertRaises(error, msg=old):
+                it.wrap(old)
+        most = type("Most", (OverPBKDF2,), {"max_cost": 10**7})().wrap(f"pbkdf2_sha256$1500000${22 * 's'}${43 * 'A'}=")
+        self.assertLessEqual(len(most), 128, "Django's column, with the most iterations of Django so far")
+        self.assertEqual(OverPBKDF2.max_cost, 4 * hashers.PBKDF2PasswordHasher.iterations)
+        self.assertEqual(OverBCrypt.max_cost, hashers.BCryptSHA256PasswordHasher.rounds + 2)

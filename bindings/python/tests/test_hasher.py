@@ -39,7 +39,7 @@ REFUSED = [
      each("it", Params(260), Params(-1), Params(4, 8 + B32), Params(4, 8, -1))),
     (InvalidParamsError, RANGES, key, [
         *each("n", 1 << 57, 1 << 260), *each("r", 0, -1, 8 + B32), *each("p", B32)]),
-    (InvalidParamsError, "n must be a power of two: ", key, each("n", 3, 0, -2, 16 - B64)),
+    (InvalidParamsError, "n must be a power of two above 1: ", key, each("n", 3, 0, -2, 16 - B64, 1, True)),  # as hashlib
     (InvalidSaltError, "1 to 64 bytes: salt_len=", made, each("salt_len", 0, 65, 16 + B64)),
     (InvalidSaltError, "1 to 64 bytes", hashed, each("salt", b"", bytes(65))),
     (scrypt_c.InvalidOutputLenError, f"1 to {MAX_OUTPUT_LEN} bytes", key,

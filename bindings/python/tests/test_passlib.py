@@ -1,15 +1,20 @@
 """The handler for passlib, compared with passlib's own handler."""
 
+import pathlib
+import re
 import unittest
 import warnings
+from concurrent.futures import ThreadPoolExecutor
 from unittest import mock
 
 import passlib.hash
 from passlib.context import CryptContext
 
 import scrypt_c
+from scrypt_c.hasher import shared
 from scrypt_c.passlib import scrypt
 from test_hasher import refuse_a_lone_surrogate
+from test_keys import growth
 
 SMALL = {"rounds": 6, "block_size": 8}
 TEXT = scrypt.using(**SMALL).hash("pw")
@@ -24,6 +29,12 @@ class Handler(unittest.TestCase):
             self.assertFalse(other.verify("grun", text))
         with mock.patch("passlib.crypto.scrypt.scrypt", None):  # passlib's own derivation
             self.assertTrue(ours.verify("grün", ours.hash("grün")))
+
+    def test_example_of_the_page(self):
+        page, of_page = pathlib.Path(__file__).parents[1] / "README.md", {}
+        exec(re.search(r"(?ms)^```python\n(from passlib.*?)^```", page.read_text("utf-8"))[1], of_page)
+        text = of_page["context"].hash("pw")
+        self.assertTrue(text.startswith("$scrypt$ln=17,") and of_page["context"].verify("pw", text))
 
     def test_weak_hashes_need_an_update(self):
         for options, is_weak, why in [
@@ -54,6 +65,38 @@ class Handler(unittest.TestCase):
             with self.assertRaises(error, msg=costs):
                 scrypt.verify("pw", f"$scrypt${costs}$c2FsdHNhbHQ${key_len * 'A'}")
         for name, limit in [("max_work", scrypt_c.Params(6).work), ("max_mem", scrypt_c.Params(6).memory)]:
-            self.assertTrue(type("scrypt", (scrypt,), {name: limit}).verify("pw", TEXT))
-            less = type("scrypt", (scrypt,), {name: limit - 1})
+            small = scrypt.using(rounds=5)
+            self.assertTrue(type("scrypt", (small,), {name: limit}).verify("pw", TEXT))
+            less = type("scrypt", (small,), {name: limit - 1})
             self.assertRaises(scrypt_c.TooCostlyError, less.verify, "pw", TEXT)
+            self.assertRaises(scrypt_c.TooCostlyError, less.from_string(TEXT)._calc_checksum, "pw")
+
+    def test_one_hasher_verifies(self):
+        """Its max_tables is for all threads, in both idents, and it is the hasher of Django's
+        classes too; salts that its formats don't have make no new hash."""
+        for ident in ("$scrypt$", "$7$"):
+            text = scrypt.using(**SMALL, ident=ident).hash("pw")
+            with mock.patch.object(scrypt, "_calc_checksum", None):
+                self.assertTrue(scrypt.verify("pw", text))
+                self.assertFalse(scrypt.verify("PW", text))
+        self.assertIs(scrypt.hasher(), shared())
+        given = {"max_mem": 1 << 20, "max_work": 1 << 16, "max_tables": 3, "timeout": 0.5}
+        hasher = type("scrypt", (scrypt.using(**SMALL),), given).hasher()
+        found = {**hasher.options._asdict(), "timeout": hasher._timeout}
+        self.assertEqual(({name: found[name] for name in given}, hasher.params.log_n), (given, 6))
+        for salt in (b"", b"s", 100 * b"s"):
+            one = scrypt.using(**SMALL, salt=salt)
+            self.assertTrue(passlib.hash.scrypt.verify("pw", one.hash("pw")) and one.verify("pw", one.hash("pw")))
+        self.assertRaises(scrypt_c.InvalidSaltError, scrypt.using(**SMALL, salt=65 * b"\xff").hash, "pw")
+
+    def test_memory_of_many_threads(self):
+        one = type("scrypt", (scrypt.using(rounds=15),), {"max_tables": 2, "timeout": 60})  # 32 MiB each
+        text = TEXT.replace("ln=6", "ln=15")
+        calls = [lambda: one.verify("pw", text), lambda: one.hash("pw") == text]
+
+        def log_in():
+            with ThreadPoolExecutor(24) as pool:
+                answers = [pool.submit(calls[place % 2]) for place in range(24)]
+            self.assertEqual({answer.result() for answer in answers}, {False})
+
+        self.assertLess(growth(log_in)[0], 3 << 25)
