@@ -243,13 +243,13 @@ const OF_MODULE = {
       it.isWiped();
     }
   },
-  // Its time must not tell that there is no hash.
-  'no hash takes the memory of a new one': async (module) => {
-    for (const how of ['', 'Async']) {
-      const { own } = await opened(module);
-      equal(await own[`verify${how}`]('', null, { N: 1024, r: 8, p: 1 }), false);
-      equal(own.memory > 2 ** 20, true, `${own.memory} bytes`);
-    }
+  // Its time must not tell that there is no hash. In steps its progress is tested.
+  'no hash takes the work of a new one': async (module) => {
+    const calls = [];
+    const { own } = await opened(module, { scrypt_kdf_with_buffers: (...args) => calls.push(args) - 1 });
+    equal(own.verify('pw', null, { N: 1024, r: 8, p: 1, dkLen: 20 }), false);
+    const places = [1, 4, 5, 6, 8]; // the password's length, the parameters, and the key's length
+    equal(calls.map((args) => places.map((at) => args[at])).join(';'), '2,10,8,1,20', 'derivations');
   },
   // A page is not blocked before the first step, nor while its clock stands still.
   'the first steps': async (module) => {
