@@ -35,8 +35,18 @@ export async function compile() {
   return (await lastLoaded) ?? ownModule();
 }
 
+// Bundlers look for exactly this expression. One that doesn't may leave no address of the bundle.
+function ownAddress() {
+  try {
+    return new URL('./scrypt.wasm', import.meta.url);
+  } catch (cause) {
+    const message = 'scrypt.wasm is not beside this bundle: see "In a page" in README';
+    throw new ScryptError('LOAD_FAILED', message, { cause });
+  }
+}
+
 async function ownModule() {
-  packaged ??= compileFrom(new URL('./scrypt.wasm', import.meta.url));
+  packaged ??= compileFrom(ownAddress());
   const found = packaged;
   try {
     return await found;

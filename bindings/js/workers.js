@@ -144,7 +144,7 @@ function give(worker, call) {
 // Browsers give no reason if the page's policy forbids workers, or if the script is missing. The
 // script's name is written differently from above, because bundlers would look for it here too.
 function failed(cause) {
-  const address = import.meta.url.replace(/[^/]*$/, 'worker.js');
+  const address = String(import.meta.url).replace(/[^/]*$/, 'worker.js');
   const reason = cause.message || 'is it there, and allowed here?';
   const message = `${address} did not start, or ended: ${reason}`;
   return new ScryptError('WORKER_FAILED', message, { cause });

@@ -31,6 +31,16 @@ by_esbuild() {
   bundles() { (cd "$app" && sh -eu "$1" 2> log) || { cat "$app/log"; exit 1; }; }
   [ "$(node "$app/login.js")" = true ]
   bundles for_node
+  # A bundle that does not know where it is says so, and no call waits forever.
+  echo "import { readFileSync } from 'node:fs';
+    import { hash, load } from 'scrypt-proved';
+    const show = ({ code, message }) => console.log(code, message);
+    load().catch(show).then(() => load(readFileSync('$package/scrypt.wasm')))
+      .then(() => hash('a', { N: 2 })).catch(show);" > "$app/plain.js"
+  (cd "$app" && esbuild plain.js --bundle --platform=node --log-level=error --outfile=plain.cjs)
+  node "$app/plain.cjs" > "$app/said"
+  grep -q '^LOAD_FAILED .*"In a page" in README$' "$app/said"
+  grep -q '^WORKER_FAILED worker.js did not start' "$app/said"
   mv "$app/node_modules" "$app/away"
   [ "$(node "$app/dist/login.js")" = true ]
   mv "$app/away" "$app/node_modules"
