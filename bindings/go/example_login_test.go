@@ -19,22 +19,17 @@ func logIn(ctx context.Context, hasher *scrypt.Hasher, users map[string]string, 
 	defer cancel()
 	// Unknown name: without a hash, Verify takes the time of a wrong password.
 	text := users[name] // SELECT hash FROM users WHERE name = $1
-	err := hasher.Verify(ctx, text, []byte(password))
+	stronger, err := hasher.VerifyAndUpdate(ctx, text, []byte(password))
 	// Refused hash: it is logged, and looks like a wrong password, with the same time.
 	if errors.Is(err, scrypt.ErrRefused) {
 		log.Printf("the hash of %q is refused: %v", name, err)
 		err = hasher.Verify(ctx, "", []byte(password))
 	}
-	if err != nil {
-		return err
-	}
 	// Rehash by compare-and-swap: a password that was changed in between is not overwritten.
-	if weak, _ := hasher.NeedsRehash(text); weak {
-		if stronger, err := hasher.Hash(ctx, []byte(password)); err == nil && users[name] == text {
-			users[name] = stronger // UPDATE users SET hash = $3 WHERE name = $1 AND hash = $2
-		}
+	if stronger != "" && users[name] == text {
+		users[name] = stronger // UPDATE users SET hash = $3 WHERE name = $1 AND hash = $2
 	}
-	return nil
+	return err
 }
 
 func Example_logIn() {

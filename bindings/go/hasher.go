@@ -48,6 +48,10 @@ type Options struct {
 	// default those of DefaultLimits, for MaxMem 7/8 of the memory if that is less, or the cost of
 	// new hashes if that is more.
 	MaxMem, MaxWork uint64
+
+	// The limit on the length of a hash's key in bytes, up to Params.KeyLen, below which a hash
+	// returns ErrKeyTooShort: by default that of DefaultLimits, or KeyLen if that is less.
+	MinKeyLen int
 }
 
 // A Hasher makes password hashes, and verifies passwords against hashes of either format. It is
@@ -87,7 +91,7 @@ func NewHasher(options Options) (*Hasher, error) {
 	if n := runtime.GOMAXPROCS(0); n < runtime.NumCPU() {
 		options.Processors = orDefault(options.Processors, n)
 	}
-	if options.MaxTables < 0 || options.Processors < 0 {
+	if options.MaxTables < 0 || options.Processors < 0 || options.MinKeyLen < 0 {
 		return nil, fmt.Errorf("%w: %+v", ErrInvalidOption, options)
 	}
 	var with C.scrypt_options
@@ -103,6 +107,7 @@ func NewHasher(options Options) (*Hasher, error) {
 	set(&with.max_mem, options.MaxMem)
 	set(&with.max_tables, uint64(options.MaxTables))
 	set(&with.processors, uint64(options.Processors))
+	set(&with.min_key_len, uint64(options.MinKeyLen))
 	if options.MaxWork != 0 {
 		with.max_work = C.uint64_t(options.MaxWork)
 	}
@@ -137,7 +142,7 @@ func (h *Hasher) Options() Options {
 		Params:  Params{LogN: int(with.log_n), R: int(with.r), P: int(with.p), KeyLen: int(with.key_len)},
 		MCF:     with.mcf != 0,
 		SaltLen: int(with.salt_len), MaxTables: int(with.max_tables), Processors: int(with.processors),
-		MaxMem: uint64(with.max_mem), MaxWork: uint64(with.max_work),
+		MaxMem: uint64(with.max_mem), MaxWork: uint64(with.max_work), MinKeyLen: int(with.min_key_len),
 	}
 }
 
@@ -147,12 +152,14 @@ type Stats struct {
 	Failed            uint64 // how many calls ran out of memory, or whose context ended
 }
 
-// Stats returns the current statistics, for metrics. For the zero value of a Hasher all are zero.
+// Stats returns the current statistics, for metrics; it cannot fail. For the zero value of a Hasher
+// all are zero.
 func (h *Hasher) Stats() Stats {
-	var now C.scrypt_stats
-	if h.shared == nil || C.scrypt_hasher_stats(h.shared.c, &now) != C.SCRYPT_OK {
+	if h.shared == nil {
 		return Stats{}
 	}
+	var now C.scrypt_stats
+	_ = C.scrypt_hasher_stats(h.shared.c, &now)            // its only error is for NULL
 	waiting := h.shared.calls.Load() - int64(now.deriving) // includes calls that are not in C
 	if waiting < 0 {
 		waiting = 0
@@ -224,7 +231,7 @@ func (h *Hasher) Key(ctx context.Context, password, salt []byte, keyLen int) ([]
 // Other errors match (errors.Is) the context's error, ErrClosed or ErrOutOfMemory. If the hash is
 // rejected, Verify returns, without waiting, an error that matches ErrRefused: ErrInvalidHash,
 // ErrTooCostly if the hash exceeds the limits, or ErrKeyTooShort if its key has fewer bytes than
-// DefaultLimits returns, or fewer than new keys if that is less.
+// MinKeyLen.
 func (h *Hasher) Verify(ctx context.Context, text string, password []byte) error {
 	if h.shared == nil {
 		return ErrClosed
@@ -258,6 +265,19 @@ func (h *Hasher) refusal(text []byte) error {
 			cost.key_len, with.max_mem, with.max_work, with.min_key_len)
 	}
 	return failed(status)
+}
+
+// VerifyAndUpdate is like Verify. If the password matches, and the hash is weaker than new hashes, it
+// also returns the text of a new hash to store in its place, and otherwise "". Its errors are those of
+// Verify and, for the new hash, of Hash.
+func (h *Hasher) VerifyAndUpdate(ctx context.Context, text string, password []byte) (newText string, err error) {
+	if err := h.Verify(ctx, text, password); err != nil {
+		return "", err
+	}
+	if isWeak, err := h.NeedsRehash(text); err != nil || !isWeak {
+		return "", err
+	}
+	return h.Hash(ctx, password)
 }
 
 // NeedsRehash reports whether a parameter of the hash, or the length of its key, is smaller than in

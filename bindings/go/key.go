@@ -9,10 +9,11 @@ import (
 	"math/bits"
 )
 
-// Key derives a key of keyLen bytes from a password and a salt. N must be a power of two. Limit
-// keyLen if it comes from a file: the process ends if it has no memory for the key. Params.Memory
-// and Params.Work return the cost of N, r and p. The errors match (errors.Is) ErrInvalidParams,
-// ErrInvalidOutputLen, and ErrOutOfMemory if the memory for the table is not available.
+// Key derives a key of keyLen bytes from a password and a salt. N must be a power of two above 1, as
+// in x/crypto; only a hash may have an N of 1. Limit keyLen if it comes from a file: the process ends
+// if it has no memory for the key. Params.Memory and Params.Work return the cost of N, r and p. The
+// errors match (errors.Is) ErrInvalidParams, ErrInvalidOutputLen, and ErrOutOfMemory if the memory for
+// the table is not available.
 func Key(password, salt []byte, N, r, p, keyLen int) ([]byte, error) {
 	return made(N, r, p, keyLen, func(cost C.scrypt_cost, key []byte) error {
 		return failed(C.scrypt_key(pointer(password), size(password), pointer(salt), size(salt),
@@ -20,10 +21,10 @@ func Key(password, salt []byte, N, r, p, keyLen int) ([]byte, error) {
 	})
 }
 
-// KeyContext is like Key, but derives the key in steps of about 10 ms. Between two steps it returns
-// the context's error if the context is done, and calls progress, if that is not nil, with the
-// fraction that is done, from 0 to 1. PBKDF2 at the beginning and at the end, of 128 * r * p bytes,
-// is one step each.
+// KeyContext is like Key, but derives the key in steps of about 10 ms. Before the first step and
+// between two steps it returns the context's error if the context is done. After each step it calls
+// progress, if that is not nil, with the fraction that is done, from 0 to 1. PBKDF2 at the beginning
+// and at the end, of 128 * r * p bytes, is one step each.
 func KeyContext(ctx context.Context, password, salt []byte, N, r, p, keyLen int,
 	progress func(done float64)) ([]byte, error) {
 	return keyInSteps(ctx, password, salt, N, r, p, keyLen, progress, 10)
@@ -32,6 +33,9 @@ func KeyContext(ctx context.Context, password, salt []byte, N, r, p, keyLen int,
 // keyInSteps takes the time of a step in milliseconds.
 func keyInSteps(ctx context.Context, password, salt []byte, N, r, p, keyLen int,
 	progress func(done float64), milliseconds uint32) ([]byte, error) {
+	if err := ctx.Err(); err != nil {
+		return nil, err
+	}
 	return made(N, r, p, keyLen, func(cost C.scrypt_cost, key []byte) error {
 		var derivation *C.scrypt_derivation
 		status := C.scrypt_derivation_new(pointer(password), size(password), pointer(salt), size(salt),
@@ -58,8 +62,8 @@ func made(N, r, p, keyLen int, derive func(C.scrypt_cost, []byte) error) ([]byte
 	params := Params{LogN: bits.TrailingZeros(uint(N)), R: r, P: p}
 	cost, err := params.costs()
 	switch {
-	case N < 1 || N&(N-1) != 0:
-		return nil, fmt.Errorf("%w: N must be a power of two: %d", ErrInvalidParams, N)
+	case N < 2 || N&(N-1) != 0:
+		return nil, fmt.Errorf("%w: N must be a power of two above 1: %d", ErrInvalidParams, N)
 	case err != nil:
 		return nil, fmt.Errorf("%w: N is %d, r is %d and p is %d", err, N, r, p)
 	}

@@ -59,8 +59,8 @@ func storedText(salt, key []byte, N, r, p int) (string, error) {
 }
 
 // FromSimpleScrypt converts a hash of github.com/elithrar/simple-scrypt, N$r$p$salt$key with the
-// last two in hexadecimal, to a hash that Verify reads. N may be below 64. It returns the errors of
-// StoredText, and ErrEncodingInvalid if the text is not such a hash.
+// last two in hexadecimal, to a hash that Verify reads. N may be below 64, but is above 1, as there.
+// It returns the errors of StoredText, and ErrEncodingInvalid if the text is not such a hash.
 func FromSimpleScrypt(stored string) (string, error) {
 	fault := fmt.Errorf("%w: this is not a hash of simple-scrypt", ErrEncodingInvalid)
 	parts := strings.Split(stored, "$")
@@ -74,6 +74,9 @@ func FromSimpleScrypt(stored string) (string, error) {
 			return "", fault
 		}
 		numbers[i] = int(number)
+	}
+	if numbers[0] == 1 {
+		return "", fmt.Errorf("%w: N must be above 1", ErrInvalidParams)
 	}
 	salt, err := hex.DecodeString(parts[3])
 	if err != nil {

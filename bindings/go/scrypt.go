@@ -76,8 +76,8 @@ func ParamsOf(text string) (Params, error) {
 	return Params{LogN: int(logN), R: int(r), P: int(p), KeyLen: int(keyLen)}, nil
 }
 
-// Memory returns the size of a derivation's buffers in bytes, up to math.MaxUint64, or
-// ErrInvalidParams if LogN, R and P are not accepted.
+// Memory returns the size of a derivation's buffers in bytes, which Options.MaxMem limits. It returns
+// math.MaxUint64 if the size is larger, and ErrInvalidParams if LogN, R and P are not accepted.
 func (params Params) Memory() (uint64, error) {
 	cost, err := params.costs()
 	return uint64(cost.bytes), err
@@ -95,11 +95,8 @@ func (params Params) costs() (cost C.scrypt_cost, err error) {
 
 // Work returns the work of a derivation, which Options.MaxWork limits: 4 * (N + 32) * R * P
 // Salsa20/8 cores, where 32 accounts for PBKDF2. It returns math.MaxUint64 if the work is larger,
-// or if the parameters are not accepted.
-func (params Params) Work() uint64 {
+// and ErrInvalidParams if LogN, R and P are not accepted.
+func (params Params) Work() (uint64, error) {
 	cost, err := params.costs()
-	if err != nil {
-		return math.MaxUint64
-	}
-	return uint64(cost.work)
+	return uint64(cost.work), err
 }

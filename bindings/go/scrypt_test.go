@@ -103,6 +103,8 @@ func TestStored(t *testing.T) {
 		_, _ = fmt.Sscan(strings.Join(words[2:5], " "), &n, &r, &p)
 		text, err := StoredText(salt, key, n, r, p)
 		check(t, text == words[5] && (err == nil) == (text != ""), words, text, err)
+		isHinted := err != nil && strings.Contains(err.Error(), "may be its logarithm")
+		check(t, isHinted == (n >= 1 && n < 64), words, err)
 		text, err = FromSimpleScrypt(strings.Join(append(words[2:5:5], words[:2]...), "$"))
 		check(t, n == 16 || text == words[5] && (err == nil) == (text != ""), words, text, err)
 	}
@@ -125,6 +127,10 @@ func TestHashes(t *testing.T) {
 		isWeak, err := hasher.NeedsRehash(text)
 		isWeaker, _ := usual.NeedsRehash(text)
 		check(t, !isWeak && isWeaker && err == nil, text, isWeak, isWeaker, err)
+		kept, err := hasher.VerifyAndUpdate(ctx, text, password)
+		stronger, errUsual := usual.VerifyAndUpdate(ctx, text, password)
+		check(t, kept == "" && err == nil && errUsual == nil && usual.Verify(ctx, stronger, password) == nil, kept, stronger, err)
+		check(t, fault(usual.VerifyAndUpdate(ctx, text, nil)) == ErrMismatch && fault(usual.VerifyAndUpdate(ctx, "", nil)) == ErrMismatch, text)
 		one, _ := hasher.Hash(ctx, nil)
 		other, err := hasher.Hash(ctx, nil)
 		check(t, one != other && err == nil && hasher.Verify(ctx, one, nil) == nil, one, other, err)
@@ -140,20 +146,23 @@ func TestHashes(t *testing.T) {
 func TestOptions(t *testing.T) {
 	usual, large := newHasher(t, Options{}).Options(), newHasher(t, Options{Params: Params{LogN: 19, P: 2}}).Options()
 	tables, processors := usual.MaxTables, usual.Processors
-	maxMem, maxWork, _ := DefaultLimits()
-	check(t, usual == Options{Recommended(), false, 16, tables, processors, maxMem, maxWork}, usual)
+	maxMem, maxWork, minKeyLen := DefaultLimits()
+	check(t, usual == Options{Recommended(), false, 16, tables, processors, maxMem, maxWork, minKeyLen}, usual)
 	check(t, tables >= 1 && tables <= 2*processors && processors <= runtime.NumCPU(), usual)
 	check(t, large.MaxMem == 536875008 && large.MaxWork == 33556480, large)
 	for given, inside := range map[Options]int{
-		{Params{5, 3, 2, 20}, true, 1, 2, 3, 1 << 20, 1 << 16}:                                         2 * perSlot,
-		{Params{5, 3, 2, 20}, true, 64, 3, 2, 1 << 20, 1 << 16}:                                        2 * perSlot,
-		{Params{4, 8, 1, 32}, false, 16, math.MaxInt64, math.MaxInt64, math.MaxUint64, math.MaxUint64}: 4096,
+		{Params{5, 3, 2, 20}, true, 1, 2, 3, 1 << 20, 1 << 16, 20}:                                         2 * perSlot,
+		{Params{5, 3, 2, 20}, true, 64, 3, 2, 1 << 20, 1 << 16, 1}:                                         2 * perSlot,
+		{Params{4, 8, 1, 32}, false, 16, math.MaxInt64, math.MaxInt64, math.MaxUint64, math.MaxUint64, 16}: 4096,
 	} {
 		hasher := newHasher(t, given)
 		check(t, hasher.Options() == given && cap(hasher.shared.inside) == inside, given, cap(hasher.shared.inside))
 	}
 	memory, err := Params{27, 1<<30 - 1, 1, 32}.Memory()
-	check(t, memory == math.MaxUint64 && err == nil && Params{56, 1, 1 << 29, 32}.Work() == math.MaxUint64, memory, err)
+	work, errOfWork := Params{56, 1, 1 << 29, 32}.Work()
+	check(t, memory == math.MaxUint64 && work == math.MaxUint64 && err == nil && errOfWork == nil, memory, work, err, errOfWork)
+	defer runtime.GOMAXPROCS(runtime.GOMAXPROCS(1))
+	check(t, newHasher(t, Options{}).Options().Processors == 1, "GOMAXPROCS")
 }
 
 // Arguments that are rejected, and words of the errors. C's types would truncate some of these
@@ -166,6 +175,8 @@ func TestRejectedArguments(t *testing.T) {
 	made := func(options Options) error { return fault(NewHasher(options)) }
 	with := func(logN, r, p, keyLen int) error { return made(Options{Params: Params{logN, r, p, keyLen}}) }
 	key := func(n, r, p, keyLen int) error { return fault(Key(nil, nil, n, r, p, keyLen)) }
+	canceled, cancel := context.WithCancel(ctx)
+	cancel()
 	verify := func(text string, options Options) error { return newHasher(t, options).Verify(ctx, text, nil) }
 	simple := func(old, new string) error { return fault(FromSimpleScrypt(strings.Replace(stored, old, new, 1))) }
 	for i, it := range []struct {
@@ -178,6 +189,8 @@ func TestRejectedArguments(t *testing.T) {
 		{fault(closed.NeedsRehash(noHash)), nil, ""},
 		{made(Options{MaxTables: -1}), ErrInvalidOption, "MaxTables:-1"},
 		{made(Options{Processors: -1}), ErrInvalidOption, "Processors:-1"},
+		{made(Options{MinKeyLen: -1}), ErrInvalidOption, "MinKeyLen:-1"},
+		{made(Options{MinKeyLen: 33}), ErrInvalidParams, "MinKeyLen:33"},
 		{made(Options{SaltLen: -1}), ErrSaltInvalid, "SaltLen:-1"},
 		{made(Options{MaxMem: 134220799}), ErrTooCostly, "need 134220800 bytes"},
 		{made(Options{MaxWork: 4195327}), ErrTooCostly, "a work of 4195328"},
@@ -194,11 +207,20 @@ func TestRejectedArguments(t *testing.T) {
 		{verify("$scrypt$ln=4,r=8,p=1", Options{}), ErrOutputSize, "the hash has no key"},
 		{fault(hasher.NeedsRehash("$scrypt$ln=4,r=8,p=1")), nil, ""},
 		{verify(noHash[:len(noHash)-2], Options{Params: Params{KeyLen: 15}}), ErrMismatch, ""},
+		{verify(noHash[:len(noHash)-2], Options{MinKeyLen: 15}), ErrMismatch, ""},
+		{verify(noHash, Options{MinKeyLen: 17}), ErrKeyTooShort, "the minimum key length is 17"},
+		{fault(hasher.VerifyAndUpdate(ctx, "$7$", nil)), ErrEncodingInvalid, ""},
+		{fault(zero.VerifyAndUpdate(ctx, noHash, nil)), ErrClosed, ""},
 		{verify(huge, Options{MaxMem: most, MaxWork: most}), ErrOutOfMemory, ""},
 		{fault(hasher.HashWithSalt(ctx, nil, nil)), ErrSaltInvalid, ""},
 		{fault(hasher.Key(ctx, nil, nil, 0)), ErrInvalidOutputLen, ""},
-		{key(15, 8, 1, 32), ErrInvalidParams, "N must be a power of two: 15"},
-		{key(-16, 8, 1, 32), ErrInvalidParams, "N must be a power of two: -16"},
+		{key(15, 8, 1, 32), ErrInvalidParams, "N must be a power of two above 1: 15"},
+		{key(-16, 8, 1, 32), ErrInvalidParams, "N must be a power of two above 1: -16"},
+		{key(1, 8, 1, 32), ErrInvalidParams, "N must be a power of two above 1: 1"},
+		{fault(KeyContext(ctx, nil, nil, 1, 8, 1, 32, nil)), ErrInvalidParams, "a power of two above 1: 1"},
+		{fault(KeyContext(canceled, nil, nil, 15, 8, 1, 0, nil)), context.Canceled, ""},
+		{fault(Params{56, 1 << 29, 1, 32}.Memory()), ErrInvalidParams, ""},
+		{fault(Params{56, 1 << 29, 1, 32}.Work()), ErrInvalidParams, ""},
 		{key(16, 0, 1, 1<<36), ErrInvalidParams, "r and p at least 1"}, // before the key takes memory
 		{key(16, 1, 1+1<<32, 32), ErrInvalidParams, "p is 4294967297"},
 		{key(16, 8, 1, 137438953441), ErrInvalidOutputLen, "1 to 137438953440 bytes"},
@@ -209,6 +231,8 @@ func TestRejectedArguments(t *testing.T) {
 		{fault(StoredText([]byte("sea$salt"), secret[:9], 64, 8, 1)), ErrSaltInvalid, "$7$ hash must be UTF-8 without a $"},
 		{fault(StoredText(nil, secret, 14, 8, 1)), ErrInvalidParams, "N is at least 64, and 14 may be its logarithm"},
 		{simple("1024", "16"), nil, ""},
+		{simple("1024", "1"), ErrInvalidParams, "N must be above 1"},
+		{simple("f2e6", "f2e6$x"), ErrEncodingInvalid, ""},
 		{simple("1024", "+1024"), ErrEncodingInvalid, ""},
 		{simple("1024", "1024"+strings.Repeat("0", 30)), ErrEncodingInvalid, ""},
 		{simple("7365", "7!65"), ErrEncodingInvalid, ""},
@@ -342,7 +366,7 @@ func TestDoneWithoutError(t *testing.T) {
 
 // Stats counts calls that wait, derive and fail. Close ends the calls that wait.
 func TestStats(t *testing.T) {
-	hasher := newHasher(t, Options{Params{LogN: 4}, false, 0, 1, 0, math.MaxUint64, math.MaxUint64})
+	hasher := newHasher(t, Options{Params{LogN: 4}, false, 0, 1, 0, math.MaxUint64, math.MaxUint64, 0})
 	check(t, hasher.Verify(ctx, huge, nil) == ErrOutOfMemory && hasher.Verify(ctx, "$7$", nil) == ErrEncodingInvalid)
 	busy(t, hasher)
 	canceled, cancel := context.WithCancel(ctx)
