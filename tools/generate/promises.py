@@ -12,7 +12,7 @@ GENERATED = re.compile(r"(<!-- generated: (.*?)(?:: (.*?))? -->\n\n).*?(\n\n<!--
 
 # The clauses of each of the two promises.
 KEY = ["scrypt::Params::new accepted", *(f"scrypt::scrypt_counted {it}" for it in ("length", "value", "counted"))]
-VERDICT = [f"scrypt::StoredHash::{it}" for it in ("verify_with_buffers verdict", "verify_with_buffers left")]
+VERDICT = [f"scrypt::StoredHash::verify_with_buffers {it}" for it in ("verdict", "left", "counted")]
 VERDICT += ["scrypt::StoredHash::read reading"]
 
 

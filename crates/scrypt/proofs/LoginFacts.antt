@@ -1,4 +1,4 @@
-use Rattle.std.proofs.Common.{◌≡◌, ◌∙◌, ◌<◌, ◌≤◌, ◌+◌, ◌*◌, ◌^◌, ◌++◌, ℕ, List, length, take, drop, get_or, zero, suc, false, refl, sym, ap, ap₂, add-one, arith, append_assoc, length-append, Option, None, Some, Ok, Err, [], ◌∷◌, map, MatchBool, MatchOption, option_and_then, slice_set, IsTrue, sum, sum_by, mul-le-mul_right, take-suc-set}
+use Rattle.std.proofs.Common.{◌≡◌, ◌∙◌, ◌<◌, ◌≤◌, ◌+◌, ◌*◌, ◌^◌, ◌++◌, ℕ, List, length, take, drop, get_or, zero, suc, false, refl, sym, ap, ap₂, add-one, arith, append_assoc, length-append, zero-add, Option, None, Some, Ok, Err, [], ◌∷◌, map, MatchBool, MatchOption, option_and_then, slice_set, IsTrue, sum, sum_by, mul-le-mul_right, take-suc-set}
 use Rattle.std.proofs.Math.ListN.{get_or-map}
 use Rattle.std.specs.Prelude.{All, IsOk, Result}
 use Rattle.std.proofs.lemmas.List.Elements.{All-head, All-tail}
@@ -13,10 +13,10 @@ use Rattle.scrypt_kernel.proofs.CountFacts.{hashed_both}
 use Rattle.scrypt_kernel.proofs.Pbkdf2Facts.{length-pbkdf2}
 use Rattle.password_hash.specs.Refusal.{Refusal}
 use Rattle.scrypt.specs.Accepted.{Parameters}
-use Rattle.scrypt.specs.Cost.{AreHashed, chunks_bytes}
+use Rattle.scrypt.specs.Cost.{AreHashed, chunks_bytes, cost, ro_mix_cost}
 use Rattle.scrypt.specs.Key.{mixed_chunks}
 use Rattle.scrypt.specs.Limits.{SufficeFor}
-use Rattle.scrypt.specs.Logins.{Attempt, AreLeft, IsAlone, all_cost, all_of, attempt_of, attempts, chunks_cost, compare_cost, count_of, hashed_on, own_cost, reading_of, shared, verdict_on, with_more}
+use Rattle.scrypt.specs.Logins.{Attempt, AreLeft, IsAlone, all_cost, all_of, attempt_of, attempts, chunks_cost, compare_cost, cores_on, count_of, hashed_on, own_cost, reading_of, shared, verdict_on, verify_cores, with_more}
 use Rattle.scrypt.specs.Reading.{◌and_then◌, Stored, chunks_of, mixed_of, verdict, verify_cost}
 use Rattle.scrypt.specs.StoredHash.{reading}
 use Rattle.scrypt.specs.WithinLimits.{with_limited_refusal, within}
@@ -97,17 +97,34 @@ each_fits f g c ((password, Ok s) ∷ rest) n w read unread counted room =
 each_fits f g c ((password, Err why) ∷ rest) n w read unread counted room =
     ap₂ (λ out outs. out ∷ outs) (unread password why) (each_fits f g c rest n w read unread counted room)
 
+sum_cost : (x p m n : ℕ) → p + m ≡ n → x * p + x * m ≡ x * n
+sum_cost x p m n sum = rw (← sum) (omega arith)
+
 sums_alike : (f g : Attempt → ℕ) (these : List Attempt) → map f these ≡ map g these → sum_by f these ≡ sum_by g these
 sums_alike f g these same = sym (sum-map f these) ∙ ap sum same ∙ sum-map g these
 
--- so each verdict is that of its password alone, and SHA-256 compresses as many blocks
+-- so each verdict is that of its password alone, and the work is the same
 pub alone : (c : Parameters) (these : List Attempt) (n : ℕ) (w : Workspace) → count_of c these ≡ Some n
     → IsTrue (are_enough (record c { p = n }) w.chunks w.table w.scratch)
-    → (map (λ (a : Attempt). verdict a.0 a.1) these ≡ map (verdict_on w) these) × (all_cost verify_cost these ≡ sum_by (hashed_on w) these)
+    → (map (λ (a : Attempt). verdict a.0 a.1) these ≡ map (verdict_on w) these)
+    × (all_cost verify_cores these ≡ sum_by (cores_on w) these) × (all_cost verify_cost these ≡ sum_by (hashed_on w) these)
 alone c these n w counted room = (
   each_fits _ _ c these n w (λ password s own. rw own refl) (λ password why. refl) counted room,
   sums_alike _ _ these (each_fits _ _ c these n w (λ password s own. rw own refl) (λ password why. refl) counted room),
+  sums_alike _ _ these (each_fits _ _ c these n w (λ password s own. rw own refl) (λ password why. refl) counted room),
 )
+
+-- the cores of one derivation of all chunks
+pub cores_of_all : (c : Parameters) (these : List Attempt) (n : ℕ) → count_of c these ≡ Some n → cost c.log_n c.r n ≡ all_cost verify_cores these
+cores_of_all c [] n counted = let none : 0 ≡ n = cc in rw (← none) (omega arith)
+cores_of_all c ((password, Ok s) ∷ rest) n counted =
+    let more = are_more c s.params (count_of c rest) n counted in
+    let own : cost s.params.log_n s.params.r s.params.p ≡ cost c.log_n c.r s.params.p = rw (more.log_n, more.r) refl in
+    sym (sum_cost (ro_mix_cost c.log_n c.r) s.params.p more.count n more.sum)
+    ∙ ap₂ (λ x y. x + y) (sym own) (cores_of_all c rest more.count more.counted)
+    ∙ sym (sum_by-cons (own_cost verify_cores) (password, Ok s) rest)
+cores_of_all c ((password, Err why) ∷ rest) n counted =
+    cores_of_all c rest n counted ∙ sym (sum_by-cons (own_cost verify_cores) (password, Err why) rest ∙ zero-add _)
 
 -- buffers of the same lengths
 pub record AreAsLong (w v : Workspace) : Type 0 where
@@ -119,6 +136,11 @@ pub same_verdict : (w v : Workspace) → AreAsLong w v → (a : Attempt) → ver
 unfolding are_enough
 same_verdict w v long (password, Ok s) = rw (long.chunks, long.table, long.scratch) refl
 same_verdict w v long (password, Err why) = refl
+
+pub same_cores : (w v : Workspace) → AreAsLong w v → (a : Attempt) → cores_on w a ≡ cores_on v a
+unfolding are_enough
+same_cores w v long (password, Ok s) = rw (long.chunks, long.table, long.scratch) refl
+same_cores w v long (password, Err why) = refl
 
 pub same_hashed : (w v : Workspace) → AreAsLong w v → (a : Attempt) → hashed_on w a ≡ hashed_on v a
 unfolding are_enough
@@ -132,8 +154,12 @@ each_alike f g same (a ∷ rest) = ap₂ (λ out outs. out ∷ outs) (same a) (e
 pub same_verdicts : (w v : Workspace) → AreAsLong w v → (these : List Attempt) → map (verdict_on w) these ≡ map (verdict_on v) these
 same_verdicts w v long these = each_alike _ _ (same_verdict w v long) these
 
-pub same_costs : (w v : Workspace) → AreAsLong w v → (these : List Attempt) → sum_by (hashed_on w) these ≡ sum_by (hashed_on v) these
-same_costs w v long these = sums_alike _ _ these (each_alike _ _ (same_hashed w v long) these)
+pub same_costs : {f g : Attempt → ℕ} → ((a : Attempt) → f a ≡ g a) → (these : List Attempt) → sum_by f these ≡ sum_by g these
+same_costs same these = sums_alike _ _ these (each_alike _ _ same these)
+
+-- the work of one, and then that of the others
+pub sum_more : (f : Attempt → ℕ) {these others : List Attempt} {a : Attempt} (n : ℕ) → these ≡ a ∷ others → n ≡ f a → n + sum_by f others ≡ sum_by f these
+sum_more f {these} {others} {a} n is same = ap (λ n. n + sum_by f others) same ∙ sym (ap (sum_by f) is ∙ sum_by-cons f a others)
 
 -- In buffers that suffice for limits, and with hashes within them or errors, each verdict is that
 -- of its password, and never `OutOfMemory`.

@@ -1,5 +1,5 @@
 -- The key of parameters, its cost, and the lengths that a `Kdf` rejects.
-use Rattle.std.specs.Prelude.{◌≡◌, ℕ, ◌+◌, List, IsTrue, length}
+use Rattle.std.specs.Prelude.{◌≡◌, ℕ, List, IsTrue, length}
 use Rattle.password_hash.specs.declared.kdf.Error.{Error}
 use Rattle.password_hash.specs.declared.kdf.Error.TheVariants.{OutOfMemory, Refused}
 use Rattle.scrypt.specs.Accepted.{is_output_len, Parameters}
@@ -19,8 +19,7 @@ cost_by c = cost c.log_n c.r c.p
 -- blocks that SHA-256 compresses in this derivation.
 pub record IsDerived (c : Parameters) (password salt : List ℕ) (cores : ℕ) (old new : List ℕ) (before after : CoreCount) : Type 0 where
   pub value : new ≡ key_by c password salt (length old)
-  pub counted : AreCounted cores before after
-  pub hashed : after.compressions ≡ before.compressions + hash_cost (length password) (length salt) c.r c.p (length old)
+  pub counted : AreCounted cores (hash_cost (length password) (length salt) c.r c.p (length old)) before after
 
 -- the errors of deriving a key of n bytes: the length is rejected exactly if no output can have it
 abbrev pub KeyIsRefused : ℕ → Error → Type 0

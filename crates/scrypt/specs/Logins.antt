@@ -4,9 +4,10 @@ use Rattle.password_hash.specs.Refusal.{Refusal}
 use Rattle.scrypt.specs.Accepted.{Parameters}
 use Rattle.scrypt.specs.Reading.{◌and_then◌, Stored}
 use Rattle.scrypt.specs.Cost.{chunks_bytes, pbkdf2_cost}
+use Rattle.scrypt.specs.KeyOfParams.{cost_by}
 use Rattle.scrypt.specs.StoredHash.{reading}
 use Rattle.scrypt.specs.WithinLimits.{with_limited_refusal}
-use Rattle.scrypt.specs.Workspace.{IsDone, IsLeft, Workspace, are_enough, hashed_in, verdict_in}
+use Rattle.scrypt.specs.Workspace.{IsDone, IsLeft, Workspace, are_enough, cores_in, hashed_in, verdict_in}
 use Rattle.scrypt.specs.declared.logins.Login.{Login}
 
 -- a password, and the reading of the hash that it is verified against
@@ -28,6 +29,10 @@ attempts = map attempt_of
 -- the verdict of verifying one attempt separately in this workspace
 abbrev pub verdict_on : Workspace → Attempt → Result ⊤ Refusal
 verdict_on w a = verdict_in w a.0 a.1
+
+-- the cores of verifying one attempt separately in this workspace
+abbrev pub cores_on : Workspace → Attempt → ℕ
+cores_on w a = cores_in w a.1
 
 -- the blocks that SHA-256 compresses when one attempt is verified separately in this workspace
 abbrev pub hashed_on : Workspace → Attempt → ℕ
@@ -63,6 +68,10 @@ own f (password, Err why) = []
 -- f of each attempt, concatenated
 abbrev pub all_of : (List ℕ → Stored → List ℕ) → List Attempt → List ℕ
 all_of f = flat_map (own f)
+
+-- the cores of the derivation
+abbrev pub verify_cores : List ℕ → Stored → ℕ
+verify_cores password s = cost_by s.params
 
 -- the blocks that SHA-256 compresses in step 1 of the derivation
 abbrev pub chunks_cost : List ℕ → Stored → ℕ

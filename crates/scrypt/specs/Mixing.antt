@@ -1,7 +1,7 @@
 -- Private: the groups of chunks of B that are interleaved, and the memory for them.
 use Rattle.std.specs.Prelude.{◌≡◌, Bool, ℕ, ◌+◌, ◌-◌, ◌*◌, ◌<◌, ◌≤◌, ◌&&◌, nat_eq, nat_lt, min, if◌then◌else◌, List, length, replicate, take}
 use Rattle.scrypt.specs.Accepted.{Parameters}
-use Rattle.scrypt.specs.Cost.{AreCounted, chunks_bytes, cost, scratch_words, table_words, thin_scratch_words}
+use Rattle.scrypt.specs.Cost.{chunks_bytes, scratch_words, table_words, thin_scratch_words}
 use Rattle.scrypt.specs.Workspace.{IsRestKept, Workspace, interleaved_chunks}
 use Rattle.scrypt.specs.declared.buffers.ActiveBuffers.{ActiveBuffers}
 
@@ -54,18 +54,14 @@ pub record IsKept {M : Type 0} (room_of : M → ℕ) (before after : ActiveBuffe
   pub room : room_of before.rows.now ≤ room_of after.rows.now
   pub scratch_len : length after.scratch.now ≡ length before.scratch.now
 
--- a derivation with these parameters was counted, and the chunks and the scratch are zeros
-pub record IsSpent {M : Type 0} (room_of : M → ℕ) (c : Parameters) (before after : ActiveBuffers M) : Type 0 where
+-- the chunks and the scratch are zeros
+pub record IsSpent {M : Type 0} (room_of : M → ℕ) (before after : ActiveBuffers M) : Type 0 where
   pub kept : IsKept room_of before after
-  pub counted : AreCounted (cost c.log_n c.r c.p) before.cores.now after.cores.now
   pub chunks : after.chunks.now ≡ replicate (length before.chunks.now) 0
   pub scratch : after.scratch.now ≡ replicate (length before.scratch.now) 0
 
 -- A derivation with these parameters turned `used`, the front of the buffers, into `left`. The
--- count went from the count of `used` to the count of `left`, the front of the chunks now holds the
--- chunks of `left`, and each buffer is unchanged after its front.
+-- front of the chunks now holds the chunks of `left`, and each buffer is unchanged after its front.
 pub record IsAtFront {M : Type 0} (c : Parameters) (used left : ActiveBuffers M) (before after : Workspace) : Type 0 where
-  pub counted_from : used.cores.now ≡ before.cores
-  pub counted_to : after.cores ≡ left.cores.now
   pub chunks : take (chunks_bytes c.r c.p) after.chunks ≡ left.chunks.now
   pub rest : IsRestKept c before after

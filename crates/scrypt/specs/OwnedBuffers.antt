@@ -4,13 +4,13 @@ use Rattle.scrypt.specs.Accepted.{Parameters}
 use Rattle.scrypt.specs.Cost.{chunks_bytes, scratch_words, table_words}
 use Rattle.scrypt.specs.InBuffers.{are_enough}
 use Rattle.scrypt.specs.Stepping.{CanGoOn, IsUnderWay}
-use Rattle.scrypt.specs.Workspace.{Workspace, buffers}
+use Rattle.scrypt.specs.Workspace.{Workspace, workspace_of}
 use Rattle.scrypt.specs.declared.buffers.owned.Buffers.{Buffers}
 use Rattle.scrypt.specs.declared.stepping.Progress.{Progress}
 
--- these buffers, in a call that counts from 0 and discards its count
+-- these buffers as a workspace
 abbrev pub workspace_in : Buffers → Workspace
-workspace_in own = buffers own.chunks.items own.table.items own.scratch.items
+workspace_in own = workspace_of own.chunks.items own.table.items own.scratch.items
 
 -- whether these buffers are at least as long as a derivation with these parameters needs
 abbrev pub are_long_enough : Parameters → Buffers → Bool

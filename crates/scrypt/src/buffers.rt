@@ -227,19 +227,18 @@ pub(crate) fn with_prefix<V, T, F: FnOnce(&mut ActiveBuffers<'_, Buffer<'_>>, &m
     ensures made { IfSome result (λ made. (used : _) × (shown : _) × (after : _) × (left : _)
         × IsReady buffer_room params.now.log_n 0 params.now.r count used.now
         × IsAtFront (record params.now { p = count }) used.now after.now
-        (workspace_of chunks.old table.old scratch.old cores.old)
-        (workspace_of chunks.new table.new scratch.new cores.new) × (shown.now ≡ output.old)
+        (workspace_of chunks.old table.old scratch.old) (workspace_of chunks.new table.new scratch.new)
+        × (used.now.cores.now ≡ cores.old) × (after.now.cores.now ≡ cores.new) × (shown.now ≡ output.old)
         × (left.now ≡ output.new) × F.post derive used shown made after left) }
     ensures done { ((used : _) (shown : _) (made : T) (after : _) (left : _)
         → IsReady buffer_room params.now.log_n 0 params.now.r count used.now
         → F.post derive used shown made after left
-        → IsSpent buffer_room (record params.now { p = count }) used.now after.now) → IsSome result → IsDone
-        (record params.now { p = count }) (workspace_of chunks.old table.old scratch.old cores.old)
-        (workspace_of chunks.new table.new scratch.new cores.new) }
+        → IsSpent buffer_room used.now after.now) → IsSome result → IsDone
+        (record params.now { p = count }) (workspace_of chunks.old table.old scratch.old)
+        (workspace_of chunks.new table.new scratch.new) }
     ensures unchanged { result ≡ None
-        → (output.new ≡ output.old)
-        × (workspace_of chunks.new table.new scratch.new cores.new
-        ≡ workspace_of chunks.old table.old scratch.old cores.old) }
+        → (output.new ≡ output.old) × (cores.new ≡ cores.old)
+        × (workspace_of chunks.new table.new scratch.new ≡ workspace_of chunks.old table.old scratch.old) }
 {
     let width = width_in(params, count, chunks, table, scratch)?;
     params.expose_invariant();

@@ -71,9 +71,9 @@ pub fn scrypt_counted(
     ensures length { IsErrOf result BadLength ↔ ¬ IsTrue (is_output_len (length output.old)) }
     ensures value { OnOk result (output.new
         ≡ derived_key password.now salt.now params.now.log_n params.now.r params.now.p (length output.old)) }
-    ensures counted { OnOk result (AreCounted (cost params.now.log_n params.now.r params.now.p) cores.old cores.new) }
-    ensures hashed { OnOk result (cores.new.compressions ≡ cores.old.compressions
-        + hash_cost (length password.now) (length salt.now) params.now.r params.now.p (length output.old)) }
+    ensures counted { OnOk result (AreCounted (cost params.now.log_n params.now.r params.now.p)
+        (hash_cost (length password.now) (length salt.now) params.now.r params.now.p (length output.old))
+        cores.old cores.new) }
     ensures refused { OnErr result (output.new ≡ output.old) }
     ensures uncounted { OnErr result (cores.new ≡ cores.old) }
 {
@@ -144,8 +144,9 @@ pub fn scrypt_with_buffers(
     ensures mixed { OnOk result
         (chunks.new ≡ mixed_b password.now salt.now params.now.log_n params.now.r params.now.p) }
     ensures refused { OnErr result (output.new ≡ output.old) }
-    ensures unchanged { OnErr result (workspace_of chunks.new table.new scratch.new cores.new
-        ≡ workspace_of chunks.old table.old scratch.old cores.old) }
+    ensures unchanged { OnErr result (workspace_of chunks.new table.new scratch.new
+        ≡ workspace_of chunks.old table.old scratch.old) }
+    ensures uncounted { OnErr result (cores.new ≡ cores.old) }
 {
     if !output_len_ok(output.len()) {
         return Err(InvalidOutputLen);
@@ -184,11 +185,12 @@ pub fn scrypt_in_prefix<W: Backend>(
     ensures mixed { OnOk result (take (chunks_bytes params.now.r params.now.p) chunks.new
         ≡ mixed_b password.now salt.now params.now.log_n params.now.r params.now.p) }
     ensures rest { OnOk result
-        (IsRestKept params.now (workspace_of chunks.old table.old scratch.old cores.old)
-        (workspace_of chunks.new table.new scratch.new cores.new)) }
+        (IsRestKept params.now (workspace_of chunks.old table.old scratch.old)
+        (workspace_of chunks.new table.new scratch.new)) }
     ensures refused { OnErr result (output.new ≡ output.old) }
-    ensures unchanged { OnErr result (workspace_of chunks.new table.new scratch.new cores.new
-        ≡ workspace_of chunks.old table.old scratch.old cores.old) }
+    ensures unchanged { OnErr result (workspace_of chunks.new table.new scratch.new
+        ≡ workspace_of chunks.old table.old scratch.old) }
+    ensures uncounted { OnErr result (cores.new ≡ cores.old) }
 {
     if !output_len_ok(output.len()) {
         return Err(DeriveError::InvalidOutputLen);
@@ -238,8 +240,9 @@ pub fn scrypt_thin(
     ensures mixed { OnOk result
         (chunks.new ≡ mixed_b password.now salt.now params.now.log_n params.now.r params.now.p) }
     ensures refused { OnErr result (output.new ≡ output.old) }
-    ensures unchanged { OnErr result (workspace_of chunks.new table.new scratch.new cores.new
-        ≡ workspace_of chunks.old table.old scratch.old cores.old) }
+    ensures unchanged { OnErr result (workspace_of chunks.new table.new scratch.new
+        ≡ workspace_of chunks.old table.old scratch.old) }
+    ensures uncounted { OnErr result (cores.new ≡ cores.old) }
 {
     scrypt_thin_with_backend::<Simd>(
         password, salt, params, s, chunks, table, scratch, output, cores,
@@ -270,8 +273,9 @@ pub fn scrypt_thin_with_backend<W: Backend>(
     ensures mixed { OnOk result
         (chunks.new ≡ mixed_b password.now salt.now params.now.log_n params.now.r params.now.p) }
     ensures refused { OnErr result (output.new ≡ output.old) }
-    ensures unchanged { OnErr result (workspace_of chunks.new table.new scratch.new cores.new
-        ≡ workspace_of chunks.old table.old scratch.old cores.old) }
+    ensures unchanged { OnErr result (workspace_of chunks.new table.new scratch.new
+        ≡ workspace_of chunks.old table.old scratch.old) }
+    ensures uncounted { OnErr result (cores.new ≡ cores.old) }
 {
     if !output_len_ok(output.len()) {
         return Err(InvalidOutputLen);
@@ -300,7 +304,9 @@ pub(crate) fn derive_in<M: TableMemory, W: Backend>(
         (thin_cost password.now salt.now params.now.log_n params.now.r params.now.p s)
         output.old output.new used.old.cores.now used.new.cores.now }
     ensures mixed { used.new.chunks.now ≡ mixed_b password.now salt.now params.now.log_n params.now.r params.now.p }
-    ensures whole { s ≡ 0 → AreCounted (cost_by params.now) used.old.cores.now used.new.cores.now }
+    ensures whole { s ≡ 0 → AreCounted (cost_by params.now)
+        (hash_cost (length password.now) (length salt.now) params.now.r params.now.p (length output.old))
+        used.old.cores.now used.new.cores.now }
 {
     derive_chunks(password, salt, params, used.chunks, used.cores);
     mix_all::<M, W>(params, s, params.p() as usize, used);

@@ -1,9 +1,9 @@
 // Hashing, in every format, with any source of memory.
 
-ghost use Rattle.std.specs.Prelude.{◌≡◌, ◌↔◌, ◌+◌, None, length, IfErr, IfOk, IsTrue, OnOk, option_map};
-ghost use Rattle.scrypt.specs.Cost.{hash_cost};
+ghost use Rattle.std.specs.Prelude.{◌≡◌, ◌↔◌, None, length, IfErr, IfOk, IsTrue, OnOk, option_map};
+ghost use Rattle.scrypt.specs.Cost.{AreCounted, hash_cost};
 ghost use Rattle.scrypt.specs.Hashing.{IsCallRefused, IsNamedOrNone, key_len_or_default};
-ghost use Rattle.scrypt.specs.KeyOfParams.{key_by};
+ghost use Rattle.scrypt.specs.KeyOfParams.{cost_by, key_by};
 ghost use Rattle.scrypt.specs.Mixing.{IsReady, IsSpent};
 ghost use Rattle.password_hash.specs.declared.error.Error.TheVariants.{OutOfMemory};
 
@@ -74,9 +74,10 @@ pub(crate) fn stored_key<M: TableMemory, W: Backend>(
 ) -> Output
     requires ready { IsReady M.room params.now.log_n 0 params.now.r params.now.p used.old }
     ensures value { result ≡ key_by params.now password.now salt.now (key_len_or_default params.now) }
-    ensures spent { IsSpent M.room params.now used.old used.new }
-    ensures hashed { used.new.cores.now.compressions ≡ used.old.cores.now.compressions
-        + hash_cost (length password.now) (length salt.now) params.now.r params.now.p (key_len_or_default params.now) }
+    ensures spent { IsSpent M.room used.old used.new }
+    ensures counted { AreCounted (cost_by params.now)
+        (hash_cost (length password.now) (length salt.now) params.now.r params.now.p (key_len_or_default params.now))
+        used.old.cores.now used.new.cores.now }
 {
     let mut places = [0u8; Output::MAX_LENGTH];
     let key = &mut places[..params.key_len_or_default()];

@@ -1,13 +1,13 @@
 // Verifying several passwords in one workspace, in one batch if possible.
 
 ghost use Rattle.std.specs.Prelude.{◌≡◌, ◌∷◌, List, ◌+◌, ◌*◌, ◌<◌, length, map, IfSome, IsTrue, None, Some, true, false, sum_by};
-ghost use Rattle.scrypt.specs.Logins.{AreLeft, Attempt, IsAlone, all_cost, all_of, attempt_of, attempts, chunks_cost, compare_cost, count_of, hashed_on, own, own_cost, params_of, reading_of, shared, verdict_on};
+ghost use Rattle.scrypt.specs.Logins.{AreLeft, Attempt, IsAlone, all_cost, all_of, attempt_of, attempts, chunks_cost, compare_cost, cores_on, count_of, hashed_on, own, own_cost, params_of, reading_of, shared, verdict_on, verify_cores};
 ghost use Rattle.scrypt.specs.Mixing.{IsReady, IsSpent};
 ghost use Rattle.scrypt.specs.Reading.{chunks_of, mapped, mixed_of, verdict, verify_cost, with_refusal};
 ghost use Rattle.scrypt.specs.StoredParts.{stored};
 ghost use Rattle.scrypt.specs.WithinLimits.{with_limited_refusal};
 ghost use Rattle.scrypt.specs.Workspace.{IsLeft, workspace_of};
-ghost use Rattle.scrypt_kernel.specs.Count.{AreHashed};
+ghost use Rattle.scrypt_kernel.specs.Count.{AreCounted, AreHashed};
 ghost use Rattle.scrypt_kernel.specs.Memory.{buffer_room};
 
 use crate::buffers::{ActiveBuffers, with_prefix};
@@ -124,11 +124,11 @@ impl<'p, 't> Login<'p, 't> {
         cores: &mut CoreCount,
     ) -> Result<(), LimitedError>
         ensures verdict { with_limited_refusal result
-            ≡ verdict_on (workspace_of chunks.old table.old scratch.old cores.old) (attempt_of self.now) }
-        ensures left { IsLeft (reading_of self.now) (workspace_of chunks.old table.old scratch.old cores.old)
-            (workspace_of chunks.new table.new scratch.new cores.new) }
-        ensures hashed { cores.new.compressions ≡ cores.old.compressions
-            + hashed_on (workspace_of chunks.old table.old scratch.old cores.old) (attempt_of self.now) }
+            ≡ verdict_on (workspace_of chunks.old table.old scratch.old) (attempt_of self.now) }
+        ensures left { IsLeft (reading_of self.now) (workspace_of chunks.old table.old scratch.old)
+            (workspace_of chunks.new table.new scratch.new) }
+        ensures counted { AreCounted (cores_on (workspace_of chunks.old table.old scratch.old) (attempt_of self.now))
+            (hashed_on (workspace_of chunks.old table.old scratch.old) (attempt_of self.now)) cores.old cores.new }
     {
         match self.parts() {
             Ok(parts) => {
@@ -162,11 +162,11 @@ pub fn verify_logins<W: Backend>(
 )
     requires len { length verdicts.old ≡ length logins.now }
     ensures verdicts { map with_limited_refusal verdicts.new
-        ≡ map (verdict_on (workspace_of chunks.old table.old scratch.old cores.old)) (attempts logins.now) }
-    ensures left { AreLeft (attempts logins.now) (workspace_of chunks.old table.old scratch.old cores.old)
-        (workspace_of chunks.new table.new scratch.new cores.new) }
-    ensures hashed { cores.new.compressions ≡ cores.old.compressions
-        + sum_by (hashed_on (workspace_of chunks.old table.old scratch.old cores.old)) (attempts logins.now) }
+        ≡ map (verdict_on (workspace_of chunks.old table.old scratch.old)) (attempts logins.now) }
+    ensures left { AreLeft (attempts logins.now) (workspace_of chunks.old table.old scratch.old)
+        (workspace_of chunks.new table.new scratch.new) }
+    ensures counted { AreCounted (sum_by (cores_on (workspace_of chunks.old table.old scratch.old)) (attempts logins.now))
+        (sum_by (hashed_on (workspace_of chunks.old table.old scratch.old)) (attempts logins.now)) cores.old cores.new }
 {
     for i in 0..logins.len() {
         let (_, rest) = logins.split_at(i);
@@ -189,14 +189,13 @@ fn verified_in_batch<W: Backend>(
 ) -> bool
     requires len { length verdicts.old ≡ length logins.now }
     ensures verdicts { IsTrue result → map with_limited_refusal verdicts.new
-        ≡ map (verdict_on (workspace_of chunks.old table.old scratch.old cores.old)) (attempts logins.now) }
-    ensures left { IsTrue result
-        → AreLeft (attempts logins.now) (workspace_of chunks.old table.old scratch.old cores.old)
-        (workspace_of chunks.new table.new scratch.new cores.new) }
-    ensures hashed { IsTrue result → cores.new.compressions ≡ cores.old.compressions
-        + sum_by (hashed_on (workspace_of chunks.old table.old scratch.old cores.old)) (attempts logins.now) }
-    ensures alone { result ≡ false
-        → IsAlone (attempts logins.now) (workspace_of chunks.old table.old scratch.old cores.old) }
+        ≡ map (verdict_on (workspace_of chunks.old table.old scratch.old)) (attempts logins.now) }
+    ensures left { IsTrue result → AreLeft (attempts logins.now) (workspace_of chunks.old table.old scratch.old)
+        (workspace_of chunks.new table.new scratch.new) }
+    ensures counted { IsTrue result
+        → AreCounted (sum_by (cores_on (workspace_of chunks.old table.old scratch.old)) (attempts logins.now))
+        (sum_by (hashed_on (workspace_of chunks.old table.old scratch.old)) (attempts logins.now)) cores.old cores.new }
+    ensures alone { result ≡ false → IsAlone (attempts logins.now) (workspace_of chunks.old table.old scratch.old) }
     ensures kept { result ≡ false → verdicts.new ≡ verdicts.old }
     ensures unchanged { result ≡ false
         → (chunks.new ≡ chunks.old) × (table.new ≡ table.old) × (scratch.new ≡ scratch.old)
@@ -256,9 +255,9 @@ fn verify_in_batch<W: Backend>(
     requires count { count_of params.now (attempts logins.now) ≡ Some count }
     requires ready { IsReady buffer_room params.now.log_n 0 params.now.r count used.old }
     ensures verdicts { map with_limited_refusal verdicts.new ≡ map (λ a. verdict a.0 a.1) (attempts logins.now) }
-    ensures spent { IsSpent buffer_room (record params.now { p = count }) used.old used.new }
-    ensures hashed { used.new.cores.now.compressions
-        ≡ used.old.cores.now.compressions + all_cost verify_cost (attempts logins.now) }
+    ensures spent { IsSpent buffer_room used.old used.new }
+    ensures counted { AreCounted (all_cost verify_cores (attempts logins.now)) (all_cost verify_cost (attempts logins.now))
+        used.old.cores.now used.new.cores.now }
 {
     params.expose_invariant();
     derive_all_chunks(logins, used.chunks, used.cores);

@@ -220,8 +220,8 @@ pub fn scrypt_in_steps<W: Backend, F: FnMut(u128) -> bool>(
     ensures cancelled { IsErrOf result Cancelled
         → (state : F) × (done : ℕ) × (left : F) × F.step state done false left }
     ensures refused { OnErr result (output.new ≡ output.old) }
-    ensures unchanged { IsErrOf result BadLength → workspace_of chunks.new table.new scratch.new cores.new
-        ≡ workspace_of chunks.old table.old scratch.old cores.old }
+    ensures unchanged { IsErrOf result BadLength → (cores.new ≡ cores.old)
+        × (workspace_of chunks.new table.new scratch.new ≡ workspace_of chunks.old table.old scratch.old) }
 {
     if !output_len_ok(output.len()) {
         return Err(StepsError::InvalidOutputLen);

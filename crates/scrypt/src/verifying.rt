@@ -1,13 +1,14 @@
 // Verifying, in every format, with any source of memory.
 
-ghost use Rattle.std.specs.Prelude.{◌≡◌, ◌+◌, if◌then◌else◌, Err, IsErrOf, Ok};
+ghost use Rattle.std.specs.Prelude.{◌≡◌, if◌then◌else◌, Err, IsErrOf, Ok};
 ghost use Rattle.password_hash.specs.Refusal.{PasswordInvalid};
 ghost use Rattle.password_hash.specs.declared.error.Error.TheVariants.{OutOfMemory};
-ghost use Rattle.scrypt.specs.Cost.{AreCounted, cost};
+ghost use Rattle.scrypt.specs.Cost.{AreCounted};
+ghost use Rattle.scrypt.specs.KeyOfParams.{cost_by};
 ghost use Rattle.scrypt.specs.Mixing.{IsReady, IsSpent};
 ghost use Rattle.scrypt.specs.Reading.{IsVerdict, is_right, verify_cost, with_refusal};
 ghost use Rattle.scrypt.specs.StoredParts.{stored};
-ghost use Rattle.scrypt.specs.Workspace.{IsLeft, hashed_in, verdict_in, workspace_of};
+ghost use Rattle.scrypt.specs.Workspace.{IsLeft, cores_in, hashed_in, verdict_in, workspace_of};
 
 use crate::buffers::{ActiveBuffers, OwnBuffers, with_prefix};
 use crate::comparing::is_derived_key;
@@ -40,9 +41,9 @@ fn is_key_of<M: TableMemory, W: Backend>(
 ) -> bool
     requires ready { IsReady M.room parts.now.params.log_n 0 parts.now.params.r parts.now.params.p used.old }
     ensures exact { result ≡ is_right password.now (stored parts.now) }
-    ensures spent { IsSpent M.room parts.now.params used.old used.new }
-    ensures hashed { used.new.cores.now.compressions
-        ≡ used.old.cores.now.compressions + verify_cost password.now (stored parts.now) }
+    ensures spent { IsSpent M.room used.old used.new }
+    ensures counted { AreCounted (cost_by parts.now.params) (verify_cost password.now (stored parts.now))
+        used.old.cores.now used.new.cores.now }
 {
     let params = &parts.params;
     let salt = parts.salt.as_bytes();
@@ -70,9 +71,7 @@ pub(crate) fn verify_allocating<W: Backend>(
     ensures verdict { IsVerdict password.now (Ok (stored parts.now)) (with_refusal result) }
     ensures memory { IsErrOf result OutOfMemory → cores.new ≡ cores.old }
     ensures counted { (¬ IsErrOf result OutOfMemory)
-        → AreCounted (cost parts.now.params.log_n parts.now.params.r parts.now.params.p) cores.old cores.new }
-    ensures hashed { (¬ IsErrOf result OutOfMemory)
-        → cores.new.compressions ≡ cores.old.compressions + verify_cost password.now (stored parts.now) }
+        → AreCounted (cost_by parts.now.params) (verify_cost password.now (stored parts.now)) cores.old cores.new }
 {
     // A limit of 0 bytes selects one table.
     let (w, mut own) = OwnBuffers::allocate_within(alloc, &parts.params, 0)?;
@@ -93,12 +92,13 @@ pub(crate) fn verify_in_buffers<W: Backend>(
     scratch: &mut [u32],
     cores: &mut CoreCount,
 ) -> Result<()>
-    ensures left { IsLeft (Ok (stored parts.now)) (workspace_of chunks.old table.old scratch.old cores.old)
-        (workspace_of chunks.new table.new scratch.new cores.new) }
+    ensures left { IsLeft (Ok (stored parts.now)) (workspace_of chunks.old table.old scratch.old)
+        (workspace_of chunks.new table.new scratch.new) }
     ensures verdict { with_refusal result
-        ≡ verdict_in (workspace_of chunks.old table.old scratch.old cores.old) password.now (Ok (stored parts.now)) }
-    ensures hashed { cores.new.compressions ≡ cores.old.compressions
-        + hashed_in (workspace_of chunks.old table.old scratch.old cores.old) password.now (Ok (stored parts.now)) }
+        ≡ verdict_in (workspace_of chunks.old table.old scratch.old) password.now (Ok (stored parts.now)) }
+    ensures counted { AreCounted (cores_in (workspace_of chunks.old table.old scratch.old) (Ok (stored parts.now)))
+        (hashed_in (workspace_of chunks.old table.old scratch.old) password.now (Ok (stored parts.now)))
+        cores.old cores.new }
 {
     let params = &parts.params;
     params.expose_invariant();

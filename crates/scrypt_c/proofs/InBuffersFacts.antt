@@ -8,20 +8,15 @@ use Rattle.password_hash.specs.Refusal.{Refusal}
 use Rattle.scrypt.specs.Cost.{chunks_bytes, scratch_words, table_words}
 use Rattle.scrypt.specs.InBuffers.{are_enough}
 use Rattle.scrypt.specs.Logins.{Attempt, verdict_on}
-use Rattle.scrypt.specs.Workspace.{Workspace, buffers}
+use Rattle.scrypt.specs.Workspace.{Workspace}
 use Rattle.scrypt_c.specs.Buffers.{AreBuffers}
 use Rattle.scrypt_c.specs.Limits.{params_of}
 use Rattle.scrypt_c.specs.Statuses.{IsKeyStatus, buffers_status}
 
--- a call counts from 0
-pub from_zero : (w : Workspace) → (w.cores.all ≡ 0) × (w.cores.lanes ≡ 0) × (w.cores.compressions ≡ 0) → w ≡ buffers w.chunks w.table w.scratch
-from_zero w zero = λ i. record w { cores = record { seal = tt; all = zero.0 i; lanes = zero.1 i; compressions = zero.2 i } }
-
 -- the status of one of a group, as an array keeps it
-pub kept_status : {out : Result ⊤ Refusal} (status : ℤ) (w w' : Workspace) (a b : Attempt) → w ≡ w' → a ≡ b → SFits w32 status
-    → status ≡ buffers_status out → out ≡ verdict_on w a → to_z w32 (of_z w32 status) ≡ buffers_status (verdict_on w' b)
-kept_status {out} status w w' a b work same fits is verdict =
-    to_z-of_z w32 status fits ∙ is ∙ ap buffers_status (rw (← work, ← same) verdict)
+pub kept_status : {out : Result ⊤ Refusal} (status : ℤ) (w : Workspace) (a b : Attempt) → a ≡ b → SFits w32 status
+    → status ≡ buffers_status out → out ≡ verdict_on w a → to_z w32 (of_z w32 status) ≡ buffers_status (verdict_on w b)
+kept_status {out} status w a b same fits is verdict = to_z-of_z w32 status fits ∙ is ∙ ap buffers_status (rw (← same) verdict)
 
 fits : (m n : ℕ) → Decides (nat_le m n) (m ≤ n)
 fits m n = grind (arith, nat_tests)

@@ -5,7 +5,7 @@ ghost use Rattle.scrypt.specs.Accepted.{are_accepted, is_output_len};
 ghost use Rattle.scrypt.specs.InBuffers.{are_enough};
 ghost use Rattle.scrypt.specs.Cost.{chunks_bytes};
 ghost use Rattle.scrypt.specs.Key.{derived_key, mixed_b};
-ghost use Rattle.scrypt.specs.Workspace.{IsRestKept, buffers};
+ghost use Rattle.scrypt.specs.Workspace.{IsRestKept, workspace_of};
 ghost use Rattle.scrypt_c.specs.Buffers.{AreBuffers, IsSpacing};
 ghost use Rattle.scrypt_c.specs.Limits.{bytes_that_pay, params_of};
 ghost use Rattle.scrypt_c.specs.Statuses.{IsKeyStatus};
@@ -138,8 +138,8 @@ pub extern "C" fn scrypt_kdf_with_buffers(
     ensures value { result ≡ OK → output.new ≡ derived_key password.now salt.now log_n r p (length output.old) }
     ensures mixed { result ≡ OK → take (chunks_bytes r p) chunks.new ≡ mixed_b password.now salt.now log_n r p }
     ensures rest { result ≡ OK
-        → IsRestKept (params_of log_n r p) (buffers chunks.old table.old scratch.old)
-        (buffers chunks.new table.new scratch.new) }
+        → IsRestKept (params_of log_n r p) (workspace_of chunks.old table.old scratch.old)
+        (workspace_of chunks.new table.new scratch.new) }
     ensures refused { result ≢ OK → output.new ≡ output.old }
     ensures unchanged { result ≢ OK
         → (chunks.new ≡ chunks.old) × (table.new ≡ table.old) × (scratch.new ≡ scratch.old) }

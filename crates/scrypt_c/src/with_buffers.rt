@@ -12,7 +12,7 @@ ghost use Rattle.scrypt.specs.PhcHash.{IsMadeText, IsSaltLen};
 ghost use Rattle.scrypt.specs.Logins.{AreLeft, attempt_of};
 ghost use Rattle.scrypt.specs.StoredHash.{reading};
 ghost use Rattle.scrypt.specs.WithinLimits.{with_limited_refusal};
-ghost use Rattle.scrypt.specs.Workspace.{IsDone, IsLeft, LeftIn, buffers, verdict_in};
+ghost use Rattle.scrypt.specs.Workspace.{IsDone, IsLeft, verdict_in, workspace_of};
 ghost use Rattle.scrypt_c.specs.InBuffers.{statuses_in};
 ghost use Rattle.scrypt_c.specs.Limits.{limited_reading};
 ghost use Rattle.scrypt_c.specs.Made.{AreHashParams, IsTooLong, IsTooShort, IsWrittenTo, wanted};
@@ -61,8 +61,8 @@ pub extern "C" fn scrypt_hash_phc_with_buffers(
     ensures status { (result ≡ OK) ⊎ (result ≡ INVALID_PARAMS) ⊎ (result ≡ SALT_INVALID) ⊎ (result ≡ BUFFER_SIZE) }
     ensures used { (result ≡ OK) ⊎ (result ≡ BUFFER_SIZE)
         → IsTrue (are_enough (wanted log_n r p key_len) chunks.old table.old scratch.old)
-        → LeftIn (IsDone (wanted log_n r p key_len)
-        (buffers chunks.old table.old scratch.old)) chunks.new table.new scratch.new }
+        → IsDone (wanted log_n r p key_len) (workspace_of chunks.old table.old scratch.old)
+        (workspace_of chunks.new table.new scratch.new) }
     ensures refused { result ≢ OK → text.new ≡ text.old }
     ensures unchanged { (result ≡ INVALID_PARAMS) ⊎ (result ≡ SALT_INVALID)
         ⊎ (¬ IsTrue (are_enough (wanted log_n r p key_len) chunks.old table.old scratch.old))
@@ -112,8 +112,8 @@ pub extern "C" fn scrypt_hash_mcf_with_buffers(
         (made_text_len (wanted log_n r p key_len) (length salt.now))
         (IsTrue (are_enough (wanted log_n r p key_len) chunks.old table.old scratch.old)) text.old text_len.old text_len.new }
     ensures status { (result ≡ OK) ⊎ (result ≡ INVALID_PARAMS) ⊎ (result ≡ BUFFER_SIZE) }
-    ensures used { result ≡ OK → LeftIn (IsDone (wanted log_n r p key_len)
-        (buffers chunks.old table.old scratch.old)) chunks.new table.new scratch.new }
+    ensures used { result ≡ OK → IsDone (wanted log_n r p key_len)
+        (workspace_of chunks.old table.old scratch.old) (workspace_of chunks.new table.new scratch.new) }
     ensures unchanged { result ≢ OK → (text.new ≡ text.old) × (chunks.new ≡ chunks.old) × (table.new ≡ table.old)
         × (scratch.new ≡ scratch.old) }
     ensures len { result ≡ INVALID_PARAMS → text_len.new ≡ text_len.old }
@@ -152,10 +152,10 @@ pub extern "C" fn scrypt_verify_limited_with_buffers(
     table: &mut [u32],
     scratch: &mut [u32],
 ) -> i32
-    ensures status { result ≡ buffers_status (verdict_in (buffers chunks.old table.old scratch.old) password.now
+    ensures status { result ≡ buffers_status (verdict_in (workspace_of chunks.old table.old scratch.old) password.now
         (limited_reading max_mem max_work min_key_len text.now)) }
-    ensures left { LeftIn (IsLeft (limited_reading max_mem max_work min_key_len text.now)
-        (buffers chunks.old table.old scratch.old)) chunks.new table.new scratch.new }
+    ensures left { IsLeft (limited_reading max_mem max_work min_key_len text.now)
+        (workspace_of chunks.old table.old scratch.old) (workspace_of chunks.new table.new scratch.new) }
 {
     match limited_hash(text, max_mem, max_work, min_key_len) {
         Ok(hash) => verify(password, &hash, chunks, table, scratch),
@@ -172,10 +172,10 @@ fn verify(
     scratch: &mut [u32],
 ) -> i32
     ensures status { result
-        ≡ buffers_status (verdict_in (buffers chunks.old table.old scratch.old)
+        ≡ buffers_status (verdict_in (workspace_of chunks.old table.old scratch.old)
         password.now (reading hash.now)) }
-    ensures left { LeftIn (IsLeft (reading hash.now) (buffers chunks.old table.old scratch.old))
-        chunks.new table.new scratch.new }
+    ensures left { IsLeft (reading hash.now) (workspace_of chunks.old table.old scratch.old)
+        (workspace_of chunks.new table.new scratch.new) }
 {
     let mut cores = CoreCount::new();
     match hash.verify_with_buffers::<Target>(password, chunks, table, scratch, &mut cores) {
@@ -210,11 +210,11 @@ pub extern "C" fn scrypt_verify_batch_with_buffers<'a>(
     scratch: &mut [u32],
 )
     ensures statuses { statuses.new
-        ≡ statuses_in (buffers chunks.old table.old scratch.old) ((password.now, text.now) ∷
+        ≡ statuses_in (workspace_of chunks.old table.old scratch.old) ((password.now, text.now) ∷
         (password_2.now, text_2.now) ∷ (password_3.now, text_3.now) ∷ (password_4.now, text_4.now) ∷ []) }
-    ensures left { LeftIn (AreLeft ((password.now, bytes_reading text.now) ∷ (password_2.now, bytes_reading text_2.now)
+    ensures left { AreLeft ((password.now, bytes_reading text.now) ∷ (password_2.now, bytes_reading text_2.now)
         ∷ (password_3.now, bytes_reading text_3.now) ∷ (password_4.now, bytes_reading text_4.now) ∷ [])
-        (buffers chunks.old table.old scratch.old)) chunks.new table.new scratch.new }
+        (workspace_of chunks.old table.old scratch.old) (workspace_of chunks.new table.new scratch.new) }
 {
     let logins = [
         login(password, text),

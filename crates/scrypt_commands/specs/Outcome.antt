@@ -1,14 +1,13 @@
 -- The outcome of a command line: the program's output for its arguments and its input.
-use Rattle.std.specs.Prelude.{◌≡◌, ℕ, ◌+◌, ◌&&◌, Bool, false, true, nat_le, if◌then◌else◌, List, [], ◌++◌, length, codes, Option, None, Some, option_map, unwrap_or, Result, Ok, Err, ⊤}
+use Rattle.std.specs.Prelude.{◌≡◌, ℕ, ◌&&◌, Bool, false, true, nat_le, if◌then◌else◌, List, [], ◌++◌, length, codes, Option, None, Some, option_map, unwrap_or, Result, Ok, Err, ⊤}
 use Rattle.std.specs.Result.{result_unwrap_or}
 use Rattle.hex.specs.Hex.{encode_lower}
 use Rattle.password_hash.specs.Phc.{hash_text}
 use Rattle.password_hash.specs.Refusal.{PasswordInvalid, Refusal}
 use Rattle.password_hash.specs.declared.error.Error.TheVariants.{SaltInvalid}
 use Rattle.scrypt.specs.Accepted.{Parameters}
-use Rattle.scrypt.specs.Cost.{cost}
 use Rattle.scrypt.specs.Hashing.{key_len_or_default}
-use Rattle.scrypt.specs.KeyOfParams.{key_by}
+use Rattle.scrypt.specs.KeyOfParams.{cost_by, key_by}
 use Rattle.scrypt.specs.McfHash.{made_hash, mcf_text}
 use Rattle.scrypt.specs.PhcParams.{written_pairs}
 use Rattle.scrypt.specs.Reading.{◌and_then◌ as ◌>>=◌, Stored, verdict, verify_cost, weaker}
@@ -132,8 +131,7 @@ reply_view (Made line) = record { status = 0; line = line.items }
 -- allocation failed.
 abbrev pub AreOfHash : List ℕ → Result Stored Refusal → (failed : Type 0) → CoreCount → CoreCount → Type 0
 AreOfHash password (Err why) failed before after = after ≡ before
-AreOfHash password (Ok s) failed before after = ¬ failed → AreCounted (cost s.params.log_n s.params.r s.params.p) before after
-    × (after.compressions ≡ before.compressions + verify_cost password s)
+AreOfHash password (Ok s) failed before after = ¬ failed → AreCounted (cost_by s.params) (verify_cost password s) before after
 
 -- the cores of verifying for a request within limits, if options set any: none if nothing is
 -- verified

@@ -1,6 +1,6 @@
 -- What logins give by the reading of a stored text, and how many cores they run.
 use Rattle.std.proofs.Common.{◌≡◌, ℕ, ◌+◌, ◌*◌, ◌≤◌, List, Ok, Err, refl, arith, true, false}
-use Rattle.std.specs.Prelude.{Bool, IfOk, IsTrue, Result, MatchBool, if◌then◌else◌, nat_le, length}
+use Rattle.std.specs.Prelude.{Bool, IfOk, IsTrue, Result, if◌then◌else◌, nat_le, length}
 use Rattle.std.proofs.lemmas.Bool.Decides.{nat_tests}
 use Rattle.password_hash.specs.Refusal.{Refusal, KeyTooShort, TooCostly}
 use Rattle.scrypt.specs.Accepted.{Parameters}
@@ -9,7 +9,9 @@ use Rattle.scrypt.specs.Limits.{are_within, buffers_bytes, work}
 use Rattle.scrypt.specs.Reading.{Stored, verify_cost}
 use Rattle.scrypt.specs.WithinLimits.{within}
 use Rattle.scrypt.specs.InBuffers.{are_enough}
-use Rattle.scrypt.specs.Workspace.{IsDone, IsLeft, Workspace, hashed_in}
+use Rattle.scrypt.specs.Workspace.{Workspace, cores_in, hashed_in}
+use Rattle.scrypt_kernel.specs.Count.{AreCounted}
+use Rattle.scrypt_kernel.specs.declared.cores.count.CoreCount.{CoreCount}
 use Rattle.scrypt_examples.specs.Login.{CostsAtMost}
 use Rattle.scrypt.specs.declared.limits.Limits.{Limits}
 
@@ -34,19 +36,16 @@ unfolding are_within
 cores_fit limits c fits = grind (arith, nat_tests)
 
 -- verifying within limits runs no more cores than these allow
-pub bounded : (limits : Limits) (reading : Result Stored Refusal) (before after : Workspace)
-    → IsLeft (within limits reading) before after → after.cores.all ≤ before.cores.all + limits.max_work
-bounded limits reading before after left = at (within limits reading) refl left
+pub bounded : (limits : Limits) (w : Workspace) (reading : Result Stored Refusal) → cores_in w (within limits reading) ≤ limits.max_work
+bounded limits w reading = at (within limits reading) refl
   where
-    in_room : (s : Stored) (room : Bool) → cost s.params.log_n s.params.r s.params.p ≤ limits.max_work
-        → MatchBool room (IsDone s.params before after) (after ≡ before) → after.cores.all ≤ before.cores.all + limits.max_work
-    in_room s true fits done = omega (arith, done.counted)
-    in_room s false fits same = rw same (omega arith)
+    in_room : (room : Bool) (n : ℕ) → n ≤ limits.max_work → (if room then n else 0) ≤ limits.max_work
+    in_room true n fits = fits
+    in_room false n fits = omega arith
 
-    at : (bound : Result Stored Refusal) → within limits reading ≡ bound → IsLeft bound before after
-        → after.cores.all ≤ before.cores.all + limits.max_work
-    at (Ok s) is left = in_room s (are_enough s.params before.chunks before.table before.scratch) (cores_fit limits s.params (within_is limits reading s is).0) left
-    at (Err why) is left = rw left (omega arith)
+    at : (bound : Result Stored Refusal) → within limits reading ≡ bound → cores_in w bound ≤ limits.max_work
+    at (Ok s) is = in_room (are_enough s.params w.chunks w.table w.scratch) _ (cores_fit limits s.params (within_is limits reading s is).0)
+    at (Err why) is = omega arith
 
 -- what the law `work_bounds_both_counts` says of these limits
 abbrev pub BoundsBothCounts : Limits → Type 0
@@ -58,29 +57,25 @@ abbrev pub max_cost : Limits → List ℕ → Stored → ℕ
 max_cost limits password s = limits.max_work + 9 * lengths_cost (length password) (length s.salt) (length s.key)
 
 -- the same of both counts together
-pub both_bounded : (limits : Limits) → BoundsBothCounts limits → (password : List ℕ) (reading : Result Stored Refusal)
-    → (before after : Workspace)
-    → IsLeft (within limits reading) before after
-    → after.cores.compressions ≡ before.cores.compressions + hashed_in before password (within limits reading)
-    → IfOk reading (λ s. CostsAtMost (max_cost limits password s) before.cores after.cores)
-both_bounded limits law password reading before after left hashed = at (within limits reading) refl left hashed
+pub both_bounded : (limits : Limits) → BoundsBothCounts limits → (w : Workspace) (password : List ℕ) (reading : Result Stored Refusal)
+    → (before after : CoreCount)
+    → AreCounted (cores_in w (within limits reading)) (hashed_in w password (within limits reading)) before after
+    → IfOk reading (λ s. CostsAtMost (max_cost limits password s) before after)
+both_bounded limits law w password reading before after counted = at (within limits reading) refl counted
   where
-    in_room : (s : Stored) (room : Bool) → are_within limits s.params ≡ true → MatchBool room (IsDone s.params before after) (after ≡ before)
-        → after.cores.compressions ≡ before.cores.compressions + (if room then verify_cost password s else 0)
-        → CostsAtMost (max_cost limits password s) before.cores after.cores
-    in_room s true fits done more =
-        omega (arith, done.counted, more, law s.params (length password) (length s.salt) (length s.key) fits)
-    in_room s false fits same more = rw same (omega arith)
+    in_room : (room : Bool) (n m most : ℕ) → n + 9 * m ≤ most → AreCounted (if room then n else 0) (if room then m else 0) before after
+        → CostsAtMost most before after
+    in_room true n m most fits counted = omega (arith, counted.all, counted.compressions)
+    in_room false n m most fits counted = omega (arith, counted.all, counted.compressions)
 
-    at : (bound : Result Stored Refusal) → within limits reading ≡ bound → IsLeft bound before after
-        → after.cores.compressions ≡ before.cores.compressions + hashed_in before password bound
-        → IfOk reading (λ s. CostsAtMost (max_cost limits password s) before.cores after.cores)
-    at (Ok s) is left more =
+    at : (bound : Result Stored Refusal) → within limits reading ≡ bound
+        → AreCounted (cores_in w bound) (hashed_in w password bound) before after → IfOk reading (λ s. CostsAtMost (max_cost limits password s) before after)
+    at (Ok s) is counted =
         let both = within_is limits reading s is in
-        rw both.1 (in_room s (are_enough s.params before.chunks before.table before.scratch) both.0 left more)
-    at (Err why) is left more = nothing reading
+        rw both.1 (in_room (are_enough s.params w.chunks w.table w.scratch) _ _ _
+        (law s.params (length password) (length s.salt) (length s.key) both.0) counted)
+    at (Err why) is counted = nothing reading
       where
-        nothing : (reading : Result Stored Refusal)
-            → IfOk reading (λ s. CostsAtMost (max_cost limits password s) before.cores after.cores)
-        nothing (Ok s) = rw left (omega arith)
+        nothing : (reading : Result Stored Refusal) → IfOk reading (λ s. CostsAtMost (max_cost limits password s) before after)
+        nothing (Ok s) = omega (arith, counted.all, counted.compressions)
         nothing (Err why) = tt

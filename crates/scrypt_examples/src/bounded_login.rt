@@ -85,11 +85,10 @@ pub fn log_in(
     cores: &mut CoreCount,
 ) -> Result<bool, LimitedError>
     ensures verdict { with_limited_refusal result
-        ≡ let_in (verdict_in (workspace_of chunks.old table.old scratch.old cores.old) password.now
+        ≡ let_in (verdict_in (workspace_of chunks.old table.old scratch.old) password.now
         (within limits.now (reading stored.now))) }
     ensures left { IsLeft (within limits.now (reading stored.now))
-        (workspace_of chunks.old table.old scratch.old cores.old)
-        (workspace_of chunks.new table.new scratch.new cores.new) }
+        (workspace_of chunks.old table.old scratch.old) (workspace_of chunks.new table.new scratch.new) }
     ensures bounded { cores.new.all ≤ cores.old.all + limits.now.max_work }
     ensures both_bounded { IfOk (reading stored.now) (λ s. CostsAtMost (limits.now.max_work
         + 9 * lengths_cost (length password.now) (length s.salt) (length s.key)) cores.old cores.new) }

@@ -38,14 +38,18 @@ hashed_both k one two sum = record {
 pub hashed_none : (n : ℕ) (a : CoreCount) → n ≡ 0 → AreHashed n a a
 hashed_none n a none = record { all = refl; lanes = refl; compressions = omega (arith, none) }
 
--- the cores between two steps that hash
-pub counted_between : {n m k : ℕ} {a b c d : CoreCount} → AreHashed n a b → AreCountedAs true m b c → AreHashed k c d → AreCounted m a d
+-- the blocks of two steps that hash, and the cores between them
+pub counted_between : {n m k : ℕ} {a b c d : CoreCount} → AreHashed n a b → AreCountedAs true m b c → AreHashed k c d → AreCounted m (n + k) a d
 counted_between before cores after = record {
   all = omega (arith, before.all, cores.all, after.all);
   lanes = omega (arith, before.lanes, cores.lanes, after.lanes);
+  compressions = omega (arith, before.compressions, cores.compressions, after.compressions);
 }
 
--- the blocks of two steps that hash, with only cores between them
-pub hashed_around : {n m k : ℕ} {simd : Bool} {a b c d : CoreCount} → AreHashed n a b → AreCountedAs simd m b c → AreHashed k c d
-    → d.compressions ≡ a.compressions + (n + k)
-hashed_around before cores after = omega (arith, before.compressions, cores.compressions, after.compressions)
+-- the cores and the blocks of one call and of the next
+pub counted_then : {n m k l p q : ℕ} {a b c : CoreCount} → AreCounted n m a b → AreCounted k l b c → n + k ≡ p → m + l ≡ q → AreCounted p q a c
+counted_then one two cores blocks = record {
+  all = omega (arith, one.all, two.all, cores);
+  lanes = omega (arith, one.lanes, two.lanes, cores);
+  compressions = omega (arith, one.compressions, two.compressions, blocks);
+}

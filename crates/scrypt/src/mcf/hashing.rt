@@ -6,7 +6,8 @@ ghost use Rattle.password_hash.specs.Crypt64.{crypt64_of, encoded_len};
 ghost use Rattle.password_hash.specs.Mcf.{IsField, IsMcf};
 ghost use Rattle.password_hash.specs.declared.error.Error.TheVariants.{OutOfMemory, OutputSize, SaltInvalid};
 ghost use Rattle.scrypt.specs.McfParams.{params_text};
-ghost use Rattle.scrypt.specs.Cost.{hash_cost};
+ghost use Rattle.scrypt.specs.Cost.{AreCounted, hash_cost};
+ghost use Rattle.scrypt.specs.KeyOfParams.{cost_by};
 ghost use Rattle.scrypt.specs.Hashing.{key_len_or_default};
 ghost use Rattle.scrypt.specs.Accepted.{is_output_len};
 ghost use Rattle.scrypt.specs.TextOfKey.{IsTextOfKey, parts_of_key};
@@ -219,13 +220,13 @@ pub fn hash_with_buffers<W: Backend>(
     ensures exact { IsOk result ↔ (IsTrue (are_enough params.now chunks.old table.old scratch.old)
         × (made_text_len params.now (length salt.now) ≤ length text.old)) }
     ensures unwritten { OnErr result (text.new ≡ text.old) }
-    ensures done { OnOk result (IsDone params.now (workspace_of chunks.old table.old scratch.old cores.old)
-        (workspace_of chunks.new table.new scratch.new cores.new)) }
-    ensures hashed { OnOk result (cores.new.compressions ≡ cores.old.compressions
-        + hash_cost (length password.now) (length (crypt64_of salt.now))
-        params.now.r params.now.p (key_len_or_default params.now)) }
-    ensures unchanged { OnErr result (workspace_of chunks.new table.new scratch.new cores.new
-        ≡ workspace_of chunks.old table.old scratch.old cores.old) }
+    ensures done { OnOk result (IsDone params.now (workspace_of chunks.old table.old scratch.old)
+        (workspace_of chunks.new table.new scratch.new)) }
+    ensures counted { OnOk result (AreCounted (cost_by params.now) (hash_cost (length password.now)
+        (length (crypt64_of salt.now)) params.now.r params.now.p (key_len_or_default params.now)) cores.old cores.new) }
+    ensures unchanged { OnErr result (workspace_of chunks.new table.new scratch.new
+        ≡ workspace_of chunks.old table.old scratch.old) }
+    ensures uncounted { OnErr result (cores.new ≡ cores.old) }
 {
     let len = hash_len(params, salt);
     if text.len() < len {
@@ -254,11 +255,10 @@ fn fill_with_hash<W: Backend>(
     requires ready { IsReady buffer_room params.now.log_n 0 params.now.r params.now.p used.old }
     ensures made { IsMadeHash params.now password.now salt.now text.new }
     ensures ascii { IsAscii text.new }
-    ensures spent { IsSpent buffer_room params.now used.old used.new }
-    ensures hashed { used.new.cores.now.compressions
-        ≡ used.old.cores.now.compressions
-        + hash_cost (length password.now) (length
-        (crypt64_of salt.now)) params.now.r params.now.p (key_len_or_default params.now) }
+    ensures spent { IsSpent buffer_room used.old used.new }
+    ensures counted { AreCounted (cost_by params.now) (hash_cost (length password.now)
+        (length (crypt64_of salt.now)) params.now.r params.now.p (key_len_or_default params.now))
+        used.old.cores.now used.new.cores.now }
 {
     let letters = &mut text[..Base64::Crypt.encoded_len(salt.len())];
     encode(salt, letters);

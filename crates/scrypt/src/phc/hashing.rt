@@ -1,9 +1,9 @@
 // Making PHC hashes.
 
-ghost use Rattle.std.specs.Prelude.{◌≡◌, ◌↔◌, ◌⊎◌, ◌+◌, ℕ, List, length, None, Some, false, IfErr, IfOk, IsErrOf, IsOk, OnErr, OnOk, IsTrue};
-ghost use Rattle.scrypt.specs.Cost.{hash_cost};
+ghost use Rattle.std.specs.Prelude.{◌≡◌, ◌↔◌, ◌⊎◌, ℕ, List, length, None, Some, false, IfErr, IfOk, IsErrOf, IsOk, OnErr, OnOk, IsTrue};
+ghost use Rattle.scrypt.specs.Cost.{AreCounted, hash_cost};
 ghost use Rattle.scrypt.specs.Hashing.{key_len_or_default};
-ghost use Rattle.scrypt.specs.KeyOfParams.{key_by};
+ghost use Rattle.scrypt.specs.KeyOfParams.{cost_by, key_by};
 ghost use Rattle.scrypt.specs.PhcHash.{HashIsRefused, IsMadeHash, IsScryptOrNone, IsSaltLen};
 ghost use Rattle.scrypt.specs.Accepted.{is_stored_len};
 ghost use Rattle.scrypt.specs.TextOfKey.{IsTextOfKey, phc_hash};
@@ -155,12 +155,14 @@ pub fn hash_with_buffers<W: Backend>(
         ↔ (IsSaltLen (length salt.now) × ¬ IsTrue (are_enough params.now chunks.old table.old scratch.old)) }
     ensures exact { IsOk result
         ↔ (IsSaltLen (length salt.now) × IsTrue (are_enough params.now chunks.old table.old scratch.old)) }
-    ensures done { OnOk result (IsDone params.now (workspace_of chunks.old table.old scratch.old cores.old)
-        (workspace_of chunks.new table.new scratch.new cores.new)) }
-    ensures hashed { OnOk result (cores.new.compressions ≡ cores.old.compressions
-        + hash_cost (length password.now) (length salt.now) params.now.r params.now.p (key_len_or_default params.now)) }
-    ensures unchanged { OnErr result (workspace_of chunks.new table.new scratch.new cores.new
-        ≡ workspace_of chunks.old table.old scratch.old cores.old) }
+    ensures done { OnOk result (IsDone params.now (workspace_of chunks.old table.old scratch.old)
+        (workspace_of chunks.new table.new scratch.new)) }
+    ensures counted { OnOk result (AreCounted (cost_by params.now)
+        (hash_cost (length password.now) (length salt.now) params.now.r params.now.p (key_len_or_default params.now))
+        cores.old cores.new) }
+    ensures unchanged { OnErr result (workspace_of chunks.new table.new scratch.new
+        ≡ workspace_of chunks.old table.old scratch.old) }
+    ensures uncounted { OnErr result (cores.new ≡ cores.old) }
 {
     let Ok(salt) = Salt::new(salt) else {
         return Err(Error::SaltInvalid);

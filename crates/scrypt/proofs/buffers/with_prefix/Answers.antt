@@ -14,8 +14,6 @@ returns-clause-made g c =
       _,
       ready,
       record {
-        counted_from = search rules;
-        counted_to = search rules;
         chunks = search (rules, take_at);
         rest = record {
           chunks = search (rules, drop-append-drop);
@@ -23,6 +21,8 @@ returns-clause-made g c =
           scratch = search (rules, drop-append-drop);
         };
       },
+      search rules,
+      search rules,
       refl,
       refl,
       c.derive.ensures,
@@ -33,7 +33,6 @@ returns-clause-done g c = λ spends _.
     let ready : IsReady buffer_room c.args.params.now.log_n 0 c.args.params.now.r c.args.count c.new-used.result = search rules in
     let spent = spends _ _ _ _ _ ready c.derive.ensures in
     record {
-      counted = search (rules, spent.counted);
       chunks = search (rules, spent.chunks);
       scratch = search (rules, spent.scratch);
       rest = search (rules, drop-append-drop);

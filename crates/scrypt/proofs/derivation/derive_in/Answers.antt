@@ -1,5 +1,5 @@
 use Rattle.std.proofs.Common.{◌≡◌, length, refl, rules}
-use Rattle.scrypt_kernel.proofs.CountFacts.{counted_between, hashed_around}
+use Rattle.scrypt_kernel.proofs.CountFacts.{counted_between}
 use Rattle.scrypt.specs.Cost.{chunks_bytes}
 use Rattle.scrypt.specs.Key.{derived_key, mixed_b}
 use Rattle.scrypt.proofs.derivation.derive_in.Goals as goal
@@ -10,10 +10,14 @@ returns-clause-derived g c =
     let long : length c.mix_all.new.used.chunks.now ≡ chunks_bytes c.args.params.now.r c.args.params.now.p = search rules in
     record {
       value = rw (c.pbkdf2_counted.ensures.value, c.mix_all.ensures.value, c.derive_chunks.ensures.value, c.p.ensures.value) refl;
-      counted = counted_between c.derive_chunks.ensures.counted (rw (c.p.ensures.value, c.derive_chunks.ensures.value) at c.mix_all.ensures.counted)
-          c.pbkdf2_counted.ensures.counted;
-      hashed = rw long at (hashed_around c.derive_chunks.ensures.counted c.mix_all.ensures.counted c.pbkdf2_counted.ensures.counted);
+      counted = rw long at (counted_between c.derive_chunks.ensures.counted
+          (rw (c.p.ensures.value, c.derive_chunks.ensures.value) at c.mix_all.ensures.counted) c.pbkdf2_counted.ensures.counted);
     }
+
+pub returns-clause-whole : goal.returns-clause-whole
+returns-clause-whole g c none =
+    let long : length c.mix_all.new.used.chunks.now ≡ chunks_bytes c.args.params.now.r c.args.params.now.p = search rules in
+    rw long at (counted_between c.derive_chunks.ensures.counted (rw c.p.ensures.value at (c.mix_all.ensures.whole none)) c.pbkdf2_counted.ensures.counted)
 
 pub returns-clause-mixed : goal.returns-clause-mixed
 returns-clause-mixed g c =

@@ -1,5 +1,6 @@
-use Rattle.std.proofs.Common.{◌≡◌, ◌∙◌, ◌+◌, ap, rules, map}
-use Rattle.scrypt.specs.Logins.{Attempt, all_cost, attempts}
+use Rattle.std.proofs.Common.{◌≡◌, ◌∙◌, rules, map}
+use Rattle.scrypt_kernel.specs.Count.{AreCounted}
+use Rattle.scrypt.specs.Logins.{Attempt, all_cost, attempts, verify_cores}
 use Rattle.scrypt.specs.Reading.{verdict, verify_cost}
 use Rattle.scrypt.specs.WithinLimits.{with_limited_refusal}
 use Rattle.scrypt.specs.Workspace.{workspace_of}
@@ -8,17 +9,17 @@ use Rattle.scrypt.proofs.logins.verified_in_batch.Goals as goal
 
 pub returns-in-Some-verified-clause-verdicts : goal.returns-in-Some-verified-clause-verdicts
 returns-in-Some-verified-clause-verdicts g c = λ _.
-    let before = workspace_of c.args.chunks.now c.args.table.now c.args.scratch.now c.args.cores.now in
+    let before = workspace_of c.args.chunks.now c.args.table.now c.args.scratch.now in
     let batch : map with_limited_refusal c.with_prefix-verified.new.output ≡ map (λ (a : Attempt). verdict a.0 a.1) (attempts c.args.logins.now) = search rules in
     batch ∙ (alone c.in-Some.params (attempts c.args.logins.now) c.in-Some.count before c.in-Some.ensures'.count (search rules)).0
 
-pub returns-in-Some-verified-clause-hashed : goal.returns-in-Some-verified-clause-hashed
-returns-in-Some-verified-clause-hashed g c = λ _.
-    let before = workspace_of c.args.chunks.now c.args.table.now c.args.scratch.now c.args.cores.now in
-    let batch : c.with_prefix-verified.new.cores.compressions
-    ≡ c.args.cores.now.compressions + all_cost verify_cost (attempts c.args.logins.now) = search rules in
-    batch ∙ ap (λ n. c.args.cores.now.compressions + n)
-    (alone c.in-Some.params (attempts c.args.logins.now) c.in-Some.count before c.in-Some.ensures'.count (search rules)).1
+pub returns-in-Some-verified-clause-counted : goal.returns-in-Some-verified-clause-counted
+returns-in-Some-verified-clause-counted g c = λ _.
+    let before = workspace_of c.args.chunks.now c.args.table.now c.args.scratch.now in
+    let these = attempts c.args.logins.now in
+    let batch : AreCounted (all_cost verify_cores these) (all_cost verify_cost these) c.args.cores.now c.with_prefix-verified.new.cores = search rules in
+    let each = alone c.in-Some.params these c.in-Some.count before c.in-Some.ensures'.count (search rules) in
+    rw (each.1, each.2) at batch
 
 pub returns-in-Some-verified-clause-left : goal.returns-in-Some-verified-clause-left
 returns-in-Some-verified-clause-left g c = λ _.

@@ -1,10 +1,11 @@
-use Rattle.std.proofs.Common.{◌∙◌, ◌+◌, ap}
-use Rattle.scrypt_kernel.proofs.CountFacts.{hashed_around}
+use Rattle.std.proofs.Common.{refl}
+use Rattle.scrypt_kernel.proofs.CountFacts.{counted_between}
 use Rattle.scrypt.specs.Logins.{attempts}
-use Rattle.scrypt.proofs.LoginFacts.{both_costs}
+use Rattle.scrypt.proofs.LoginFacts.{both_costs, cores_of_all}
 use Rattle.scrypt.proofs.logins.verify_in_batch.Goals as goal
 
-pub returns-clause-hashed : goal.returns-clause-hashed
-returns-clause-hashed g c =
-    hashed_around c.derive_all_chunks.ensures.counted c.mix_all.ensures.counted c.compare.ensures.counted
-    ∙ ap (λ n. c.args.used.now.cores.now.compressions + n) (both_costs (attempts c.args.logins.now))
+pub returns-clause-counted : goal.returns-clause-counted
+returns-clause-counted g c =
+    let these = attempts c.args.logins.now in
+    rw (both_costs these, cores_of_all c.args.params.now these c.args.count c.requires.count)
+    at (counted_between c.derive_all_chunks.ensures.counted (c.mix_all.ensures.whole refl) c.compare.ensures.counted)

@@ -1,6 +1,6 @@
 use Rattle.std.proofs.Common.{◌≡◌, ◌≤◌, ◌<◌, ◌*◌, min, arith, refl}
 use denote.Param.Always.{mut_next}
-use Rattle.scrypt_kernel.proofs.CountFacts.{counted_between, counted_both, hashed_around}
+use Rattle.scrypt_kernel.proofs.CountFacts.{counted_between, counted_both}
 use Rattle.scrypt_kernel.specs.Steps.{all_mixes}
 use Rattle.scrypt.specs.Stepping.{lacking, mixes_done}
 use Rattle.scrypt.proofs.SteppingFacts.{all_mixes_cost, mixes_left, mixes_more, times_so_far}
@@ -36,5 +36,4 @@ returns-clause-derived g c =
       value = c.in-Ok.ensures.value c.args.salt.now c.steps.table c.steps.scratch c.steps.invariant.under_way;
       counted = rw (all_mixes_cost params.log_n params.r params.p c.steps.at.chunks c.steps.at.interleaved c.steps.at.mixes all (c.steps.invariant.going.within.ended all))
           at (counted_between c.begin-at.ensures.counted c.steps.invariant.counted c.in-Ok.ensures.counted);
-      hashed = hashed_around c.begin-at.ensures.counted c.steps.invariant.counted c.in-Ok.ensures.counted;
     }

@@ -1,7 +1,5 @@
 use Rattle.std.proofs.Common.{◌∙◌, arith, sym}
 use Rattle.scrypt.specs.McfHash.{IsMadeHash}
-use Rattle.scrypt.specs.Workspace.{workspace_of}
-use Rattle.scrypt_c.proofs.InBuffersFacts.{from_zero}
 use Rattle.scrypt_c.proofs.MadeFacts.{written_ascii}
 use Rattle.scrypt_c.specs.Made.{wanted}
 use Rattle.scrypt_c.proofs.with_buffers.scrypt_hash_mcf_with_buffers.Goals as goal
@@ -25,7 +23,4 @@ returns-in-Err-clause-size c short =
     )
 
 pub returns-in-Ok-hashed-clause-used : goal.returns-in-Ok-hashed-clause-used
-returns-in-Ok-hashed-clause-used c done =
-    let before = workspace_of c.args.chunks.now c.args.table.now c.args.scratch.now c.new-cores.result in
-    let work = rw c.in-Ok.ensures.value at c.in-Ok-hashed.ensures.done in
-    rw (← from_zero before c.new-cores.ensures.none) (record before { cores = c.hash_with_buffers-hashed.new.cores }, work)
+returns-in-Ok-hashed-clause-used c done = rw c.in-Ok.ensures.value at c.in-Ok-hashed.ensures.done

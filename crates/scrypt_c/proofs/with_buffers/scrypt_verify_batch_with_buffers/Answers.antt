@@ -2,27 +2,26 @@ use Rattle.std.proofs.Common.{◌∙◌, ℕ, List, [], ◌∷◌, Ok, ap, get_o
 use Rattle.std.proofs.Math.ListN.{get_or-map}
 use Rattle.scrypt.specs.WithinLimits.{with_limited_refusal}
 use Rattle.scrypt.specs.Logins.{AreLeft, Attempt}
-use Rattle.scrypt.specs.Workspace.{LeftIn, buffers, workspace_of}
-use Rattle.scrypt_c.proofs.InBuffersFacts.{from_zero, kept_status}
+use Rattle.scrypt.specs.Workspace.{workspace_of}
+use Rattle.scrypt_c.proofs.InBuffersFacts.{kept_status}
 use Rattle.scrypt_c.proofs.with_buffers.scrypt_verify_batch_with_buffers.Goals as goal
 
 pub returns-clause-statuses : goal.returns-clause-statuses
 returns-clause-statuses c =
-    let before = workspace_of c.args.chunks.now c.args.table.now c.args.scratch.now c.new-cores.result in
-    let zero = from_zero before c.new-cores.ensures.none in
+    let before = workspace_of c.args.chunks.now c.args.table.now c.args.scratch.now in
     let told_at = λ (i : ℕ). sym (get_or-map with_limited_refusal c.verify_logins.new.verdicts i (Ok tt))
     ∙ ap (λ outs. get_or outs i (Ok tt)) c.verify_logins.ensures.verdicts in
     rw (
-      kept_status c.status.result before _ _ _ zero c.login.ensures.attempt (search rules) c.status.ensures (told_at 0),
-      kept_status c.status-2.result before _ _ _ zero c.login-2.ensures.attempt (search rules) c.status-2.ensures (told_at 1),
-      kept_status c.status-3.result before _ _ _ zero c.login-3.ensures.attempt (search rules) c.status-3.ensures (told_at 2),
-      kept_status c.status-4.result before _ _ _ zero c.login-4.ensures.attempt (search rules) c.status-4.ensures (told_at 3),
+      kept_status c.status.result before _ _ c.login.ensures.attempt (search rules) c.status.ensures (told_at 0),
+      kept_status c.status-2.result before _ _ c.login-2.ensures.attempt (search rules) c.status-2.ensures (told_at 1),
+      kept_status c.status-3.result before _ _ c.login-3.ensures.attempt (search rules) c.status-3.ensures (told_at 2),
+      kept_status c.status-4.result before _ _ c.login-4.ensures.attempt (search rules) c.status-4.ensures (told_at 3),
     ) refl
 
 pub returns-clause-left : goal.returns-clause-left
 returns-clause-left c =
-    let before = workspace_of c.args.chunks.now c.args.table.now c.args.scratch.now c.new-cores.result in
+    let before = workspace_of c.args.chunks.now c.args.table.now c.args.scratch.now in
     let own = c.verify_logins.new in
-    subst (λ (these : List Attempt). LeftIn (AreLeft these (buffers c.args.chunks.now c.args.table.now c.args.scratch.now)) own.chunks own.table own.scratch)
+    subst (λ (these : List Attempt). AreLeft these before (workspace_of own.chunks own.table own.scratch))
     (λ i. c.login.ensures.attempt i ∷ c.login-2.ensures.attempt i ∷ c.login-3.ensures.attempt i ∷ c.login-4.ensures.attempt i ∷ [])
-    (rw (← from_zero before c.new-cores.ensures.none) (record before { cores = own.cores }, c.verify_logins.ensures.left))
+    c.verify_logins.ensures.left

@@ -6,16 +6,12 @@ use Rattle.scrypt_examples.proofs.bounded_login.log_in.Goals as goal
 
 pub returns-in-Ok-verify_with_buffers-clause-both_bounded : goal.returns-in-Ok-verify_with_buffers-clause-both_bounded
 returns-in-Ok-verify_with_buffers-clause-both_bounded c =
-    let before = workspace_of c.args.chunks.now c.args.table.now c.args.scratch.now c.args.cores.now in
-    let left = c.verify_with_buffers.new in
-    both_bounded c.args.limits.now (c.work_bounds_both_counts.ensures.within c.args.limits.now) c.args.password.now
-    (reading c.args.stored.now) before
-    (workspace_of left.chunks left.table left.scratch left.cores) (search rules) (search rules)
+    both_bounded c.args.limits.now (c.work_bounds_both_counts.ensures.within c.args.limits.now)
+    (workspace_of c.args.chunks.now c.args.table.now c.args.scratch.now) c.args.password.now (reading c.args.stored.now)
+    c.args.cores.now c.verify_with_buffers.new.cores (search rules)
 
 pub returns-in-Err-PasswordInvalid-clause-both_bounded : goal.returns-in-Err-PasswordInvalid-clause-both_bounded
 returns-in-Err-PasswordInvalid-clause-both_bounded c =
-    let before = workspace_of c.args.chunks.now c.args.table.now c.args.scratch.now c.args.cores.now in
-    let left = c.verify_with_buffers.new in
-    both_bounded c.args.limits.now (c.work_bounds_both_counts.ensures.within c.args.limits.now) c.args.password.now
-    (reading c.args.stored.now) before
-    (workspace_of left.chunks left.table left.scratch left.cores) (search rules) (search rules)
+    both_bounded c.args.limits.now (c.work_bounds_both_counts.ensures.within c.args.limits.now)
+    (workspace_of c.args.chunks.now c.args.table.now c.args.scratch.now) c.args.password.now (reading c.args.stored.now)
+    c.args.cores.now c.verify_with_buffers.new.cores (search rules)

@@ -2,7 +2,7 @@ use Rattle.std.proofs.Common.{◌≡◌, ◌∙◌, Ok, refl, rules}
 use Rattle.scrypt.specs.Reading.{with_refusal}
 use Rattle.scrypt.specs.StoredHash.{reading}
 use Rattle.scrypt.specs.StoredParts.{stored}
-use Rattle.scrypt.specs.Workspace.{buffers, verdict_in}
+use Rattle.scrypt.specs.Workspace.{verdict_in, workspace_of}
 use Rattle.scrypt.proofs.ReadingFacts.{enough_within}
 use Rattle.scrypt.proofs.buffers.owned.Buffers.verify.Goals as goal
 
@@ -12,7 +12,7 @@ returns-in-Ok-clause-within c = λ limits suffice is.
     let s = stored c.in-Ok.parts.now in
     let read : reading c.args.hash.now ≡ Ok s = search rules in
     let here : with_refusal c.verify_in_buffers.result
-    ≡ verdict_in (buffers own.chunks.items own.table.items own.scratch.items) c.args.password.now (Ok s) = search rules in
+    ≡ verdict_in (workspace_of own.chunks.items own.table.items own.scratch.items) c.args.password.now (Ok s) = search rules in
     let enough = enough_within limits s own.chunks.items own.table.items own.scratch.items suffice c.expose_invariant.ensures.some.1
     (rw read at is) in
     rw read (here ∙ rw enough refl)
