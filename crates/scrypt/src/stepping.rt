@@ -218,7 +218,8 @@ pub fn scrypt_in_steps<W: Backend, F: FnMut(u128) -> bool>(
     ensures derived { OnOk result (IsDerived params.now password.now salt.now
         (cost_by params.now) output.old output.new cores.old cores.new) }
     ensures cancelled { IsErrOf result Cancelled
-        → (state : F) × (done : ℕ) × (left : F) × F.step state done false left }
+        → (state : F) × (done : ℕ) × (left : F) × F.step state done false left
+        × (cores.new.all ≡ cores.old.all + done) }
     ensures refused { OnErr result (output.new ≡ output.old) }
     ensures unchanged { IsErrOf result BadLength → (cores.new ≡ cores.old)
         × (workspace_of chunks.new table.new scratch.new ≡ workspace_of chunks.old table.old scratch.old) }

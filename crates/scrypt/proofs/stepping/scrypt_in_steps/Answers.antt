@@ -37,3 +37,16 @@ returns-clause-derived g c =
       counted = rw (all_mixes_cost params.log_n params.r params.p c.steps.at.chunks c.steps.at.interleaved c.steps.at.mixes all (c.steps.invariant.going.within.ended all))
           at (counted_between c.begin-at.ensures.counted c.steps.invariant.counted c.in-Ok.ensures.counted);
     }
+
+pub returns-then-not-go_on-clause-cancelled : goal.returns-then-not-go_on-clause-cancelled
+returns-then-not-go_on-clause-cancelled g c _ =
+    let params = c.args.params.now in
+    let onward : mixes_done params c.steps.at ≤ mixes_done params c.step-at.result = omega (arith, c.step-at.ensures.exact) in
+    let cores = times_so_far (mixes_done params c.steps.at) (mixes_done params c.step-at.result) (2 * params.r) onward in
+    let is_false = c.if-not-go_on.true in (
+      _,
+      _,
+      _,
+      rw is_false at c.go_on.ensures,
+      omega (arith, c.begin-at.ensures.counted.all, c.steps.invariant.counted.all, c.step-at.ensures.counted.all, cores, c.cores_done.ensures.exact),
+    )
