@@ -66,6 +66,8 @@ pub fn begin<W: Backend>(
     requires table { table_words params.now.log_n params.now.r ≤ length table.old }
     requires scratch { scratch_words params.now.r ≤ length scratch.old }
     ensures start { (result.chunks ≡ 0) × (result.mixes ≡ 0) }
+    ensures interleaved { result.interleaved ≡ group_by W.most W.scalar (interleaved_chunks params.now.log_n
+        params.now.r params.now.p (length table.old) (length scratch.old)) params.now.p }
     ensures going { CanGoOn W.most W.scalar params.now result table.new scratch.new }
     ensures under_way { IsUnderWay password.now salt.now params.now result chunks.new table.new scratch.new }
     ensures counted { AreHashed (pbkdf2_cost (length password.now)
