@@ -1,7 +1,7 @@
 //! The count of the cores that were run, and of the blocks that SHA-256 compressed. Nothing outside
 //! the module `cores` can increment a count.
 
-ghost use Rattle.std.specs.Prelude.{◌≡◌, ◌+◌, ℕ, Bool, if◌then◌else◌};
+ghost use Rattle.std.specs.Prelude.{◌≡◌, ◌+◌, ◌/◌, ◌%◌, ℕ, Bool, if◌then◌else◌, List, length};
 ghost use Rattle.std.specs.Borrow.{ftrue};
 ghost use Rattle.scrypt_kernel.specs.Salsa.{salsa20_8};
 ghost use Rattle.scrypt_kernel.specs.Diagonal.{diagonal_core};
@@ -27,7 +27,9 @@ impl Model for CoreCount {
 }
 
 impl CoreCount {
+    ghost use Rattle.sha2.specs.Hashers.{Holds256};
     ghost use Rattle.scrypt_kernel.specs.Count.{AreCountedAs, AreHashed};
+    ghost use Rattle.scrypt_kernel.specs.Pbkdf2Cost.{message_cost};
 
     /// Creates a count of zero.
     pub fn new() -> CoreCount
@@ -50,14 +52,18 @@ impl CoreCount {
         CoreCount::of()
     }
 
-    // The count after the compressions of this hasher when it takes these bytes or ends. `more` has
-    // their number, and the three numbers after them.
+    // The count after the compressions of this hasher, whose message is the evidence of their number:
+    // it takes these bytes, and then it ends or not. `more` has the number, and the three numbers
+    // after them.
     pub(super) fn after_compressions(
         _before: &CoreCount,
         _hasher: &Sha256,
         _data: &[u8],
+        _ends: bool,
     ) -> CoreCount
         ghost more: { ℕ × ℕ × ℕ × ℕ }
+        requires number { (m : List ℕ) → Holds256 _hasher.now m
+            → let n = length m % 64 + length _data.now in more.0 ≡ (if _ends then message_cost n else n / 64) }
         requires all { more.1 ≡ _before.now.all }
         requires lanes { more.2 ≡ _before.now.lanes }
         requires compressions { more.3 ≡ _before.now.compressions + more.0 }

@@ -24,7 +24,7 @@ pub(crate) fn update(hasher: &mut Sha256, bytes: &[u8], cores: &mut CoreCount)
     ensures counted { (m : List ℕ) → Holds256 hasher.old m
         → AreHashed ((length m % 64 + length bytes.now) / 64) cores.old cores.new }
 {
-    *cores = CoreCount::after_compressions(cores, hasher, bytes);
+    *cores = CoreCount::after_compressions(cores, hasher, bytes, false);
     hasher.update(bytes);
 }
 
@@ -34,6 +34,6 @@ pub(crate) fn finish(hasher: Sha256, cores: &mut CoreCount) -> [u8; 32]
     ensures value { (m : List ℕ) → Holds256 hasher m → result ≡ sha256 m }
     ensures counted { (m : List ℕ) → Holds256 hasher m → AreHashed (message_cost (length m % 64)) cores.old cores.new }
 {
-    *cores = CoreCount::after_compressions(cores, &hasher, &[]);
+    *cores = CoreCount::after_compressions(cores, &hasher, &[], true);
     hasher.finalize()
 }
