@@ -20,7 +20,7 @@ from tools import copies
 
 LEVEL = "x86-64-v3"
 
-# Its value is stored, because valgrind drops a load that nothing uses.
+# A read of a table at a byte. The value is stored, because valgrind drops a load that nothing uses.
 READ = """start:
   %leak.byte = load i8, ptr {}
   %leak.index = zext i8 %leak.byte to i64
@@ -35,8 +35,8 @@ TABLE = """@leak.table = internal global [256 x i8] zeroinitializer
 
 def ends_early(function):
     """A loop that has `same &= ..` ends when `same` is false."""
-    before, same, after = re.fullmatch(r"(.*(%r\d+) = and i1 )(.*)", function, re.S).groups()
-    return before + re.sub(r"br label (%loop\.\d+)", rf"br i1 {same}, label \1, label %after.1", after, count=1)
+    loop = r"(%r\d+)( = and i1 (?:(?! = and i1 ).)*?\n  br )(label %loop\.\d+)"
+    return re.sub(loop, r"\1\2i1 \1, \3, label %after.1", function, count=1, flags=re.S)
 
 
 def reads(argument):
