@@ -37,15 +37,16 @@ mkdir "$root/tmp/client"
 sed 's|\.\./test_calls.c|/tmp/check.c|' bindings/c/tests/cmake_client/CMakeLists.txt > "$root/tmp/client/CMakeLists.txt"
 listed > "$room/before"
 
-inside 'dpkg -i /tmp/*_amd64.deb' > "$room/log"
-expect "$(inside "$tool")" "the program of the Debian package"
-expect "$(inside "$by_pkg_config")" "C by pkg-config, with the package"
-expect "$(inside "$by_cmake && /tmp/b/shared")" "C by CMake, with the package"
+inside 'dpkg -i /tmp/libscrypt-c*_amd64.deb' > "$room/log"
+expect "$(inside "$by_pkg_config")" "C by pkg-config, with the library's Debian packages"
+expect "$(inside "$by_cmake && /tmp/b/shared")" "C by CMake, with these packages"
 expect "$(inside "/tmp/b/static")" "the same with the static library"
+inside 'dpkg -i /tmp/scrypt-proved_*_amd64.deb' > "$room/log"
+expect "$(inside "$tool")" "the program of its package"
 inside 'python3 -c "import scrypt_c; h = scrypt_c.PasswordHasher(log_n=10); h.verify(h.hash(str()), str())"'
-inside 'dpkg -P scrypt-proved' > "$room/log"
+inside "$(grep -o 'dpkg -P [^`]*' tools/release/README.md)" > "$room/log"
 listed | diff "$room/before" -
-echo "the package hashes in Python, and leaves nothing when it is purged"
+echo "the package hashes in Python, and all leave nothing when they are purged"
 
 inside 'mkdir /opt/it && tar xzf /tmp/*-linux_x86_64.tar.gz --strip-components=1 -C /opt/it && mv /opt/it /opt/moved'
 moved='export PKG_CONFIG_PATH=/opt/moved/lib/pkgconfig CMAKE_PREFIX_PATH=/opt/moved LD_LIBRARY_PATH=/opt/moved/lib;'

@@ -101,5 +101,6 @@ class Threads(unittest.TestCase):
     def test_exit_and_garbage(self):
         """A program with daemon threads exits; in a cycle of garbage a hasher is freed last."""
         for program in 3 * [DAEMONS] + [FINALIZERS]:
-            run = subprocess.run([sys.executable, "-c", program], capture_output=True, timeout=60)
+            command = [sys.executable, "-W", "ignore", "-c", program]  # Python 3.12 warns of forks
+            run = subprocess.run(command, capture_output=True, timeout=60)
             self.assertEqual((run.stderr, run.returncode), (b"", 0))
