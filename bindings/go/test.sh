@@ -17,6 +17,7 @@ if [ "$system" = windows ]; then
   exit
 fi
 quiet go test -count=1 -timeout 5m -vet=all -race -v .
+echo "$(grep -c '^--- PASS' "$room/log") passed, 0 failed"
 python3 ../compare_keys.py < "$room/log"
 
 # Linked statically, as for an empty image; and without cgo.

@@ -9,7 +9,8 @@ begin_test
 cd bindings/python/tests
 python=/usr/bin/python3 # which has Debian's packages
 export PYTHONDONTWRITEBYTECODE=1 SCRYPT_C_LIBRARY="$lib" PYTHONPATH="$PWD/.."
-quiet() { "$@" > "$room/log" 2>&1 || { cat "$room/log"; exit 1; }; }
+# A run of tests says only how many there are.
+quiet() { "$@" > "$room/log" 2>&1 || { cat "$room/log"; exit 1; }; grep '^Ran ' "$room/log" || true; }
 packed() { quiet $python -m hatchling build -t "$@"; }
 if [ "$system" != windows ]; then
   quiet $python -W error -m unittest test_hasher test_keys test_library test_texts test_threads

@@ -14,7 +14,10 @@ cp "$lib/libscrypt_c.a" "bindings/rust/$bundled"
 mkdir "$CARGO_HOME"
 cp tools/release/cargo.toml "$CARGO_HOME/config.toml"
 crate=bindings/rust
-crate() { (cd "$crate" && "$@" > "$room/log" 2>&1) || { cat "$room/log"; exit 1; }; }
+crate() {
+  (cd "$crate" && "$@" > "$room/log" 2>&1) || { cat "$room/log"; exit 1; }
+  grep '^test result: ' "$room/log" || true
+}
 if [ "$system" = windows ]; then
   has /usr/lib/rustlib/x86_64-pc-windows-gnu libstd-rust-dev-windows || exit 77
   # A backtrace crashes Wine, where tests panic on purpose.

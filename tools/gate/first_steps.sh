@@ -56,7 +56,8 @@ documents: $(documents)
 STEP = @tools/gate/step.sh $@
 proved:; $(STEP) bash -c 'echo "logic=proved functions=7 axioms=0"; echo "so far: 1 of 7 functions checked"'
 counted:; $(STEP) bash -c 'echo "logic=proved functions=7 axioms=0"; echo "2 passed, 0 failed"'
-parts:; $(STEP) printf '%s\n' "a: 3 of 3 as they should be" "# pass 4" "Ran 5 tests in 1s" "100% tests passed, 0 tests failed out of 6"
+parts:; $(STEP) printf '%s\n' "a: 3 of 3 as they should be" "# pass 4" "Ran 5 tests in 1s" \
+	"100% tests passed, 0 tests failed out of 6" "test result: ok. 7 passed; 0 failed; 0 ignored" "ok     a check in a page"
 part:; $(STEP) tools/lacks it a b
 none:; $(STEP) bash -c 'tools/lacks it c; exit 77'
 needs: none; $(STEP) --needs nothing:d no-cc:gcc true
@@ -67,7 +68,7 @@ MK
 no_times() { sed 's/ (.:.*//; /processor minutes$/d'; }
 is "$(JOBS=1 tools/gate/run.sh documents 2> /dev/null | no_times)" "proved: proved, 7 functions
 counted: 2 of 2 passed
-parts: 18 of 18 passed
+parts: 26 of 26 passed
 part: passed, in part (needs a b)
 none: skipped (needs c)
 needs: skipped (needs d gcc)

@@ -29,7 +29,8 @@ mkdir -p build/log
 tasks=$(gate tasks OF="$*")
 minutes() { printf '%d:%02d' $(((SECONDS - begun) / 60)) $(((SECONDS - begun) % 60)); }
 while sleep 60 > /dev/null 2>&1; do
-  echo "$(minutes) minutes: $(wc -l < $results) of $(wc -w <<< "$tasks") tasks have ended"
+  ended=$(cut -d' ' -f1 $results | grep -cxFf <(tr ' ' '\n' <<< "$tasks"))
+  echo "$(minutes) minutes: $ended of $(wc -w <<< "$tasks") tasks have ended"
 done &
 trap "kill $! 2> /dev/null" EXIT
 gate --keep-going --output-sync=target -j"$jobs" "$@"
