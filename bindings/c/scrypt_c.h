@@ -469,8 +469,10 @@ const scrypt_options *scrypt_hasher_options(const scrypt_hasher *hasher);
  * without a limit if that is negative, and then return SCRYPT_E_TIMEOUT; the timeout doesn't end a
  * derivation.
  * For a login whose name doesn't exist, pass NULL with text_len 0: the call derives with the
- * parameters of new hashes, and returns SCRYPT_MISMATCH after the time of a wrong password, so that
- * a timing attack doesn't tell which names exist.
+ * parameters of new hashes, and returns SCRYPT_MISMATCH after the time of a wrong password for such
+ * a hash, so that a timing attack doesn't tell which names exist. While hashes of older parameters
+ * are stored, it does: then verify against the hash of another user, chosen by a keyed hash of the
+ * name, and ignore the result.
  * SCRYPT_E_NULL_POINTER; the errors of scrypt_hash_cost, without waiting; SCRYPT_E_CLOSED,
  * SCRYPT_E_TIMEOUT, SCRYPT_E_OUT_OF_MEMORY, and last SCRYPT_MISMATCH if the password is wrong. */
 SCRYPT_NODISCARD

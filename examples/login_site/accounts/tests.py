@@ -12,8 +12,13 @@ from unittest import mock
 from django.contrib.auth.hashers import make_password
 from django.contrib.auth.models import User
 from django.db import connection
+from django.db.models import Value
+from django.db.models.functions import Concat
 from django.test import Client, TestCase, TransactionTestCase
+from scrypt_c import PasswordHasher
 from selenium import webdriver
+
+from .backend import stored_hash_for
 
 PASSWORD, NEW = "correct horse battery", "another horse battery"
 COSTLY = f"scrypt_c$scrypt$ln=30,r=8,p=1$c2FsdHNhbHRzYWx0c2FsdA${'A' * 43}"
@@ -64,6 +69,37 @@ class ClientTest(TestCase):
         times = {name: min(seconds for _, seconds in kind) for name, kind in kinds.items()}
         print(*(f"{seconds:.2f} s for {name}" for name, seconds in times.items()), sep="\n")
         self.assertLess(max(times.values()), 1.5 * min(times.values()))
+
+    def test_unknown_names_among_old_hashes(self):
+        """A hash of older parameters takes another time than a new one. The time of an unknown name
+        is that of some stored hash, always of the same, and no password logs in there."""
+        old = "scrypt_c" + PasswordHasher(log_n=13).hash(PASSWORD)
+        User.objects.update(password=old)
+        times = {"ann": [], "nobody": []}
+        for name in 3 * list(times):
+            begun = time.process_time()
+            self.assertContains(self.log_in("wrong", name), "correct username")
+            times[name].append(time.process_time() - begun)
+        print(*(f"{min(it):.3f} s for {name}, with old hashes" for name, it in times.items()), sep="\n")
+        self.assertLess(min(times["nobody"]), 2 * min(times["ann"]))
+        for number in range(9):
+            User.objects.create(username=f"user {number}", password=old)
+        with mock.patch("accounts.backend.check_password") as check:
+            for name in 2 * [f"nobody {number}" for number in range(40)]:
+                self.assertContains(self.log_in(PASSWORD, name), "correct username")
+        self.assertEqual({call.args for call in check.call_args_list}, {(PASSWORD, old)})
+        names = [f"nobody {number}" for number in range(40)]
+        User.objects.update(password=Concat(Value("of "), "username"))
+        first, again = ([stored_hash_for(name) for name in names] for _ in range(2))
+        self.assertEqual(first, again)
+        self.assertGreater(len(set(first)), 3)
+        User.objects.create(username="one more", password="of one more")
+        changed = sum(one != other for one, other in zip(first, map(stored_hash_for, names)))
+        self.assertLess(changed, len(names) / 2)
+
+    def test_no_users(self):
+        User.objects.all().delete()
+        self.assertContains(self.log_in(), "correct username")
 
     def test_overload(self):
         no_memory = mock.patch("scrypt_c.PasswordHasher.verify", side_effect=MemoryError)
