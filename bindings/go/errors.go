@@ -18,36 +18,36 @@ const (
 	// this package can read.
 	ErrInvalidHash Error = -1
 
-	// ErrMismatch: the password does not match the hash.
+	// ErrMismatch means that the password does not match the hash.
 	ErrMismatch Error = C.SCRYPT_MISMATCH
-	// ErrInvalidParams: N, r and p, or the length of a hash's key, are not accepted.
+	// ErrInvalidParams means that N, r and p, or the length of a hash's key, are not accepted.
 	ErrInvalidParams Error = C.SCRYPT_E_INVALID_PARAMS
-	// ErrInvalidOutputLen: the key is empty, or longer than scrypt allows.
+	// ErrInvalidOutputLen means that the key is empty, or longer than scrypt allows.
 	ErrInvalidOutputLen Error = C.SCRYPT_E_INVALID_OUTPUT_LEN
-	// ErrOutOfMemory: the memory is not available.
+	// ErrOutOfMemory means that the memory is not available.
 	ErrOutOfMemory Error = C.SCRYPT_E_OUT_OF_MEMORY
-	// ErrSaltInvalid: the salt of a PHC hash does not have 1 to 64 bytes, or that of a $7$ hash is not
-	// UTF-8 without a $.
+	// ErrSaltInvalid means that the salt of a PHC hash does not have 1 to 64 bytes, or that the salt
+	// of a $7$ hash is not UTF-8 without a $.
 	ErrSaltInvalid Error = C.SCRYPT_E_SALT_INVALID
-	// ErrAlgorithm: the hash is of another algorithm.
+	// ErrAlgorithm means that the hash is of another algorithm.
 	ErrAlgorithm Error = C.SCRYPT_E_ALGORITHM
-	// ErrEncodingInvalid: the text does not have the grammar of its format.
+	// ErrEncodingInvalid means that the text does not have the grammar of its format.
 	ErrEncodingInvalid Error = C.SCRYPT_E_ENCODING_INVALID
-	// ErrOutputSize: the hash has no key, or one that is too long.
+	// ErrOutputSize means that the hash has no key, or one that is too long.
 	ErrOutputSize Error = C.SCRYPT_E_OUTPUT_SIZE
-	// ErrHashParamInvalid: a parameter in the hash is not a decimal in its range.
+	// ErrHashParamInvalid means that a parameter in the hash is not a decimal in its range.
 	ErrHashParamInvalid Error = C.SCRYPT_E_HASH_PARAM_INVALID
-	// ErrHashParamsInvalid: the parameters in the hash are not accepted, or are not scrypt's.
+	// ErrHashParamsInvalid means that the parameters in the hash are not accepted, or are not scrypt's.
 	ErrHashParamsInvalid Error = C.SCRYPT_E_HASH_PARAMS_INVALID
-	// ErrVersion: the hash has a version field, which scrypt does not define.
+	// ErrVersion means that the hash has a version field, which scrypt does not define.
 	ErrVersion Error = C.SCRYPT_E_VERSION
-	// ErrTooCostly: the hash or parameters exceed the limits on memory or work.
+	// ErrTooCostly means that the hash or parameters exceed the limits on memory or work.
 	ErrTooCostly Error = C.SCRYPT_E_TOO_COSTLY
-	// ErrNoRandomBytes: the system has no random bytes for a salt.
+	// ErrNoRandomBytes means that the system has no random bytes for a salt.
 	ErrNoRandomBytes Error = C.SCRYPT_E_NO_RANDOM_BYTES
-	// ErrKeyTooShort: the key in the hash is shorter than the limits allow.
+	// ErrKeyTooShort means that the key in the hash is shorter than the limits allow.
 	ErrKeyTooShort Error = C.SCRYPT_E_KEY_TOO_SHORT
-	// ErrClosed: the Hasher is closed, or was not created by NewHasher.
+	// ErrClosed means that the Hasher is closed, or was not created by NewHasher.
 	ErrClosed Error = C.SCRYPT_E_CLOSED
 )
 

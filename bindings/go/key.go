@@ -63,7 +63,7 @@ func made(N, r, p, keyLen int, derive func(C.scrypt_cost, []byte) error) ([]byte
 	cost, err := params.costs()
 	switch {
 	case N < 2 || N&(N-1) != 0:
-		return nil, fmt.Errorf("%w: N must be a power of two above 1: %d", ErrInvalidParams, N)
+		return nil, fmt.Errorf("scrypt: N must be a power of two above 1: %d (%w)", N, ErrInvalidParams)
 	case err != nil:
 		return nil, fmt.Errorf("%w: N is %d, r is %d and p is %d", err, N, r, p)
 	}

@@ -214,7 +214,7 @@ func TestRejectedArguments(t *testing.T) {
 		{verify(huge, Options{MaxMem: most, MaxWork: most}), ErrOutOfMemory, ""},
 		{fault(hasher.HashWithSalt(ctx, nil, nil)), ErrSaltInvalid, ""},
 		{fault(hasher.Key(ctx, nil, nil, 0)), ErrInvalidOutputLen, ""},
-		{key(15, 8, 1, 32), ErrInvalidParams, "N must be a power of two above 1: 15"},
+		{key(15, 8, 1, 32), ErrInvalidParams, "scrypt: N must be a power of two above 1: 15"},
 		{key(-16, 8, 1, 32), ErrInvalidParams, "N must be a power of two above 1: -16"},
 		{key(1, 8, 1, 32), ErrInvalidParams, "N must be a power of two above 1: 1"},
 		{fault(KeyContext(ctx, nil, nil, 1, 8, 1, 32, nil)), ErrInvalidParams, "a power of two above 1: 1"},
