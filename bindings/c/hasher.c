@@ -143,8 +143,8 @@ static void release_slot(struct queue *queue, struct slot *slot) {
 }
 
 static int are_compatible(const struct call *call, const struct call *leader) {
-  return call->kind == VERIFY && call->cost.log_n == leader->cost.log_n &&
-         call->cost.r == leader->cost.r && call->cost.p == leader->cost.p;
+  return call->kind == VERIFY && call->cost.log_n == leader->cost.log_n && call->cost.r == leader->cost.r &&
+         call->cost.p == leader->cost.p;
 }
 
 /* Adds compatible calls to a batch, in the order of the queue, until it has `max`, or a slot's
@@ -213,17 +213,16 @@ static size_t form_batch(scrypt_hasher *hasher, struct call **batch, size_t max)
 }
 
 static int write_hash(const scrypt_options *options, const struct call *call, const scrypt_buffers *buffers) {
-  return scrypt_hash_with_buffers(call->login.password, call->login.password_len, call->salt,
-                                  call->salt_len, options->log_n, options->r, options->p,
-                                  options->key_len, options->mcf, (char *)call->output,
-                                  call->output_len, buffers);
+  return scrypt_hash_with_buffers(call->login.password, call->login.password_len, call->salt, call->salt_len,
+                                  options->log_n, options->r, options->p, options->key_len, options->mcf,
+                                  (char *)call->output, call->output_len, buffers);
 }
 
 static int write_key(const scrypt_options *options, const struct call *call, const scrypt_buffers *buffers) {
-  int status = scrypt_key_with_buffers(call->login.password, call->login.password_len, call->salt,
-                                       call->salt_len, options->log_n, options->r, options->p,
-                                       (uint8_t *)call->output, call->output_len, buffers);
   scrypt_buffers secret = *buffers;
+  int status = scrypt_key_with_buffers(call->login.password, call->login.password_len, call->salt, call->salt_len,
+                                       options->log_n, options->r, options->p, (uint8_t *)call->output,
+                                       call->output_len, buffers);
   secret.table_len = 0; /* it is kept */
   scrypt_wipe(&secret);
   return status;
@@ -239,8 +238,7 @@ static void verify_batch(struct call **batch, size_t count, int *statuses, const
 }
 
 /* Runs without the lock. If there is memory only for fewer tables, derives the batch in parts. */
-static void derive(scrypt_hasher *hasher, struct call **batch, size_t count, size_t width,
-                   int *statuses) {
+static void derive(scrypt_hasher *hasher, struct call **batch, size_t count, size_t width, int *statuses) {
   struct arena *arena = &batch[0]->slot->arena;
   const scrypt_cost *cost = &batch[0]->cost;
   size_t wanted = count * cost->p;
@@ -283,19 +281,15 @@ static int run(scrypt_hasher *hasher, struct call *call, int64_t timeout_ms) {
 /* ---- The calls ---- */
 
 /* Without a text, the decoy is verified, in the time of a wrong password. */
-int scrypt_hasher_verify(scrypt_hasher *hasher, const void *password, size_t password_len,
-                         const char *text, size_t text_len, int *needs_rehash, int64_t timeout_ms) {
+int scrypt_hasher_verify(scrypt_hasher *hasher, const void *password, size_t password_len, const char *text,
+                         size_t text_len, int *needs_rehash, int64_t timeout_ms) {
   struct call call = {.kind = VERIFY, .login = {password, password_len, text, text_len}};
   const scrypt_options *options = scrypt_hasher_options(hasher);
   int status;
-  if (hasher == NULL || is_null(password, password_len) || is_null(text, text_len))
-    return SCRYPT_E_NULL_POINTER;
-  if (text == NULL) {
-    call.login.text = hasher->decoy;
-    call.login.text_len = strlen(hasher->decoy);
-  }
-  status = scrypt_hash_cost(call.login.text, call.login.text_len, options->max_mem,
-                            options->max_work, options->min_key_len, &call.cost);
+  if (hasher == NULL || is_null(password, password_len) || is_null(text, text_len)) return SCRYPT_E_NULL_POINTER;
+  if (text == NULL) call.login.text = hasher->decoy, call.login.text_len = strlen(hasher->decoy);
+  status = scrypt_hash_cost(call.login.text, call.login.text_len, options->max_mem, options->max_work,
+                            options->min_key_len, &call.cost);
   if (status == SCRYPT_OK) status = run(hasher, &call, timeout_ms);
   if (text == NULL && status == SCRYPT_OK) status = SCRYPT_MISMATCH;
   if (status == SCRYPT_OK && needs_rehash != NULL)
@@ -303,23 +297,17 @@ int scrypt_hasher_verify(scrypt_hasher *hasher, const void *password, size_t pas
   return status;
 }
 
-int scrypt_hasher_hash(scrypt_hasher *hasher, const void *password, size_t password_len,
-                       const void *salt, size_t salt_len, char *text, size_t capacity,
-                       int64_t timeout_ms) {
+int scrypt_hasher_hash(scrypt_hasher *hasher, const void *password, size_t password_len, const void *salt,
+                       size_t salt_len, char *text, size_t capacity, int64_t timeout_ms) {
   struct call call = {.kind = HASH, .login = {.password = password, .password_len = password_len},
                       .salt = salt, .salt_len = salt_len, .output = text, .output_len = capacity};
   const scrypt_options *options = scrypt_hasher_options(hasher);
   uint8_t random_salt[SCRYPT_MAX_SALT_LEN];
-  if (hasher == NULL || is_null(password, password_len) || is_null(salt, salt_len) ||
-      is_null(text, capacity))
+  if (hasher == NULL || is_null(password, password_len) || is_null(salt, salt_len) || is_null(text, capacity))
     return SCRYPT_E_NULL_POINTER;
   call.cost = hasher->cost;
-  if (salt == NULL) {
-    call.salt = random_salt;
-    call.salt_len = options->salt_len;
-  }
-  if (!options->mcf && (call.salt_len == 0 || call.salt_len > SCRYPT_MAX_SALT_LEN))
-    return SCRYPT_E_SALT_INVALID;
+  if (salt == NULL) call.salt = random_salt, call.salt_len = options->salt_len;
+  if (!options->mcf && (call.salt_len == 0 || call.salt_len > SCRYPT_MAX_SALT_LEN)) return SCRYPT_E_SALT_INVALID;
   /* Otherwise a PHC string that doesn't fit would be detected only after the derivation. */
   if (call.salt_len > capacity ||
       capacity < (options->mcf ? SCRYPT_MCF_CAPACITY(call.salt_len) : SCRYPT_PHC_CAPACITY))
@@ -328,13 +316,11 @@ int scrypt_hasher_hash(scrypt_hasher *hasher, const void *password, size_t passw
   return run(hasher, &call, timeout_ms);
 }
 
-int scrypt_hasher_key(scrypt_hasher *hasher, const void *password, size_t password_len,
-                      const void *salt, size_t salt_len, uint8_t *key, size_t key_len,
-                      int64_t timeout_ms) {
+int scrypt_hasher_key(scrypt_hasher *hasher, const void *password, size_t password_len, const void *salt,
+                      size_t salt_len, uint8_t *key, size_t key_len, int64_t timeout_ms) {
   struct call call = {.kind = KEY, .login = {.password = password, .password_len = password_len},
                       .salt = salt, .salt_len = salt_len, .output = key, .output_len = key_len};
-  if (hasher == NULL || is_null(password, password_len) || is_null(salt, salt_len) ||
-      is_null(key, key_len))
+  if (hasher == NULL || is_null(password, password_len) || is_null(salt, salt_len) || is_null(key, key_len))
     return SCRYPT_E_NULL_POINTER;
   call.cost = hasher->cost;
   if (key_len == 0 || key_len > SCRYPT_MAX_OUTPUT_LEN) return SCRYPT_E_INVALID_OUTPUT_LEN;
@@ -364,12 +350,10 @@ static size_t size_of_queue(const scrypt_hasher *hasher) {
 /* Maps the queue. Without the memory to wipe it on a fork there is none. */
 static int map_queue(scrypt_hasher *hasher) {
   const size_t size = size_of_queue(hasher);
-  int wiped;
-  hasher->queue = (struct queue *)map_zeros(size);
-  if (hasher->queue == NULL) return 0;
-  wiped = wipe_on_fork(hasher->queue, size);
+  struct queue *queue = hasher->queue = (struct queue *)map_zeros(size);
+  const int wiped = queue != NULL ? wipe_on_fork(queue, size) : -1;
   hasher->is_wiped_on_fork = wiped > 0;
-  if (wiped < 0) (void)unmap(hasher->queue, size);
+  if (wiped < 0 && queue != NULL) (void)unmap(queue, size);
   return wiped >= 0;
 }
 
@@ -391,9 +375,7 @@ int scrypt_hasher_new(const scrypt_options *options, scrypt_hasher **hasher) {
   return SCRYPT_OK;
 }
 
-const scrypt_options *scrypt_hasher_options(const scrypt_hasher *hasher) {
-  return hasher != NULL ? &hasher->options : NULL;
-}
+const scrypt_options *scrypt_hasher_options(const scrypt_hasher *it) { return it != NULL ? &it->options : NULL; }
 
 void scrypt_hasher_close(scrypt_hasher *hasher) {
   struct queue *queue;

@@ -1,6 +1,7 @@
 /* The hasher in threads: order, batches, windows, timeouts, failed allocations, and signals.
- * test_queue.c is a model checker of its decisions, test_hasher_parts.c tests its options, errors
- * and numbers, and test_hasher_load.c calls, forks and closing at random times. */
+ * test_queue.c is a model checker of its decisions, test_hasher_options.c tests its options,
+ * test_hasher_parts.c its errors and memory, and test_hasher_load.c calls, forks and closing at
+ * random times. */
 #include "test_hasher.h"
 
 /* The derivation of a call: keys, and verifications with these parameters. */

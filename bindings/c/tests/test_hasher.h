@@ -200,22 +200,21 @@ static int watched_key(const void *password, size_t password_len, const void *sa
 
 /* ---- Hashers, and texts ---- */
 
-/* With one table and one processor. */
-static scrypt_options options_of(uint32_t log_n, uint32_t r, uint32_t p) {
-  scrypt_options options;
-  scrypt_options_init(&options);
-  options.log_n = log_n, options.r = r, options.p = p;
-  options.max_tables = options.processors = 1;
-  return options;
+/* The options of a hasher with one table and one processor, and these changes. */
+#pragma GCC diagnostic ignored "-Woverride-init"
+#define OF(n, its_r, its_p, ...)                                                                          \
+  {.size = sizeof(scrypt_options), .log_n = n, .r = its_r, .p = its_p, .key_len = SCRYPT_KEY_LEN,         \
+   .salt_len = SCRYPT_SALT_LEN, .max_mem = SCRYPT_AUTO, .max_work = SCRYPT_AUTO,                          \
+   .min_key_len = SCRYPT_AUTO, .max_tables = 1, .processors = 1, __VA_ARGS__}
+static scrypt_hasher *made_of(const scrypt_options *options) {
+  scrypt_hasher *hasher = NULL;
+  IS(scrypt_hasher_new(options, &hasher), SCRYPT_OK);
+  return hasher;
 }
 
 static scrypt_hasher *new_hasher(size_t processors, size_t max_tables, uint32_t log_n) {
-  scrypt_options with = options_of(log_n, 8, 1);
-  scrypt_hasher *hasher = NULL;
-  int status;
-  with.max_tables = max_tables, with.processors = processors;
-  status = scrypt_hasher_new(&with, &hasher);
-  expect(status == SCRYPT_OK && hasher != NULL, "new: %d", status);
+  const scrypt_options with = OF(log_n, 8, 1, .max_tables = max_tables, .processors = processors);
+  scrypt_hasher *hasher = made_of(&with);
   begun = ended = inside = tables_inside = passed = is_stopped = 0;
   max_inside = (int)hasher->slots;
   max_tables_inside = (int)max_tables;
