@@ -26,7 +26,8 @@ pub fn stored_text(salt: &[u8], key: &[u8], params: &Params) -> Result<String, E
     }
 }
 
-/// Converts `N$r$p$salt$key`, with the last two in hexadecimal: a hash of Go's `simple-scrypt`.
+/// Converts `N$r$p$salt$key`, with the last two in hexadecimal: a hash of Go's `simple-scrypt`, whose
+/// N is above 1.
 ///
 /// # Errors
 ///
@@ -39,7 +40,7 @@ pub fn from_simple_scrypt(stored: &str) -> Result<String, Error> {
         _ => return Err(Error::EncodingInvalid),
     };
     let n: u64 = decimal(n)?;
-    if !n.is_power_of_two() {
+    if n < 2 || !n.is_power_of_two() {
         return Err(Error::InvalidParams);
     }
     let params = Params::new(n.trailing_zeros() as u8, decimal(r)?, decimal(p)?)?;

@@ -56,6 +56,7 @@ fn simple_scrypt() {
     assert_eq!(text.and_then(|text| Hasher::default().verify(b"pw", &text)), Ok(()));
     for (part, other, wanted) in [
         ("1024", "1000", Error::InvalidParams),
+        ("1024", "1", Error::InvalidParams), // as in simple-scrypt
         ("$8$", "$0$", Error::InvalidParams),
         ("1024", "+1024", Error::EncodingInvalid),
         ("$8$", "$4294967304$", Error::EncodingInvalid),
