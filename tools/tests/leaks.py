@@ -20,10 +20,11 @@ from tools import copies
 
 LEVEL = "x86-64-v3"
 
-# A read of a table at a byte. The value is stored, because valgrind drops a load that nothing uses.
+# A read of a table at a number or a byte. The value is stored, because valgrind drops a load that nothing uses.
+NUMBER = "%leak.index = zext i32 {} to i64"
+BYTE = "%leak.byte = load i8, ptr {}\n  %leak.index = zext i8 %leak.byte to i64"
 READ = """start:
-  %leak.byte = load i8, ptr {}
-  %leak.index = zext i8 %leak.byte to i64
+  {}
   %leak.place = getelementptr [256 x i8], ptr @leak.table, i64 0, i64 %leak.index
   %leak.value = load volatile i8, ptr %leak.place
   store volatile i8 %leak.value, ptr @leak.last
@@ -39,9 +40,9 @@ def ends_early(function):
     return re.sub(loop, r"\1\2i1 \1, \3, label %after.1", function, count=1, flags=re.S)
 
 
-def reads(argument):
-    """A table is read at the first byte of an argument, when the function begins."""
-    return lambda function: function.replace("start:\n", READ.format(argument), 1)
+def reads(index, argument):
+    """A table is read when the function begins: at an argument, or at its first byte."""
+    return lambda function: function.replace("start:\n", READ.format(index.format(argument)), 1)
 
 
 # What is planted; the functions, by their names in the IR; their change; and the statuses of test_secrets with N = 1,
@@ -53,8 +54,9 @@ IN_PROVED = [
      "password_hash::mcf::crypt64::is_encoding", ends_early, [1, 1]),
     ("keys are compared up to the first piece of 96 bytes that differs",
      "scrypt::comparing::is_derived_key", ends_early, [1, 1]),
-    ("HMAC reads a table at a byte of the key", "scrypt_kernel::hmac::masked", reads("%a1"), [1, 1]),
-    ("the walk reads a table at a byte of X", "scrypt_kernel::walk::step", reads("%a0"), [1, 0]),
+    ("the letters of $7$ are read from a table", "password_hash::mcf::alphabet::letter", reads(NUMBER, "%a0"), [1, 1]),
+    ("HMAC reads a table at a byte of the key", "scrypt_kernel::hmac::masked", reads(BYTE, "%a1"), [1, 1]),
+    ("the walk reads a table at a byte of X", "scrypt_kernel::walk::step", reads(BYTE, "%a0"), [1, 0]),
 ]
 
 # The same in C: the file, a line by its beginning, and what is put before it.
