@@ -27,7 +27,7 @@ for PRESET in $presets; do
   generators=TGZ\;DEB
   if [ "$system" = windows ]; then generators=ZIP; fi
   (cd "build/$PRESET" && rm -rf packages && cpack -G "$generators" > "$parts/log") || { cat "$parts/log"; exit 1; }
-  cp build/$PRESET/packages/scrypt-* "$dist"
+  cp build/$PRESET/packages/*scrypt-* "$dist"
   cmake --install build/$PRESET --strip --prefix "$parts/$PRESET" > "$parts/log"
   library=$(find "$parts/$PRESET" -name 'libscrypt_c.so.[0-9]*' -o -name scrypt_c.dll)
   (cd bindings/python && SCRYPT_C_LIBRARY=$library SCRYPT_C_MACHINE=$machine /usr/bin/python3 -B -m hatchling build -t wheel -d "$dist")
