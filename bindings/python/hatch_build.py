@@ -10,8 +10,17 @@ SCRYPT_C_MACHINE is the processor of a library for another machine.
 import os
 import pathlib
 import platform
+import re
 
 from hatchling.builders.hooks.plugin.interface import BuildHookInterface
+
+
+def version():
+    """Returns the version in the file that `make lib` generates."""
+    declared = pathlib.Path(__file__).parent / "scrypt_c/declared.py"
+    if not declared.exists():
+        raise SystemExit("scrypt_c/declared.py is missing: first run `make lib` in the repository")
+    return re.search('VERSION_STRING = "(.+)"', declared.read_text("utf-8"))[1]
 
 
 def found(folder, names):

@@ -31,6 +31,11 @@ if has musl-gcc musl-tools; then
   (SCRYPT_C_LIBRARY="$room/libscrypt_c.so" && packed wheel -d "$room")
   rm "$room"/scrypt_c-*-py3-none-musllinux_1_2_x86_64.whl
 fi
+mkdir "$room/before_make_lib"
+cp -r README.md pyproject.toml hatch_build.py scrypt_c "$room/before_make_lib"
+rm "$room/before_make_lib/scrypt_c/declared.py"
+if said=$(cd "$room/before_make_lib"; $python -m hatchling build -t wheel 2>&1); then exit 1; fi
+case "$said" in *"first run \`make lib\`"*) ;; *) echo "before make lib: $said"; exit 1 ;; esac
 packed sdist -d "$room/source"
 unset SCRYPT_C_LIBRARY PYTHONPATH
 (cd "$room/source" && tar xzf ./*.tar.gz && cd scrypt_c-*/ && packed wheel -d "$room")
