@@ -61,11 +61,11 @@ class PasswordHasher:
     """Makes password hashes with these parameters, and verifies passwords against hashes with any
     parameters.
 
-    `mcf` makes `$7$` hashes of crypt(3) instead of PHC hashes. A hasher is thread-safe. It has a
-    slot for each processor, and calls derive in slots; the others wait in FIFO order, and raise
-    TimeoutError after `timeout` seconds. Waiting verifications with the same N, r and p are derived
-    in one batch, which takes less time on some processors. An error, timeout or exception of one
-    call does not affect the others.
+    `mcf` makes `$7$` hashes of crypt(3) instead of PHC hashes. A hasher is thread-safe. It has
+    `processors` slots, by default one for each processor that this process may use, and calls
+    derive in slots; the others wait in FIFO order, and raise TimeoutError after `timeout` seconds.
+    Waiting verifications with the same N, r and p are derived in one batch, which takes less time
+    on some processors. An error, timeout or exception of one call does not affect the others.
 
     A hasher holds at most `max_tables` tables, whatever p is. The default is two for each
     processor, or the number of tables of `max_mem` that fit in 7/8 of the memory, if that is less.
@@ -74,7 +74,8 @@ class PasswordHasher:
     A hash that needs more than `max_mem` of memory, or whose `Params.work` is above `max_work`,
     is rejected without waiting. By default these are DEFAULT_MAX_MEM, or 7/8 of the memory if that is
     less, and DEFAULT_MAX_WORK, or the cost of new hashes if that is more. A hash is also rejected if its
-    key has fewer than DEFAULT_MIN_KEY_LEN bytes, or fewer than `key_len` if that is less.
+    key has fewer than `min_key_len` bytes, by default DEFAULT_MIN_KEY_LEN, or `key_len` if that is
+    less.
     """
 
     def __init__(
@@ -88,7 +89,9 @@ class PasswordHasher:
         mcf: bool = False,
         max_mem: Optional[int] = None,
         max_work: Optional[int] = None,
+        min_key_len: Optional[int] = None,
         max_tables: Optional[int] = None,
+        processors: Optional[int] = None,
         timeout: Optional[float] = None,
     ) -> None:
         self._params = Params(*accepted(log_n, r, p), number(key_len, "key_len"))
@@ -99,11 +102,16 @@ class PasswordHasher:
         salt_len = number(salt_len, "salt_len")
         if not 1 <= salt_len <= MAX_SALT_LEN:
             check(SALT_INVALID, f"salt_len={salt_len}")
-        if max_tables is not None and number(max_tables, "max_tables") < 1:
-            raise ValueError(f"max_tables must be at least 1: {max_tables}")
+        counts = {"max_tables": max_tables, "processors": processors}
+        for name, count in counts.items():
+            if count is not None and number(count, name) < 1:
+                raise ValueError(f"{name} must be at least 1: {count}")
+        if min_key_len is not None and not 0 <= number(min_key_len, "min_key_len") <= key_len:
+            words = f"min_key_len must be 0 to key_len, {key_len}: {min_key_len}"
+            raise InvalidParamsError("SCRYPT_E_INVALID_PARAMS", words)
         self._timeout = seconds(timeout, "timeout")
         # As they were passed: None depends on the machine, and a copy may be on another machine.
-        limits = {"max_mem": max_mem, "max_work": max_work, "max_tables": max_tables}
+        limits = {"max_mem": max_mem, "max_work": max_work, "min_key_len": min_key_len, **counts}
         others = {"salt_len": salt_len, "mcf": bool(mcf), "timeout": timeout}
         self._options: dict[str, Any] = {**others, **limits}
         options = declared.Options()

@@ -3,6 +3,7 @@ arguments that it, scrypt and calibrate reject: C's types would truncate many to
 
 import copy
 import functools
+import hashlib
 import math
 import os
 import pickle
@@ -13,6 +14,7 @@ import scrypt_c
 from scrypt_c import InvalidParamsError, InvalidSaltError, KeyTooShortError, Params, PasswordHasher
 from scrypt_c import TooCostlyError, VerifyMismatchError, calibrate, errors, params_of
 from scrypt_c.declared import MAX_OUTPUT_LEN, NO_RANDOM_BYTES
+from scrypt_c.migration import stored_text
 
 SMALL = PasswordHasher(log_n=4)
 RANGES = "r and p at least 1, 128 * r * 2^log_n below 2^64, r * p below 2^30"
@@ -44,6 +46,8 @@ REFUSED = [
     (InvalidSaltError, "1 to 64 bytes", hashed, each("salt", b"", bytes(65))),
     (scrypt_c.InvalidOutputLenError, f"1 to {MAX_OUTPUT_LEN} bytes", key,
      each("dklen", 0, -1, MAX_OUTPUT_LEN + 1, 32 + B64)),
+    (scrypt_c.InvalidOutputLenError, f"1 to {MAX_OUTPUT_LEN} bytes", functools.partial(SMALL.key, "pw", salt=b"salt"),
+     each("key_len", 0, -1, MAX_OUTPUT_LEN + 1, 32 + B64)),
     (TooCostlyError, "log_n=17, r=8, p=1 need 134220800 bytes and a work of 4195328, with", made, [
         {"log_n": 17, "max_mem": 134220799}, {"log_n": 17, "max_work": 4195327}]),
     (TooCostlyError, "need", made, each("max_mem max_work", 0, -1)),  # not defaults
@@ -58,12 +62,14 @@ REFUSED = [
         {"hash": f"$7$46..../....saltsalt${16 * '.'}", "password": ""}]),
     (scrypt_c.InvalidHashError, "not a PHC or $7$ hash", verify, each("hash", "$scrypt$ln=\ud800")),
     (ValueError, "max_tables must be at least 1: ", made, each("max_tables", 0, 1 - B64)),
+    (ValueError, "processors must be at least 1: ", made, each("processors", 0, 1 - B64)),
+    (InvalidParamsError, "min_key_len must be 0 to key_len, 32: ", made, each("min_key_len", 33, -1, 16 + B64)),
     (ValueError, "timeout must not be negative: ", made, each("timeout", -1, math.nan)),
     (ValueError, "maxmem must not be negative: ", key, each("maxmem", -1, 1 - B64)),
     (ValueError, "seconds must", calibrate, each("seconds", math.inf, 0, -1, math.nan, 10**400)),
     (TypeError, "must be a number of seconds, not str", made, each("timeout", "1")),
     (TypeError, "must be an int, not", made,
-     each("log_n r p key_len salt_len max_mem max_work max_tables", 17.0, "17")),
+     each("log_n r p key_len salt_len max_mem max_work min_key_len max_tables processors", 17.0, "17")),
     (TypeError, "must be an int, not", key, each("n r p maxmem dklen max_work", 16.0, "16")),
     (TypeError, "must be bytes-like, not", key, each("password salt", 5, "text", None)),
     (TypeError, "a salt must be bytes-like, not str", hashed, each("salt", "saltsalt")),
@@ -85,6 +91,10 @@ def refuse_a_lone_surrogate(test, *calls):
         error = caught.exception
         test.assertNotIn("hunter", f"{error!r} {vars(error)} {getattr(error, 'object', '')}")
         test.assertEqual((error.__context__, error.__cause__), (None, None))
+
+
+class Site(PasswordHasher):
+    name = "none"
 
 
 class Hashes(unittest.TestCase):
@@ -112,10 +122,10 @@ class Hashes(unittest.TestCase):
         self.assertTrue(1 <= usual.max_tables <= 2 * usual.processors <= 2 * os.cpu_count(), usual)
         limits = scrypt_c.DEFAULT_MAX_MEM, scrypt_c.DEFAULT_MAX_WORK, scrypt_c.DEFAULT_MIN_KEY_LEN
         self.assertEqual(usual, (False, 16, *limits, usual.max_tables, usual.processors))
-        given = {"mcf": True, "salt_len": 64, "max_mem": 1 << 20, "max_work": 1 << 16, "max_tables": 3}
-        named = PasswordHasher(4, key_len=10, **given).options._asdict()
-        wanted = {**given, "min_key_len": 10, "processors": usual.processors}
-        self.assertEqual((named, cores), (wanted, 4_194_304))
+        given = {"mcf": True, "salt_len": 64, "max_mem": 1 << 20, "max_work": 1 << 16, "min_key_len": 9}
+        given |= {"max_tables": 3, "processors": 2}
+        self.assertEqual((PasswordHasher(4, **given).options._asdict(), cores), (given, 4_194_304))
+        self.assertEqual(PasswordHasher(4, key_len=10).options.min_key_len, 10)
 
     def test_limits(self):
         """The limits on memory and work are exact, and 2^64 + 1 is not truncated to 1."""
@@ -125,6 +135,17 @@ class Hashes(unittest.TestCase):
         for less in ({"max_mem": of.memory - 1}, {"max_work": of.work - 1}):
             self.assertRaises(TooCostlyError, PasswordHasher(4, **less).verify, text, "pw")
         self.assertTrue(PasswordHasher(log_n=19), "new hashes above the default limits")
+        short = stored_text(b"salt", scrypt_c.scrypt(b"pw", salt=b"salt", n=64, r=8, p=1, dklen=9), 64, 8, 1)
+        self.assertTrue(PasswordHasher(4, min_key_len=9).verify(short, "pw"))
+        self.assertRaises(KeyTooShortError, PasswordHasher(4, min_key_len=10).verify, short, "pw")
+
+    def test_limits_for_costly_hashes(self):
+        """Those that docs/MIGRATION.md names, of libsodium and libxcrypt, are within its limits."""
+        raised, usual = PasswordHasher(max_mem=1025 << 20, max_work=1 << 26), PasswordHasher()
+        for log_n, r in [(20, 8), (17, 32), (18, 32)]:
+            text = f"$scrypt$ln={log_n},r={r},p=1{KEY}AA"
+            self.assertIsNone(raised._judge(text))
+            self.assertRaises(TooCostlyError, usual._judge, text)
 
     def test_verify_and_update(self):
         """As in passlib, there is a new hash if the old hash is weak and the password matches."""
@@ -151,6 +172,7 @@ class Hashes(unittest.TestCase):
         for options in [
             {"log_n": 4, "r": 3, "p": 2, "key_len": 33, "salt_len": 40, "mcf": True},
             {"log_n": 4, "max_tables": 3, "timeout": 0.5, "max_mem": 1 << 20, "max_work": 1 << 15},
+            {"log_n": 4, "min_key_len": 9, "processors": 1},
         ]:
             with PasswordHasher(**options) as hasher:
                 copies = [pickle.loads(pickle.dumps(hasher)), copy.copy(hasher), copy.deepcopy(hasher)]
@@ -158,6 +180,23 @@ class Hashes(unittest.TestCase):
             for of in copies:
                 self.assertEqual(*((repr(it), it.options, it._timeout) for it in (of, hasher)))
                 self.assertTrue(of.verify(of.hash("pw"), "pw"))
+
+    def test_copies_of_a_subclass(self):
+        """A copy has the attributes of the original."""
+        site = Site(log_n=4)
+        site.name = "shop"
+        for of in (pickle.loads(pickle.dumps(site)), copy.copy(site), copy.deepcopy(site)):
+            self.assertEqual((type(of), of.name), (Site, "shop"))
+
+    def test_key(self):
+        """The key of hashes with this salt, of any length."""
+        hasher = PasswordHasher(5, 3, 2)
+        wanted = hashlib.scrypt("gr\xfcn".encode(), salt=b"salt", n=32, r=3, p=2, dklen=70)
+        self.assertEqual(hasher.key("gr\xfcn", salt=b"salt", key_len=70), wanted)
+        self.assertEqual(hasher.key("gr\xfcn", salt=memoryview(b"salt"), key_len=1), wanted[:1])
+        refuse_a_lone_surrogate(self, lambda password: hasher.key(password, salt=b"", key_len=1))
+        hasher.close()
+        self.assertRaisesRegex(ValueError, "closed", hasher.key, "pw", salt=b"", key_len=1)
 
     def test_rejected_arguments(self):
         for error, words, call, arguments in REFUSED:

@@ -82,6 +82,14 @@ class Keys(unittest.TestCase):
                 self.assertLess(used, (tables + 0.25) * one, (limit, progress))
                 self.assertLess(left, one // 4)
 
+    def test_without_maxmem(self):
+        """Tables have 129 MiB together, so this derivation has one. Its steps take about 10 ms."""
+        seen = []
+        for progress in (None, seen.append):
+            used, _ = growth(lambda: key(n=1 << 17, p=2, progress=progress))
+            self.assertLess(used, 160 << 20)
+        self.assertGreater(len(seen), 10)
+
     def test_interrupts(self):
         """Ctrl-C ends a derivation that takes seconds at the end of a step, and so does an
         exception of `progress`. A shell lets what it starts in the background ignore Ctrl-C."""
