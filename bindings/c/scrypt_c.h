@@ -23,6 +23,7 @@
  *   the version of the library                       scrypt_version                           no
  *   the message and the name of a status             scrypt_strerror; scrypt_status_name      no
  *   whether a text was rejected as not a hash        scrypt_status_is_invalid_hash            no
+ *   the numbers of a refusal, for a log              scrypt_explain                           no
  *
  * "yes" marks a proved function, with a few lines of C that check for NULL, reject N passed as
  * log_n, add the NUL to a text, and wipe the stack and the heap memory that the function used. The
@@ -554,6 +555,17 @@ const char *scrypt_status_name(int status);
  * to SCRYPT_E_VERSION above), so that neither the password nor the memory is at fault; otherwise
  * 0. */
 int scrypt_status_is_invalid_hash(int status);
+
+/* Enough for any text of scrypt_explain, including its NUL. */
+#define SCRYPT_EXPLANATION_CAPACITY 256
+
+/* Writes the numbers of a status in English, NUL-terminated, as a log has them after the words of
+ * scrypt_strerror: of SCRYPT_E_TOO_COSTLY the cost, as of scrypt_hash_cost, and the limits, except
+ * SIZE_MAX and UINT64_MAX, which are none; of SCRYPT_E_OUT_OF_MEMORY the cost; of
+ * SCRYPT_E_KEY_TOO_SHORT the length of the key and the minimum; of any other status "". A longer
+ * text than the capacity is cut. Does nothing without a cost or a capacity. */
+void scrypt_explain(int status, const scrypt_cost *cost, size_t max_mem, uint64_t max_work, size_t min_key_len,
+                    char *text, size_t capacity);
 
 #ifdef __cplusplus
 }

@@ -1,6 +1,10 @@
 /* The names and the messages of the statuses, for the packages too. Not proved. */
 #include "scrypt_c.h"
 
+#include <inttypes.h>
+#include <stdio.h>
+#include <string.h>
+
 #define ROW(name, text) [SCRYPT_##name] = {"SCRYPT_" #name, text}
 static const struct {
   const char *name, *text;
@@ -40,3 +44,27 @@ const char *scrypt_strerror(int status) { return is_status(status) ? STATUSES[st
 const char *scrypt_status_name(int status) { return is_status(status) ? STATUSES[status].name : NULL; }
 
 int scrypt_status_is_invalid_hash(int status) { return status >= SCRYPT_E_ALGORITHM && status <= SCRYPT_E_VERSION; }
+
+static void add_number(char *text, size_t capacity, const char *words, uint64_t number) {
+  const size_t len = strlen(text);
+  (void)snprintf(text + len, capacity - len, "%s%" PRIu64, words, number);
+}
+
+void scrypt_explain(int status, const scrypt_cost *cost, size_t max_mem, uint64_t max_work, size_t min_key_len,
+                    char *text, size_t capacity) {
+  const int is_costly = status == SCRYPT_E_TOO_COSTLY, has_most = is_costly && max_mem != SIZE_MAX;
+  if (cost == NULL || text == NULL || capacity == 0) return;
+  text[0] = '\0';
+  if (status == SCRYPT_E_KEY_TOO_SHORT)
+    (void)snprintf(text, capacity, "its length is %" PRIu64 ", and at least %" PRIu64 " is required",
+                   (uint64_t)cost->key_len, (uint64_t)min_key_len);
+  if (!is_costly && status != SCRYPT_E_OUT_OF_MEMORY) return;
+  add_number(text, capacity, "log_n=", cost->log_n);
+  add_number(text, capacity, ", r=", cost->r);
+  add_number(text, capacity, ", p=", cost->p);
+  add_number(text, capacity, " need ", cost->bytes);
+  add_number(text, capacity, " bytes and a work of ", cost->work);
+  if (has_most) add_number(text, capacity, ", with max_mem=", max_mem);
+  if (is_costly && max_work != UINT64_MAX)
+    add_number(text, capacity, has_most ? " and max_work=" : ", with max_work=", max_work);
+}

@@ -6,6 +6,7 @@ import "C"
 import (
 	"context"
 	"fmt"
+	"math"
 	"runtime"
 	"sync/atomic"
 	"time"
@@ -260,9 +261,8 @@ func (h *Hasher) refusal(text []byte) error {
 	status := C.scrypt_hash_cost(chars(text), size(text), with.max_mem, with.max_work,
 		with.min_key_len, &cost)
 	if status == C.SCRYPT_E_TOO_COSTLY || status == C.SCRYPT_E_KEY_TOO_SHORT {
-		const limits = "MaxMem is %d, MaxWork is %d, and the minimum key length is %d"
-		return fmt.Errorf("%w: %v, and a key of %d bytes; "+limits, Error(status), inWords(cost),
-			cost.key_len, with.max_mem, with.max_work, with.min_key_len)
+		return fmt.Errorf("%w: %s", Error(status),
+			explained(status, cost, with.max_mem, with.max_work, with.min_key_len))
 	}
 	return failed(status)
 }
@@ -395,6 +395,12 @@ func (params Params) cost() string {
 }
 
 func inWords(cost C.scrypt_cost) string {
-	return fmt.Sprintf("LogN %d, R %d and P %d need %d bytes and a work of %d",
-		cost.log_n, cost.r, cost.p, cost.bytes, cost.work)
+	return explained(C.SCRYPT_E_TOO_COSTLY, cost, math.MaxUint64, math.MaxUint64, 0)
+}
+
+// explained returns the numbers of a status, in words.
+func explained(status C.int, cost C.scrypt_cost, maxMem C.size_t, maxWork C.uint64_t, minKeyLen C.size_t) string {
+	text := make([]byte, C.SCRYPT_EXPLANATION_CAPACITY)
+	C.scrypt_explain(status, &cost, maxMem, maxWork, minKeyLen, chars(text), size(text))
+	return C.GoString(chars(text))
 }

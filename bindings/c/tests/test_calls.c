@@ -249,6 +249,53 @@ static void words_of_statuses(void) {
   check(strcmp(scrypt_status_name(SCRYPT_E_SALT_INVALID), "SCRYPT_E_SALT_INVALID") == 0, "its name");
 }
 
+#define MOST "18446744073709551615"
+#define WORST "log_n=4294967295, r=4294967295, p=4294967295 need " MOST " bytes and a work of " MOST
+#define COST "log_n=17, r=8, p=1 need 134220800 bytes and a work of 4195328"
+static const scrypt_cost of = {17, 8, 1, 10, 1, 1024, 33554432, 512, 134220800, 4195328},
+                         worst = {UINT32_MAX, UINT32_MAX, UINT32_MAX, 1, 4, 1, 1, 1, UINT64_MAX, UINT64_MAX};
+static const struct {
+  int status;
+  const scrypt_cost *cost;
+  size_t max_mem;
+  uint64_t max_work;
+  const char *text;
+} EXPLANATIONS[] = {
+    {SCRYPT_E_TOO_COSTLY, &of, 1024, 77, COST ", with max_mem=1024 and max_work=77"},
+    {SCRYPT_E_TOO_COSTLY, &of, 0, UINT64_MAX, COST ", with max_mem=0"},
+    {SCRYPT_E_TOO_COSTLY, &of, SIZE_MAX, 0, COST ", with max_work=0"},
+    {SCRYPT_E_TOO_COSTLY, &of, SIZE_MAX, UINT64_MAX, COST},
+    {SCRYPT_E_TOO_COSTLY, &worst, SIZE_MAX - 1, UINT64_MAX - 1,
+     WORST ", with max_mem=18446744073709551614 and max_work=18446744073709551614"},
+    {SCRYPT_E_OUT_OF_MEMORY, &of, 1024, 77, COST},
+    {SCRYPT_E_KEY_TOO_SHORT, &of, 1024, 77, "its length is 10, and at least 16 is required"},
+    {SCRYPT_E_TIMEOUT, &of, 1024, 77, ""},
+    {SCRYPT_OK, &of, 1024, 77, ""},
+};
+
+/* The numbers of each refusal, in each capacity. */
+static void explanations(void) {
+  char text[SCRYPT_EXPLANATION_CAPACITY];
+  size_t i, len;
+  for (i = 0; i < sizeof EXPLANATIONS / sizeof *EXPLANATIONS; i++) {
+    const char *whole = EXPLANATIONS[i].text;
+    check(strlen(whole) < sizeof text, "room for the whole text");
+    for (len = 1; len <= sizeof text; len++) {
+      const size_t wanted = strlen(whole) < len ? strlen(whole) : len - 1;
+      memset(text, '!', sizeof text);
+      scrypt_explain(EXPLANATIONS[i].status, EXPLANATIONS[i].cost, EXPLANATIONS[i].max_mem, EXPLANATIONS[i].max_work, 16,
+                     text, len);
+      check(strlen(text) == wanted && memcmp(text, whole, wanted) == 0, whole);
+      check(len == sizeof text || text[len] == '!', "nothing after the capacity");
+    }
+  }
+  text[0] = '!';
+  scrypt_explain(SCRYPT_E_TOO_COSTLY, NULL, 0, 0, 0, text, sizeof text);
+  scrypt_explain(SCRYPT_E_TOO_COSTLY, &of, 0, 0, 0, text, 0);
+  scrypt_explain(SCRYPT_E_TOO_COSTLY, &of, 0, 0, 0, NULL, 9);
+  check(text[0] == '!', "without a cost or a capacity");
+}
+
 int main(void) {
   uint32_t p;
   size_t i;
@@ -262,6 +309,7 @@ int main(void) {
   zero_in_a_salt();
   costs();
   words_of_statuses();
+  explanations();
   check(strncmp(scrypt_version(), VERSION, sizeof VERSION - 1) == 0, "the version of the header");
   return failed;
 }

@@ -244,7 +244,7 @@ class PasswordHasher:
         """Raises the RefusedHashError of `verify` for this hash, without deriving."""
         raw, options = raw_text(hash), self.options
         limits = options.max_mem, options.max_work, options.min_key_len
-        self._check(library.hash_cost(raw, len(raw), *limits, library.Cost()), raw)
+        self._check(library.hash_cost(raw, len(raw), *limits, declared.Cost()), raw)
 
     def _check(self, status: int, text: Optional[bytes] = None) -> None:
         """Raises the error of a status for this hash, or for a new one. The hash is only read for a
@@ -257,10 +257,7 @@ class PasswordHasher:
         cost = cost_of(self._params)[1]
         if text is not None:  # the text is a valid hash, so this writes its cost
             library.hash_cost(text, len(text), *limits, cost)
-        if status == KEY_TOO_SHORT:
-            least = f"at least {options.min_key_len} is required"
-            check(status, f"its length is {cost.key_len}, and {least}")
-        check_costs(status, cost, options.max_mem, options.max_work)
+        check(status, library.explained(status, cost, *limits))
 
 
 def _copied(kind: type[PasswordHasher], params: Params, options: dict[str, Any]) -> PasswordHasher:

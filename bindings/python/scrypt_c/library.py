@@ -35,14 +35,6 @@ def _loaded() -> ctypes.CDLL:
 _lib = _loaded()
 
 
-class Cost(declared.Cost):
-    """A scrypt_cost; str() returns its part of an error message."""
-
-    def __str__(self) -> str:
-        costs = f"log_n={self.log_n}, r={self.r}, p={self.p}"
-        return f"{costs} need {self.bytes} bytes and a work of {self.work}"
-
-
 class Hasher(ctypes.c_void_p):
     """A scrypt_hasher, or NULL. The library writes it and frees it, each in one call, so that a
     signal handler's exception finds it in one of these two states; then it is freed with this
@@ -88,6 +80,7 @@ hasher_hash = _declared("scrypt_hasher_hash")
 hasher_key = _declared("scrypt_hasher_key")
 hasher_needs_rehash = _declared("scrypt_hasher_needs_rehash")
 hasher_close = _declared("scrypt_hasher_close")
+_explain = _declared("scrypt_explain")
 strerror = _declared("scrypt_strerror")
 status_name = _declared("scrypt_status_name")
 status_is_invalid_hash = _declared("scrypt_status_is_invalid_hash")
@@ -106,6 +99,15 @@ def hasher_new(options: Optional[declared.Options]) -> tuple[int, Hasher]:
     if sys.implementation.name == "cpython":
         _untrack(hasher)
     return _hasher_new(options, hasher), hasher
+
+
+def explained(
+    status: int, cost: declared.Cost, max_mem: int, max_work: int, min_key_len: int = 0
+) -> str:
+    """Returns the part of an error message that has the numbers of a status."""
+    text = ctypes.create_string_buffer(declared.EXPLANATION_CAPACITY)
+    _explain(status, cost, max_mem, max_work, min_key_len, text, len(text))
+    return text.value.decode()
 
 
 def text_capacity(salt_len: int) -> int:

@@ -6,8 +6,8 @@ import ctypes
 from typing import NamedTuple, Optional, Union
 
 from . import declared, library
-from .arguments import number, raw_text
-from .declared import INVALID_PARAMS, TOO_COSTLY
+from .arguments import in_64_bits, number, raw_text
+from .declared import INVALID_PARAMS
 from .errors import check
 
 # No limit.
@@ -52,11 +52,11 @@ class Params(NamedTuple):
 
 def cost_of(
     params: Params, max_mem: int = NO_LIMIT, max_work: int = NO_LIMIT
-) -> tuple[int, library.Cost]:
+) -> tuple[int, declared.Cost]:
     """Returns whether the limits allow a derivation, OK or TOO_COSTLY, and its cost. Raises
     InvalidParamsError."""
     log_n, r, p = accepted(*params[:3])
-    cost = library.Cost()
+    cost = declared.Cost()
     status = int(library.params_cost(log_n, r, p, max_mem, max_work, cost))
     if status == INVALID_PARAMS:
         check(status, f"log_n={log_n}, r={r}, p={p}")
@@ -67,12 +67,12 @@ RECOMMENDED = Params()
 
 
 def check_costs(
-    status: int, cost: library.Cost, max_mem: Optional[int], max_work: Optional[int]
+    status: int, cost: declared.Cost, max_mem: Optional[int], max_work: Optional[int]
 ) -> None:
-    """Raises the exception of a status, for a derivation with this cost. A limit that is None means
-    the default."""
-    limits = f", with max_mem={max_mem} and max_work={max_work}"
-    check(status, f"{cost}{limits if status == TOO_COSTLY else ''}")
+    """Raises the exception of a status, for a derivation with this cost. A limit that is None is
+    not one that it exceeds."""
+    limits = (NO_LIMIT if it is None else in_64_bits(it, "a limit") for it in (max_mem, max_work))
+    check(status, library.explained(status, cost, *limits))
 
 
 def params_of(hash: Union[str, bytes]) -> Params:

@@ -7,7 +7,7 @@ from typing import Callable, Optional
 
 from . import library
 from .errors import check
-from .params import Params, cost_of
+from .params import NO_LIMIT, Params, cost_of
 
 STEP_MS = 10
 
@@ -47,4 +47,6 @@ def derived(
 
 
 def _check(status: int, params: Params, dklen: int) -> None:
-    check(status, f"{cost_of(params)[1]}, and the key {dklen}" if status else "")
+    if status:
+        cost = library.explained(status, cost_of(params)[1], NO_LIMIT, NO_LIMIT)
+        check(status, f"{cost}, and the key {dklen}")

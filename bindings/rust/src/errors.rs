@@ -149,6 +149,22 @@ fn words_of(status: c_int) -> &'static str {
     unsafe { CStr::from_ptr(scrypt_strerror(status)) }.to_str().unwrap_or_default()
 }
 
+// The numbers of a status, in words.
+pub(crate) fn explained(
+    status: c_int,
+    cost: &RawCost,
+    max_mem: usize,
+    max_work: u64,
+    min_key_len: usize,
+) -> String {
+    let mut text = [0u8; EXPLANATION_CAPACITY as usize];
+    let (at, capacity) = (text.as_mut_ptr().cast(), text.len());
+    // SAFETY: the pointers are to local variables, and the library ends the text with a NUL.
+    unsafe { scrypt_explain(status, cost, max_mem, max_work, min_key_len, at, capacity) };
+    // SAFETY: as above.
+    unsafe { CStr::from_ptr(text.as_ptr().cast()) }.to_string_lossy().into_owned()
+}
+
 impl From<InvalidParams> for Error {
     fn from(_: InvalidParams) -> Error {
         Error::InvalidParams
@@ -189,7 +205,8 @@ impl fmt::Display for Error {
             Error::Status(status) => write!(f, "status {status}: {words}"),
             Error::TooCostly(cost) => write!(f, "{words}: {cost}"),
             Error::KeyTooShort { len, min } => {
-                write!(f, "{words}: its length is {len}, and at least {min} is required")
+                let cost = RawCost { key_len: *len, ..RawCost::default() };
+                write!(f, "{words}: {}", explained(KEY_TOO_SHORT, &cost, 0, 0, *min))
             }
             _ => f.write_str(words),
         }

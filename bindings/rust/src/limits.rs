@@ -1,6 +1,7 @@
 //! Limits on the cost of a hash.
 
-use crate::calls::{self, scrypt_params_cost, RawCost, OK};
+use crate::calls::{self, scrypt_params_cost, RawCost, OK, TOO_COSTLY};
+use crate::errors::explained;
 use crate::Params;
 use std::fmt;
 
@@ -54,10 +55,10 @@ impl Cost {
 
 impl fmt::Display for Cost {
     fn fmt(&self, f: &mut fmt::Formatter<'_>) -> fmt::Result {
-        let Cost { params, memory, work, limits } = self;
-        let (log_n, r, p) = (params.log_n(), params.r(), params.p());
-        write!(f, "log_n={log_n}, r={r}, p={p} need {memory} bytes and a work of {work}, with ")?;
-        write!(f, "max_mem={} and max_work={}", limits.max_mem, limits.max_work)
+        let Cost { params, memory: bytes, work, limits: Limits { max_mem, max_work } } = *self;
+        let (log_n, r, p) = (params.log_n().into(), params.r(), params.p());
+        let cost = RawCost { log_n, r, p, bytes, work, ..RawCost::default() };
+        f.write_str(&explained(TOO_COSTLY, &cost, max_mem, max_work, 0))
     }
 }
 
