@@ -10,6 +10,8 @@ ghost use Rattle.password_hash.specs.declared.phc.hash.PasswordHash.{PasswordHas
 ghost use Rattle.scrypt_kernel.specs.Pbkdf2.{max_output_len};
 ghost use Rattle.scrypt.specs.Accepted.{are_accepted, is_output_len, is_stored_len, Parameters, without_len};
 ghost use Rattle.scrypt_kernel.specs.BlockMix.{block_mix};
+ghost use Rattle.scrypt_kernel.specs.RoMix.{ro_mix};
+ghost use Rattle.scrypt_kernel.specs.RoMixLoops.{ro_mix_by_loops};
 ghost use Rattle.scrypt_kernel.specs.Salsa.{salsa20_8};
 ghost use Rattle.scrypt.specs.ChunkOrder.{NamesEachOnce, mixed_in_order};
 ghost use Rattle.scrypt.specs.Hashing.{key_len_or_default};
@@ -45,6 +47,13 @@ pub fn zero_byte_and_digest_passwords_collide()
         → derived_key (password ++ 0 ∷ []) salt log_n r p n ≡ derived_key password salt log_n r p n }
     ensures digest { (password salt : List ℕ) (log_n r p n : ℕ) → 64 < length password
         → derived_key (sha256 password) salt log_n r p n ≡ derived_key password salt log_n r p n }
+{}
+
+/// scryptROMix with the array V and the two loops of RFC 7914, section 5, is `ro_mix`, which has no
+/// array and computes a row of V wherever it is used.
+#[tactic(auto, using(scrypt_kernel::proofs::RoMixLoopFacts::same_ro_mix))]
+pub fn ro_mix_is_its_loops()
+    ensures same { (b : List ℕ) (log_n : ℕ) → ro_mix_by_loops b log_n ≡ ro_mix b log_n }
 {}
 
 /// The chunks may be mixed one after another in any order that names each of them once.

@@ -14,6 +14,7 @@ pub mod SalsaFacts
 pub mod BlockMixFacts
 -- Facts on scryptROMix.
 pub mod RoMixFacts
+pub mod RoMixLoopFacts
 -- Facts on the walk over a table that keeps some rows, or all of them.
 pub mod WalkFacts
 -- Facts on the words and the bytes of several chunks.

@@ -16,6 +16,8 @@ pub mod Count
 pub mod BlockMix
 -- RFC 7914, section 5: scryptROMix
 pub mod RoMix
+-- the same with the array V and the loops of the standard
+pub mod RoMixLoops
 -- the cost of one scryptROMix in cores and in memory, and buffers of these lengths
 pub mod RoMixCost
 -- the order of the words of a block in the SIMD core
