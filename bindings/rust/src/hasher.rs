@@ -17,7 +17,8 @@ pub enum Format {
     Mcf,
 }
 
-/// The options of a [`Hasher`], with recommended defaults.
+/// The options of a [`Hasher`], with recommended defaults. End them by `..Options::default()`: later
+/// versions can add fields.
 #[derive(Clone, Copy, Debug, PartialEq, Eq)]
 pub struct Options {
     /// The parameters of new hashes.
@@ -60,6 +61,7 @@ impl Default for Options {
 
 /// Statistics of a [`Hasher`]. In a child process they begin at the fork.
 #[derive(Clone, Copy, Debug, PartialEq, Eq)]
+#[non_exhaustive]
 pub struct Stats {
     /// The number of calls that wait for a slot.
     pub waiting: usize,

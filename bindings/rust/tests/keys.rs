@@ -11,8 +11,7 @@ fn rejected_keys() {
     let mut key = [7; 4];
     assert_eq!(scrypt(b"", b"", &params[0], &mut []), Err(DeriveError::InvalidOutputLen));
     assert_eq!(scrypt(b"", b"", &params[1], &mut key), Err(DeriveError::OutOfMemory));
-    let mut in_steps =
-        |of, key: &mut _| scrypt_in_steps(b"", b"", of, key, |_| ControlFlow::Break(()));
+    let in_steps = |of, key: &mut _| scrypt_in_steps(b"", b"", of, key, |_| ControlFlow::Break(()));
     assert_eq!(in_steps(&params[1], &mut key), Err(DeriveError::OutOfMemory));
     assert_eq!(in_steps(&params[0], &mut key), Err(DeriveError::Cancelled));
     assert_eq!(key, [7; 4]);
