@@ -87,14 +87,14 @@ static void memory(void) {
   const struct {
     const char *why;
     size_t memory, max_mem, processors, max_tables, default_most;
-  } MEMORY[] = {{"two for each processor", SIZE_MAX, 1 << 14, 64, 128},
-                {"two for each of 8192 processors", SIZE_MAX, 1 << 14, SIZE_MAX / 2 + 1, 1 << 14},
+  } MEMORY[] = {{"two for each processor", SIZE_MAX, 1 << 14, 64, 128, 0},
+                {"two for each of 8192 processors", SIZE_MAX, 1 << 14, SIZE_MAX / 2 + 1, 1 << 14, 0},
                 {"three tables of the default max_mem in 7/8 of the memory", GIB, SCRYPT_AUTO, 64, 3, LIMITS[0]},
-                {"six tables of 129 MiB", GIB, 129 << 20, 64, 6},
+                {"six tables of 129 MiB", GIB, 129 << 20, 64, 6, 0},
                 {"max_mem is 7/8 of the memory by default", GIB / 4, SCRYPT_AUTO, 64, 1, 7 * (GIB / 32)},
                 {"max_mem is no less than a new hash needs", GIB / 16, SCRYPT_AUTO, 64, 1, 134220800},
-                {"six tables of new hashes, because none of max_mem fits", GIB, SIZE_MAX, 64, 6},
-                {"at least one table", 1000, SCRYPT_AUTO, 64, 1}};
+                {"six tables of new hashes, because none of max_mem fits", GIB, SIZE_MAX, 64, 6, 0},
+                {"at least one table", 1000, SCRYPT_AUTO, 64, 1, 0}};
   for (size_t i = 0; i < sizeof MEMORY / sizeof MEMORY[0]; i++) {
     scrypt_options with;
     scrypt_hasher *hasher;
