@@ -241,9 +241,10 @@ function limitsOf(instance, { options, params, length }) {
 
 // The bytes are copied, because the caller may change them before the new hash is made.
 function updating(args) {
-  const { password, text, options, canMatch } = attempt(args);
+  const { password, text, options: given, canMatch } = attempt(args);
+  const options = optionsOf(given, 'update', 'steps');
   const [copy, textCopy] = copiesOf(isNone(text) ? { password } : { password, text });
-  return { copies: [copy, textCopy], options: optionsOf(options, 'update', 'steps'), canMatch };
+  return { copies: [copy, textCopy], options, canMatch };
 }
 
 // Without a hash: does the work of a wrong password for a new hash.
