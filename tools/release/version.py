@@ -8,6 +8,7 @@ usage: python3 -m tools.release.version              names the files that state 
 """
 
 import re
+import subprocess
 import sys
 from pathlib import Path
 
@@ -47,9 +48,8 @@ def stated(version, url):
 def wrong(version, url):
     for path, lines in stated(version, url).items():
         yield from (f"{path}: no {line.strip()}" for line in lines if line not in docs.read(path))
-    others = (path for path in docs.files() if path not in ("VERSION", *OTHERS))
-    word = re.compile(rb"(?<![\w.])" + re.escape(version).encode() + rb"(?![\w.])")
-    yield from (f"{path}: states the version, and is not in OTHERS" for path in others if word.search(Path(path).read_bytes()))
+    found = subprocess.run(["git", "grep", "-lIwF", version], capture_output=True, text=True).stdout.split()  # none without .git
+    yield from (f"{path}: states the version, and is not in OTHERS" for path in found if path not in ("VERSION", *OTHERS))
 
 
 def main(new=None, new_url=None):
