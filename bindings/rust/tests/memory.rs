@@ -46,7 +46,7 @@ fn tables_of_scrypt() {
     let log_in = || std::thread::spawn(move || scrypt.hash_password(b"pw", "c2FsdHNhbHQ").is_ok());
     let mut threads: Vec<_> = (0..6 * slots).map(|_| log_in()).collect();
     while threads.iter().any(|it| !it.is_finished()) {
-        most = most.max(resident() - before);
+        most = most.max(resident().saturating_sub(before));
     }
     assert!(threads.drain(..).all(|it| it.join().unwrap()));
     assert!(most < slots * (32 << 10) + (16 << 10), "{most} KiB, {slots} slots");
