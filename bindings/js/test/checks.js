@@ -260,11 +260,18 @@ const OF_MODULE = {
       (own, it) => own.verifyAsync('', text, it),
       (own, it) => own.verifyAsync('', null, { ...costs, ...it }),
     ]) {
-      const [{ own }, at] = [await opened(module), [performance.now()]];
+      const { own } = await opened(module);
+      const at = [];
       const onProgress = () => at.push(performance.now());
-      await call(own, { onProgress });
-      const [begun, first] = at;
-      equal(first - begun < (at.at(-1) - begun) / 4, true, `progress at ${at.slice(0, 5)} .. ${at.at(-1)}`);
+      // On a loaded machine the first step can be late by chance, but not each time.
+      const isFirstEarly = async () => {
+        const begun = performance.now();
+        at.length = 0;
+        await call(own, { onProgress });
+        return at[0] - begun < (at.at(-1) - begun) / 4;
+      };
+      const early = await isFirstEarly() || await isFirstEarly() || await isFirstEarly();
+      equal(early, true, `progress at ${at.slice(0, 5)} .. ${at.at(-1)}`);
       at.length = 0;
       await instead(performance, 'now', () => 0, () => call(own, { onProgress }));
       equal(at.length >= 5, true, `${at.length} steps without a clock`);
