@@ -12,7 +12,7 @@ cp tools/{setup,install}.sh tools/lacks "$room/tools"
 cp tools/gate/{run,step}.sh "$room/tools/gate"
 cp bindings/cli/{install.sh,scrypt_tool.1,scrypt_tool.bash} "$room/bindings/cli"
 cd "$room"
-unset NO_INSTALL PRESET PROGRESS STEPS NICE LIMIT JOBS DESTDIR MAKEFLAGS # of who runs this
+unset NO_INSTALL PRESET PROGRESS STEPS NICE LIMIT EACH JOBS DESTDIR MAKEFLAGS # of who runs this
 export PATH="$room/bin:$PATH"
 is() { if [ "$1" != "$2" ]; then printf '%s\nand not: %s\n' "$1" "$2"; exit 1; fi; }
 fake() { # COMMAND LINE: a command that prints this line, and notes how it is called
@@ -82,6 +82,7 @@ after: did not begin, since what it needs failed
 in part: part (needs a b)
 skipped: none (needs c); needs (needs d gcc)
 4 passed, 3 failed, 2 skipped"
+is "$(EACH=1 JOBS=1 tools/gate/run.sh hangs 2> /dev/null | grep -c ' of [0-9]* tasks have ended$' | sed 's/[1-9]/some/')" some
 if grep -s '^State:.[^Z]' "/proc/$(cat child)/status"; then echo "a child of a task that hangs is left"; exit 1; fi
 
 export PROGRESS=yes STEPS="proved other"
@@ -91,6 +92,9 @@ proved: 42 % is checked
 step 1 of 2, proved: proved, 7 functions"
 is "$(tools/gate/step.sh proved true | no_times)" "step 1 of 2, proved: begins
 step 1 of 2, proved: nothing to do: proved, 7 functions"
+is "$(EACH=1 tools/gate/step.sh other sleep 1.9 | no_times)" "step 2 of 2, other: begins
+other: runs for 0:01
+step 2 of 2, other: passed"
 grep -q '^logic=proved functions=7' build/log/proved.log
 unset PROGRESS STEPS
 

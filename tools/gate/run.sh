@@ -28,7 +28,7 @@ mkdir -p build/log
 : > $results
 tasks=$(gate tasks OF="$*")
 minutes() { printf '%d:%02d' $(((SECONDS - begun) / 60)) $(((SECONDS - begun) % 60)); }
-while sleep 60 > /dev/null 2>&1; do
+while sleep "${EACH:-60}" > /dev/null 2>&1; do
   ended=$(cut -d' ' -f1 $results | grep -cxFf <(tr ' ' '\n' <<< "$tasks"))
   echo "$(minutes) minutes: $ended of $(wc -w <<< "$tasks") tasks have ended"
 done &

@@ -5,13 +5,14 @@
 #
 # usage: step.sh NAME [--needs COMMAND:PACKAGE ..] COMMAND ..
 #   STEPS   the names of all steps of a command of make, for their numbers
+#   EACH    the seconds after which a line says that the command runs, in place of 60
 #   LIMIT   the time after which the command and its children are ended, as timeout(1) takes it; without it there is none
 # If a needed command (or file) is missing, nothing is run. A command that ran nothing ends with the status 77. Both
 # are skipped: the line names the packages that `tools/lacks` was called with. build/log/results gets a line with the
 # name, the status, the seconds of a processor, and the packages.
 set -u
 unset CDPATH
-name=$1 log=build/log/$1.log missing='' title=$1 number=0
+name=$1 log=build/log/$1.log missing='' title=$1 number=0 EACH=${EACH:-60}
 shift
 for it in ${STEPS:-}; do
   number=$((number + 1))
@@ -32,7 +33,7 @@ minutes() { printf '%d:%02d' $((${1%.*} / 60)) $((${1%.*} % 60)); }
 # The prover's progress in the log, and at least one line each minute.
 progress() {
   local line crate=$name said=$SECONDS rest status
-  while rest=$((said + 60 - SECONDS)); do
+  while rest=$((said + EACH - SECONDS)); do
     read -rt $((rest > 0 ? rest : 1)) line
     status=$?
     if [ $status -gt 128 ]; then echo "$name: runs for $(minutes $SECONDS)"

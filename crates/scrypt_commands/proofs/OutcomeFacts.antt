@@ -1,5 +1,5 @@
 -- Making hashes, carrying out a command, and the outcome and the plan of a run.
-use Rattle.std.proofs.Common.{◌≡◌, ◌⊎◌, ℕ, true, false, List, [], ◌∷◌, Option, Some, None, Ok, Err, inl, inr, length, ◌∙◌, ap, refl, sym, append-nil, arith}
+use Rattle.std.proofs.Common.{◌≡◌, ◌⊎◌, ℕ, true, List, [], ◌∷◌, Option, Some, None, Ok, Err, inl, inr, length, ◌∙◌, ap, refl, sym, append-nil, arith}
 use Rattle.std.specs.Prelude.{IfSome, Result}
 use Rattle.std.specs.Bool.{Decides}
 use Rattle.std.specs.Io.KnownBytes.{Appends, Keeps}
