@@ -73,6 +73,9 @@
 #define SCRYPT_PHC_CAPACITY 256
 #define SCRYPT_MCF_CAPACITY(salt_len) (128 + 2 * (salt_len))
 
+/* The value of an option or a limit that the library chooses: its comment says how. */
+#define SCRYPT_AUTO UINT64_C(18446744073709551614)
+
 /* The maximum number of bytes of stack that a call uses, if malloc is the system's. A thread's
  * stack needs 8 KiB more, for the data that the system keeps there. Before it returns, a call that
  * reads a password or a key wipes the part of the stack that it used; it writes nothing beyond this
@@ -184,7 +187,8 @@ void scrypt_wipe(const scrypt_buffers *buffers);
  *
  *   scrypt_derivation *steps = NULL;
  *   double done = 0;
- *   int status = scrypt_derivation_new(password, password_len, salt, salt_len, 20, 8, 1, 0, 32, &steps);
+ *   int status = scrypt_derivation_new(password, password_len, salt, salt_len, 20, 8, 1,
+ *                                      SCRYPT_AUTO, 32, &steps);
  *   while (status == SCRYPT_OK && done < 1) {
  *     status = scrypt_derivation_run(steps, 10, &done);
  *     show(done);
@@ -198,11 +202,12 @@ void scrypt_wipe(const scrypt_buffers *buffers);
 typedef struct scrypt_derivation scrypt_derivation;
 
 /* Begins to derive the key of password and salt, output_len bytes long, and writes the derivation,
- * which the caller frees. If max_mem is 0, the tables are those of scrypt_key; otherwise chunks are
- * interleaved as far as all buffers fit into max_mem bytes together, and SCRYPT_E_TOO_COSTLY means
- * that the buffers with one table do not fit. If several tables cannot be allocated, one is used.
+ * which the caller frees. If max_mem is SCRYPT_AUTO, the tables are those of scrypt_key; otherwise
+ * chunks are interleaved as far as all buffers fit into max_mem bytes together, and
+ * SCRYPT_E_TOO_COSTLY means that the buffers with one table do not fit. If several tables cannot be
+ * allocated, one is used.
  * No core is run.
- * SCRYPT_E_NULL_POINTER, SCRYPT_E_INVALID_PARAMS, SCRYPT_E_TOO_COSTLY (only with a max_mem),
+ * SCRYPT_E_NULL_POINTER, SCRYPT_E_INVALID_PARAMS, SCRYPT_E_TOO_COSTLY,
  * SCRYPT_E_INVALID_OUTPUT_LEN, SCRYPT_E_OUT_OF_MEMORY. */
 SCRYPT_NODISCARD
 int scrypt_derivation_new(const void *password, size_t password_len, const void *salt, size_t salt_len, uint32_t log_n,
@@ -419,9 +424,6 @@ int scrypt_default_limits(uint32_t log_n, uint32_t r, uint32_t p, size_t key_len
  * Memory: tables hold secrets until scrypt_hasher_close or the end of the process, which unmap
  *   them. */
 typedef struct scrypt_hasher scrypt_hasher;
-
-/* The value of an option that the library chooses: it depends on the machine and on other options. */
-#define SCRYPT_AUTO UINT64_C(18446744073709551614)
 
 /* The options of a hasher. scrypt_options_init writes the defaults; then set those that you choose:
  *

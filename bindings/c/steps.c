@@ -63,6 +63,7 @@ void scrypt_derivation_free(scrypt_derivation **derivation) {
 int scrypt_derivation_new(const void *password, size_t password_len, const void *salt, size_t salt_len,
                           uint32_t log_n, uint32_t r, uint32_t p, size_t max_mem, size_t output_len,
                           scrypt_derivation **derivation) {
+  const int is_auto = max_mem == SCRYPT_AUTO;
   scrypt_derivation *it;
   scrypt_buffers *buffers;
   scrypt_cost cost;
@@ -70,8 +71,8 @@ int scrypt_derivation_new(const void *password, size_t password_len, const void 
   int status;
   if (is_null(password, password_len) || is_null(salt, salt_len) || derivation == NULL)
     return SCRYPT_E_NULL_POINTER;
-  status = scrypt_params_cost(log_n, r, p, max_mem > 0 ? max_mem : MAX_INTERLEAVED_MEM, UINT64_MAX, &cost);
-  if (status != SCRYPT_OK && (status != SCRYPT_E_TOO_COSTLY || max_mem > 0)) return status;
+  status = scrypt_params_cost(log_n, r, p, is_auto ? MAX_INTERLEAVED_MEM : max_mem, UINT64_MAX, &cost);
+  if (status != SCRYPT_OK && (status != SCRYPT_E_TOO_COSTLY || !is_auto)) return status;
   if (output_len == 0 || output_len > SCRYPT_MAX_OUTPUT_LEN) return SCRYPT_E_INVALID_OUTPUT_LEN;
   tables = cost.tables < max_interleave() ? cost.tables : max_interleave();
   if (cost.table_len < MIN_INTERLEAVED_WORDS) tables = 1;

@@ -39,7 +39,7 @@ func keyInSteps(ctx context.Context, password, salt []byte, N, r, p, keyLen int,
 	return made(N, r, p, keyLen, func(cost C.scrypt_cost, key []byte) error {
 		var derivation *C.scrypt_derivation
 		status := C.scrypt_derivation_new(pointer(password), size(password), pointer(salt), size(salt),
-			cost.log_n, cost.r, cost.p, 0, size(key), &derivation)
+			cost.log_n, cost.r, cost.p, C.SCRYPT_AUTO, size(key), &derivation)
 		defer C.scrypt_derivation_free(&derivation)
 		for done := C.double(0); status == C.SCRYPT_OK && done < 1; {
 			if err := ctx.Err(); err != nil {

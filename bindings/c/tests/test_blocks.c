@@ -101,7 +101,7 @@ static void tables_of_keys(size_t that_pay) {
     const int wanted = KEYS[i].tables > 0 ? SCRYPT_E_OUT_OF_MEMORY : SCRYPT_E_INVALID_PARAMS;
     const size_t tables = fewer(KEYS[i].tables, that_pay);
     REFUSES(KEYS[i].why, log_n, tables, wanted, scrypt_key(SECRETS, log_n, R, p, key, sizeof key));
-    REFUSES(KEYS[i].why, log_n, tables, wanted, derive(log_n, p, 0));
+    REFUSES(KEYS[i].why, log_n, tables, wanted, derive(log_n, p, SCRYPT_AUTO));
   }
 }
 
@@ -111,7 +111,7 @@ static void tables_of_limited_keys(size_t that_pay) {
   const struct {
     const char *why;
     size_t max_mem, tables;
-  } BOUNDS[] = {{"one less than one table needs", CHUNKS + EACH - 1, 0}, {"one table", CHUNKS + EACH, 1},
+  } BOUNDS[] = {{"no bytes", 0, 0}, {"one less than one table needs", CHUNKS + EACH - 1, 0}, {"one table", CHUNKS + EACH, 1},
                 {"one less than two need", CHUNKS + 2 * EACH - 1, 1},    {"two tables", CHUNKS + 2 * EACH, 2},
                 {"three tables", CHUNKS + 4 * EACH - 1, 3},              {"no limit", SIZE_MAX, 4}};
   size_t i;
@@ -153,7 +153,7 @@ static int is_in_one_table(void) {
   if (setrlimit(RLIMIT_AS, &limit) != 0) return 2;
   if (scrypt_key(SECRETS, 15, R, 4, key, sizeof key) != SCRYPT_OK || memcmp(key, wanted_key, 32) != 0) return 3;
   memset(key, 7, sizeof key);
-  return derive(15, 4, 0) != SCRYPT_OK || memcmp(key, wanted_key, 32) != 0;
+  return derive(15, 4, SCRYPT_AUTO) != SCRYPT_OK || memcmp(key, wanted_key, 32) != 0;
 }
 static void one_of_several(void) {
   check(scrypt_key(SECRETS, 15, R, 4, wanted_key, 32) == SCRYPT_OK, "a key");

@@ -235,9 +235,10 @@ static void derivations(void) {
 #define NEW(...) scrypt_derivation_new(__VA_ARGS__, &it)
   meets("derivation: r, bytes, output", NEW(SECRETS, 4, 0, 1, 1, 0), SCRYPT_E_INVALID_PARAMS);
   meets("derivation: bytes, output", NEW(SECRETS, PARAMS, 5375, 0), SCRYPT_E_TOO_COSTLY);
-  meets("derivation: output, memory", NEW(SECRETS, HUGE, 1, 1, 0, 0), SCRYPT_E_INVALID_OUTPUT_LEN);
-  meets("derivation: a long output", NEW(SECRETS, HUGE, 1, 1, 0, SCRYPT_MAX_OUTPUT_LEN + 1), SCRYPT_E_INVALID_OUTPUT_LEN);
-  meets("derivation: memory", NEW(SECRETS, HUGE, 1, 1, 0, 20), SCRYPT_E_OUT_OF_MEMORY);
+  meets("derivation: no bytes, output", NEW(SECRETS, PARAMS, 0, 0), SCRYPT_E_TOO_COSTLY);
+  meets("derivation: output, memory", NEW(SECRETS, HUGE, 1, 1, SCRYPT_AUTO, 0), SCRYPT_E_INVALID_OUTPUT_LEN);
+  meets("derivation: a long output", NEW(SECRETS, HUGE, 1, 1, SCRYPT_AUTO, SCRYPT_MAX_OUTPUT_LEN + 1), SCRYPT_E_INVALID_OUTPUT_LEN);
+  meets("derivation: memory", NEW(SECRETS, HUGE, 1, 1, SCRYPT_AUTO, 20), SCRYPT_E_OUT_OF_MEMORY);
   check(it == NULL, "no derivation");
   check(NEW(SECRETS, PARAMS, 5376, 20) == SCRYPT_OK, "a derivation in its bytes");
   meets("derivation: unfinished, output", scrypt_derivation_finish(it, "pw", 2, key, 19), SCRYPT_E_UNFINISHED);

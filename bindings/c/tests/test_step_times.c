@@ -75,7 +75,7 @@ int main(void) {
     scrypt_derivation *it = NULL;
     double done = 0;
     why = ROWS[i].why, mix_ns = ROWS[i].mix_ns, most = 0;
-    check(scrypt_derivation_new("pw", 2, "salt", 4, log_n, r, p, 0, 32, &it) == SCRYPT_OK, why);
+    check(scrypt_derivation_new("pw", 2, "salt", 4, log_n, r, p, SCRYPT_AUTO, 32, &it) == SCRYPT_OK, why);
     while (it != NULL && done < 1) {
       const int64_t begun = clock_ns, first = most == 0 ? (1 << 14) * mix_ns / (2 * (int64_t)r) : 0;
       check(scrypt_derivation_run(it, ROWS[i].milliseconds, &done) == SCRYPT_OK, why);

@@ -33,7 +33,7 @@ static void by_time(void) {
     scrypt_derivation *it = NULL;
     double done = 0, last = 0;
     size_t runs = 0;
-    int status = scrypt_derivation_new("pw", 2, "salt", 4, log_n, r, p, 0, 32, &it);
+    int status = scrypt_derivation_new("pw", 2, "salt", 4, log_n, r, p, SCRYPT_AUTO, 32, &it);
     for (; status == SCRYPT_OK && done < 1; runs++, last = done) {
       check(scrypt_derivation_finish(it, "pw", 2, key, 32) == SCRYPT_E_UNFINISHED, ROWS[i].why);
       status = scrypt_derivation_run(it, ROWS[i].milliseconds, &done);
@@ -67,7 +67,7 @@ static int is_derived(void) {
 static void across_a_fork(void) {
   double done = 0;
   check(scrypt_key("pw", 2, "salt", 4, 15, 8, 2, its_key, 32) == SCRYPT_OK, "a key");
-  check(scrypt_derivation_new("pw", 2, "salt", 4, 15, 8, 2, 0, 32, &shared) == SCRYPT_OK &&
+  check(scrypt_derivation_new("pw", 2, "salt", 4, 15, 8, 2, SCRYPT_AUTO, 32, &shared) == SCRYPT_OK &&
             scrypt_derivation_run(shared, 5, &done) == SCRYPT_OK && done < 1, "a part of a key");
   in_a_child(is_derived, "the rest of a key in a child");
   check(is_derived() == 0, "the rest of a key in its parent");

@@ -5,7 +5,7 @@ from __future__ import annotations
 from typing import Callable, Optional
 
 from .arguments import Bytes, in_64_bits, number, raw_bytes
-from .declared import INVALID_OUTPUT_LEN, MAX_OUTPUT_LEN, TOO_COSTLY
+from .declared import AUTO, INVALID_OUTPUT_LEN, MAX_OUTPUT_LEN, TOO_COSTLY
 from .errors import InvalidParamsError, TooCostlyError, check
 from .params import NO_LIMIT, Params, accepted, cost_of
 from .steps import derived
@@ -49,7 +49,7 @@ def scrypt(
         raise TooCostlyError("SCRYPT_E_TOO_COSTLY", words)
     if not 1 <= dklen <= MAX_OUTPUT_LEN:
         check(INVALID_OUTPUT_LEN, f"dklen={dklen}")
-    return derived(password, salt, params, max_mem if maxmem else 0, dklen, progress)
+    return derived(password, salt, params, max_mem if maxmem else AUTO, dklen, progress)
 
 
 def log_of(n: int) -> int:

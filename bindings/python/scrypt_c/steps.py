@@ -6,6 +6,7 @@ import ctypes
 from typing import Callable, Optional
 
 from . import library
+from .declared import AUTO
 from .errors import check
 from .params import NO_LIMIT, Params, cost_of
 
@@ -24,11 +25,12 @@ def derived(
     dklen: int,
     progress: Optional[Callable[[float], object]] = None,
 ) -> bytes:
-    """Derives a key in tables of up to `max_mem` bytes, or of the library's default if it is 0. An
-    exception of a signal handler or of `progress` ends the derivation, and its memory is freed."""
+    """Derives a key in tables of up to `max_mem` bytes, or as many as the library chooses if it is
+    AUTO. An exception of a signal handler or of `progress` ends the derivation, and its memory is
+    freed."""
     key = ctypes.create_string_buffer(dklen)
     arguments = password, len(password), salt, len(salt), *params[:3]
-    if progress is None and params.cores < LONG and (max_mem == 0 or params.p == 1):
+    if progress is None and params.cores < LONG and (max_mem == AUTO or params.p == 1):
         _check(library.key(*arguments, key, dklen), params, dklen)
     else:
         derivation, done = library.Derivation(), ctypes.c_double()

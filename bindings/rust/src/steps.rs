@@ -52,7 +52,7 @@ fn by_steps(
     // SAFETY: here and below each pointer and the length after it are from one slice, and the
     // others are those of local variables.
     check(unsafe {
-        let (salt_at, max_mem) = (salt.as_ptr().cast(), 0);
+        let (salt_at, max_mem) = (salt.as_ptr().cast(), AUTO as usize);
         scrypt_derivation_new(
             password_at,
             password.len(),
