@@ -64,7 +64,11 @@ needs: none; $(STEP) --needs nothing:d no-cc:gcc true
 wrong:; $(STEP) bash -c 'echo why; exit 3'
 hangs:; @LIMIT=1 tools/gate/step.sh $@ bash -c 'sleep 7914 & echo $$! > child; sleep 7914'
 after: wrong
+waits:; $(STEP) ./until_said 'of . tasks have ended'
 MK
+# until_said TEXT ends when the line of the command that runs it has this text, so that no load breaks the test.
+printf '#!/bin/sh\nuntil grep -q "$1" said; do sleep 0.1; done\n' > until_said
+chmod +x until_said
 no_times() { sed 's/ (.:.*//; /processor minutes$/d'; }
 is "$(JOBS=1 tools/gate/run.sh documents 2> /dev/null | no_times)" "proved: proved, 7 functions
 counted: 2 of 2 passed
@@ -82,18 +86,21 @@ after: did not begin, since what it needs failed
 in part: part (needs a b)
 skipped: none (needs c); needs (needs d gcc)
 4 passed, 3 failed, 2 skipped"
-is "$(EACH=1 JOBS=1 tools/gate/run.sh hangs 2> /dev/null | grep -c ' of [0-9]* tasks have ended$' | sed 's/[1-9]/some/')" some
-if grep -s '^State:.[^Z]' "/proc/$(cat child)/status"; then echo "a child of a task that hangs is left"; exit 1; fi
+timeout 60 sh -c 'while grep -qs "^State:.[^Z]" "/proc/$(cat child)/status"; do sleep 0.1; done' ||
+  { echo "a child of a task that hangs is left"; exit 1; }
 
 export PROGRESS=yes STEPS="proved other"
-is "$(tools/gate/step.sh proved sh -c 'echo "so far: 3 of 7 functions checked"; sleep 1.5; echo "logic=proved functions=7"' | no_times)" \
+EACH=1 JOBS=1 LIMIT=1m tools/gate/run.sh waits 2> /dev/null > said
+is "$(tools/gate/step.sh proved sh -c 'echo "so far: 3 of 7 functions checked"; ./until_said 42; echo "logic=proved functions=7"' |
+  tee said | no_times)" \
   "step 1 of 2, proved: begins
 proved: 42 % is checked
 step 1 of 2, proved: proved, 7 functions"
 is "$(tools/gate/step.sh proved true | no_times)" "step 1 of 2, proved: begins
 step 1 of 2, proved: nothing to do: proved, 7 functions"
-is "$(EACH=1 tools/gate/step.sh other sleep 1.9 | no_times)" "step 2 of 2, other: begins
-other: runs for 0:01
+is "$(EACH=1 tools/gate/step.sh other ./until_said 'runs for' | tee said | no_times | sed 's/ for .*//' | uniq)" \
+  "step 2 of 2, other: begins
+other: runs
 step 2 of 2, other: passed"
 grep -q '^logic=proved functions=7' build/log/proved.log
 unset PROGRESS STEPS
