@@ -31,6 +31,7 @@ from tools.tests.runs import report, run
 sys.path.append("/usr/lib/python3/dist-packages")  # Debian's packages, for an interpreter that is not the system's
 os.environ.setdefault("SCRYPT_C_LIBRARY", "build/lib")
 sys.path.insert(0, "bindings/python")
+import scrypt_c  # noqa: E402
 from scrypt_c import migration  # noqa: E402
 
 CASES = 20
@@ -42,6 +43,12 @@ DJANGO_TEXTS = [
      "Qj3+9PPyRjSJIebHnG81TMjsqtaIGxNQG/aEB/NYafTJ7tibgfYz71m0ldQESkXFRkdVCBhhY8mx7rQwite/Pw=="),
     ("lètmein", "scrypt$16384$seasalt$8$5$"
      "ECMIUp+LMxMSK8xB/IVyba+KYGTI7FTnet025q/1f/vBAVnnP3hdYqJuRi+mJn6ji6ze3Fbb7JEFPKGpuEf5vw=="),
+]
+
+# Texts of `rec_control hash-password` of PowerDNS Recursor 4.8.8, each after its password.
+POWERDNS_TEXTS = [
+    ("hunter42", "$scrypt$ln=10,p=1,r=8$q/DDJMhENbuu2hq4tJei7A==$FwyCuonJwiRa+XjhwmvqR8BYDaPVYo6nmTxEtAJ7l/o="),
+    ("hunter42", "$scrypt$ln=12,p=1,r=8$/EmzsGN/zcbAcwBJ6ggJ+w==$IVAqvlLo4dRu+iT8/OBQH+mQ0BcEwcTHtxxtFKXEYhc="),
 ]
 
 # Spellings that passlib reads and the program does not: a part of a text with the salt `s`, and
@@ -178,6 +185,13 @@ def passlib(trial):
         yield f"passlib verifies {other}", (other != text, scrypt.verify("password", other)), (True, True)
         yield trial.rejected(other, error)
         yield trial.verified(migration.from_passlib(other), "password")
+    for part in (",r=8", ",p=1"):  # here, a missing parameter has its default
+        other = text.replace(part, "")
+        yield f"passlib rejects {other}", raises(scrypt.verify, "password", other), True
+        yield trial.verified(other, "password")
+    other = text.replace("ln=4", "ln=0")
+    refused = [raises(scrypt.verify, "password", other), raises(migration.from_passlib, other)]
+    yield f"passlib and from_passlib reject {other}", refused, [True, True]
     for _ in range(2 * CASES):
         (log_n, r, p, _), (*wanted, _) = some_params(trial.rng), some_params(trial.rng)
         text, salt = made("password", "stored", 1 << log_n, r, p), some_bytes(trial.rng, 20) + b"!"
@@ -201,6 +215,11 @@ def django(trial):
         return
     for case in trial.texts():
         yield from trial.converted(migration.from_django, ScryptPasswordHasher().encode(*case), case[0])
+
+
+def powerdns(trial):
+    for password, text in POWERDNS_TEXTS:
+        yield from trial.converted(migration.from_powerdns, text, password)
 
 
 def libxcrypt(trial):
@@ -281,6 +300,9 @@ def of_hashlib(trial):
         yield from trial.converted(migration.from_werkzeug, f"scrypt:{n}:{r}:{p}${salt}${key}", password)
     for salt in (b"\xff" * 65, b"$" * 65):
         yield f"neither format has the salt {salt}", raises(migration.stored_text, salt, bytes(32), 64, 8, 1), True
+    for costs in ({"n": 1}, {"n": True}, {"n": 16, "dklen": 0}):
+        refused = [raises(it, b"", salt=b"", r=8, p=1, **costs) for it in (hashlib.scrypt, scrypt_c.scrypt)]
+        yield f"hashlib and scrypt reject {costs}", refused, [True, True]
     for log_n, r, p in ((0, 8, 1), (16, 1, 1), (17, 8, 1)):
         is_refused = raises(hashlib.scrypt, b"", salt=b"", n=1 << log_n, r=r, p=p, dklen=10)
         yield f"hashlib refuses {log_n}, {r}, {p}", (is_refused, len(trial.key(b"", b"", log_n, r, p, 10))), (True, 10)
@@ -313,7 +335,7 @@ def main():
     parser.add_argument("--seed", type=int, default=7914)
     args = parser.parse_args()
     trial, is_well = Trial(os.path.abspath(args.program), random.Random(args.seed)), True
-    for part in (passlib, django, libxcrypt, libsodium, libscrypt, of_hashlib, go):
+    for part in (passlib, django, powerdns, libxcrypt, libsodium, libscrypt, of_hashlib, go):
         try:
             is_well = report(part.__name__, part(trial)) and is_well
         except Missing as missing:
