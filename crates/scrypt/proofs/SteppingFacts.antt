@@ -1,12 +1,17 @@
 -- Facts on a derivation in steps.
-use Rattle.std.proofs.Common.{◌≡◌, ℕ, ◌<◌, ◌≤◌, ◌+◌, ◌-◌, ◌*◌, ◌%◌, ◌^◌, min, List, length, sym, ap, ◌∙◌, take_all, arith, suc, zero}
-use Rattle.std.proofs.lemmas.Nat.{mul-le, one_shl, pow_pos, pow-add}
+use Rattle.std.proofs.Common.{◌≡◌, Bool, true, ℕ, ◌<◌, ◌≤◌, ◌+◌, ◌-◌, ◌*◌, ◌/◌, ◌%◌, ◌^◌, min, List, [], ◌∷◌, ◌++◌, length, refl, sym, ap, ◌∙◌, take_all, arith, suc, zero}
+use Rattle.std.proofs.lemmas.Fn.{FoldsTo-push}
+use Rattle.std.proofs.lemmas.Nat.{le-div, mul-le, one_shl, pow_pos, pow-add}
 use Rattle.std.proofs.Math.Nat.{mul-le-mul_left, mul-le-mul_right, pow-le-pow_right}
 use Rattle.scrypt_kernel.specs.Steps.{all_mixes}
 use Rattle.scrypt.specs.Key.{mixed_chunks}
-use Rattle.scrypt.specs.Cost.{cost, table_words}
-use Rattle.scrypt.specs.Stepping.{AreMixed}
+use Rattle.scrypt.specs.Accepted.{Parameters}
+use Rattle.scrypt.specs.Cost.{cost, scratch_words, table_words}
+use Rattle.scrypt.specs.Stepping.{AreMixed, CanGoOn, IsNext, WentOn, lacking, max_step, mixes_done}
+use Rattle.scrypt.specs.Workspace.{interleaved_chunks}
+use Rattle.scrypt.specs.declared.stepping.Progress.{Progress}
 use Rattle.scrypt.proofs.AcceptedFacts.{small_factor}
+use Rattle.scrypt.proofs.CostFacts.{some_table}
 
 -- all chunks, mixed
 pub all_chunks_mixed : (b x : List ℕ) (log_n r i p : ℕ) → i ≡ p → length x ≡ p * (128 * r) → AreMixed b log_n r i x → x ≡ mixed_chunks b log_n r p
@@ -95,3 +100,36 @@ cores_fit i n k m r p x inside few some product small less width =
     let mixes : i * 2 ^ (k + 1) % 2 ^ 128 + n * m ≤ 2 ^ 88 = omega (arith, part, now) in
     let cores : (i * 2 ^ (k + 1) % 2 ^ 128 + n * m) * (2 * x) ≤ 2 ^ 88 * (2 * x) = mul-le-mul_right (2 * x) mixes in
     omega (arith, cores, width)
+
+-- the number that a step shows is the next
+pub next_shown : (most : ℕ) (scalar : Bool) (c : Parameters) (at : Progress) (table scratch : List ℕ) (count j t s : ℕ)
+    → CanGoOn most scalar c at table scratch → length table ≡ t → length scratch ≡ s → 0 < c.r → 0 < count → at.chunks < c.p
+    → j ≡ mixes_done c at + at.interleaved * min count (lacking c at)
+    → IsNext (max_step c count t s) (mixes_done c at * (2 * c.r)) (j * (2 * c.r))
+unfolding interleaved_chunks
+next_shown most scalar c at table scratch count j t s going table_is scratch_is some counted left is =
+    let n : ℕ = at.interleaved in
+    let x : ℕ = min count (lacking c at) in
+    let by_table : n ≤ t / table_words c.log_n c.r = le-div n t (table_words c.log_n c.r) (some_table c.log_n c.r some) (omega (arith, going.table_fits, table_is)) in
+    let by_scratch : n ≤ s / scratch_words c.r = le-div n s (scratch_words c.r) (omega arith) (omega (arith, going.scratch_fits, scratch_is)) in
+    let width : n ≤ interleaved_chunks c.log_n c.r c.p t s = omega (arith, by_table, by_scratch, going.within.few, going.within.chunks) in
+    let near : n * x ≤ interleaved_chunks c.log_n c.r c.p t s * count = mul-le n x _ count width (omega arith) in
+    let more : 1 ≤ n * x = mul-le 1 1 n x (going.within.some left) (omega (arith, going.within.mixes)) in
+    let cores : j * (2 * c.r) ≡ mixes_done c at * (2 * c.r) + (n * x) * (2 * c.r) = rw is (sum_times (mixes_done c at) (n * x) (2 * c.r)) in
+    record {
+      more = omega (arith, cores, mul-le-mul_right (2 * c.r) more);
+      near = omega (arith, cores, mul-le-mul_right (2 * c.r) near);
+    }
+
+-- nothing is shown yet
+pub none_shown : {F : Type 0} (step : F → ℕ → Bool → F → Type 0) (most : ℕ) (f : F) (n : ℕ) → n ≡ 0 → WentOn step most f n f
+none_shown step most f n none = record { shown = []; calls = ap (λ (k : ℕ). (f, k)) (sym none) }
+
+-- one more number is shown
+pub one_shown : {F : Type 0} (step : F → ℕ → Bool → F → Type 0) (most : ℕ) (first p q : F) (i j : ℕ)
+    → WentOn step most first i p → IsNext most i j → step p j true q → WentOn step most first j q
+one_shown {F} step most first p q i j before next went = record {
+  shown = before.shown ++ (j ∷ []);
+  calls = FoldsTo-push {P = F × ℕ} (λ p n q. step p.0 n true q.0 × IsNext most p.1 n × (q.1 ≡ n)) (first, 0) before.shown (p, i) j (q, j)
+      before.calls (went, next, refl);
+}

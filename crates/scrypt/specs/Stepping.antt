@@ -1,5 +1,6 @@
 -- A derivation in steps: its progress, and the contents of the caller's buffers between two steps.
-use Rattle.std.specs.Prelude.{◌≡◌, ◌≢◌, Bool, true, ℕ, ◌+◌, ◌-◌, ◌*◌, ◌<◌, ◌≤◌, List, length, take, drop}
+use Rattle.std.specs.Prelude.{◌≡◌, ◌≢◌, Bool, false, true, ℕ, ◌+◌, ◌-◌, ◌*◌, ◌<◌, ◌≤◌, List, length, take, drop}
+use Rattle.std.specs.List.{FoldsTo}
 use Rattle.scrypt_kernel.specs.Words.{part, words_of}
 use Rattle.scrypt_kernel.specs.Diagonal.{pivot}
 use Rattle.scrypt_kernel.specs.Pbkdf2.{pbkdf2}
@@ -7,6 +8,7 @@ use Rattle.scrypt_kernel.specs.Steps.{IsMixing, all_mixes}
 use Rattle.scrypt.specs.Accepted.{Parameters}
 use Rattle.scrypt.specs.Cost.{chunks_bytes, scratch_words, table_words}
 use Rattle.scrypt.specs.Key.{mixed_chunks}
+use Rattle.scrypt.specs.Workspace.{interleaved_chunks}
 use Rattle.scrypt.specs.declared.stepping.Progress.{Progress}
 
 -- the first i chunks of x are the chunks of b after scryptROMix, and the others are unchanged from
@@ -45,6 +47,31 @@ pub record CanGoOn (most : ℕ) (scalar : Bool) (c : Parameters) (at : Progress)
   pub mixable : AreMixable most scalar at.interleaved
   pub table_fits : at.interleaved * table_words c.log_n c.r ≤ length table
   pub scratch_fits : at.interleaved * scratch_words c.r ≤ length scratch
+
+-- the cores of a step that does at most `count` block mixes of each chunk that is interleaved in a
+-- table and a scratch of these lengths
+abbrev pub max_step : Parameters → ℕ → ℕ → ℕ → ℕ
+max_step c count table scratch = interleaved_chunks c.log_n c.r c.p table scratch * (count * (2 * c.r))
+
+-- `done` cores are more than `before`, by at most `most`
+pub record IsNext (most before done : ℕ) : Type 0 where
+  pub more : before < done
+  pub near : done ≤ before + most
+
+-- Calls of a closure, one after the other, took it from `first` to `last`, and each returned true.
+-- They showed numbers of cores from 0 to `done`, each the next after the one before.
+pub record WentOn {F : Type 0} (step : F → ℕ → Bool → F → Type 0) (most : ℕ) (first : F) (done : ℕ) (last : F) : Type 0 where
+  pub shown : List ℕ
+  pub calls : FoldsTo {P = F × ℕ} (λ p n q. step p.0 n true q.0 × IsNext most p.1 n × (q.1 ≡ n)) (first, 0) shown (last, done)
+
+-- after such calls one more showed `done`, and returned false
+pub record IsStopped {F : Type 0} (step : F → ℕ → Bool → F → Type 0) (most : ℕ) (first : F) (done : ℕ) : Type 0 where
+  pub before : ℕ
+  pub state : F
+  pub left : F
+  pub went_on : WentOn step most first before state
+  pub next : IsNext most before done
+  pub stopped : step state done false left
 
 -- B before step 2
 abbrev pub first_b : List ℕ → List ℕ → Parameters → List ℕ

@@ -10,7 +10,7 @@ ghost use Rattle.scrypt.specs.Cost.{AreCountedAs, AreHashed, chunks_bytes, pbkdf
 ghost use Rattle.scrypt.specs.Key.{derived_key};
 ghost use Rattle.scrypt.specs.KeyOfParams.{IsDerived, cost_by};
 ghost use Rattle.scrypt.specs.Mixing.{group_by};
-ghost use Rattle.scrypt.specs.Stepping.{AreMixable, CanGoOn, AreMixed, IsUnderWay, IsWithin, first_b, lacking, mixes_done, words_from};
+ghost use Rattle.scrypt.specs.Stepping.{AreMixable, AreMixed, CanGoOn, IsStopped, IsUnderWay, IsWithin, WentOn, first_b, lacking, max_step, mixes_done, words_from};
 ghost use Rattle.scrypt.specs.Workspace.{interleaved_chunks, workspace_of};
 ghost use Rattle.scrypt.specs.declared.stepping.StepsError.TheVariants.{Cancelled, InvalidOutputLen as BadLength};
 
@@ -219,8 +219,10 @@ pub fn scrypt_in_steps<W: Backend, F: FnMut(u128) -> bool>(
     ensures length { IsErrOf result BadLength ↔ ¬ IsTrue (is_output_len (length output.old)) }
     ensures derived { OnOk result (IsDerived params.now password.now salt.now
         (cost_by params.now) output.old output.new cores.old cores.new) }
-    ensures cancelled { IsErrOf result Cancelled
-        → (state : F) × (done : ℕ) × (left : F) × F.step state done false left
+    ensures shown { OnOk result ((last : F) × WentOn (λ f done on g. F.step f done on g)
+        (max_step params.now count (length table.old) (length scratch.old)) go_on (cost_by params.now) last) }
+    ensures cancelled { IsErrOf result Cancelled → (done : ℕ) × IsStopped (λ f done on g. F.step f done on g)
+        (max_step params.now count (length table.old) (length scratch.old)) go_on done
         × (cores.new.all ≡ cores.old.all + done) }
     ensures refused { OnErr result (output.new ≡ output.old) }
     ensures unchanged { IsErrOf result BadLength → (cores.new ≡ cores.old)

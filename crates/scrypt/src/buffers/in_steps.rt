@@ -1,12 +1,12 @@
 // A derivation in steps, in buffers that a caller reuses.
 
-ghost use Rattle.std.specs.Prelude.{◌≡◌, ◌↔◌, ◌+◌, ◌*◌, ◌<◌, ◌≤◌, ℕ, List, length, min, false, IfOk, IsErrOf, IsOk, IsTrue, OnErr, OnOk};
+ghost use Rattle.std.specs.Prelude.{◌≡◌, ◌↔◌, ◌+◌, ◌*◌, ◌<◌, ◌≤◌, ℕ, List, length, min, IfOk, IsErrOf, IsOk, IsTrue, OnErr, OnOk};
 ghost use Rattle.scrypt.specs.Accepted.{is_output_len};
 ghost use Rattle.scrypt.specs.Cost.{chunks_bytes};
-ghost use Rattle.scrypt.specs.KeyOfParams.{key_by};
+ghost use Rattle.scrypt.specs.KeyOfParams.{cost_by, key_by};
 ghost use Rattle.scrypt.specs.OwnedBuffers.{AreFor, CanStep, Hold, KeepContents, KeepLens};
 ghost use Rattle.scrypt.specs.Reading.{verdict, with_refusal};
-ghost use Rattle.scrypt.specs.Stepping.{lacking, mixes_done};
+ghost use Rattle.scrypt.specs.Stepping.{IsStopped, WentOn, lacking, max_step, mixes_done};
 ghost use Rattle.scrypt.specs.StoredHash.{reading};
 ghost use Rattle.scrypt.specs.declared.stepping.StepsError.TheVariants.{Cancelled, InvalidOutputLen as BadLength};
 
@@ -36,8 +36,11 @@ impl Buffers {
         requires enough { AreFor params.now self.old }
         ensures length { IsErrOf result BadLength ↔ ¬ IsTrue (is_output_len (length output.old)) }
         ensures value { OnOk result (output.new ≡ key_by params.now password.now salt.now (length output.old)) }
-        ensures cancelled { IsErrOf result Cancelled
-            → (state : F) × (done : ℕ) × (left : F) × F.step state done false left }
+        ensures shown { OnOk result ((last : F) × WentOn (λ f done on g. F.step f done on g)
+            (max_step params.now count (length self.old.table.items) (length self.old.scratch.items))
+            go_on (cost_by params.now) last) }
+        ensures cancelled { IsErrOf result Cancelled → (done : ℕ) × IsStopped (λ f done on g. F.step f done on g)
+            (max_step params.now count (length self.old.table.items) (length self.old.scratch.items)) go_on done }
         ensures refused { OnErr result (output.new ≡ output.old) }
         ensures lens { KeepLens self.old self.new }
     {
