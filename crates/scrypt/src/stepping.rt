@@ -101,6 +101,10 @@ pub fn step<W: Backend>(
         → IsUnderWay password salt params.now at chunks.old table.old scratch.old
         → IsUnderWay password salt params.now result chunks.new table.new scratch.new }
     ensures ended { at.chunks ≡ params.now.p → result ≡ at }
+    ensures same_group { result.chunks ≡ at.chunks → result.interleaved ≡ at.interleaved }
+    ensures interleaved { at.chunks < result.chunks → result.chunks < params.now.p
+        → result.interleaved ≡ group_by W.most W.scalar (interleaved_chunks params.now.log_n params.now.r params.now.p
+        (length table.old) (length scratch.old)) (params.now.p - result.chunks) }
     ensures exact { mixes_done params.now result
         ≡ mixes_done params.now at + at.interleaved * min count (lacking params.now at) }
     ensures counted { AreCountedAs true
