@@ -8,7 +8,7 @@ use Rattle.scrypt_kernel.specs.RoMix.{integerify, walk}
 use Rattle.scrypt_kernel.specs.Table.{extra_rows, recomputed_rows}
 use Rattle.scrypt_kernel.proofs.WalkFacts.{extra_rows-whole, whole_cost}
 use Rattle.scrypt.specs.Accepted.{Parameters}
-use Rattle.scrypt.specs.Limits.{are_within, work}
+use Rattle.scrypt.specs.Limits.{AreMostTables, are_within, tables_within, work}
 use Rattle.scrypt.specs.declared.limits.Limits.{Limits}
 use Rattle.scrypt.specs.Cost.{chunks_bytes, cost, extra_rows_of_chunks, hash_cost, lengths_cost, scratch_words, table_words, thin_chunks_cost, thin_ro_mix_cost}
 use Rattle.scrypt.specs.Workspace.{interleaved_chunks}
@@ -99,3 +99,24 @@ extra_rows_at_most b log_n s (suc k) =
     let some = pow_pos s in
     let next : recomputed_rows s (integerify (walk b log_n k) % 2 ^ log_n) ≤ 2 ^ s - 1 = omega arith in
     omega arith
+
+-- w of these fit into the room that chunks leave, if no more than fit are taken, and at least one
+some_fit : (w each chunks limit : ℕ) → 0 < w → 0 < each → w ≤ (limit - chunks) / each → chunks + w * each ≤ limit
+some_fit w each chunks limit some one fewer =
+    let used : w * each ≤ (limit - chunks) / each * each = mul-le-mul_right each fewer in
+    let more : 1 ≤ w * each = mul-le 1 1 w each some one in
+    omega (arith, used, more, div-mul-le_self (limit - chunks) each)
+
+-- and w do not, if fewer than w fit
+none_fits : (w each chunks limit : ℕ) → 0 < each → (limit - chunks) / each < w → limit < chunks + w * each
+none_fits w each chunks limit one fewer = grind (arith, le-div w (limit - chunks) each one)
+
+-- as many tables are within a limit as fit, at least one, and at most four and one for each chunk
+pub most_tables : (max_mem : ℕ) (c : Parameters) → 0 < c.r → AreMostTables max_mem c (tables_within max_mem c)
+unfolding tables_within
+most_tables max_mem c some =
+    let each : ℕ = 4 * table_words c.log_n c.r + 4 * scratch_words c.r in
+    record {
+      fits = λ more. some_fit (tables_within max_mem c) each (chunks_bytes c.r c.p) max_mem (omega (arith, more)) (omega arith) (omega (arith, more));
+      full = λ few below. none_fits (tables_within max_mem c + 1) each (chunks_bytes c.r c.p) max_mem (omega arith) (omega (arith, few, below));
+    }

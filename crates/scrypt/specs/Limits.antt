@@ -1,5 +1,5 @@
 -- The cost of a derivation, as memory and work, and limits on it.
-use Rattle.std.specs.Prelude.{ℕ, ◌≤◌, ◌+◌, ◌-◌, ◌*◌, ◌/◌, ◌^◌, min, max, ◌&&◌, Bool, nat_le, List, length}
+use Rattle.std.specs.Prelude.{ℕ, ◌<◌, ◌≤◌, ◌+◌, ◌-◌, ◌*◌, ◌/◌, ◌^◌, min, max, ◌&&◌, Bool, nat_le, List, length}
 use Rattle.scrypt.specs.Accepted.{Parameters}
 use Rattle.scrypt.specs.Cost.{chunks_bytes, cost, scratch_words, table_words}
 use Rattle.scrypt.specs.declared.limits.Limits.{Limits}
@@ -20,11 +20,20 @@ unfoldable pub are_within : Limits → Parameters → Bool
 are_within limits c =
     nat_le (buffers_bytes c.log_n c.r c.p) limits.max_mem && nat_le (work c.log_n c.r c.p) limits.max_work
 
+-- the size in bytes of the chunks, w tables and w scratches
+abbrev pub tables_bytes : Parameters → ℕ → ℕ
+tables_bytes c w = chunks_bytes c.r c.p + w * (4 * table_words c.log_n c.r + 4 * scratch_words c.r)
+
 -- The number of tables, and of scratches, that fit into max_mem bytes together with the chunks:
 -- at most four, at most p, and at least one, even if one does not fit.
 unfoldable pub tables_within : ℕ → Parameters → ℕ
 tables_within max_mem c = max 1
     (min (min 4 c.p) ((max_mem - chunks_bytes c.r c.p) / (4 * table_words c.log_n c.r + 4 * scratch_words c.r)))
+
+-- w tables fit into max_mem bytes, unless w is 1, and one more would not, unless w is 4 or p
+pub record AreMostTables (max_mem : ℕ) (c : Parameters) (w : ℕ) : Type 0 where
+  pub fits : 1 < w → tables_bytes c w ≤ max_mem
+  pub full : w < 4 → w < c.p → max_mem < tables_bytes c (w + 1)
 
 -- Buffers of these lengths are long enough for every derivation within these limits. The chunks
 -- have 128 * r * p bytes, which is no more than the work, and the scratch has 64 * r words.

@@ -4,7 +4,7 @@
 ghost use Rattle.std.specs.Prelude.{◌≡◌, ◌⊎◌, ◌↔◌, ◌+◌, ◌-◌, ◌*◌, ◌<◌, ◌≤◌, length, IfOk, IfSome, IsSome, IsTrue, None, replicate};
 ghost use Rattle.scrypt_kernel.specs.Memory.{allocated_room, buffer_room};
 ghost use Rattle.scrypt.specs.Cost.{chunks_bytes, scratch_words, table_words, thin_scratch_words};
-ghost use Rattle.scrypt.specs.Limits.{tables_within};
+ghost use Rattle.scrypt.specs.Limits.{AreMostTables, tables_within};
 ghost use Rattle.scrypt.specs.Mixing.{HasTables, IsAtFront, IsKept, IsReady, IsSpent, IsWidth};
 ghost use Rattle.scrypt.specs.Workspace.{IsDone, are_enough, interleaved_chunks, workspace_of};
 
@@ -68,6 +68,7 @@ impl BufferLens {
         ensures exact { result ≡ tables_within max_mem params.now }
         ensures some { 0 < result }
         ensures few { result ≤ 4 }
+        ensures most { AreMostTables max_mem params.now result }
     {
         let one = BufferLens::of(params);
         params.expose_invariant();

@@ -2,7 +2,7 @@
 
 ghost use Rattle.std.specs.Prelude.{◌≡◌, ◌≢◌, ◌↔◌, ◌⊎◌, IfOk, OnErr, IsTrue, length};
 ghost use Rattle.scrypt.specs.Accepted.{are_accepted};
-ghost use Rattle.scrypt.specs.Limits.{limits_for_new};
+ghost use Rattle.scrypt.specs.Limits.{AreMostTables, limits_for_new};
 ghost use Rattle.scrypt_c.specs.Limits.{IsNeedStatus, limited_reading, limits_of, params_of};
 ghost use Rattle.scrypt_c.specs.Cost.{cost_of};
 ghost use Rattle.scrypt_c.specs.Statuses.{cost_status};
@@ -50,6 +50,7 @@ pub extern "C" fn scrypt_hash_cost(
 ) -> i32
     ensures status { result ≡ cost_status (limited_reading max_mem max_work min_key_len text.now) }
     ensures read { IfOk (bytes_reading text.now) (λ s. cost.new ≡ cost_of max_mem s.params (length s.key)) }
+    ensures tables { IfOk (bytes_reading text.now) (λ s. AreMostTables max_mem s.params cost.new.tables) }
     ensures unread { OnErr (bytes_reading text.now) (cost.new ≡ cost.old) }
 {
     let hash = match stored_hash(text) {
@@ -89,6 +90,7 @@ pub extern "C" fn scrypt_params_cost(
 ) -> i32
     ensures status { IsNeedStatus max_mem max_work log_n r p result }
     ensures cost { result ≢ INVALID_PARAMS → cost.new ≡ cost_of max_mem (params_of log_n r p) 0 }
+    ensures tables { result ≢ INVALID_PARAMS → AreMostTables max_mem (params_of log_n r p) cost.new.tables }
     ensures refused { result ≡ INVALID_PARAMS → cost.new ≡ cost.old }
 {
     let Ok(params) = Params::new(log_n, r, p) else {
@@ -108,7 +110,8 @@ pub extern "C" fn scrypt_params_cost(
 
 // Returns what a derivation with these parameters needs.
 fn cost_of(params: &Params, key_len: usize, max_mem: usize) -> Cost
-    ensures { result ≡ cost_of max_mem params.now key_len }
+    ensures value { result ≡ cost_of max_mem params.now key_len }
+    ensures tables { AreMostTables max_mem params.now result.tables }
 {
     let lens = BufferLens::of(params);
     Cost {

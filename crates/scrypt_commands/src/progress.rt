@@ -1,12 +1,11 @@
 // A key whose progress is shown.
 
-ghost use Rattle.std.specs.Prelude.{◌≡◌, ◌<◌, IfOk, OnOk, length};
+ghost use Rattle.std.specs.Prelude.{◌≡◌, ◌<◌, OnOk, length};
 ghost use Rattle.scrypt.specs.KeyOfParams.{key_by};
-ghost use Rattle.scrypt.specs.OwnedBuffers.{AreFor};
 
 use crate::invocation::Machine;
 use scrypt::{BufferLens, Buffers, CoreCount, DeriveError, Params, output_len_ok, scrypt_in_steps};
-use std::alloc::{AllocError, Global};
+use std::alloc::Global;
 
 // On x86-64-v2 three interleaved chunks take the least time.
 const MAX_TABLES: usize = 3;
@@ -26,8 +25,10 @@ pub(crate) fn derive_shown<M: Machine>(
     if !output_len_ok(key.len()) {
         return Err(DeriveError::InvalidOutputLen);
     }
-    let (tables, mut own) = allocate(alloc, params)?;
-    let all = cores_of(params);
+    let most = BufferLens::for_tables(params, MAX_TABLES).bytes();
+    let max_mem = most.min(BufferLens::MAX_INTERLEAVED_MEM as u128) as usize;
+    let (tables, mut own) = Buffers::within(alloc, params, max_mem)?;
+    let all = params.cores();
     let mut shown = 0u8;
     machine.show_progress(0);
     let go_on = |done: u128| {
@@ -48,24 +49,6 @@ pub(crate) fn derive_shown<M: Machine>(
         Ok(()) => Ok(()),
         Err(_) => unreachable!(),
     }
-}
-
-// Allocates buffers with up to three tables, or with one if that fails, and returns how many.
-fn allocate(alloc: Global, params: &Params) -> Result<(usize, Buffers), AllocError>
-    ensures { IfOk result (λ got. AreFor params.now got.1) }
-{
-    let tables = BufferLens::tables_within(params, BufferLens::MAX_INTERLEAVED_MEM).min(MAX_TABLES);
-    if tables > 1
-        && let Ok(own) = Buffers::allocate(alloc, &BufferLens::for_tables(params, tables))
-    {
-        return Ok((tables, own));
-    }
-    Ok((1, Buffers::allocate(alloc, &BufferLens::of(params))?))
-}
-
-// Returns the number of cores of a derivation, `4 * N * r * p`. A table has `32 * r * N` words.
-fn cores_of(params: &Params) -> u128 {
-    BufferLens::of(params).table as u128 / 8 * u128::from(params.p())
 }
 
 // Returns how many mixes of each of so many chunks are a hundredth of all cores, or 1 if one is

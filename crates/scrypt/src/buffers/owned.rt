@@ -1,17 +1,17 @@
 // Buffers that a caller reuses from call to call.
 
-ghost use Rattle.std.specs.Prelude.{◌≡◌, ◌↔◌, ◌-◌, ◌/◌, ◌≤◌, All, None, Ok, false, length, map, min, replicate, take, IfErr, IfOk, IsAscii, IsErrOf, IsOk, IsTrue, OnErr, OnOk};
+ghost use Rattle.std.specs.Prelude.{◌≡◌, ◌⊎◌, ◌↔◌, ◌-◌, ◌*◌, ◌/◌, ◌<◌, ◌≤◌, All, None, Ok, false, length, map, min, replicate, take, IfErr, IfOk, IsAscii, IsErrOf, IsOk, IsTrue, OnErr, OnOk};
 ghost use Rattle.password_hash.specs.Phc.{hash_text};
 ghost use Rattle.password_hash.specs.Refusal.{refusal};
 ghost use Rattle.scrypt.specs.Accepted.{is_output_len, without_len};
-ghost use Rattle.scrypt.specs.Cost.{chunks_bytes, table_words, thin_scratch_words};
+ghost use Rattle.scrypt.specs.Cost.{chunks_bytes, scratch_words, table_words, thin_scratch_words};
 ghost use Rattle.scrypt.specs.Hashing.{key_len_or_default};
 ghost use Rattle.scrypt.specs.InBuffers.{IsCopiedTo};
 ghost use Rattle.scrypt.specs.KeyOfParams.{key_by};
-ghost use Rattle.scrypt.specs.Limits.{SufficeFor};
+ghost use Rattle.scrypt.specs.Limits.{SufficeFor, tables_bytes, tables_within};
 ghost use Rattle.scrypt.specs.Logins.{attempts, reading_of, verdict_on};
 ghost use Rattle.scrypt.specs.McfHash.{HashIsRefused as McfIsRefused, IsMadeHash as IsMadeMcf, made_text_len};
-ghost use Rattle.scrypt.specs.OwnedBuffers.{KeepLens, are_long_enough, workspace_in};
+ghost use Rattle.scrypt.specs.OwnedBuffers.{AreFor, KeepLens, are_long_enough, workspace_in};
 ghost use Rattle.scrypt.specs.PhcHash.{HashIsRefused, IsMadeHash, IsSaltLen};
 ghost use Rattle.scrypt.specs.Reading.{let_in, verdict, weaker, with_refusal};
 ghost use Rattle.scrypt.specs.StoredHash.{reading};
@@ -30,7 +30,7 @@ use password_hash::{Error, Result as HashResult};
 use std::alloc::{AllocError, Global};
 
 /// The three buffers of derivations, allocated once. Except with a smaller table, each call uses the
-/// front of each buffer, and accepts any parameters if the buffers are long enough for them. Only [`Buffers::allocate`] and [`Buffers::for_limits`] allocate.
+/// front of each buffer, and accepts any parameters if the buffers are long enough for them. Only [`Buffers::allocate`], [`Buffers::within`] and [`Buffers::for_limits`] allocate.
 #[derive(Drop)]
 pub struct Buffers {
     /// The chunks, in bytes.
@@ -72,6 +72,32 @@ impl Buffers {
             scratch: words.min((limits.max_work / 2) as usize),
         };
         Buffers::allocate(alloc, &lens)
+    }
+
+    /// Allocates buffers with [`BufferLens::tables_within`] tables and that number of scratches, or
+    /// with one of each if that fails, so that more than one fit into `max_mem` bytes together with
+    /// the chunks. Also returns this number, of the chunks that are interleaved.
+    pub fn within(
+        alloc: Global,
+        params: &Params,
+        max_mem: usize,
+    ) -> Result<(usize, Buffers), AllocError>
+        ensures width { IfOk result (λ got. (got.0 ≡ tables_within max_mem params.now) ⊎ (got.0 ≡ 1)) }
+        ensures fits { IfOk result (λ got. 1 < got.0 → tables_bytes params.now got.0 ≤ max_mem) }
+        ensures chunks { IfOk result
+            (λ got. length got.1.chunks.items ≡ chunks_bytes params.now.r params.now.p) }
+        ensures table { IfOk result
+            (λ got. length got.1.table.items ≡ got.0 * table_words params.now.log_n params.now.r) }
+        ensures scratch { IfOk result (λ got. length got.1.scratch.items ≡ got.0 * scratch_words params.now.r) }
+        ensures enough { IfOk result (λ got. AreFor params.now got.1) }
+    {
+        let width = BufferLens::tables_within(params, max_mem);
+        if width > 1
+            && let Ok(own) = Buffers::allocate(alloc, &BufferLens::for_tables(params, width))
+        {
+            return Ok((width, own));
+        }
+        Ok((1, Buffers::allocate(alloc, &BufferLens::of(params))?))
     }
 
     /// Writes the scrypt key of `password` and `salt` to `output`, as [`scrypt_in_prefix`] does.
