@@ -20,7 +20,7 @@
 # To change it:
 #   make check     proves and tests the changes since the last check
 #   make generate  generates the packages' declarations from the C header, as make lib does
-#   make promises  generates the code and the lists in docs/PROMISES.md
+#   make promises  generates docs/contracts.txt, and the code and the lists in docs/PROMISES.md
 #   make documents checks the documents and the scripts, and reports every error
 #   make suites    tests the built files: from C and each other language, the examples, and the program
 #   make examples  tests examples/

@@ -1,12 +1,13 @@
-"""Reads the sources once, and makes of them the generated parts of docs/PROMISES.md and the pages for reading the proof.
+"""Reads the sources once, and makes of them the generated parts of docs/PROMISES.md, docs/contracts.txt and the pages for
+reading the proof.
 
 usage: python3 -m tools.generate.make            writes the pages to build/doc, and prints the first one's address
-       python3 -m tools.generate.make promises   writes these parts
-       python3 -m tools.generate.make check      writes the pages, and fails if PROMISES differs from the sources
+       python3 -m tools.generate.make promises   writes these parts and contracts.txt
+       python3 -m tools.generate.make check      writes the pages, and fails if these two differ from the sources
 
 The pages need Debian's python3-jinja2, and nothing needs the kit. It fails if a public function or a definition has no
 comment, or a clause no name; if an imported name or a link has no target, or two targets of a page have one name; or if
-the headline names a clause that no longer exists.
+the headline names a clause that no longer exists, or has changed.
 """
 
 import html
@@ -24,7 +25,7 @@ try:
 except ImportError:
     jinja2 = None
 
-from tools.generate import markup, promises
+from tools.generate import contracts, markup, promises
 from tools.generate.library import Library
 from tools.generate.proof import Proof
 
@@ -133,9 +134,10 @@ def made(proof):
 def main(what="pages"):
     proof = Proof(Library())
     if what == "promises":
-        Path(promises.PAGE).write_text(promises.page(proof), "utf-8")
+        for it in (promises, contracts):
+            Path(it.PAGE).write_text(it.page(proof), "utf-8")
         return
-    wrong = promises.wrong(proof) if what == "check" else []
+    wrong = promises.wrong(proof) + contracts.wrong(proof) if what == "check" else []
     if jinja2:
         wrong += made(proof)
     elif what == "check":
