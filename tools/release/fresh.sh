@@ -1,8 +1,8 @@
 #!/bin/bash
 # Runs the commands of README's *Build* on a fresh machine: a root of Debian 12 with make, python3, git and the
-# kit alone. A user without rights, in a clone, runs `make try` and `make run`, and finds `make lib` and `make test` stop
-# immediately. Root, in the sources of an archive, without .git, runs `make test NO_INSTALL=1`, which stops too, then
-# `make test` and `make run`. Needs root, mmdebstrap, a network, and an hour of four processors. build/fresh.log has what
+# kit alone. A user without rights, in a clone, runs `make try` and `make run`, and finds `make lib`, `make test` and
+# `make run install` stop immediately. Root, in the sources of an archive, without .git, runs `make test NO_INSTALL=1`, which stops too, then
+# `make test` and `make run install`. Needs root, mmdebstrap, a network, and an hour of four processors. build/fresh.log has what
 # each prints, and its time. If one fails, the root is kept.
 # usage: fresh.sh [setup]    with `setup`, without what is proved: it ends with the installation, and `make documents`
 set -euo pipefail
@@ -43,13 +43,15 @@ key=$(cat crates/scrypt_tool/stdout) # the first of RFC 7914
 lacks="^make .* needs these packages of Debian, and nothing was proved: apt-get install gcc .*cmake"
 try user "make test" "$lacks" 5
 try user "make lib" "$lacks" 5
+try user "make run install" "install cannot write to /usr/local, and nothing was proved" 5
 try user "make try" "^$key"
 try root "make test NO_INSTALL=1" "$lacks" 5
 if [ "${1:-}" = setup ]; then
   try root "make setup-test && make documents" "^[0-9]* passed, 0 failed$"
 else
   try root "make test" "^[0-9]* passed, 0 failed$" # first: nothing is installed or proved
-  try root "make run" "^$key"
+  try root "make run install" "^$key"
+  try root "scrypt_tool key 4 1 1 64 '' < /dev/null" "^$key"
   try user "make run" "^$key"
 fi
 if [ $failed = 0 ]; then rm -rf "$room"; else echo "failed: $log; the root is $root"; fi
