@@ -11,7 +11,6 @@ the headline names a clause that no longer exists, or has changed.
 """
 
 import html
-import json
 import re
 import shutil
 import subprocess
@@ -103,8 +102,7 @@ class Pages:
 
     def front(self):
         """The first page, and the definitions that the headline and the verdict depend on."""
-        rows = json.loads((HERE / "headline.json").read_text("utf-8"))
-        phrases, verifying = self.phrases(rows["headline"]), self.phrases(rows["verifying"])
+        phrases, verifying = self.phrases(promises.ROWS["headline"]), self.phrases(promises.ROWS["verifying"])
         headline = self.reading("reading.html", "the headline", [clause for it in phrases for clause in it["clauses"]])
         verdict = self.reading("verdict.html", "the verdict", self.proof.clauses(promises.VERDICT))
         docs = {it: markup.first_sentence(self.proof.library.sources[it][""].doc) for it in self.proof.crates}

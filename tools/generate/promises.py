@@ -1,13 +1,16 @@
 """The generated parts of docs/PROMISES.md, each between `<!-- generated: .. -->` and `<!-- end -->`: the definitions to
-review, and quotations. `PATH: NAME ..` quotes functions with their clauses, or definitions with their comments, which
+review, the headline, and quotations. `PATH: NAME ..` quotes functions with their clauses, or definitions with their comments, which
 name the standard's steps."""
 
+import json
 import re
 import textwrap
+from pathlib import Path
 
 from tools.generate.sources import read
 
 PAGE = "docs/PROMISES.md"
+ROWS = json.loads((Path(__file__).parent / "headline.json").read_text("utf-8"))
 GENERATED = re.compile(r"(<!-- generated: (.*?)(?:: (.*?))? -->\n\n).*?(\n\n<!-- end -->)", re.S)
 
 # The clauses of each of the two promises.
@@ -50,17 +53,23 @@ def reading(proof):
         known.update(every)
 
 
-def filled(text, begin=""):
+def filled(text, begin="", after=None):
     options = {"break_long_words": False, "break_on_hyphens": False}
-    return textwrap.fill(text, 100, initial_indent=begin, subsequent_indent=" " * len(begin), **options)
+    return textwrap.fill(text, 100, initial_indent=begin, subsequent_indent=after or " " * len(begin), **options)
+
+
+def headline():
+    """The headline as a quotation; its phrases have their clauses in headline.json."""
+    return filled("".join(phrase for phrase, *_ in ROWS["headline"]), "> ", "> ")
 
 
 def page(proof):
     """The page with its parts as the sources have them now."""
     def part(found):
         path, names = found[2], found[3]
-        text = quoted(proof.library, path, names.split()) if names else "\n".join(reading(proof))
-        return found[1] + text + found[4]
+        if names:
+            return found[1] + quoted(proof.library, path, names.split()) + found[4]
+        return found[1] + (headline() if path == "the headline" else "\n".join(reading(proof))) + found[4]
 
     return GENERATED.sub(part, read(PAGE))
 
