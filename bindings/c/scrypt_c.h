@@ -5,7 +5,7 @@
  *   a key                                            scrypt_key                               yes
  *   a key with no allocation, in your own buffers    scrypt_key_with_buffers                  yes
  *   a key on a small device, with a smaller table    scrypt_key_thin                          yes
- *   a key in steps, with progress between them       scrypt_derivation_new; _run; _finish     no
+ *   a key in steps, with progress between them       scrypt_derivation_new; _run; ..          no
  *   the lengths of buffers; wiping them              scrypt_buffer_lens; scrypt_wipe          yes
  *   a password hash to store                         scrypt_hash_password                     no
  *   the same with your salt and parameters           scrypt_hash_with_salt; .._with_buffers   yes
@@ -16,6 +16,8 @@
  *   up to four verifications in one batch            scrypt_verify_batch_with_buffers         yes
  *   whether a stored hash is too weak now            scrypt_needs_rehash                      yes
  *   the cost of a stored hash, within limits         scrypt_hash_cost; scrypt_hash_params     yes
+ *   the cost of parameters, within limits            scrypt_params_cost                       yes
+ *   the default limits                               scrypt_default_limits                    yes
  *   hashes for a service: threads, limits, memory    scrypt_hasher_new; _verify; _hash; ..    no
  *   the options of a hasher                          scrypt_options_init                      no
  *   parameters that take a given time                scrypt_calibrate                         no
@@ -213,8 +215,9 @@ SCRYPT_NODISCARD
 int scrypt_derivation_new(const void *password, size_t password_len, const void *salt, size_t salt_len, uint32_t log_n,
                           uint32_t r, uint32_t p, size_t max_mem, size_t output_len, scrypt_derivation **derivation);
 
-/* Derives for about this time, but at least one block mix of each interleaved chunk, or until all
- * chunks are mixed. Writes the fraction that is done: 1 if all chunks are mixed, and less if not.
+/* Derives for about this many milliseconds, or until all chunks are mixed, but always at least one
+ * block mix of each interleaved chunk. Writes the fraction that is done: 1 if all chunks are mixed,
+ * and less if not.
  * SCRYPT_E_NULL_POINTER. */
 SCRYPT_NODISCARD
 int scrypt_derivation_run(scrypt_derivation *derivation, uint32_t milliseconds, double *done);
@@ -264,9 +267,9 @@ int scrypt_hash_with_buffers(const void *password, size_t password_len, const vo
 /* Writes the hash of a salt and a key that another program has derived with these parameters,
  * NUL-terminated, to text: a PHC string if mcf is 0, and otherwise a $7$ hash. The text is read as
  * exactly these parts. For a PHC string the salt has 1 to 64 bytes and the key 10 to 64; a shorter
- * key is a prefix of a longer one. The salt of a $7$ hash is UTF-8 without a $, and stands in the
- * text as it is, after 14 bytes. A zero byte in it stands there too, so that the length of the text
- * is not strlen(text) but 14 + salt_len + strlen(text + 14 + salt_len). A capacity of
+ * key is a prefix of a longer one. The salt of a $7$ hash is UTF-8 without a $; it is copied
+ * unchanged to offset 14 of the text. If it contains a zero byte, strlen(text) is too short: the
+ * length is 14 + salt_len + strlen(text + 14 + salt_len). A capacity of
  * SCRYPT_PHC_CAPACITY + 2 * (salt_len + key_len) is enough. Nothing is allocated.
  * SCRYPT_E_NULL_POINTER, SCRYPT_E_INVALID_PARAMS, SCRYPT_E_SALT_INVALID, SCRYPT_E_INVALID_OUTPUT_LEN for the
  * length of the key, SCRYPT_E_BUFFER_SIZE. */

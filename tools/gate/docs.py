@@ -4,6 +4,7 @@
 - a name that no source has: text between backquotes that is a path (`mcf::Base64`), a word with an
   underscore (`scrypt_ro_mix`), a call (`new()`, `.verify(&hash)`), or a file of the repository
 - a public function of the crate scrypt that docs/API.md doesn't name
+- a call of the C header that the table at its top doesn't name
 
 tools/generate/make.py compares docs/PROMISES.md, and bindings/readme_examples.py runs the examples.
 """
@@ -14,7 +15,7 @@ import re
 import subprocess
 import sys
 
-from tools.generate import specs
+from tools.generate import header, specs
 from tools.generate.library import Library
 from tools.generate.sources import read
 
@@ -87,12 +88,22 @@ def unnamed_calls(path, library):
                 if it.name not in words and " for " not in it.owner and library.is_public(it))
 
 
+def unlisted_calls():
+    """The calls of the C header that its table doesn't name: `.._limited` and `_run` are ends of names, and `..` is any."""
+    rows = [it.split("; ") for it in re.findall(r"^ \*   .{48} (scrypt_.*?) +(?:yes|no)$", header.TEXT, re.M)]
+    for _, name, _ in header.CALLS:
+        family = "_".join(name.split("_")[:2])
+        ends = [it.lstrip(".") for first, *others in rows if first.startswith(family) for it in others if it[0] in "._"]
+        if not name.endswith(tuple(ends)) and not any(name in row for row in rows):
+            yield f"bindings/c/scrypt_c.h: the table doesn't name {name}"
+
+
 def main():
     paths = files()
     names = known_names(paths)
     documents = {path: read(path) for path in paths if path.endswith(".md")}
     found = [it for path, text in documents.items() for it in (*unknown_names(path, text, names), *broken_links(path, text))]
-    sys.exit("\n".join([*found, *unnamed_calls("docs/API.md", Library())]) or 0)
+    sys.exit("\n".join([*found, *unnamed_calls("docs/API.md", Library()), *unlisted_calls()]) or 0)
 
 
 if __name__ == "__main__":
