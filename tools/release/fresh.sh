@@ -1,9 +1,10 @@
 #!/bin/bash
 # Runs the commands of README's *Build* on a fresh machine: a root of Debian 12 with make, python3, git and the
 # kit alone. A user without rights, in a clone, runs `make try` and `make run`, and finds `make lib`, `make test` and
-# `make run install` stop immediately. Root, in the sources of an archive, without .git, runs `make test NO_INSTALL=1`, which stops too, then
-# `make test` and `make run install`. Needs root, mmdebstrap, a network, and an hour of four processors. build/fresh.log has what
-# each prints, and its time. If one fails, the root is kept.
+# `make run install` stop immediately. Root, in the sources of an archive, without .git, runs
+# `make test NO_INSTALL=1`, which stops too, then `make test` and `make run install`. Needs root, mmdebstrap, a
+# network, and an hour of four processors. build/fresh.log has what each prints, and its time. If one fails, the
+# root is kept.
 # usage: fresh.sh [setup]    with `setup`, without what is proved: it ends with the installation, and `make documents`
 set -euo pipefail
 unset CDPATH
