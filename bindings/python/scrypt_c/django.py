@@ -7,17 +7,20 @@
     ]
 
 The first class in the list makes new hashes; a hash of another class is replaced at the next login.
-docs/MIGRATION.md of the repository has classes that hash the hashes of PBKDF2 and bcrypt once more,
-for users who don't log in.
+OverPBKDF2 and OverBCrypt hash the hashes of PBKDF2 and bcrypt once more, for users who don't log
+in: docs/MIGRATION.md of the repository shows how.
 
-A PasswordHasher makes and verifies the hashes of both classes: it has the limits, the slots and the
-queue. By default both classes, and the handler for passlib, share one. Parameters and limits are
-attributes. To change them, put your own subclass into the list:
+A PasswordHasher makes and verifies the hashes of all these classes: it has the limits, the slots and
+the queue. By default they share one, with the handler for passlib too. Parameters and limits are
+attributes. To change them, put your own subclass into the list; `hasher` lets two classes share:
 
     class OurPasswordHasher(PHCPasswordHasher):
-        hasher = PasswordHasher(log_n=16, max_mem=1 << 30)
+        hasher = PasswordHasher(log_n=16, max_mem=1 << 30, timeout=10)
 
     class OurDjangoHasher(ScryptPasswordHasher):
+        hasher = OurPasswordHasher.hasher
+
+    class AnotherDjangoHasher(ScryptPasswordHasher):  # with a hasher of its own
         work_factor, max_mem, timeout = 2**16, 1 << 30, 10
 
 For a hash that is damaged or exceeds the limits, check_password raises a RefusedHashError. If no

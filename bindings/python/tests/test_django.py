@@ -110,6 +110,10 @@ class Hashers(unittest.TestCase):
         self.assertIs(kind().hasher, kind().hasher)
         found = {**kind().hasher.options._asdict(), "timeout": kind().hasher._timeout}
         self.assertEqual({name: found[name] for name in given}, given)
+        same = type("Same", (ScryptPasswordHasher,), {"hasher": Small.hasher})()
+        stored = same.encode("pw", 22 * "s")
+        self.assertTrue(stored.startswith("scrypt$64$") and same.verify("pw", stored))
+        self.assertFalse(same.must_update(stored))
 
     def test_one_hasher_of_threads(self):
         """Threads that ask at the same time for a new hasher get the same one."""
