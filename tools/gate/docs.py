@@ -23,8 +23,8 @@ SOURCES = ("crates/", "examples/", "bindings/", "Makefile")
 SUFFIXES = (".rt", ".antt", ".c", ".h", ".py", ".go", ".rs", ".js", "Makefile")
 
 # Names of other programs and libraries.
-OTHERS = {"check_password", "crypt_data", "crypt_r", "find_package", "maxmem_bytes", "mlockall", "must_use", "needs_update",
-          "rattle_env", "rattle_env_at", "run_in_executor", "sodium_init", "sodium_misuse", "sodium_stackzero"}
+OTHERS = {"check_password", "crypt_data", "crypt_r", "find_package", "maxmem_bytes", "must_use", "needs_update", "rattle_env",
+          "rattle_env_at", "run_in_executor"}
 
 
 def files():
