@@ -98,7 +98,7 @@ case $status in
     echo "$title: skipped (needs ${absent:-what $log names})"
     status=0 ;;
   *) # without the prover's line for each proved function
-    if [ $status = 124 ]; then how="after its limit, $LIMIT"; fi
+    if [ $status = 124 ]; then how="after its limit, ${LIMIT:-none}"; fi
     printf '%s\n' "$(grep -v ': proved$' "$log" | tail -n 40)" "$title: FAILED $how" ;;
 esac
 exit $status
