@@ -13,6 +13,8 @@ pub mod StandardFacts
 pub mod ReadingFacts
 -- Facts on several logins, whose keys are derived at once.
 pub mod LoginFacts
+-- The work and the memory of a verification depend on its public part alone.
+pub mod PublicFacts
 -- Facts on PHC hashes of scrypt, and on their parameters as pairs.
 pub mod PhcFacts
 -- Facts on five-letter numbers and on the parameters with which a field begins.

@@ -52,6 +52,8 @@ pub mod TextOfKey
 pub mod WithinLimits
 -- verifying several passwords in one workspace
 pub mod Logins
+-- the public part of a verification, on which alone its work depends
+pub mod PublicPart
 -- a derivation in steps: the contents of its buffers between two steps
 pub mod Stepping
 -- buffers that a caller reuses from call to call

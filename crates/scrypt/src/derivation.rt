@@ -210,7 +210,8 @@ pub fn scrypt_in_prefix<W: Backend>(
 /// This is a time-memory trade-off: the table keeps each row whose number is a multiple of `2^s`,
 /// and any other row is recomputed whenever it is needed. So the table has `2^s` times fewer words,
 /// and there may be more than `4 * N * r * p` cores: `cores` counts them, and the blocks that
-/// SHA-256 compresses. Does not allocate.
+/// SHA-256 compresses. How many rows are recomputed depends on the password and the salt, so,
+/// unlike with the whole table, the time of a call reveals something about them. Does not allocate.
 ///
 /// The buffers have the lengths of [`BufferLens::thin`]: `chunks` in bytes, `table` and `scratch`
 /// in words. `s` is at most `log_n`. The contents of the buffers before the call do not matter.

@@ -1,6 +1,6 @@
 //! Laws of the definitions. Each function does nothing at run time: its contract is the law.
 
-ghost use Rattle.std.specs.Prelude.{◌≡◌, ◌≢◌, ◌⊎◌, ◌↔◌, true, false, ℕ, ◌+◌, ◌-◌, ◌*◌, ◌%◌, ◌^◌, ◌<◌, ◌≤◌, List, [], ◌∷◌, ◌++◌, IsTrue, length, take, Option, Result, Ok, Err, IsOk, IsSome, Some, All};
+ghost use Rattle.std.specs.Prelude.{◌≡◌, ◌≢◌, ◌⊎◌, ◌↔◌, true, false, ℕ, ◌+◌, ◌-◌, ◌*◌, ◌%◌, ◌^◌, ◌<◌, ◌≤◌, List, [], ◌∷◌, ◌++◌, IsTrue, length, map, sum_by, take, Option, Result, Ok, Err, IsOk, IsSome, Some, All};
 ghost use Rattle.sha2.specs.Sha256.{sha256};
 ghost use Rattle.password_hash.specs.Crypt64.{Crypt64, letter_value, letters_of};
 ghost use Rattle.password_hash.specs.Mcf.{IsMcfText, fields_of};
@@ -15,20 +15,23 @@ ghost use Rattle.scrypt_kernel.specs.RoMixLoops.{ro_mix_by_loops};
 ghost use Rattle.scrypt_kernel.specs.Salsa.{salsa20_8};
 ghost use Rattle.scrypt.specs.ChunkOrder.{NamesEachOnce, mixed_in_order};
 ghost use Rattle.scrypt.specs.Hashing.{key_len_or_default};
-ghost use Rattle.scrypt.specs.KeyOfParams.{key_by};
+ghost use Rattle.scrypt.specs.KeyOfParams.{cost_by, key_by};
 ghost use Rattle.scrypt_kernel.specs.Diagonal.{AreInverse, IsBlockMixBy, diagonal_core, diagonal_order, inverse_pivot, pivot, standard_order};
 ghost use Rattle.scrypt.specs.Key.{derived_key, mixed_chunks};
 ghost use Rattle.scrypt.specs.Cost.{chunks_bytes, cost, extra_rows, hash_cost, lengths_cost, scratch_words, table_words, thin_cost};
 ghost use Rattle.scrypt.specs.InBuffers.{are_enough};
 ghost use Rattle.scrypt.specs.Limits.{SufficeFor, are_within, buffers_bytes, limits_for_new, work};
+ghost use Rattle.scrypt.specs.Logins.{AreLeft, Attempt, cores_on, hashed_on};
 ghost use Rattle.scrypt.specs.McfParams.{params_letters, five_letter_number};
 ghost use Rattle.scrypt.specs.McfHash.{HashIsRefused as McfHashIsRefused, IsMadeHash as IsMadeMcf, IsMcfHashText, made_hash, mcf_text, read_fields, read_mcf};
 ghost use Rattle.scrypt.specs.OwnedBuffers.{AreFor};
 ghost use Rattle.scrypt.specs.PhcParams.{params_of_pairs, written_pairs};
 ghost use Rattle.scrypt.specs.PhcHash.{HashIsRefused, IsMadeHash, phc_params, read_phc};
-ghost use Rattle.scrypt.specs.Reading.{IsOfText, NamesNoPassword, Stored, verdict, weaker};
+ghost use Rattle.scrypt.specs.PublicPart.{AreSameAfter, public_part};
+ghost use Rattle.scrypt.specs.Reading.{IsOfText, NamesNoPassword, Stored, verdict, verify_cost, weaker};
 ghost use Rattle.scrypt.specs.StoredHash.{is_mcf_text, is_stored_text, params_reading, reading};
 ghost use Rattle.scrypt.specs.WithinLimits.{within};
+ghost use Rattle.scrypt.specs.Workspace.{IsLeft, Workspace, hashed_in, tables_used};
 ghost use Rattle.scrypt.specs.declared.buffers.owned.Buffers.{Buffers};
 ghost use Rattle.scrypt.specs.declared.limits.Limits.{Limits};
 
@@ -228,6 +231,37 @@ pub fn letters_of_parameters_are_injective()
         → IsTrue (are_accepted other_log_n other_r other_p)
         → (params_letters log_n r p ≡ params_letters other_log_n other_r other_p)
         ↔ ((log_n ≡ other_log_n) × (r ≡ other_r) × (p ≡ other_p)) }
+{}
+
+/// The work does not depend on a secret. Verifications with the same public part, which is the
+/// length of the password, the parameters of the hash and the lengths of its salt and its key, run
+/// equally many cores, and SHA-256 compresses equally many blocks for them: one by one and in
+/// batches, for right and wrong passwords, and in both formats. Neither do the buffers, except for
+/// the part of the table that a derivation used: its contents are unspecified.
+#[tactic(auto, using(crate::proofs::PublicFacts::of_public))]
+pub fn work_is_independent_of_secrets()
+    ensures password { (w : Workspace) (one other : List ℕ) (reading : Result Stored Refusal) → length one ≡ length other
+        → hashed_in w one reading ≡ hashed_in w other reading }
+    ensures derived { (one other : List ℕ) (s d : Stored) → public_part (one, Ok s) ≡ public_part (other, Ok d)
+        → (cost_by s.params ≡ cost_by d.params) × (verify_cost one s ≡ verify_cost other d) }
+    ensures cores { (w : Workspace) (one other : Attempt) → public_part one ≡ public_part other
+        → cores_on w one ≡ cores_on w other }
+    ensures hashed { (w : Workspace) (one other : Attempt) → public_part one ≡ public_part other
+        → hashed_on w one ≡ hashed_on w other }
+    ensures left { (one other : Attempt) (before after : Workspace) → public_part one ≡ public_part other
+        → IsLeft one.1 before after → IsLeft other.1 before after }
+    ensures left_once { (s : Stored) (before one other : Workspace)
+        → IsLeft (Ok s) before one → IsLeft (Ok s) before other
+        → AreSameAfter (tables_used s.params before.table before.scratch * table_words s.params.log_n s.params.r) one other }
+    ensures all_cores { (w : Workspace) (these others : List Attempt)
+        → map public_part these ≡ map public_part others
+        → sum_by (cores_on w) these ≡ sum_by (cores_on w) others }
+    ensures all_hashed { (w : Workspace) (these others : List Attempt)
+        → map public_part these ≡ map public_part others
+        → sum_by (hashed_on w) these ≡ sum_by (hashed_on w) others }
+    ensures all_left { (these others : List Attempt) (before after : Workspace)
+        → map public_part these ≡ map public_part others
+        → AreLeft these before after → AreLeft others before after }
 {}
 
 /// With a table that keeps one row in `2^s`, the `N` steps of the walk together recompute at most
