@@ -5,11 +5,13 @@
   underscore (`scrypt_ro_mix`), a call (`new()`, `.verify(&hash)`), or a file of the repository
 - a public function of the crate scrypt that docs/API.md doesn't name
 - a call of the C header that the table at its top doesn't name
+- a number in a sentence that differs from the code, or from the page that has its measurement
 
 tools/generate/make.py compares docs/PROMISES.md, and bindings/readme_examples.py runs the examples.
 """
 
 import glob
+import math
 import os
 import re
 import subprocess
@@ -98,12 +100,83 @@ def unlisted_calls():
             yield f"bindings/c/scrypt_c.h: the table doesn't name {name}"
 
 
+def text_of(path, before, after):
+    """What stands between two regular expressions, once in a file."""
+    [found] = re.findall(f"{before}(.*?){after}", read(path))
+    return found
+
+
+def number(path, before, after):
+    """The same as a number, from an expression that C, Rattle and JavaScript write as Python does."""
+    return eval(text_of(path, before, after), {"DEFAULT_MAX_MEM": header.LIMITS["DEFAULT_MAX_MEM"]})
+
+
+def decided():
+    """The sentences with a number that the code decides, each with its file. PROMISES' are in promises.py."""
+    mib, limits, numbers = 1 << 20, header.LIMITS, header.NUMBERS
+    limit, key_len = limits["DEFAULT_MAX_MEM"] // mib, limits["DEFAULT_MIN_KEY_LEN"]
+    yield "SECURITY.md", f"limits are {limit} MiB, four times the work of the recommended parameters, and keys of {key_len} bytes"
+    yield "docs/DECISIONS.md", f"The default limit on memory is {limit} MiB"
+    yield "crates/scrypt/src/buffers/owned.rt", f"16 MiB of chunks, {limit} MiB of table"
+    together = number("crates/scrypt/src/buffers.rt", "MAX_INTERLEAVED_MEM: usize = ", ";") // mib
+    yield "docs/API.md", f"the `max_mem` of C's `scrypt_key`, {together} MiB"
+    yield "docs/PARAMETERS.md", f"up to four tables, if all buffers fit into {together} MiB together"
+    yield "docs/DECISIONS.md", f"mappings up to {together} MiB are populated"
+    yield "bindings/c/scrypt_c.h", f"as all buffers fit into {together} MiB"
+    yield "bindings/python/scrypt_c/key.py", f"or in {together} MiB without a limit"
+    large = number("bindings/c/blocks.c", r"define LARGE \(\(size_t\)", r"\)") // mib
+    yield "SECURITY.md", f"Blocks of {large} MiB or more"
+    yield "docs/DECISIONS.md", f"a block of {large} MiB or more"
+    yield "SECURITY.md", f"{number('bindings/c/clearing.c', 'BELOW = ', ',') / 1024:g} KiB of the stack"
+    yield "SECURITY.md", f"`SCRYPT_STACK_BYTES`, {numbers['STACK_BYTES'] / 1024:g} KiB"
+    slots = number("bindings/c/options.c", "define MAX_SLOTS ", " ")
+    yield "bindings/c/scrypt_c.h", f"More than {slots} processors count as {slots}"
+    yield "bindings/c/scrypt_c.h", f"among the first {number('bindings/c/hasher.c', 'define MAX_SCANNED ', ' ')} that wait"
+    new, longest = numbers["HASH_CAPACITY"] - 1, numbers["PHC_CAPACITY"] - 1
+    yield "bindings/README.md", f"{new} ASCII characters by default, and never more than {longest}"
+    lines = len(re.findall("^[^;\n]", read("bindings/c/kit_heap.ll"), re.M))
+    yield "docs/TRUST.md", f"`bindings/c/kit_heap.ll`, {lines} lines of LLVM IR"
+    worker = number("bindings/js/machine.js", "OF_WORKER = ", ";") // mib
+    yield "bindings/js/README.md", f"counting {limit} MiB for each"
+    yield "bindings/js/README.md", f"and another {worker - limit} MiB"
+    yield "bindings/js/README.md", f"| less | {' | '.join(f'{math.ceil(it * worker * 8 / 7)} MiB' for it in (2, 3, 4))} |"
+    yield "bindings/js/README.md", f"It needs Node {text_of('bindings/js/package.json', 'node.: .>=', chr(34))}"
+    yield "bindings/python/README.md", f"It needs Python {text_of('bindings/python/pyproject.toml', 'requires-python = .>=', chr(34))}"
+    yield "bindings/rust/README.md", f"It needs Rust {text_of('bindings/rust/Cargo.toml', 'rust-version = .', chr(34))}"
+    yield "bindings/README.md", f"with CMake {text_of('bindings/c/CMakeLists.txt', r'cmake_minimum_required.VERSION ', r'[)]')}"
+
+
+def measured():
+    """The sentences that repeat a measurement: from the table that compares libraries, and the minutes of README."""
+    table = [it[2:-2].split(" | ") for it in re.findall(r"^\| \(\d.*\|$", read("docs/PARAMETERS.md"), re.M) if it.count("|") == 8]
+    table = {first: (float(time), ratios) for first, time, *ratios in table}
+    two, four = (f"{table[f'(14, 8, 1), each of a batch of {it}'][0] / table['(14, 8, 1)'][0]:.2f}" for it in ("two", "four"))
+    yield "bindings/README.md", f"each of two takes {two} of the time of one, each of four {four};"
+    yield "bindings/c/scrypt_c.h", f"batch of two takes {two} of the time of two calls, and a batch of four {four} of the time of four"
+    yield "crates/scrypt/src/buffers.rt", f"two take {two} of the time, and four {four}"
+    milliseconds, (rust, libxcrypt, libsodium, _, openssl) = table["(17, 8, 1)"]
+    yield "README.md", f"takes 128 MiB and {milliseconds / 1000:.2f} seconds"
+    yield "README.md", f"| {rust} | {libxcrypt} | {libsodium} | {openssl} |"
+    yield "docs/PARAMETERS.md", f"| logins | 17, 8, 1 | 128 MiB | {milliseconds / 1000:.2f} |"
+    run, test = (text_of("README.md", f"{it}: (?:about )?", " minutes") for it in ("proves and builds it", "tests everything"))
+    yield "Makefile", f"builds the program, in about {run} minutes on four"
+    yield "Makefile", f"builds the C libraries, in about {run} minutes on four"
+    yield "tools/gate/run.sh", f"tests everything, in about {test} minutes on four"
+
+
+def wrong_numbers():
+    """The sentences of those two that their files don't have. The marks of comments are not compared."""
+    for path, words in (*decided(), *measured()):
+        if words not in " ".join(re.sub(r"^ *(?:\*|//+!?) ", "", read(path), flags=re.M).split()):
+            yield f"{path} should state: {words}"
+
+
 def main():
     paths = files()
     names = known_names(paths)
     documents = {path: read(path) for path in paths if path.endswith(".md")}
     found = [it for path, text in documents.items() for it in (*unknown_names(path, text, names), *broken_links(path, text))]
-    sys.exit("\n".join([*found, *unnamed_calls("docs/API.md", Library()), *unlisted_calls()]) or 0)
+    sys.exit("\n".join([*found, *unnamed_calls("docs/API.md", Library()), *unlisted_calls(), *wrong_numbers()]) or 0)
 
 
 if __name__ == "__main__":
