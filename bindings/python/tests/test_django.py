@@ -269,6 +269,15 @@ class Over(unittest.TestCase):
                 self.assertIn("salt", map(str, it.safe_summary(stored)))
             refuse_a_lone_surrogate(self, lambda wrong: it.verify(wrong, stored), it.verify_no_hash)
 
+    def test_example_of_the_page(self):
+        page = pathlib.Path(__file__).parents[3] / "docs/MIGRATION.md"
+        code = re.search(r"(?ms)^```python\n(for user.*?)^```", page.read_text("utf-8"))[1]
+        user = mock.Mock(password=hashers.PBKDF2PasswordHasher().encode("pw", "salt", 1000))
+        users = mock.Mock(**{"objects.filter.return_value": [user]})
+        exec(code, {"OverPBKDF2": OverPBKDF2, "User": users})
+        user.save.assert_called_once_with(update_fields=["password"])
+        self.assertTrue(hashers.check_password("pw", user.password))
+
     def test_rejected_settings(self):
         """The limit is exact, and nothing is derived above it, nor for a damaged hash, nor if the
         outer hash is rejected. With FalseIfRefused the time is that of a wrong password."""
