@@ -53,7 +53,7 @@ from .errors import InvalidHashError, RefusedHashError, TooCostlyError, VerifyMi
 from .hasher import PasswordHasher, shared
 from .key import log_of
 from .migration import from_django
-from .params import params_of
+from .params import accepted, params_of
 
 LOG = logging.getLogger(__name__)
 
@@ -138,10 +138,9 @@ class ScryptPasswordHasher(_Hasher):
             raise ValueError("salt must be provided and cannot contain $.")
         own = self.hasher.params  # 0 does not mean a default, and is rejected
         log_n = own.log_n if n is None else log_of(n)
-        hasher = self.hasher._with_costs(log_n, own.r if r is None else r, own.p if p is None else p)
-        log_n, r, p = hasher.params[:3]
-        key = base64.b64encode(hasher.key(password, salt=salt.encode(), key_len=64)).decode()
-        return f"{self.algorithm}${1 << log_n}${salt}${r}${p}${key}"
+        costs = accepted(log_n, own.r if r is None else r, own.p if p is None else p)
+        key = base64.b64encode(self.hasher._key_with(*costs, password, salt.encode(), 64)).decode()
+        return f"{self.algorithm}${1 << log_n}${salt}${costs[1]}${costs[2]}${key}"
 
     def _text(self, encoded: str) -> str:
         try:

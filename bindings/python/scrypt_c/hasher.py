@@ -5,6 +5,7 @@ from __future__ import annotations
 
 import ctypes
 import math
+import os
 import threading
 from typing import Any, Callable, Literal, NamedTuple, Optional, Union
 
@@ -152,14 +153,6 @@ class PasswordHasher:
         attributes = {name: value for name, value in vars(self).items() if name != "_c"}
         return _copied, (type(self), self._params, self._options), attributes
 
-    def _with_costs(self, *costs: int) -> PasswordHasher:
-        """Returns this hasher if its new hashes have this log_n, r and p, otherwise another one with
-        the same limits."""
-        if costs == self._params[:3]:
-            return self
-        limits = {"max_mem": self.options.max_mem, "max_work": self.options.max_work}
-        return PasswordHasher(*costs, **self._options | limits)
-
     def close(self) -> None:
         """Frees the memory that is kept. Derivations that have begun run to completion; waiting and
         later calls raise ValueError."""
@@ -193,6 +186,23 @@ class PasswordHasher:
         made = key.raw
         ctypes.memset(key, 0, key_len)
         return made
+
+    def _key_with(
+        self, log_n: int, r: int, p: int, password: Password, salt: Bytes, key_len: int
+    ) -> bytes:
+        """Returns a key with these parameters, which may be others than those of new hashes. Others
+        are derived within the same limits, one at a time."""
+        if (log_n, r, p) == self._params[:3]:
+            return self.key(password, salt=salt, key_len=key_len)
+        limits = {"max_mem": self.options.max_mem, "max_work": self.options.max_work}
+        other = PasswordHasher(log_n, r, p, **self._options | limits)
+        if not _OTHERS.acquire(timeout=-1 if self._timeout is None else self._timeout):
+            check(TIMEOUT, f"timeout={self._timeout}")
+        try:
+            with other:
+                return other.key(password, salt=salt, key_len=key_len)
+        finally:
+            _OTHERS.release()
 
     def verify(self, hash: Union[str, bytes, None], password: Password) -> Literal[True]:
         """Returns True if the password matches the hash, in either format.
@@ -266,6 +276,12 @@ def _copied(kind: type[PasswordHasher], params: Params, options: dict[str, Any])
     PasswordHasher.__init__(hasher, *params, **options)
     return hasher
 
+
+# Held for a key with other parameters. A fork waits for it, so that it is free in the child.
+_OTHERS = threading.RLock()
+if hasattr(os, "register_at_fork"):
+    after = {f"after_in_{it}": _OTHERS.release for it in ("parent", "child")}
+    os.register_at_fork(before=_OTHERS.acquire, **after)
 
 _SHARED: dict[tuple[object, ...], PasswordHasher] = {}
 

@@ -5,13 +5,13 @@
 
     context = CryptContext(schemes=[scrypt])
 
-It reads and writes the hashes of passlib.hash.scrypt, and has its options, except that a salt of
-more than 64 bytes must be UTF-8 without a `$`. A hash with fewer rounds than new hashes needs an
-update, so verify_and_update replaces it, unless min_rounds allows it.
+It reads and writes the hashes of passlib.hash.scrypt, and has its options. A hash with fewer rounds
+than new hashes needs an update, so verify_and_update replaces it, unless min_rounds allows it.
 
 All handlers with the same attributes share a PasswordHasher, `scrypt.hasher()`, with the hashers
 for Django too: it has the limits, the slots and the queue. To change them, set the attributes of a
-subclass, for instance `max_tables` or `timeout`.
+subclass, for instance `max_tables` or `timeout`. If a salt has more than 64 bytes and is not UTF-8
+without a `$`, neither format of the hasher has it: it derives the key, and passlib compares it.
 """
 
 from __future__ import annotations
@@ -23,9 +23,9 @@ import passlib.hash
 from passlib.utils.handlers import validate_secret
 
 from .declared import RECOMMENDED_LOG_N
-from .errors import VerifyMismatchError
+from .errors import InvalidSaltError, VerifyMismatchError
 from .hasher import PasswordHasher, shared
-from .migration import from_passlib, stored_text
+from .migration import from_passlib
 
 
 class scrypt(passlib.hash.scrypt):  # passlib names handlers as their scheme
@@ -52,15 +52,17 @@ class scrypt(passlib.hash.scrypt):  # passlib names handlers as their scheme
         if stored.checksum is None:
             raise passlib.exc.MissingDigestError(cls)
         try:
-            return cls.hasher().verify(from_passlib(stored.to_string()), secret)
+            text = from_passlib(stored.to_string())
+        except InvalidSaltError:  # neither format has this salt
+            return super().verify(secret, hash)
+        try:
+            return cls.hasher().verify(text, secret)
         except VerifyMismatchError:
             return False
 
     def _calc_checksum(self, secret: str | bytes) -> bytes:
-        stored_text(self.salt, bytes(self.checksum_size), 64, 8, 1)  # as `verify` reads it
         costs = self.rounds, self.block_size, self.parallelism
-        hasher = self.hasher()._with_costs(*costs)
-        return hasher.key(secret, salt=self.salt, key_len=self.checksum_size)
+        return self.hasher()._key_with(*costs, secret, self.salt, self.checksum_size)
 
     def _calc_needs_update(self, **kwds: object) -> bool:
         # With vary_rounds new hashes may have fewer than default_rounds too.

@@ -73,7 +73,7 @@ class Handler(unittest.TestCase):
 
     def test_one_hasher_verifies(self):
         """Its max_tables is for all threads, in both idents, and it is the hasher of Django's
-        classes too; salts that its formats don't have make no new hash."""
+        classes too. A salt that neither of its formats has leaves it."""
         for ident in ("$scrypt$", "$7$"):
             text = scrypt.using(**SMALL, ident=ident).hash("pw")
             with mock.patch.object(scrypt, "_calc_checksum", None):
@@ -84,19 +84,20 @@ class Handler(unittest.TestCase):
         hasher = type("scrypt", (scrypt.using(**SMALL),), given).hasher()
         found = {**hasher.options._asdict(), "timeout": hasher._timeout}
         self.assertEqual(({name: found[name] for name in given}, hasher.params.log_n), (given, 6))
-        for salt in (b"", b"s", 100 * b"s"):
+        for salt in (b"", b"s", 100 * b"s", 65 * b"\xff", 1024 * b"$"):
             one = scrypt.using(**SMALL, salt=salt)
             self.assertTrue(passlib.hash.scrypt.verify("pw", one.hash("pw")) and one.verify("pw", one.hash("pw")))
-        self.assertRaises(scrypt_c.InvalidSaltError, scrypt.using(**SMALL, salt=65 * b"\xff").hash, "pw")
+            self.assertFalse(one.verify("PW", one.hash("pw")))
 
     def test_memory_of_many_threads(self):
         one = type("scrypt", (scrypt.using(rounds=15),), {"max_tables": 2, "timeout": 60})  # 32 MiB each
         text = TEXT.replace("ln=6", "ln=15")
-        calls = [lambda: one.verify("pw", text), lambda: one.hash("pw") == text]
+        other = scrypt.using(rounds=6, block_size=7, salt=65 * b"\xff").hash("pw").replace("ln=6", "ln=15")
+        calls = [lambda: one.verify("pw", text), lambda: one.hash("pw") == text, lambda: one.verify("pw", other)]
 
         def log_in():
             with ThreadPoolExecutor(24) as pool:
-                answers = [pool.submit(calls[place % 2]) for place in range(24)]
+                answers = [pool.submit(calls[place % 3]) for place in range(24)]
             self.assertEqual({answer.result() for answer in answers}, {False})
 
-        self.assertLess(growth(log_in)[0], 3 << 25)
+        self.assertLess(growth(log_in)[0], 4 << 25)

@@ -37,9 +37,11 @@ for _ in range(8):
     verify = lambda: [hasher.verify(text, "pw") for _ in iter(int, 1)]
     threading.Thread(target=verify, daemon=True).start()
 time.sleep(0.05)
+other = lambda: hasher._key_with(13, 8, 1, "pw", b"salt", 32)  # of other parameters
+threading.Thread(target=lambda: [other() for _ in iter(int, 1)], daemon=True).start()
 child = os.fork()
 if child == 0:
-    os._exit(not hasher.verify(text, "pw"))
+    os._exit(not (hasher.verify(text, "pw") and other()))
 assert os.waitpid(child, 0)[1] == 0
 """
 
