@@ -137,8 +137,7 @@ def decided():
     lines = len(re.findall("^[^;\n]", read("bindings/c/kit_heap.ll"), re.M))
     yield "docs/TRUST.md", f"`bindings/c/kit_heap.ll`, {lines} lines of LLVM IR"
     worker = number("bindings/js/machine.js", "OF_WORKER = ", ";") // mib
-    yield "bindings/js/README.md", f"counting {limit} MiB for each"
-    yield "bindings/js/README.md", f"and another {worker - limit} MiB"
+    yield "bindings/js/README.md", f"with {worker} MiB each, of which {limit} MiB are the default limit"
     yield "bindings/js/README.md", f"| less | {' | '.join(f'{math.ceil(it * worker * 8 / 7)} MiB' for it in (2, 3, 4))} |"
     yield "bindings/js/README.md", f"It needs Node {text_of('bindings/js/package.json', 'node.: .>=', chr(34))}"
     yield "bindings/python/README.md", f"It needs Python {text_of('bindings/python/pyproject.toml', 'requires-python = .>=', chr(34))}"
@@ -158,6 +157,9 @@ def measured():
     yield "README.md", f"takes 128 MiB and {milliseconds / 1000:.2f} seconds"
     yield "README.md", f"| {rust} | {libxcrypt} | {libsodium} | {openssl} |"
     yield "docs/PARAMETERS.md", f"| logins | 17, 8, 1 | 128 MiB | {milliseconds / 1000:.2f} |"
+    logins = dict(re.findall(r"^\| (\d+) \| 2 \| [\d,]+ \| ([\d.]+) \|", read("docs/PARAMETERS.md"), re.M))
+    yield "docs/PARAMETERS.md", f"{logins['17']} a second at log_n = 17, {logins['16']} at 16, {logins['15']} at 15, on four CPUs"
+    yield "docs/PARAMETERS.md", f"**{float(logins['17']):.0f} wrong passwords a second take all of the capacity**"
     run, test = (text_of("README.md", f"{it}: (?:about )?", " minutes") for it in ("proves and builds it", "tests everything"))
     yield "Makefile", f"builds the program, in about {run} minutes on four"
     yield "Makefile", f"builds the C libraries, in about {run} minutes on four"
