@@ -46,21 +46,16 @@ enum { BELOW = 12800, APART = 256 };
 #define CLEARS __attribute__((noinline, no_stack_protector))
 #endif
 
-/* No promise covers registers, but a dynamic linker that binds the next call of a program saves
- * them on the stack. The attribute excludes registers that a callee has to preserve in part. */
+/* A dynamic linker that binds the next call of a program saves the registers on the stack
+ * (tests/test_registers.c). The attribute does not clear xmm16 to xmm31, which the system's memcpy
+ * uses, nor the upper halves of the others, which the compilers clear after each use. */
+static void clear_registers(void) {
 #ifdef __x86_64__
-CLEARS __attribute__((target("avx"))) static void clear_ymm(void) { __asm__ volatile(""); }
-CLEARS static void clear_registers(void) {
   if (__builtin_cpu_supports("avx512vl"))
     __asm__ volatile(".irp n, 16,17,18,19,20,21,22,23,24,25,26,27,28,29,30,31\n"
                      "vpxord %xmm\\n, %xmm\\n, %xmm\\n\n .endr");
-  if (__builtin_cpu_supports("avx")) clear_ymm();
-}
-#else
-CLEARS static void clear_registers(void) {
-  __asm__ volatile(".irp n, 8,9,10,11,12,13,14,15\n mov v\\n\\().d[1], xzr\n .endr");
-}
 #endif
+}
 
 /* Does not call memset, whose return address would be below. */
 CLEARS static void clear_stack(void) {
