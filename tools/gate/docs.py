@@ -134,6 +134,8 @@ def decided():
     yield "bindings/c/scrypt_c.h", f"among the first {number('bindings/c/hasher.c', 'define MAX_SCANNED ', ' ')} that wait"
     new, longest = numbers["HASH_CAPACITY"] - 1, numbers["PHC_CAPACITY"] - 1
     yield "bindings/README.md", f"{new} ASCII characters by default, and never more than {longest}"
+    edits = len(glob.glob("crates/*/must-fail/*.edit"))
+    yield "docs/EVIDENCE.md", f"each `make test` must see rejected | {edits} |"
     lines = len(re.findall("^[^;\n]", read("bindings/c/kit_heap.ll"), re.M))
     yield "docs/TRUST.md", f"`bindings/c/kit_heap.ll`, {lines} lines of LLVM IR"
     worker = number("bindings/js/machine.js", "OF_WORKER = ", ";") // mib
@@ -155,7 +157,7 @@ def measured():
     yield "crates/scrypt/src/buffers.rt", f"two take {two} of the time, and four {four}"
     milliseconds, (rust, libxcrypt, libsodium, _, openssl) = table["(17, 8, 1)"]
     yield "README.md", f"takes 128 MiB and {milliseconds / 1000:.2f} seconds"
-    yield "README.md", f"| {rust} | {libxcrypt} | {libsodium} | {openssl} |"
+    yield "README.md", f"{rust} of the time of the Rust crate scrypt, {libxcrypt} of libxcrypt's, {libsodium} of libsodium's and {openssl} of"
     yield "docs/PARAMETERS.md", f"| logins | 17, 8, 1 | 128 MiB | {milliseconds / 1000:.2f} |"
     logins = dict(re.findall(r"^\| (\d+) \| 2 \| [\d,]+ \| ([\d.]+) \|", read("docs/PARAMETERS.md"), re.M))
     yield "docs/PARAMETERS.md", f"{logins['17']} a second at log_n = 17, {logins['16']} at 16, {logins['15']} at 15, on four CPUs"

@@ -83,7 +83,8 @@ def wrong(proof):
     """The errors in PROMISES, and in the numbers of lines to read that other pages state."""
     found = [] if read(PAGE) == page(proof) else [f"{PAGE} differs from the sources: make promises"]
     key, verdict = lines(proof, KEY), lines(proof, VERDICT)
-    stated = {"docs/TRUST.md": f"{key} lines for the key, {verdict} for the verdict", "README.md": f"[{verdict} lines]"}
+    stated = {"docs/TRUST.md": f"{key} lines for the key, {verdict} for the verdict", "README.md": f"[{verdict} lines]",
+              "docs/EVIDENCE.md": f"a reviewer of the key reads {key} |"}
     for path, words in stated.items():
         if words not in " ".join(read(path).split()):
             found.append(f"{path}: what to read is {words}")
