@@ -8,7 +8,6 @@ ghost use Rattle.scrypt.specs.Limits.{AreMostTables, tables_within};
 ghost use Rattle.scrypt.specs.Mixing.{HasTables, IsAtFront, IsKept, IsReady, IsSpent, IsWidth};
 ghost use Rattle.scrypt.specs.Workspace.{IsDone, are_enough, interleaved_chunks, workspace_of};
 
-pub(crate) mod in_steps;
 pub(crate) mod owned;
 
 use crate::{CoreCount, Params};

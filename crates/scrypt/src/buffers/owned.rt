@@ -1,36 +1,31 @@
 // Buffers that a caller reuses from call to call.
 
-ghost use Rattle.std.specs.Prelude.{◌≡◌, ◌⊎◌, ◌↔◌, ◌-◌, ◌*◌, ◌/◌, ◌<◌, ◌≤◌, All, None, Ok, false, length, map, min, replicate, take, IfErr, IfOk, IsAscii, IsErrOf, IsOk, IsTrue, OnErr, OnOk};
-ghost use Rattle.password_hash.specs.Phc.{hash_text};
-ghost use Rattle.password_hash.specs.Refusal.{refusal};
-ghost use Rattle.scrypt.specs.Accepted.{is_output_len, without_len};
-ghost use Rattle.scrypt.specs.Cost.{chunks_bytes, scratch_words, table_words, thin_scratch_words};
-ghost use Rattle.scrypt.specs.Hashing.{key_len_or_default};
-ghost use Rattle.scrypt.specs.InBuffers.{IsCopiedTo};
-ghost use Rattle.scrypt.specs.KeyOfParams.{key_by};
+ghost use Rattle.std.specs.Prelude.{◌≡◌, ◌⊎◌, ◌↔◌, ◌*◌, ◌/◌, ◌<◌, ◌≤◌, ℕ, All, length, map, min, replicate, IfOk, IsErrOf, IsOk, IsTrue, OnErr, OnOk};
+ghost use Rattle.scrypt.specs.Accepted.{is_output_len};
+ghost use Rattle.scrypt.specs.Cost.{chunks_bytes, scratch_words, table_words};
+ghost use Rattle.scrypt.specs.KeyOfParams.{cost_by, key_by};
 ghost use Rattle.scrypt.specs.Limits.{SufficeFor, tables_bytes, tables_within};
 ghost use Rattle.scrypt.specs.Logins.{attempts, reading_of, verdict_on};
-ghost use Rattle.scrypt.specs.McfHash.{HashIsRefused as McfIsRefused, IsMadeHash as IsMadeMcf, made_text_len};
-ghost use Rattle.scrypt.specs.OwnedBuffers.{AreFor, KeepLens, are_long_enough, workspace_in};
-ghost use Rattle.scrypt.specs.PhcHash.{HashIsRefused, IsMadeHash, IsSaltLen};
-ghost use Rattle.scrypt.specs.Reading.{let_in, verdict, weaker, with_refusal};
+ghost use Rattle.scrypt.specs.OwnedBuffers.{AreFor, KeepLens, workspace_in};
+ghost use Rattle.scrypt.specs.Reading.{verdict, with_refusal};
+ghost use Rattle.scrypt.specs.Stepping.{IsStopped, WentOn, max_step};
 ghost use Rattle.scrypt.specs.StoredHash.{reading};
 ghost use Rattle.scrypt.specs.WithinLimits.{with_limited_refusal, within};
 ghost use Rattle.scrypt.specs.Workspace.{verdict_in};
-ghost use Rattle.scrypt.specs.declared.errors.DeriveError.TheVariants.{InvalidOutputLen as BadLength, OutOfMemory};
 ghost use Rattle.scrypt.specs.declared.limits.Limits.{Limits};
+ghost use Rattle.scrypt.specs.declared.stepping.StepsError.TheVariants.{Cancelled, InvalidOutputLen as BadLength};
 
 use crate::verifying::verify_in_buffers;
 use crate::{
-    BufferLens, CoreCount, DeriveError, InvalidOutputLen, LimitedError, Limits, Login, Params,
-    Simd, StoredHash, mcf, phc, scrypt_in_prefix, scrypt_thin, verify_logins,
+    BufferLens, CoreCount, LimitedError, Limits, Login, Params, Simd, StepsError, StoredHash,
+    scrypt_in_steps, verify_logins,
 };
-use password_hash::phc::PasswordHash;
-use password_hash::{Error, Result as HashResult};
 use std::alloc::{AllocError, Global};
 
-/// The three buffers of derivations, allocated once. Except with a smaller table, each call uses the
-/// front of each buffer, and accepts any parameters if the buffers are long enough for them. Only [`Buffers::allocate`], [`Buffers::within`] and [`Buffers::for_limits`] allocate.
+/// The three buffers of derivations, allocated once, for any parameters for which they are long
+/// enough: a call uses the front of each. Only [`Buffers::allocate`], [`Buffers::within`] and
+/// [`Buffers::for_limits`] allocate. Calls that take slices and a count of cores take
+/// `&mut own.chunks`, `&mut own.table` and `&mut own.scratch`.
 #[derive(Drop)]
 pub struct Buffers {
     /// The chunks, in bytes.
@@ -100,112 +95,38 @@ impl Buffers {
         Ok((1, Buffers::allocate(alloc, &BufferLens::of(params))?))
     }
 
-    /// Writes the scrypt key of `password` and `salt` to `output`, as [`scrypt_in_prefix`] does.
+    /// Writes the scrypt key of `password` and `salt` to `output`, in steps, as [`scrypt_in_steps`]
+    /// does. The buffers have at least the lengths of [`BufferLens::of`].
     ///
-    /// Returns `InvalidOutputLen` exactly if the length of `output` is not allowed, and otherwise
-    /// `OutOfMemory` exactly if a buffer is too short. On an error `output` is unchanged.
-    pub fn derive_key(
+    /// Returns `InvalidOutputLen` exactly if the length of `output` is not allowed, and `Cancelled`
+    /// as soon as `go_on` returns `false`. On an error `output` is unchanged.
+    pub fn derive_key_in_steps<F: FnMut(u128) -> bool>(
         &mut self,
         password: &[u8],
         salt: &[u8],
         params: &Params,
+        count: usize,
+        go_on: F,
         output: &mut [u8],
-    ) -> Result<(), DeriveError>
+    ) -> Result<(), StepsError>
+        requires some { 0 < count }
+        requires callable { F.IsAlwaysCallable go_on }
+        requires enough { AreFor params.now self.old }
         ensures length { IsErrOf result BadLength ↔ ¬ IsTrue (is_output_len (length output.old)) }
-        ensures short { IsErrOf result OutOfMemory
-            ↔ (IsTrue (is_output_len (length output.old)) × ¬ IsTrue (are_long_enough params.now self.old)) }
         ensures value { OnOk result (output.new ≡ key_by params.now password.now salt.now (length output.old)) }
+        ensures shown { OnOk result ((last : F) × WentOn (λ f done on g. F.step f done on g)
+            (max_step params.now count (length self.old.table.items) (length self.old.scratch.items))
+            go_on (cost_by params.now) last) }
+        ensures cancelled { IsErrOf result Cancelled → (done : ℕ) × IsStopped (λ f done on g. F.step f done on g)
+            (max_step params.now count (length self.old.table.items) (length self.old.scratch.items)) go_on done }
         ensures refused { OnErr result (output.new ≡ output.old) }
         ensures lens { KeepLens self.old self.new }
     {
         let (chunks, table, scratch) = (&mut self.chunks, &mut self.table, &mut self.scratch);
         let cores = &mut CoreCount::new();
-        scrypt_in_prefix::<Simd>(
-            password, salt, params, chunks, table, scratch, output, cores,
+        scrypt_in_steps::<Simd, F>(
+            password, salt, params, count, go_on, chunks, table, scratch, output, cores,
         )
-    }
-
-    /// Writes the same key as [`Buffers::derive_key`], with a smaller table, as [`scrypt_thin`]
-    /// does. The buffers have the lengths of [`BufferLens::thin`], and `s` is at most `log_n`.
-    ///
-    /// Returns `InvalidOutputLen` exactly if the length of `output` is not allowed, and then
-    /// `output` is unchanged.
-    pub fn derive_key_thin(
-        &mut self,
-        password: &[u8],
-        salt: &[u8],
-        params: &Params,
-        s: u8,
-        output: &mut [u8],
-    ) -> Result<(), InvalidOutputLen>
-        requires spacing { s ≤ params.now.log_n }
-        requires chunks { length self.old.chunks.items ≡ chunks_bytes params.now.r params.now.p }
-        requires table { length self.old.table.items ≡ table_words (params.now.log_n - s) params.now.r }
-        requires scratch { length self.old.scratch.items ≡ thin_scratch_words params.now.r }
-        ensures allowed { IsOk result ↔ IsTrue (is_output_len (length output.old)) }
-        ensures value { OnOk result (output.new ≡ key_by params.now password.now salt.now (length output.old)) }
-        ensures refused { OnErr result (output.new ≡ output.old) }
-        ensures lens { KeepLens self.old self.new }
-    {
-        let (chunks, table, scratch) = (&mut self.chunks, &mut self.table, &mut self.scratch);
-        let cores = &mut CoreCount::new();
-        scrypt_thin(
-            password, salt, params, s, chunks, table, scratch, output, cores,
-        )
-    }
-
-    /// Hashes `password`, as [`phc::hash_with_buffers`] does.
-    ///
-    /// Returns `SaltInvalid` if `salt` does not have 1 to 64 bytes, and otherwise `OutOfMemory`
-    /// exactly if a buffer is too short.
-    pub fn hash_phc(
-        &mut self,
-        password: &[u8],
-        salt: &[u8],
-        params: &Params,
-    ) -> HashResult<PasswordHash>
-        ensures made { IfOk result (λ hash. IsMadeHash params.now password.now salt.now hash) }
-        ensures err { IfErr result (λ e. HashIsRefused salt.now None None (refusal e)) }
-        ensures exact { IsOk result ↔ (IsSaltLen (length salt.now) × IsTrue (are_long_enough params.now self.old)) }
-        ensures read { IfOk result (λ hash. reading (hash_text hash) ≡ Ok (record {
-          params = without_len params.now;
-          salt = salt.now;
-          key = key_by params.now password.now salt.now (key_len_or_default params.now);
-        })) }
-        ensures accepts { IfOk result (λ hash. verdict password.now (reading (hash_text hash)) ≡ Ok tt) }
-        ensures strong { IfOk result (λ hash. weaker params.now (reading (hash_text hash)) ≡ Ok false) }
-        ensures lens { KeepLens self.old self.new }
-    {
-        params.expose_invariant();
-        let (chunks, table, scratch) = (&mut self.chunks, &mut self.table, &mut self.scratch);
-        let cores = &mut CoreCount::new();
-        phc::hash_with_buffers::<Simd>(password, salt, params, chunks, table, scratch, cores)
-    }
-
-    /// Hashes `password`, as [`mcf::hash_with_buffers`] does: writes a `$7$` hash to the front of
-    /// `text`, and returns its length.
-    ///
-    /// Returns `OutOfMemory` exactly if `text` or a buffer is too short, and then `text` is
-    /// unchanged.
-    pub fn hash_mcf(
-        &mut self,
-        password: &[u8],
-        salt: &[u8],
-        params: &Params,
-        text: &mut [u8],
-    ) -> HashResult<usize>
-        ensures made { IfOk result (IsCopiedTo (IsMadeMcf params.now password.now salt.now) text.old text.new) }
-        ensures ascii { IfOk result (λ len. IsAscii (take len text.new)) }
-        ensures err { IfErr result (λ e. McfIsRefused None None (refusal e)) }
-        ensures exact { IsOk result
-            ↔ (IsTrue (are_long_enough params.now self.old)
-            × (made_text_len params.now (length salt.now) ≤ length text.old)) }
-        ensures unwritten { OnErr result (text.new ≡ text.old) }
-        ensures lens { KeepLens self.old self.new }
-    {
-        let (chunks, table, scratch) = (&mut self.chunks, &mut self.table, &mut self.scratch);
-        let cores = &mut CoreCount::new();
-        mcf::hash_with_buffers::<Simd>(password, salt, params, text, chunks, table, scratch, cores)
     }
 
     /// Verifies `password`, as [`StoredHash::verify_with_buffers`] does.
@@ -213,7 +134,7 @@ impl Buffers {
     /// Returns the errors of [`StoredHash::verify`] in the same order, and `OutOfMemory` exactly if
     /// the hash can be read and a buffer is too short for it. So it never returns `OutOfMemory` for
     /// a hash within limits, in the buffers of [`Buffers::for_limits`].
-    pub fn verify(&mut self, hash: &StoredHash<'_>, password: &[u8]) -> HashResult<()>
+    pub fn verify(&mut self, hash: &StoredHash<'_>, password: &[u8]) -> password_hash::Result<()>
         ensures verdict { with_refusal result ≡ verdict_in (workspace_in self.old) password.now (reading hash.now) }
         ensures within { (limits : Limits)
             → SufficeFor limits self.old.chunks.items self.old.table.items self.old.scratch.items
@@ -230,25 +151,6 @@ impl Buffers {
                 verify_in_buffers::<Simd>(password, parts, chunks, table, scratch, cores)
             }
             Err(unread) => Err(unread),
-        }
-    }
-
-    /// Returns whether the hash accepts `password`, as [`StoredHash::accepts`] does.
-    ///
-    /// Returns the other errors of [`Buffers::verify`].
-    pub fn accepts(&mut self, hash: &StoredHash<'_>, password: &[u8]) -> HashResult<bool>
-        ensures value { with_refusal result
-            ≡ let_in (verdict_in (workspace_in self.old) password.now (reading hash.now)) }
-        ensures within { (limits : Limits)
-            → SufficeFor limits self.old.chunks.items self.old.table.items self.old.scratch.items
-            → IsOk (within limits (reading hash.now))
-            → with_refusal result ≡ let_in (verdict password.now (reading hash.now)) }
-        ensures lens { KeepLens self.old self.new }
-    {
-        match self.verify(hash, password) {
-            Ok(()) => Ok(true),
-            Err(Error::PasswordInvalid) => Ok(false),
-            Err(error) => Err(error),
         }
     }
 
