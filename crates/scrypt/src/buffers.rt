@@ -1,5 +1,5 @@
 // The workspace of a derivation: the lengths of its buffers ([`BufferLens`]), the caller's buffers,
-// allocated ones ([`OwnBuffers`]), and the part of either that is used ([`ActiveBuffers`]).
+// allocated ones ([`Allocation`]), and the part of either that is used ([`ActiveBuffers`]).
 
 ghost use Rattle.std.specs.Prelude.{◌≡◌, ◌⊎◌, ◌↔◌, ◌+◌, ◌-◌, ◌*◌, ◌<◌, ◌≤◌, length, IfOk, IfSome, IsSome, IsTrue, None, replicate};
 ghost use Rattle.scrypt_kernel.specs.Memory.{allocated_room, buffer_room};
@@ -253,16 +253,16 @@ pub(crate) fn with_prefix<V, T, F: FnOnce(&mut ActiveBuffers<'_, Buffer<'_>>, &m
 
 /// Buffers of one derivation, whose table grows while it is filled.
 #[derive(Drop)]
-pub(crate) struct OwnBuffers {
+pub(crate) struct Allocation {
     pub(crate) chunks: Vec<u8>,
     pub(crate) table: Allocated,
     pub(crate) scratch: Vec<u32>,
 }
 
-impl OwnBuffers {
+impl Allocation {
     /// Allocates the chunks, the table and the scratch, in this order. The table is empty, and
     /// grows within its capacity.
-    pub(crate) fn allocate(alloc: Global, lens: &BufferLens) -> Result<OwnBuffers, AllocError>
+    pub(crate) fn allocate(alloc: Global, lens: &BufferLens) -> Result<Allocation, AllocError>
         ensures chunks { IfOk result (λ own. length own.chunks.items ≡ lens.now.chunks) }
         ensures table { IfOk result (λ own. allocated_room own.table ≡ lens.now.table) }
         ensures scratch { IfOk result (λ own. length own.scratch.items ≡ lens.now.scratch) }
@@ -272,7 +272,7 @@ impl OwnBuffers {
         let scratch = vec![in alloc; 0u32; lens.scratch]?;
         // All three are allocated: now the chunks are written.
         chunks.resize_with(lens.chunks, || 0u8).unwrap();
-        Ok(OwnBuffers {
+        Ok(Allocation {
             chunks,
             table,
             scratch,
@@ -286,7 +286,7 @@ impl OwnBuffers {
         alloc: Global,
         params: &Params,
         max_mem: usize,
-    ) -> Result<(usize, OwnBuffers), AllocError>
+    ) -> Result<(usize, Allocation), AllocError>
         ensures chunks { IfOk result (λ got. length got.1.chunks.items ≡ chunks_bytes params.now.r params.now.p) }
         ensures memory { IfOk result (λ got. HasTables params.now.log_n 0 params.now.r got.0
             (allocated_room got.1.table) (length got.1.scratch.items)) }
@@ -301,11 +301,11 @@ impl OwnBuffers {
         params.expose_invariant();
         let width = BufferLens::tables_within(params, max_mem);
         if width > 1
-            && let Ok(own) = OwnBuffers::allocate(alloc, &BufferLens::for_tables(params, width))
+            && let Ok(own) = Allocation::allocate(alloc, &BufferLens::for_tables(params, width))
         {
             return Ok((width, own));
         }
-        Ok((1, OwnBuffers::allocate(alloc, &BufferLens::of(params))?))
+        Ok((1, Allocation::allocate(alloc, &BufferLens::of(params))?))
     }
 }
 

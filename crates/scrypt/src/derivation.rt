@@ -12,7 +12,7 @@ ghost use Rattle.scrypt.specs.declared.errors.DeriveError.TheVariants.{InvalidOu
 
 pub(crate) mod mixing;
 
-use crate::buffers::{ActiveBuffers, OwnBuffers, interleaved_chunks, with_prefix};
+use crate::buffers::{ActiveBuffers, Allocation, interleaved_chunks, with_prefix};
 use crate::derivation::mixing::mix_all;
 use crate::{Backend, CoreCount, DeriveError, InvalidOutputLen, Params, Simd};
 use scrypt_kernel::memory::{Allocated, Buffer, TableMemory};
@@ -105,7 +105,7 @@ pub fn scrypt_with_max_mem<W: Backend>(
     if !output_len_ok(output.len()) {
         return Err(DeriveError::InvalidOutputLen);
     }
-    let (w, mut own) = OwnBuffers::allocate_within(alloc, params, max_mem)?;
+    let (w, mut own) = Allocation::allocate_within(alloc, params, max_mem)?;
     let mut used = ActiveBuffers::new(w, &mut own.chunks, &mut own.table, &mut own.scratch, cores);
     derive_in::<Allocated, W>(password, salt, params, 0, &mut used, output);
     Ok(())

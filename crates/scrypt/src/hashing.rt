@@ -7,7 +7,7 @@ ghost use Rattle.scrypt.specs.KeyOfParams.{cost_by, key_by};
 ghost use Rattle.scrypt.specs.Mixing.{IsReady, IsSpent};
 ghost use Rattle.password_hash.specs.declared.error.Error.TheVariants.{OutOfMemory};
 
-use crate::buffers::{ActiveBuffers, OwnBuffers};
+use crate::buffers::{ActiveBuffers, Allocation};
 use crate::derivation::derive_in;
 use crate::{Backend, CoreCount, Params};
 use password_hash::phc::Output;
@@ -58,7 +58,7 @@ pub(crate) fn key_allocating<W: Backend>(
     ensures memory { IfErr result (λ e. e ≡ OutOfMemory) }
 {
     // A limit of 0 bytes selects one table.
-    let (w, mut own) = OwnBuffers::allocate_within(alloc, params, 0)?;
+    let (w, mut own) = Allocation::allocate_within(alloc, params, 0)?;
     let cores = &mut CoreCount::new();
     let mut used = ActiveBuffers::new(w, &mut own.chunks, &mut own.table, &mut own.scratch, cores);
     Ok(stored_key::<Allocated, W>(password, salt, params, &mut used))

@@ -10,7 +10,7 @@ ghost use Rattle.scrypt.specs.Reading.{IsVerdict, is_right, verify_cost, with_re
 ghost use Rattle.scrypt.specs.StoredParts.{stored};
 ghost use Rattle.scrypt.specs.Workspace.{IsLeft, cores_in, hashed_in, verdict_in, workspace_of};
 
-use crate::buffers::{ActiveBuffers, OwnBuffers, with_prefix};
+use crate::buffers::{ActiveBuffers, Allocation, with_prefix};
 use crate::comparing::is_derived_key;
 use crate::derivation::derive_chunks;
 use crate::derivation::mixing::mix_all;
@@ -74,7 +74,7 @@ pub(crate) fn verify_allocating<W: Backend>(
         → AreCounted (cost_by parts.now.params) (verify_cost password.now (stored parts.now)) cores.old cores.new }
 {
     // A limit of 0 bytes selects one table.
-    let (w, mut own) = OwnBuffers::allocate_within(alloc, &parts.params, 0)?;
+    let (w, mut own) = Allocation::allocate_within(alloc, &parts.params, 0)?;
     let mut used = ActiveBuffers::new(w, &mut own.chunks, &mut own.table, &mut own.scratch, cores);
     verdict(is_key_of::<Allocated, W>(password, parts, &mut used))
 }
