@@ -31,6 +31,7 @@ mod params;
 pub mod phc;
 mod rehashing;
 mod stepping;
+pub mod steps;
 mod stored_hash;
 mod stored_parts;
 mod texts;
@@ -52,8 +53,6 @@ pub use password_hash;
 pub use password_hash::kdf;
 pub use password_hash::kdf::{Kdf, Pbkdf};
 pub use scrypt_kernel::{CoreCount, block_mix, hmac, pbkdf2, romix, salsa};
-pub use stepping::{
-    Progress, StepsError, begin, cores_done, finish, is_within, scrypt_in_steps, step,
-};
+pub use stepping::{Progress, StepsError, cores_done, scrypt_in_steps};
 pub use stored_hash::StoredHash;
 pub use texts::hash_text;

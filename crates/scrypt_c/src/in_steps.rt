@@ -18,10 +18,8 @@ use crate::statuses::{
 };
 use crate::target::Target;
 use crate::texts::{limited_hash, stored_hash, whole_params};
-use scrypt::{
-    Backend, BufferLens, CoreCount, InvalidOutputLen, Params, Progress, begin, finish, is_within,
-    step,
-};
+use scrypt::steps::{begin, finish, is_within, step};
+use scrypt::{Backend, BufferLens, CoreCount, InvalidOutputLen, Params, Progress};
 
 /// Begins a key in steps. It runs no core yet: `scrypt_key_step` does, and `scrypt_key_finish`
 /// writes the key. Up to four chunks are interleaved, one for each table and scratch.

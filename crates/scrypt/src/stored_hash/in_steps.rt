@@ -13,8 +13,8 @@ use crate::{BufferLens, CoreCount, Progress};
 use password_hash::Result;
 
 impl<'a> StoredHash<'a> {
-    /// Returns the salt of the hash, for [`begin`](crate::begin). The salt of a `$7$` hash is its
-    /// letters.
+    /// Returns the salt of the hash, for [`begin`](crate::steps::begin). The salt of a `$7$` hash is
+    /// its letters.
     ///
     /// Returns the errors of [`StoredHash::verify`] before it allocates.
     pub fn salt(&self) -> Result<&[u8]>
@@ -26,7 +26,7 @@ impl<'a> StoredHash<'a> {
         }
     }
 
-    /// Finishes a verification in steps, which [`begin`](crate::begin) began with
+    /// Finishes a verification in steps, which [`begin`](crate::steps::begin) began with
     /// [`StoredHash::params`] and [`StoredHash::salt`]: the verdict of [`StoredHash::verify`], once
     /// all chunks are mixed. The buffers are the caller's to wipe.
     pub fn finish_verify(
