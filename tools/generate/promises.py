@@ -1,6 +1,6 @@
 """The generated parts of docs/PROMISES.md, each between `<!-- generated: .. -->` and `<!-- end -->`: the definitions to
-review, the headline, and quotations. `PATH: NAME ..` quotes functions with their clauses, or definitions with their comments, which
-name the standard's steps."""
+review, the headline, and quotations. `PATH: NAME ..` quotes functions with their clauses, or definitions with their
+comments, which name the standard's steps."""
 
 import json
 import re
@@ -58,9 +58,13 @@ def filled(text, begin="", after=None):
     return textwrap.fill(text, 100, initial_indent=begin, subsequent_indent=after or " " * len(begin), **options)
 
 
-def headline():
-    """The headline as a quotation; its phrases have their clauses in headline.json."""
-    return filled("".join(phrase for phrase, *_ in ROWS["headline"]), "> ", "> ")
+def headline(proof):
+    """The headline as a quotation, and how much its clauses depend on; headline.json has the clauses of each phrase."""
+    phrases = [(*row, [])[:2] for row in ROWS["headline"]]
+    every = [it for _, those in proof.reading(proof.clauses([name for _, names in phrases for name in names])) for it in those]
+    more = sum(it.lines for it in every) - lines(proof, KEY)
+    depends = f"It depends on {len(every)} definitions: those of a key, [below](#what-to-review), and {more} more lines."
+    return filled("".join(text for text, _ in phrases), "> ", "> ") + "\n\n" + filled(depends)
 
 
 def page(proof):
@@ -69,7 +73,7 @@ def page(proof):
         path, names = found[2], found[3]
         if names:
             return found[1] + quoted(proof.library, path, names.split()) + found[4]
-        return found[1] + (headline() if path == "the headline" else "\n".join(reading(proof))) + found[4]
+        return found[1] + (headline(proof) if path == "the headline" else "\n".join(reading(proof))) + found[4]
 
     return GENERATED.sub(part, read(PAGE))
 
