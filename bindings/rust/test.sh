@@ -35,6 +35,7 @@ if has rustfmt rustfmt; then crate cargo fmt --check; fi
 echo "called from Rust"
 
 # The package, built elsewhere with its own library; without one the build prints what is missing.
+cp tools/release/NOTICES bindings/rust/
 crate cargo package --quiet --allow-dirty --no-verify
 tar -xzf "$room"/target/package/scrypt_c-*.crate -C "$room"
 crate=$(echo "$room"/scrypt_c-*/)
