@@ -210,24 +210,16 @@ func TestKeysInSteps(t *testing.T) {
 	}
 }
 
-// Steps end by their time, even if a chunk takes less.
-func TestManyShortChunks(t *testing.T) {
-	for _, it := range []struct{ n, p int }{{1024, 500}, {512, 4096}} {
-		steps := 0
-		key, err := KeyContext(ctx, nil, nil, it.n, 1, it.p, 32, func(float64) { steps++ })
-		want, _ := Key(nil, nil, it.n, 1, it.p, 32)
-		check(t, err == nil && string(key) == string(want) && steps < 1000, it, steps, err)
-	}
-}
-
-// KeyContext returns when its context is done; Calibrate finds parameters below its target.
+// KeyContext returns when its context is done, after steps of about 10 ms; Calibrate finds parameters
+// below its target.
 func TestKeyContextAndCalibrate(t *testing.T) {
 	ctx, cancel := context.WithTimeout(ctx, 100*time.Millisecond)
 	defer cancel()
 	end, _ := ctx.Deadline()
-	key, err := KeyContext(ctx, nil, nil, 1<<20, 8, 1, 32, nil)
+	steps := 0
+	key, err := KeyContext(ctx, nil, nil, 1<<20, 8, 1, 32, func(float64) { steps++ })
 	late := time.Since(end) // 50 ms on an idle machine
-	check(t, err == context.DeadlineExceeded && key == nil && late < 500*time.Millisecond, err, late)
+	check(t, err == context.DeadlineExceeded && key == nil && late < 500*time.Millisecond && steps < 100, err, late, steps)
 	found, err := Calibrate(50*time.Millisecond, 32<<20)
 	check(t, err == nil && found.LogN >= 10 && found.LogN <= 15 && found.P >= 1 && found.KeyLen == 32, found, err)
 }
@@ -332,7 +324,8 @@ func TestStats(t *testing.T) {
 	wait(func() bool { return hasher.Stats() == Stats{Failed: 11} })
 }
 
-// A Hasher keeps at most MaxTables tables, until Close or until nothing refers to it; KeyContext none.
+// A Hasher keeps at most MaxTables tables, until Close or until nothing refers to it. KeyContext keeps
+// none, and has one if two do not fit into 129 MiB.
 func TestMemory(t *testing.T) {
 	resident := func() (pages int) {
 		data, err := os.ReadFile("/proc/self/statm")
@@ -342,8 +335,13 @@ func TestMemory(t *testing.T) {
 		_, _ = fmt.Sscan(string(data), new(int), &pages)
 		return pages * os.Getpagesize() >> 20
 	}
-	before, hashers := resident(), [2]*Hasher{}
-	_, _ = KeyContext(ctx, nil, nil, 1<<16, 8, 1, 32, nil)
+	before, hashers, most := resident(), [2]*Hasher{}, 0
+	_, _ = KeyContext(ctx, nil, nil, 1<<17, 8, 2, 32, func(float64) {
+		if now := resident(); now > most {
+			most = now
+		}
+	})
+	check(t, most > before+100 && most < before+160, most-before)
 	for i := range hashers {
 		hashers[i] = newHasher(t, Options{Params: Params{LogN: 16, P: 4}, MaxTables: 1, Processors: 4})
 		_, _ = hashers[i].Hash(ctx, nil)

@@ -7,7 +7,6 @@ import os
 import pathlib
 import random
 import re
-import resource
 import signal
 import threading
 import time
@@ -50,28 +49,6 @@ class Keys(unittest.TestCase):
         most = {"maxmem": B64 + 1, "max_work": B64 + 1}
         self.assertEqual(key(password=bytearray(b"pw"), salt=memoryview(b"salt"), **most), key())
 
-    def test_many_short_chunks(self):
-        """Steps end by their time, even if a chunk takes less."""
-        for n, p in [(1024, 500), (512, 4096)]:
-            costs, seen = {"salt": b"salt", "n": n, "r": 1, "p": p}, []
-            wanted = hashlib.scrypt(b"pw", **costs, maxmem=1 << 30)
-            self.assertEqual(scrypt_c.scrypt(b"pw", **costs), wanted)
-            self.assertEqual(scrypt_c.scrypt(b"pw", **costs, progress=seen.append), wanted)
-            self.assertEqual((seen, seen[-1]), (sorted(seen), 1))
-            self.assertLess(len(seen), 1000)
-
-    def test_one_table_of_several(self):
-        """One table is used if the system has no memory for several."""
-        wanted = key(n=1 << 15, p=4)
-        pages = int(pathlib.Path("/proc/self/statm").read_text("ascii").split()[0])
-        limits = resource.getrlimit(resource.RLIMIT_AS)
-        most = pages * resource.getpagesize() + (80 << 20)
-        resource.setrlimit(resource.RLIMIT_AS, (most, limits[1]))
-        try:
-            self.assertEqual(key(n=1 << 15, p=4), wanted)
-        finally:
-            resource.setrlimit(resource.RLIMIT_AS, limits)
-
     def test_maxmem_is_not_exceeded(self):
         """The tables that fit in maxmem are used, and all are freed."""
         one = Params(15, 8, 4).memory
@@ -88,7 +65,7 @@ class Keys(unittest.TestCase):
         for progress in (None, seen.append):
             used, _ = growth(lambda: key(n=1 << 17, p=2, progress=progress))
             self.assertLess(used, 160 << 20)
-        self.assertGreater(len(seen), 10)
+        self.assertTrue(10 < len(seen) < 1000, len(seen))
 
     def test_interrupts(self):
         """Ctrl-C ends a derivation that takes seconds at the end of a step, and so does an

@@ -1,7 +1,7 @@
-//! The verifications of bindings/cases.tsv, and hashes of other programs: those of
-//! bindings/stored.tsv and of simple-scrypt. A release's crate lacks these tables and this file.
+//! The verifications of bindings/cases.tsv, and the hashes of other programs in
+//! bindings/stored.tsv. A release's crate lacks these tables and this file.
 
-use scrypt_c::migration::{from_simple_scrypt, stored_text};
+use scrypt_c::migration::stored_text;
 use scrypt_c::{params_of, Error, Hasher, Params};
 
 fn rows(path: &str) -> Vec<Vec<String>> {
@@ -43,29 +43,5 @@ fn stored() {
             .map_err(Error::from)
             .and_then(|params| stored_text(&hex(&row[0]), &hex(&row[1]), &params));
         assert_eq!(made.unwrap_or_default(), row[5], "{row:?}");
-    }
-}
-
-// Of `pw`, by (10, 8, 1).
-const KEY: &str = "a654820bed363305ebd71eadddfd68bfae03c33f55772d985b059be2cfb2a7b7";
-
-#[test]
-fn simple_scrypt() {
-    let simple = format!("1024$8$1$73656173616c74${KEY}");
-    let text = from_simple_scrypt(&simple);
-    assert_eq!(text.and_then(|text| Hasher::default().verify(b"pw", &text)), Ok(()));
-    for (part, other, wanted) in [
-        ("1024", "1000", Error::InvalidParams),
-        ("1024", "1", Error::InvalidParams), // as in simple-scrypt
-        ("$8$", "$0$", Error::InvalidParams),
-        ("1024", "+1024", Error::EncodingInvalid),
-        ("$8$", "$4294967304$", Error::EncodingInvalid),
-        ("b7", "g7", Error::EncodingInvalid),
-        ("b7", "b", Error::EncodingInvalid),
-        ("b7", "b7$", Error::EncodingInvalid),
-        (KEY, "", Error::InvalidOutputLen),
-    ] {
-        let changed = simple.replace(part, other);
-        assert_eq!(from_simple_scrypt(&changed), Err(wanted), "{changed}");
     }
 }
