@@ -2,7 +2,7 @@
 
 usage: python3 -m tools.bench.here LIBRARY parameters [PICTURE]   *Time and attack*, and its picture parameters.svg
        python3 -m tools.bench.here LIBRARY thin                   *Smaller tables*
-       python3 -m tools.bench.here LIBRARY logins                 *Tables for each processor*
+       python3 -m tools.bench.here LIBRARY logins                 *Tables for each CPU*
 
 LIBRARY is libscrypt_c.so. `parameters` and `thin` print the minimum of RUNS runs (an environment variable, 7 by default), and
 a row of `logins` takes SECONDS seconds (10). SMALL=1 tries each table with small parameters.
@@ -44,7 +44,7 @@ def login_of(library, log_n):
 
 
 def parameters(library, to=None):
-    print(ours.line("log_n (r = 8, p = 1)", "MiB", "seconds", "processor years per 10^9 guesses", head=True))
+    print(ours.line("log_n (r = 8, p = 1)", "MiB", "seconds", "CPU-years per 10^9 guesses", head=True))
     points = []
     for log_n in (10, 11, 12) if SMALL else (10, 12, 13, 14, 15, 16, 17, 18, 20):
         mib, taken = 1 << (log_n - 10), seconds(library.scrypt_verify_unlimited, *login_of(library, log_n))
@@ -92,7 +92,7 @@ def waits_of(library, hasher, login, clients):
 
 def logins(library, clients=16):
     processors = len(os.sched_getaffinity(0))
-    print(ours.line("log_n (r = 8, p = 1)", "tables for each processor", "MiB of the hasher", "logins a second",
+    print(ours.line("log_n (r = 8, p = 1)", "tables for each CPU", "MiB of the hasher", "logins a second",
                     "median wait, ms", "99th percentile, ms", head=True))
     for log_n in (10, 11) if SMALL else range(14, 19):
         for tables in 1, 2, 4:
