@@ -1,7 +1,7 @@
 #!/usr/bin/env python3
 """Checks that the loops of Salsa20/8 cores keep their blocks in registers.
 
-usage: registers.py [LIBRARY..]
+usage: python3 -m tools.bench.registers [LIBRARY..]
 
 Each LIBRARY is a shared or static library, an object or a program, by default the libraries of
 build/lib. The compiler silently ignores `inline(always)` if a function grows too large. The keys
