@@ -1,7 +1,7 @@
 // Batches of logins.
 
 use crate::holds;
-use scrypt::{BufferLens, Buffers, LimitedError, Login, StoredHash};
+use scrypt::{BufferLens, Buffers, Decoy, LimitedError, Login, LoginHash, Params, StoredHash};
 use std::alloc::{AllocError, Global};
 use std::test::Fail;
 
@@ -9,28 +9,44 @@ use std::test::Fail;
 const HASH: &str =
     "$scrypt$ln=4,r=1,p=1$TmFDbE5hQ2xOYUNsTmFDbA$byFamdVzF4dSYG0oEkkoOuYyJ2d96S6WZWa49NYGK8w";
 
+// For a decoy with the parameters of this hash.
+const DECOY: &str = "decoy";
+
 // With this many logins, a recursive call for each would overflow the stack.
 const MANY: usize = 100_000;
 
 // The texts of the first login and of the others, and whether the first and the last are verified.
 // Rejecting a text that cannot be read takes no time.
-static LOGINS: [(&str, &str, bool, bool, &str); 3] = [
+static LOGINS: [(&str, &str, bool, bool, &str); 4] = [
     ("", "", false, false, "each is rejected separately"),
     (HASH, "", true, false, "one batch, with one derivation"),
     ("", HASH, false, true, "the others in a batch"),
+    (DECOY, HASH, false, true, "a decoy accepts nothing"),
 ];
+
+// The hash of a text, or a decoy.
+fn hash_of(text: &'static str, params: &Params) -> Result<LoginHash<'static>, LimitedError> {
+    if text == DECOY {
+        return Ok(LoginHash::Decoy(Decoy::new(params)));
+    }
+    match StoredHash::read(text) {
+        Ok(hash) => Ok(LoginHash::Stored(hash)),
+        Err(error) => Err(LimitedError::Hash(error)),
+    }
+}
 
 // Logins with the same password.
 fn logins_of(
     alloc: Global,
     first: &'static str,
     others: &'static str,
+    params: &Params,
 ) -> Result<Vec<Login<'static, 'static>>, AllocError> {
     let mut logins = Vec::with_capacity(alloc, MANY)?;
     for i in 0..MANY {
         logins.push(Login {
             password: b"pw",
-            hash: StoredHash::read(if i == 0 { first } else { others }).map_err(LimitedError::Hash),
+            hash: hash_of(if i == 0 { first } else { others }, params),
         })?;
     }
     Ok(logins)
@@ -47,9 +63,10 @@ fn many_logins(rt: HostRuntime) -> Result<(), Fail> {
         table: 2048,
         scratch: 256,
     };
+    let params = Params::new(4, 1, 1)?;
     let mut own = Buffers::allocate(rt.alloc(), &lens)?;
     for &(first, others, is_first, is_last, reason) in &LOGINS {
-        let logins = logins_of(rt.alloc(), first, others)?;
+        let logins = logins_of(rt.alloc(), first, others, &params)?;
         let mut verdicts = vec![in rt.alloc(); Ok(()); logins.len()]?;
         own.verify_logins(&logins, &mut verdicts);
         let wanted = (is_first, is_last);

@@ -11,6 +11,8 @@ pub mod ChunkFacts
 pub mod StandardFacts
 -- What follows from the reading of a hash: the verdict, and the memory that is left.
 pub mod ReadingFacts
+-- No password has the key of a decoy, and its public part is that of a hash.
+pub mod DecoyFacts
 -- Facts on several logins, whose keys are derived at once.
 pub mod LoginFacts
 -- The work and the memory of a verification depend on its public part alone.

@@ -16,7 +16,7 @@ use Rattle.scrypt.specs.Accepted.{Parameters}
 use Rattle.scrypt.specs.Cost.{AreHashed, chunks_bytes, cost, ro_mix_cost}
 use Rattle.scrypt.specs.Key.{mixed_chunks}
 use Rattle.scrypt.specs.Limits.{SufficeFor}
-use Rattle.scrypt.specs.Logins.{Attempt, AreLeft, IsAlone, all_cost, all_of, attempt_of, attempts, chunks_cost, compare_cost, cores_on, count_of, hashed_on, own_cost, reading_of, shared, verdict_on, verify_cores, with_more}
+use Rattle.scrypt.specs.Logins.{Attempt, AreLeft, IsAlone, all_cost, all_of, attempt_of, attempts, chunks_cost, compare_cost, cores_on, count_of, hashed_on, own_cost, reading_of, reading_of_hash, shared, verdict_on, verify_cores, with_more}
 use Rattle.scrypt.specs.Reading.{◌and_then◌, Stored, chunks_of, mixed_of, verdict, verify_cost}
 use Rattle.scrypt.specs.StoredHash.{reading}
 use Rattle.scrypt.specs.WithinLimits.{with_limited_refusal, within}
@@ -24,9 +24,12 @@ use Rattle.scrypt.specs.declared.limits.Limits.{Limits}
 use Rattle.scrypt.specs.InBuffers.{are_enough}
 use Rattle.scrypt.specs.Workspace.{IsDone, IsLeft, Workspace}
 use Rattle.scrypt.specs.declared.logins.Login.{Login}
+use Rattle.scrypt.specs.declared.logins.LoginHash.{LoginHash}
+use Rattle.scrypt.specs.declared.logins.LoginHash.TheVariants as hashes
 use Rattle.scrypt.proofs.KeyFacts.{both_mixed, length-mixed_chunks}
-use Rattle.scrypt.proofs.ReadingFacts.{enough_decided}
-use Rattle.scrypt.proofs.StoredHashFacts.{enough_read}
+use Rattle.scrypt.proofs.DecoyFacts.{some_decoy}
+use Rattle.scrypt.proofs.ReadingFacts.{enough_decided, enough_within}
+use Rattle.scrypt.proofs.StoredHashFacts.{some_read}
 
 -- n chunks, which are those of d and others
 pub record AreMore (c d : Parameters) (others : Option ℕ) (n : ℕ) : Type 0 where
@@ -164,17 +167,22 @@ sum_more f {these} {others} {a} n is same = ap (λ n. n + sum_by f others) same 
 -- In buffers that suffice for limits, and with hashes within them or errors, each verdict is that
 -- of its password, and never `OutOfMemory`.
 
-one_within : (limits : Limits) (w : Workspace) (password : List ℕ) (found : Result (List ℕ) Refusal)
-    → SufficeFor limits w.chunks w.table w.scratch → within limits (found and_then reading) ≡ found and_then reading
-    → verdict_on w (password, found and_then reading) ≡ verdict password (found and_then reading)
+some_hash : (hash : LoginHash) (s : Stored) → reading_of_hash hash ≡ Ok s → 0 < s.params.p
+some_hash (hashes.Stored text) s is = some_read text s is
+some_hash (hashes.Decoy decoy) s is = some_decoy decoy.0 decoy.1 s is
+
+one_within : (limits : Limits) (w : Workspace) (password : List ℕ) (found : Result LoginHash Refusal)
+    → SufficeFor limits w.chunks w.table w.scratch → within limits (found and_then reading_of_hash) ≡ found and_then reading_of_hash
+    → verdict_on w (password, found and_then reading_of_hash) ≡ verdict password (found and_then reading_of_hash)
 one_within limits w password (Err why) suffice fits = refl
-one_within limits w password (Ok text) suffice fits = at (reading text) refl
+one_within limits w password (Ok hash) suffice fits = at (reading_of_hash hash) refl
   where
-    at : (read : Result Stored Refusal) → reading text ≡ read → verdict_on w (password, read) ≡ verdict password read
+    at : (read : Result Stored Refusal) → reading_of_hash hash ≡ read → verdict_on w (password, read) ≡ verdict password read
     at (Err why) is = refl
     at (Ok s) is =
-        let ok : IsOk (within limits (reading text)) = rw (fits, is) refl in
-        rw (enough_read limits text s w.chunks w.table w.scratch suffice is ok) refl
+        let same : within limits (Ok s) ≡ Ok s = ap (within limits) (sym is) ∙ fits ∙ is in
+        let ok : IsOk (within limits (Ok s)) = rw same refl in
+        rw (enough_within limits s w.chunks w.table w.scratch suffice (some_hash hash s is) ok) refl
 
 pub all_within : (limits : Limits) (w : Workspace) (logins : List Login) → SufficeFor limits w.chunks w.table w.scratch
     → All (λ login. within limits (reading_of login) ≡ reading_of login) logins

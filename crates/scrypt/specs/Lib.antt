@@ -32,6 +32,8 @@ pub mod KeyOfParams
 pub mod Hashing
 -- the result of reading a stored hash, and the verdict, in every format
 pub mod Reading
+-- decoys, which are verified if there is no stored hash
+pub mod Decoy
 -- the caller's buffers: long enough, wiped, and written to
 pub mod InBuffers
 -- the workspace of one derivation: the verdict in it, and its contents afterwards

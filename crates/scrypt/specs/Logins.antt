@@ -4,19 +4,27 @@ use Rattle.password_hash.specs.Refusal.{Refusal}
 use Rattle.scrypt.specs.Accepted.{Parameters}
 use Rattle.scrypt.specs.Reading.{◌and_then◌, Stored}
 use Rattle.scrypt.specs.Cost.{chunks_bytes, pbkdf2_cost}
+use Rattle.scrypt.specs.Decoy.{decoy_reading}
 use Rattle.scrypt.specs.KeyOfParams.{cost_by}
 use Rattle.scrypt.specs.StoredHash.{reading}
 use Rattle.scrypt.specs.WithinLimits.{with_limited_refusal}
 use Rattle.scrypt.specs.Workspace.{IsDone, IsLeft, Workspace, are_enough, cores_in, hashed_in, verdict_in}
 use Rattle.scrypt.specs.declared.logins.Login.{Login}
+use Rattle.scrypt.specs.declared.logins.LoginHash.{LoginHash}
+use Rattle.scrypt.specs.declared.logins.LoginHash.TheVariants as hashes
 
 -- a password, and the reading of the hash that it is verified against
 abbrev pub Attempt : Type 0
 Attempt = List ℕ × Result Stored Refusal
 
+-- the reading of a stored hash or of a decoy
+abbrev pub reading_of_hash : LoginHash → Result Stored Refusal
+reading_of_hash (hashes.Stored text) = reading text
+reading_of_hash (hashes.Decoy decoy) = decoy_reading decoy.0 decoy.1
+
 -- the reading of the hash of a login, or the error that the login has instead
 abbrev pub reading_of : Login → Result Stored Refusal
-reading_of login = with_limited_refusal login.hash and_then reading
+reading_of login = with_limited_refusal login.hash and_then reading_of_hash
 
 -- the password of a login, and the reading of its hash
 abbrev pub attempt_of : Login → Attempt

@@ -2,7 +2,7 @@
 
 ghost use Rattle.std.specs.Prelude.{◌≡◌, ◌≢◌, ◌⊎◌, ◌↔◌, true, false, ℕ, ◌+◌, ◌-◌, ◌*◌, ◌%◌, ◌^◌, ◌<◌, ◌≤◌, List, [], ◌∷◌, ◌++◌, IsTrue, length, map, sum_by, take, Option, Result, Ok, Err, IsOk, IsSome, Some, All};
 ghost use Rattle.sha2.specs.Sha256.{sha256};
-ghost use Rattle.password_hash.specs.Crypt64.{Crypt64, letter_value, letters_of};
+ghost use Rattle.password_hash.specs.Crypt64.{Crypt64, encoded_len, letter_value, letters_of};
 ghost use Rattle.password_hash.specs.Mcf.{IsMcfText, fields_of};
 ghost use Rattle.password_hash.specs.Phc.{IsHashText, IsSalt, hash_text};
 ghost use Rattle.password_hash.specs.Refusal.{Refusal, EncodingInvalid, PasswordInvalid};
@@ -14,6 +14,7 @@ ghost use Rattle.scrypt_kernel.specs.RoMix.{ro_mix};
 ghost use Rattle.scrypt_kernel.specs.RoMixLoops.{ro_mix_by_loops};
 ghost use Rattle.scrypt_kernel.specs.Salsa.{salsa20_8};
 ghost use Rattle.scrypt.specs.ChunkOrder.{NamesEachOnce, mixed_in_order};
+ghost use Rattle.scrypt.specs.Decoy.{decoy_reading};
 ghost use Rattle.scrypt.specs.Hashing.{key_len_or_default};
 ghost use Rattle.scrypt.specs.KeyOfParams.{cost_by, key_by};
 ghost use Rattle.scrypt_kernel.specs.Diagonal.{AreInverse, IsBlockMixBy, diagonal_core, diagonal_order, inverse_pivot, pivot, standard_order};
@@ -26,8 +27,8 @@ ghost use Rattle.scrypt.specs.McfParams.{params_letters, five_letter_number};
 ghost use Rattle.scrypt.specs.McfHash.{HashIsRefused as McfHashIsRefused, IsMadeHash as IsMadeMcf, IsMcfHashText, made_hash, mcf_text, read_fields, read_mcf};
 ghost use Rattle.scrypt.specs.OwnedBuffers.{AreFor};
 ghost use Rattle.scrypt.specs.PhcParams.{params_of_pairs, written_pairs};
-ghost use Rattle.scrypt.specs.PhcHash.{HashIsRefused, IsMadeHash, phc_params, read_phc};
-ghost use Rattle.scrypt.specs.PublicPart.{AreSameAfter, public_part};
+ghost use Rattle.scrypt.specs.PhcHash.{HashIsRefused, IsMadeHash, IsMadeText, phc_params, read_phc};
+ghost use Rattle.scrypt.specs.PublicPart.{AreSameAfter, public_hash, public_part};
 ghost use Rattle.scrypt.specs.Reading.{IsOfText, NamesNoPassword, Stored, verdict, verify_cost, weaker};
 ghost use Rattle.scrypt.specs.StoredHash.{is_mcf_text, is_stored_text, params_reading, reading};
 ghost use Rattle.scrypt.specs.WithinLimits.{within};
@@ -262,6 +263,21 @@ pub fn work_is_independent_of_secrets()
     ensures all_left { (these others : List Attempt) (before after : Workspace)
         → map public_part these ≡ map public_part others
         → AreLeft these before after → AreLeft others before after }
+{}
+
+/// A decoy accepts no password. Its public part is that of a hash that is made with its parameters,
+/// if their salts have one length; the salt of a `$7$` hash is its letters. So by
+/// [`work_is_independent_of_secrets`] its verification has the work of one with the hash, and
+/// leaves the same buffers, alone and in batches.
+pub fn decoys_cost_what_hashes_cost()
+    ensures rejected { (c : Parameters) (password salt : List ℕ) → IsTrue (are_accepted c.log_n c.r c.p)
+        → IsTrue (is_stored_len c.output_len) → verdict password (decoy_reading c salt) ≡ Err PasswordInvalid }
+    ensures phc { (c : Parameters) (password salt text any : List ℕ) → IsTrue (are_accepted c.log_n c.r c.p)
+        → IsTrue (is_stored_len c.output_len) → IsSalt salt → IsMadeText c password salt text
+        → length any ≡ length salt → public_hash (decoy_reading c any) ≡ public_hash (reading text) }
+    ensures mcf { (c : Parameters) (password salt text any : List ℕ) → IsTrue (are_accepted c.log_n c.r c.p)
+        → IsTrue (is_stored_len c.output_len) → IsMadeMcf c password salt text
+        → length any ≡ encoded_len (length salt) → public_hash (decoy_reading c any) ≡ public_hash (reading text) }
 {}
 
 /// With a table that keeps one row in `2^s`, the `N` steps of the walk together recompute at most

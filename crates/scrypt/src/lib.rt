@@ -20,6 +20,7 @@ mod algorithm;
 mod backends;
 mod buffers;
 mod comparing;
+mod decoy;
 mod derivation;
 pub mod errors;
 mod hashing;
@@ -41,13 +42,14 @@ pub use algorithm::Scrypt;
 pub use backends::{Backend, Scalar, Simd, SimdPairs};
 pub use buffers::owned::Buffers;
 pub use buffers::{BufferLens, wipe};
+pub use decoy::Decoy;
 pub use derivation::{
     output_len_ok, scrypt, scrypt_counted, scrypt_in_prefix, scrypt_thin, scrypt_thin_with_backend,
     scrypt_with_buffers, scrypt_with_max_mem,
 };
 pub use errors::{DeriveError, InvalidOutputLen, InvalidParams, LimitedError};
 pub use limits::Limits;
-pub use logins::{Login, verify_logins};
+pub use logins::{Login, LoginHash, verify_logins};
 pub use params::Params;
 pub use password_hash;
 pub use password_hash::kdf;

@@ -17,16 +17,25 @@ use crate::derivation::mixing::mix_all;
 use crate::errors::LimitedError;
 use crate::stored_parts::StoredParts;
 use crate::verifying::{verdict, verify_in_buffers};
-use crate::{Backend, BufferLens, CoreCount, Params, StoredHash};
+use crate::{Backend, BufferLens, CoreCount, Decoy, Params, StoredHash};
 use scrypt_kernel::memory::Buffer;
+
+/// What the password of a login is verified against.
+#[derive(Drop)]
+pub enum LoginHash<'t> {
+    /// The hash that is stored for the name.
+    Stored(StoredHash<'t>),
+    /// Nothing is stored for the name.
+    Decoy(Decoy<'t>),
+}
 
 /// A password and the stored hash that it is verified against.
 #[derive(Drop)]
 pub struct Login<'p, 't> {
     /// The password.
     pub password: &'p [u8],
-    /// The hash, or the error of reading its text or of [`StoredHash::within`].
-    pub hash: Result<StoredHash<'t>, LimitedError>,
+    /// The hash or a decoy, or the error of reading its text or of [`StoredHash::within`].
+    pub hash: Result<LoginHash<'t>, LimitedError>,
 }
 
 impl<'p, 't> Login<'p, 't> {
@@ -36,7 +45,8 @@ impl<'p, 't> Login<'p, 't> {
         ensures { mapped (λ parts. stored parts.now) (with_limited_refusal result) ≡ reading_of self.now }
     {
         let hash = match &self.hash {
-            Ok(hash) => hash,
+            Ok(LoginHash::Stored(hash)) => hash,
+            Ok(LoginHash::Decoy(decoy)) => return Ok(decoy.parts()),
             Err(refused) => return Err(*refused),
         };
         match hash.parts() {
@@ -141,9 +151,10 @@ impl<'p, 't> Login<'p, 't> {
 }
 
 /// Verifies each password as [`StoredHash::verify_with_buffers`] verifies it in these buffers, so
-/// each verdict is independent of the other logins. If a login has an error instead of a hash, its
-/// verdict is this error. `verdicts` has the length of `logins`, and gets the verdict of each login
-/// at the same index. Does not allocate.
+/// each verdict is independent of the other logins. A decoy is verified as
+/// [`Decoy::verify_with_buffers`] verifies it. If a login has an error instead of a hash, its
+/// verdict is this error, without any work. `verdicts` has the length of `logins`, and gets the
+/// verdict of each login at the same index. Does not allocate.
 ///
 /// If all hashes that are not errors have the `N` and the `r` of the first, and each buffer is long
 /// enough for one derivation with the chunks of all, their keys are derived in one batch: up to

@@ -2,7 +2,7 @@
 #![tactic(auto, unfolding(crate::specs::Accepted::are_accepted, crate::specs::Accepted::is_stored_len))]
 
 ghost use Rattle.std.specs.Prelude.{◌≡◌, ◌↔◌, ◌+◌, ◌*◌, ◌^◌, ◌<◌, ◌≤◌, IsOk, IfOk, IsTrue, None, Some};
-ghost use Rattle.scrypt.specs.Accepted.{Parameters, are_accepted, is_stored_len, parameters_eq, recommended_parameters};
+ghost use Rattle.scrypt.specs.Accepted.{Parameters, are_accepted, is_stored_len, parameters_eq, recommended_parameters, without_len};
 ghost use Rattle.scrypt.specs.Limits.{work};
 ghost use Rattle.scrypt.specs.Hashing.{key_len_or_default};
 ghost use Rattle.scrypt.specs.Reading.{checked, is_below, with_refusal};
@@ -146,6 +146,18 @@ impl Params {
             r: self.r,
             p: self.p,
             output_len: Some(len),
+        }
+    }
+
+    /// Returns the same parameters without a length.
+    pub(crate) fn without_len(&self) -> Params
+        ensures { result ≡ without_len self.now }
+    {
+        Params {
+            log_n: self.log_n,
+            r: self.r,
+            p: self.p,
+            output_len: None,
         }
     }
 

@@ -36,6 +36,8 @@ impl<'a> Salt<'a> {
 pub(crate) enum Key<'a> {
     Mcf(Field<'a>),
     Phc(phc::Output),
+    /// The key of a decoy, of this length. No password has it.
+    Decoy(usize),
 }
 
 impl<'a> Key<'a> {
@@ -50,6 +52,7 @@ impl<'a> Key<'a> {
         match self {
             Key::Mcf(field) => field.base64_matches_at(at, bytes),
             Key::Phc(output) => output.matches_at(at, bytes),
+            Key::Decoy(_) => bytes.is_empty(),
         }
     }
 }

@@ -25,7 +25,9 @@ use crate::statuses::{
 use crate::target::Target;
 use crate::texts::{copy_to, limited_hash, stored_hash};
 use password_hash::Error;
-use scrypt::{CoreCount, LimitedError, Login, Params, StoredHash, mcf, phc, verify_logins, wipe};
+use scrypt::{
+    CoreCount, LimitedError, Login, LoginHash, Params, StoredHash, mcf, phc, verify_logins, wipe,
+};
 
 /// Does what `scrypt_hash_phc` does, in the caller's buffers.
 ///
@@ -235,7 +237,7 @@ fn login<'p, 't>(password: &'p [u8], text: &'t [u8]) -> Login<'p, 't>
     ensures attempt { attempt_of result ≡ (password.now, bytes_reading text.now) }
 {
     let hash = match stored_hash(text) {
-        Ok(hash) => Ok(hash),
+        Ok(hash) => Ok(LoginHash::Stored(hash)),
         Err(error) => Err(LimitedError::Hash(error)),
     };
     Login { password, hash }

@@ -1,18 +1,21 @@
 //! Logins: enrolls users, logs them in with their passwords, and replaces hashes that have become
 //! weak.
 
-ghost use Rattle.std.specs.Prelude.{◌≡◌, ◌⊎◌, ◌↔◌, None, Ok, Err, IsOk, IsSome, false, true, IfErr, IfOk, IfSome, string_bytes, IsTrue};
+ghost use Rattle.std.specs.Prelude.{◌≡◌, ◌⊎◌, ◌↔◌, None, Ok, Err, IsOk, IsSome, false, true, length, IfErr, IfOk, IfSome, OnOk, string_bytes, IsTrue};
 ghost use Rattle.password_hash.specs.Refusal.{refusal};
 ghost use Rattle.password_hash.specs.declared.error.Error.TheVariants.{OutOfMemory};
 ghost use Rattle.scrypt.specs.Accepted.{are_accepted};
+ghost use Rattle.scrypt.specs.Cost.{AreCounted, hash_cost};
+ghost use Rattle.scrypt.specs.Hashing.{key_len_or_default};
+ghost use Rattle.scrypt.specs.KeyOfParams.{cost_by};
 ghost use Rattle.scrypt.specs.McfHash.{IsMadeHash as IsMadeMcf};
 ghost use Rattle.scrypt.specs.Reading.{let_in, verdict, weaker};
 ghost use Rattle.scrypt.specs.StoredHash.{reading};
 ghost use Rattle.scrypt_examples.specs.Login.{IsEnrolled, lets_in, new_text};
 
-use password_hash::{PasswordHasher, Result, mcf};
+use password_hash::{Error, PasswordHasher, Result, mcf};
 use scrypt::laws::made_texts_are_accepted;
-use scrypt::{InvalidParams, Params, Scrypt, StoredHash, hash_text};
+use scrypt::{CoreCount, Decoy, InvalidParams, Params, Scrypt, Simd, StoredHash, hash_text};
 use std::alloc::Global;
 
 /// The outcome of a login.
@@ -100,5 +103,27 @@ impl LoginPolicy {
             return Ok(LoginOutcome::In);
         }
         Ok(LoginOutcome::InWithNewText(self.enroll(alloc, password, salt)?))
+    }
+
+    /// Refuses a login with a name that does not exist, and counts the work: as much as for a wrong
+    /// password of this length, so that the time does not show which names exist.
+    ///
+    /// Returns `OutOfMemory` if an allocation fails.
+    pub fn log_in_unknown(
+        &self,
+        alloc: Global,
+        password: &[u8],
+        cores: &mut CoreCount,
+    ) -> Result<LoginOutcome>
+        ensures refused { IfOk result (λ login. lets_in login ≡ false) }
+        ensures counted { OnOk result (AreCounted (cost_by self.now.wanted)
+            (hash_cost (length password.now) 16 self.now.wanted.r self.now.wanted.p
+            (key_len_or_default self.now.wanted)) cores.old cores.new) }
+        ensures err { IfErr result (λ e. e ≡ OutOfMemory) }
+    {
+        match Decoy::new(&self.wanted).verify_counted::<Simd>(alloc, password, cores) {
+            Err(Error::PasswordInvalid) => Ok(LoginOutcome::Refused),
+            _ => Err(Error::OutOfMemory),
+        }
     }
 }

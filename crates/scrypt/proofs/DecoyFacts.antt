@@ -1,0 +1,112 @@
+use Rattle.std.proofs.Common.{◌≡◌, ◌≢◌, ◌⊎◌, inl, inr, ◌∙◌, ℕ, ◌<◌, ◌≤◌, ◌+◌, ◌-◌, suc, List, [], ◌∷◌, length, take, drop, slice_index, Ok, Err, refl, sym, ap, arith, IsTrue, true, false}
+use Rattle.std.specs.Prelude.{◌&&◌, Bool, Result, IsErrOf, if◌then◌else◌, replicate, ⊤}
+use Rattle.std.proofs.lemmas.Bool.{false_from_ne_true}
+use Rattle.std.proofs.lemmas.List.{drop-replicate, get_or-replicate, length-replicate}
+use Rattle.password_hash.specs.Refusal.{Refusal, OutOfMemory, ParamsInvalid, PasswordInvalid}
+use Rattle.password_hash.specs.declared.error.Error.{Error}
+use Rattle.password_hash.specs.declared.error.Error.TheVariants as error
+use Rattle.scrypt.specs.Accepted.{Parameters, are_accepted, is_stored_len, without_len}
+use Rattle.scrypt.specs.Decoy.{decoy_reading, no_key}
+use Rattle.scrypt.specs.Hashing.{key_len_or_default}
+use Rattle.scrypt.specs.InBuffers.{are_enough}
+use Rattle.scrypt.specs.KeyOfParams.{key_by}
+use Rattle.scrypt.specs.PublicPart.{public_hash}
+use Rattle.scrypt.specs.Reading.{IsVerdict, Stored, is_right, verdict, with_refusal}
+use Rattle.scrypt.specs.Workspace.{Workspace, verdict_in}
+use Rattle.scrypt.proofs.AcceptedFacts.{bounds, key_len_stored, ok_if}
+use Rattle.scrypt.proofs.KeyFacts.{key_by-are_bytes, length-key_by}
+use Rattle.scrypt.proofs.ReadingFacts.{made_stored, right_decided}
+
+-- the parts of a decoy
+abbrev pub decoy_of : Parameters → List ℕ → Stored
+decoy_of c salt = record { params = without_len c; salt = salt; key = no_key (key_len_or_default c) }
+
+pub accepted_decoy : (c : Parameters) (salt : List ℕ) → IsTrue (are_accepted c.log_n c.r c.p) → IsTrue (is_stored_len c.output_len)
+    → decoy_reading c salt ≡ Ok (decoy_of c salt)
+accepted_decoy c salt fits len = rw (fits, len) refl
+
+first_true : (a b : Bool) → a && b ≡ true → a ≡ true
+first_true true b both = refl
+first_true false b both = both
+
+pub some_decoy : (c : Parameters) (salt : List ℕ) (s : Stored) → decoy_reading c salt ≡ Ok s → 0 < s.params.p
+some_decoy c salt s is =
+    let told = ok_if (are_accepted c.log_n c.r c.p && is_stored_len c.output_len) (Ok (decoy_of c salt)) ParamsInvalid is in
+    let same : decoy_of c salt ≡ s = cc in
+    rw (← same) (bounds c.log_n c.r c.p (first_true _ _ told.0)).1
+
+differs : (bytes : List ℕ) (n : ℕ) → 0 < n → slice_index bytes 0 < 256 → no_key n ≢ bytes
+differs bytes n some byte = λ is.
+    let first : slice_index (no_key n) 0 ≡ 256 = get_or-replicate n 0 256 0 some in
+    absurd (omega (arith, ap (λ x. slice_index x 0) is))
+
+refused : (c : Parameters) (password salt : List ℕ) → IsTrue (is_stored_len c.output_len) → is_right password (decoy_of c salt) ≡ false
+refused c password salt len =
+    let n : ℕ = key_len_or_default c in
+    let some : 0 < n = omega (arith, key_len_stored c.output_len len) in
+    false_from_ne_true _ (λ right. differs _ n some (key_by-are_bytes (without_len c) password salt _ 0)
+    ((right_decided password (decoy_of c salt)).0 right))
+
+pub decoy_rejects : (c : Parameters) (password salt : List ℕ) → IsTrue (are_accepted c.log_n c.r c.p) → IsTrue (is_stored_len c.output_len)
+    → verdict password (decoy_reading c salt) ≡ Err PasswordInvalid
+decoy_rejects c password salt fits len = rw (accepted_decoy c salt fits len, refused c password salt len) refl
+
+wrong : (out : Result ⊤ Error) → with_refusal out ≡ Err PasswordInvalid → IsErrOf out error.PasswordInvalid
+wrong (Ok x) is = absurd cc
+wrong (Err error.Algorithm) is = absurd cc
+wrong (Err error.EncodingInvalid) is = absurd cc
+wrong (Err error.OutputSize) is = absurd cc
+wrong (Err (error.ParamInvalid name)) is = absurd cc
+wrong (Err error.ParamsInvalid) is = absurd cc
+wrong (Err error.PasswordInvalid) is = refl
+wrong (Err error.SaltInvalid) is = absurd cc
+wrong (Err error.Version) is = absurd cc
+wrong (Err error.OutOfMemory) is = absurd cc
+
+no_memory : (out : Result ⊤ Error) → with_refusal out ≡ Err OutOfMemory → IsErrOf out error.OutOfMemory
+no_memory (Ok x) is = absurd cc
+no_memory (Err error.Algorithm) is = absurd cc
+no_memory (Err error.EncodingInvalid) is = absurd cc
+no_memory (Err error.OutputSize) is = absurd cc
+no_memory (Err (error.ParamInvalid name)) is = absurd cc
+no_memory (Err error.ParamsInvalid) is = absurd cc
+no_memory (Err error.PasswordInvalid) is = absurd cc
+no_memory (Err error.SaltInvalid) is = absurd cc
+no_memory (Err error.Version) is = absurd cc
+no_memory (Err error.OutOfMemory) is = refl
+
+-- so verifying against it is refused
+pub rejects : (c : Parameters) (password salt : List ℕ) (s : Stored) (out : Result ⊤ Error) → IsTrue (are_accepted c.log_n c.r c.p)
+    → IsTrue (is_stored_len c.output_len) → ◌≡◌ {A = Result Stored Refusal} (Ok s) (decoy_reading c salt) → IsVerdict password (Ok s) (with_refusal out)
+    → IsErrOf out error.PasswordInvalid ⊎ IsErrOf out error.OutOfMemory
+rejects c password salt s out fits len is (inl same) = inl (wrong out (same ∙ ap (verdict password) is ∙ decoy_rejects c password salt fits len))
+rejects c password salt s out fits len is (inr none) = inr (no_memory out none.1)
+
+-- and in the caller's buffers, unless they are too short
+pub rejects_in : (c : Parameters) (password salt : List ℕ) (w : Workspace) → IsTrue (are_accepted c.log_n c.r c.p)
+    → IsTrue (is_stored_len c.output_len) → verdict_in w password (decoy_reading c salt)
+    ≡ (if are_enough c w.chunks w.table w.scratch then Err PasswordInvalid else Err OutOfMemory)
+unfolding are_enough
+rejects_in c password salt w fits len = rw (accepted_decoy c salt fits len, refused c password salt len) refl
+
+-- a hash that is made with its parameters and with a salt of the same length
+pub made_public : (c : Parameters) (password salt any : List ℕ) → IsTrue (are_accepted c.log_n c.r c.p) → IsTrue (is_stored_len c.output_len)
+    → length any ≡ length salt → {reading : Result Stored Refusal} → reading ≡ Ok (made_stored c password salt)
+    → public_hash (decoy_reading c any) ≡ public_hash reading
+made_public c password salt any fits len long is =
+    let key : length (no_key (key_len_or_default c)) ≡ length (key_by c password salt (key_len_or_default c)) =
+    length-replicate _ _ ∙ sym (length-key_by c password salt _) in
+    rw (is, accepted_decoy c any fits len, long, key) refl
+
+-- no part of it is equal to bytes
+pub no_match : (bytes : List ℕ) (at n : ℕ) → slice_index bytes 0 < 256 → at + length bytes ≤ n
+    → bytes ≡ take (length bytes) (drop at (no_key n)) → length bytes ≡ 0
+no_match [] at n byte inside same = refl
+no_match (b ∷ bs) at n byte inside same =
+    let more : n - at ≡ suc (n - at - 1) = omega arith in
+    let first : b ∷ bs ≡ take (suc (length bs)) (replicate (suc (n - at - 1)) 256) = rw (drop-replicate {X = ℕ} at n 256, more) at same in
+    absurd (omega (arith, ap (λ x. slice_index x 0) first))
+
+pub all_match : (bytes : List ℕ) (at n : ℕ) → length bytes ≡ 0 → bytes ≡ take (length bytes) (drop at (no_key n))
+all_match [] at n none = refl
+all_match (b ∷ bs) at n none = absurd (omega (arith, none))

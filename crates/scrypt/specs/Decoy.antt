@@ -1,0 +1,18 @@
+-- Decoys: what a password is verified against if there is no stored hash for its name.
+use Rattle.std.specs.Prelude.{ℕ, ◌&&◌, if◌then◌else◌, List, replicate, Result, Ok, Err}
+use Rattle.password_hash.specs.Refusal.{Refusal, ParamsInvalid}
+use Rattle.scrypt.specs.Accepted.{Parameters, are_accepted, is_stored_len, without_len}
+use Rattle.scrypt.specs.Hashing.{key_len_or_default}
+use Rattle.scrypt.specs.Reading.{Stored}
+
+-- n times 256, which is not a byte: no password has this key
+abbrev pub no_key : ℕ → List ℕ
+no_key n = replicate n 256
+
+-- The reading of a decoy: a hash with these parameters, this salt, and a key that no password has,
+-- as long as the keys of hashes that are made with these parameters.
+abbrev pub decoy_reading : Parameters → List ℕ → Result Stored Refusal
+decoy_reading c salt =
+    if are_accepted c.log_n c.r c.p && is_stored_len c.output_len
+    then Ok (record { params = without_len c; salt = salt; key = no_key (key_len_or_default c) })
+    else Err ParamsInvalid

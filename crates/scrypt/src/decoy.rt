@@ -1,0 +1,151 @@
+// Decoys, for names without a stored hash.
+
+ghost use Rattle.std.specs.Prelude.{◌≡◌, ◌⊎◌, if◌then◌else◌, length, Err, IsErrOf, IsTrue, Ok};
+ghost use Rattle.password_hash.specs.Refusal.{OutOfMemory as NoMemory, PasswordInvalid as WrongPassword};
+ghost use Rattle.password_hash.specs.declared.error.Error.TheVariants.{OutOfMemory, PasswordInvalid};
+ghost use Rattle.scrypt.specs.Accepted.{are_accepted, is_stored_len};
+ghost use Rattle.scrypt.specs.Cost.{AreCounted, hash_cost};
+ghost use Rattle.scrypt.specs.Decoy.{decoy_reading};
+ghost use Rattle.scrypt.specs.Hashing.{key_len_or_default};
+ghost use Rattle.scrypt.specs.InBuffers.{are_enough};
+ghost use Rattle.scrypt.specs.KeyOfParams.{cost_by};
+ghost use Rattle.scrypt.specs.Reading.{with_refusal};
+ghost use Rattle.scrypt.specs.StoredParts.{stored};
+ghost use Rattle.scrypt.specs.Workspace.{IsLeft, cores_in, hashed_in, workspace_of};
+
+use crate::stored_parts::{Key, Salt, StoredParts};
+use crate::verifying::{verify_allocating, verify_in_buffers};
+use crate::{Backend, CoreCount, Params, Simd};
+use password_hash::Result;
+use std::alloc::Global;
+use std::marker::Model;
+
+// The salt of `Decoy::new`.
+static SALT: [u8; 16] = [0; 16];
+
+/// What a password is verified against if there is no stored hash for its name: it accepts no
+/// password, and verifying costs as much as with a stored hash. So the time of a login does not
+/// show whether the name exists. A decoy has no text.
+#[derive(Drop)]
+pub struct Decoy<'a> {
+    params: Params,
+    salt: &'a [u8],
+    // A hash with a key that no password has.
+    parts: StoredParts<'a>,
+}
+
+impl<'a> Model for Decoy<'a> {
+    ghost use Rattle.std.specs.Prelude.{◌≡◌, ℕ, List, Ok};
+    ghost use Rattle.scrypt.specs.Accepted.{Parameters};
+    ghost use Rattle.scrypt.specs.Decoy.{decoy_reading};
+    ghost use Rattle.scrypt.specs.StoredParts.{stored};
+
+    ghost Value = { Parameters × List ℕ };
+
+    ghost view = { λ a. (a.params, a.salt.now) };
+
+    ghost invariant = { λ a. Ok (stored a.parts) ≡ decoy_reading a.params a.salt.now };
+}
+
+impl<'a> Decoy<'a> {
+    /// Returns a decoy for hashes that [`hash_text`](crate::hash_text) makes with these parameters.
+    pub fn new(params: &Params) -> Decoy<'a>
+        ensures params { result.0 ≡ params.now }
+        ensures salt { length result.1 ≡ 16 }
+    {
+        Decoy::with_salt(params, &SALT)
+    }
+
+    /// Returns a decoy for hashes with these parameters, whose keys have the length in `params`, or
+    /// 32 bytes if it has no length, and with salts as long as `salt`. The salt of a `$7$` hash is
+    /// its letters.
+    #[tactic(auto, using(std::proofs::lemmas::Bool::Decides::nat_tests), unfolding(crate::specs::Accepted::is_output_len))]
+    pub fn with_salt(params: &Params, salt: &'a [u8]) -> Decoy<'a>
+        ensures value { result ≡ (params.now, salt.now) }
+    {
+        params.expose_invariant();
+        let key_len = params.key_len_or_default();
+        let parts = StoredParts {
+            params: params.without_len(),
+            salt: Salt::Mcf(salt),
+            key: Key::Decoy(key_len),
+            key_len,
+        };
+        Decoy {
+            params: *params,
+            salt,
+            parts,
+        }
+    }
+
+    /// Verifies `password` as [`StoredHash::verify`](crate::StoredHash::verify) does, and rejects
+    /// it.
+    ///
+    /// Returns `PasswordInvalid`, or `OutOfMemory` if an allocation fails.
+    pub fn verify(&self, alloc: Global, password: &[u8]) -> Result<()>
+        ensures refused { IsErrOf result PasswordInvalid ⊎ IsErrOf result OutOfMemory }
+    {
+        self.verify_counted::<Simd>(alloc, password, &mut CoreCount::new())
+    }
+
+    /// Verifies as [`Decoy::verify`] does, by the backend `W`, and counts the `4 * N * r * p` cores
+    /// of `params`, and the blocks that SHA-256 compresses: the same numbers as for a stored hash.
+    ///
+    /// If an allocation fails, the count is unchanged.
+    pub fn verify_counted<W: Backend>(
+        &self,
+        alloc: Global,
+        password: &[u8],
+        cores: &mut CoreCount,
+    ) -> Result<()>
+        ensures refused { IsErrOf result PasswordInvalid ⊎ IsErrOf result OutOfMemory }
+        ensures memory { IsErrOf result OutOfMemory → cores.new ≡ cores.old }
+        ensures counted { IsErrOf result PasswordInvalid → AreCounted (cost_by self.now.0)
+            (hash_cost (length password.now) (length self.now.1) self.now.0.r self.now.0.p
+            (key_len_or_default self.now.0)) cores.old cores.new }
+    {
+        self.expose_params();
+        verify_allocating::<W>(alloc, password, self.parts(), cores)
+    }
+
+    /// Verifies as [`StoredHash::verify_with_buffers`](crate::StoredHash::verify_with_buffers)
+    /// does, in the caller's buffers, and rejects `password`. Does not allocate.
+    ///
+    /// Returns `OutOfMemory` exactly if a buffer is too short, and then the buffers and the count
+    /// are unchanged; and otherwise `PasswordInvalid`.
+    pub fn verify_with_buffers<W: Backend>(
+        &self,
+        password: &[u8],
+        chunks: &mut [u8],
+        table: &mut [u32],
+        scratch: &mut [u32],
+        cores: &mut CoreCount,
+    ) -> Result<()>
+        ensures verdict { with_refusal result
+            ≡ (if are_enough self.now.0 chunks.old table.old scratch.old then Err WrongPassword else Err NoMemory) }
+        ensures left { IsLeft (decoy_reading self.now.0 self.now.1)
+            (workspace_of chunks.old table.old scratch.old) (workspace_of chunks.new table.new scratch.new) }
+        ensures counted { AreCounted
+            (cores_in (workspace_of chunks.old table.old scratch.old) (decoy_reading self.now.0 self.now.1))
+            (hashed_in (workspace_of chunks.old table.old scratch.old) password.now
+            (decoy_reading self.now.0 self.now.1)) cores.old cores.new }
+    {
+        self.expose_params();
+        verify_in_buffers::<W>(password, self.parts(), chunks, table, scratch, cores)
+    }
+
+    // Proof hint: exposes that the parameters are accepted.
+    fn expose_params(&self)
+        ensures accepted { IsTrue (are_accepted self.now.0.log_n self.now.0.r self.now.0.p) }
+        ensures stored { IsTrue (is_stored_len self.now.0.output_len) }
+    {
+        self.params.expose_invariant();
+    }
+
+    /// Returns the parts of a hash with a key that no password has.
+    pub(crate) fn parts(&self) -> &StoredParts<'a>
+        ensures { Ok (stored result.now) ≡ decoy_reading self.now.0 self.now.1 }
+    {
+        &self.parts
+    }
+}
