@@ -2,6 +2,7 @@
 
 use crate::holds;
 use scrypt::{Limits, Params};
+use scrypt_examples::account::Account;
 use scrypt_examples::bounded_login::BoundedLogins;
 use scrypt_examples::hash::stored_text;
 use scrypt_examples::key_file::{Header, age_wrap_key};
@@ -48,4 +49,38 @@ fn bounded_logins(rt: HostRuntime) -> Result<(), Fail> {
     let mut logins = BoundedLogins::new(rt.alloc(), limits)?;
     holds(logins.log_in(PHC, PASSWORD)?, "by a PHC string")?;
     holds(logins.log_in(MCF, PASSWORD)?, "by a `$7$` hash")
+}
+
+#[test]
+fn accounts(rt: HostRuntime) -> Result<(), Fail> {
+    let wide = Limits::for_new(&Params::new(5, 1, 1)?, 32);
+    // Below this policy and its hashes, and above (4, 1, 1).
+    let narrow = Limits {
+        max_work: 4 * (16 + 32),
+        ..wide
+    };
+    let policy = Params::new(4, 1, 1)?;
+    let Some(mut account) = Account::sign_up(rt.alloc(), policy, narrow, PASSWORD, SALT)? else {
+        return Err("sign-up".into());
+    };
+    holds(
+        !account.set_policy(Params::new(5, 1, 1)?),
+        "policy above the limits",
+    )?;
+    holds(account.set_limits(wide), "raised limits")?;
+    holds(account.set_policy(Params::new(5, 1, 1)?), "raised policy")?;
+    holds(
+        !account.log_in(rt.alloc(), b"wrong", SALT)?,
+        "wrong password",
+    )?;
+    holds(
+        account.log_in(rt.alloc(), PASSWORD, SALT)?,
+        "renewing login",
+    )?;
+    holds(!account.set_limits(narrow), "limits below the policy")?;
+    holds(account.set_policy(Params::new(4, 1, 1)?), "lowered policy")?;
+    holds(!account.set_limits(narrow), "limits below the renewed hash")?;
+    let changed = account.change_password(rt.alloc(), PASSWORD, b"new", SALT)?;
+    holds(changed && account.set_limits(narrow), "lowered limits")?;
+    holds(account.log_in(rt.alloc(), b"new", SALT)?, "new password")
 }

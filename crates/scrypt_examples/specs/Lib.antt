@@ -2,3 +2,5 @@
 pub mod KeyFile
 -- enrolling and logging in
 pub mod Login
+-- an account, and the histories of calls on it
+pub mod Account

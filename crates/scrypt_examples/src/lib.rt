@@ -6,6 +6,7 @@
 //! to depend on.
 #![tactic(auto)]
 
+pub mod account;
 pub mod bounded_login;
 pub mod hash;
 pub mod key_file;
