@@ -128,9 +128,10 @@ int scrypt_verify_limited_with_buffers(const void *password, size_t password_len
                                                     max_work, min_key_len, PARTS_OF(buffers));
 }
 
-int scrypt_verify_batch_with_buffers(const scrypt_login *logins, size_t count, int *statuses,
-                                     const scrypt_buffers *buffers) {
+int scrypt_verify_batch_with_buffers(const scrypt_login *logins, size_t count, uint32_t log_n, uint32_t r, uint32_t p,
+                                     size_t salt_len, size_t key_len, int *statuses, const scrypt_buffers *buffers) {
   static const scrypt_login NONE = {"", 0, "", 0};
+  static const uint8_t SALT[(4 * SCRYPT_MAX_SALT_LEN + 2) / 3]; /* of a decoy, in letters if it is a $7$ hash */
   scrypt_login each[SCRYPT_MAX_LOGINS];
   int made[SCRYPT_MAX_LOGINS];
   size_t i;
@@ -139,9 +140,14 @@ int scrypt_verify_batch_with_buffers(const scrypt_login *logins, size_t count, i
   for (i = 0; i < count; i++)
     if (is_null(logins[i].password, logins[i].password_len) || is_null(logins[i].text, logins[i].text_len))
       return SCRYPT_E_NULL_POINTER;
+  for (i = 0; i < count && logins[i].text != NULL;) i++;
+  if (i == count) salt_len = 0; /* there is no decoy */
+  if (salt_len > sizeof SALT) return SCRYPT_E_SALT_INVALID;
   for (i = 0; i < SCRYPT_MAX_LOGINS; i++) each[i] = i < count ? logins[i] : NONE;
-#define EACH(i) bytes_of(each[i].password), each[i].password_len, chars_of(each[i].text), each[i].text_len
-  cleared_scrypt_verify_batch_with_buffers(EACH(0), EACH(1), EACH(2), EACH(3), made, PARTS_OF(buffers));
+#define EACH(i) \
+  bytes_of(each[i].password), each[i].password_len, chars_of(each[i].text), each[i].text_len, each[i].text == NULL
+  cleared_scrypt_verify_batch_with_buffers(EACH(0), EACH(1), EACH(2), EACH(3), SALT, salt_len, in_8_bits(log_n), r, p,
+                                           key_len, made, PARTS_OF(buffers));
 #undef EACH
   for (i = 0; i < count; i++) statuses[i] = made[i];
   return SCRYPT_OK;

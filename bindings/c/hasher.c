@@ -30,7 +30,6 @@
 #include "system.h"
 
 #include <stdlib.h>
-#include <string.h>
 
 #define MAX_SCANNED 1000 /* maximum number of calls that are scanned under the lock */
 #define NS_OF_MS INT64_C(1000000)
@@ -75,7 +74,6 @@ struct queue {
 struct scrypt_hasher {
   scrypt_options options;
   scrypt_cost cost; /* of new hashes */
-  char decoy[SCRYPT_PHC_CAPACITY];
   int is_closed;
   int is_wiped_on_fork; /* whether the queue is zeros in a child, whose slots then have no arenas */
   size_t slots;
@@ -228,13 +226,16 @@ static int write_key(const scrypt_options *options, const struct call *call, con
   return status;
 }
 
-static void verify_batch(struct call **batch, size_t count, int *statuses, const scrypt_buffers *buffers) {
+/* The salt of a $7$ hash is its letters. */
+static void verify_batch(const scrypt_options *options, struct call **batch, size_t count, int *statuses,
+                         const scrypt_buffers *buffers) {
+  size_t salt_len = options->mcf ? (4 * options->salt_len + 2) / 3 : options->salt_len, i;
   scrypt_login logins[SCRYPT_MAX_LOGINS];
-  size_t i;
   int status;
   for (i = 0; i < count; i++) logins[i] = batch[i]->login;
-  status = scrypt_verify_batch_with_buffers(logins, count, statuses, buffers);
-  (void)status; /* no error: nothing is NULL, and a batch has no more than four calls */
+  status = scrypt_verify_batch_with_buffers(logins, count, options->log_n, options->r, options->p, salt_len,
+                                            options->key_len, statuses, buffers);
+  (void)status; /* no error: no buffer is NULL, and a batch has no more than four calls */
 }
 
 /* Runs without the lock. If there is memory only for fewer tables, derives the batch in parts. */
@@ -247,7 +248,7 @@ static void derive(scrypt_hasher *hasher, struct call **batch, size_t count, siz
   for (done = 0; done < count && tables > 0; done += most) {
     size_t part = most < count - done ? most : count - done;
     const scrypt_buffers buffers = arena_buffers(arena, cost, tables, part);
-    if (batch[0]->kind == VERIFY) verify_batch(batch + done, part, statuses + done, &buffers);
+    if (batch[0]->kind == VERIFY) verify_batch(&hasher->options, batch + done, part, statuses + done, &buffers);
     else if (batch[0]->kind == HASH) statuses[0] = write_hash(&hasher->options, batch[0], &buffers);
     else statuses[0] = write_key(&hasher->options, batch[0], &buffers);
   }
@@ -280,18 +281,16 @@ static int run(scrypt_hasher *hasher, struct call *call, int64_t timeout_ms) {
 
 /* ---- The calls ---- */
 
-/* Without a text, the decoy is verified, in the time of a wrong password. */
+/* Without a text, a decoy is verified, with the work of a wrong password for a new hash. */
 int scrypt_hasher_verify(scrypt_hasher *hasher, const void *password, size_t password_len, const char *text,
                          size_t text_len, int *needs_rehash, int64_t timeout_ms) {
   struct call call = {.kind = VERIFY, .login = {password, password_len, text, text_len}};
   const scrypt_options *options = scrypt_hasher_options(hasher);
-  int status;
+  int status = SCRYPT_OK;
   if (hasher == NULL || is_null(password, password_len) || is_null(text, text_len)) return SCRYPT_E_NULL_POINTER;
-  if (text == NULL) call.login.text = hasher->decoy, call.login.text_len = strlen(hasher->decoy);
-  status = scrypt_hash_cost(call.login.text, call.login.text_len, options->max_mem, options->max_work,
-                            options->min_key_len, &call.cost);
+  if (text == NULL) call.cost = hasher->cost;
+  else status = scrypt_hash_cost(text, text_len, options->max_mem, options->max_work, options->min_key_len, &call.cost);
   if (status == SCRYPT_OK) status = run(hasher, &call, timeout_ms);
-  if (text == NULL && status == SCRYPT_OK) status = SCRYPT_MISMATCH;
   if (status == SCRYPT_OK && needs_rehash != NULL)
     *needs_rehash = scrypt_hasher_needs_rehash(hasher, text, text_len) == SCRYPT_NEEDS_REHASH;
   return status;
@@ -369,7 +368,6 @@ int scrypt_hasher_new(const scrypt_options *options, scrypt_hasher **hasher) {
     free(it);
     return SCRYPT_E_OUT_OF_MEMORY;
   }
-  write_decoy(made.decoy, &made.options);
   *it = made;
   *hasher = it;
   return SCRYPT_OK;

@@ -4,8 +4,6 @@
 
 #include "system.h"
 
-#include <string.h>
-
 #define MAX_SLOTS 8192 /* the maximum number of processors of Linux */
 
 #define CHOOSE(field, value) \
@@ -92,15 +90,4 @@ size_t slots_of(const scrypt_options *options) {
 size_t width_of_slot(const scrypt_options *options, size_t slots, size_t place) {
   size_t width = options->max_tables / slots + (place >= slots - options->max_tables % slots);
   return width < max_interleave() ? width : max_interleave();
-}
-
-/* A $7$ hash of new hashes' parameters. */
-void write_decoy(char text[SCRYPT_PHC_CAPACITY], const scrypt_options *with) {
-  static const uint8_t KEY[SCRYPT_MAX_KEY_LEN];
-  char salt[SCRYPT_MAX_SALT_LEN];
-  int status;
-  memset(salt, '.', sizeof salt);
-  status = scrypt_stored_text(salt, with->salt_len, KEY, with->key_len, with->log_n, with->r, with->p, 1, text,
-                              SCRYPT_PHC_CAPACITY);
-  (void)status; /* no error: these parameters make hashes */
 }

@@ -14,7 +14,4 @@ size_t slots_of(const scrypt_options *options);
 /* The number of tables of a slot: the last slots have one more if they cannot all have the same. */
 size_t width_of_slot(const scrypt_options *options, size_t slots, size_t place);
 
-/* Writes a hash that costs as much as a new one, for logins without a hash. */
-void write_decoy(char text[SCRYPT_PHC_CAPACITY], const scrypt_options *with);
-
 #endif

@@ -316,7 +316,8 @@ int scrypt_verify_limited_with_buffers(const void *password, size_t password_len
                                        size_t max_mem, uint64_t max_work, size_t min_key_len,
                                        const scrypt_buffers *buffers);
 
-/* A password, and the text of the hash that it is verified against. */
+/* A password, and the text of the hash that it is verified against, or NULL if there is no hash for
+ * its name. */
 typedef struct scrypt_login {
   const void *password;
   size_t password_len;
@@ -328,7 +329,11 @@ typedef struct scrypt_login {
 
 /* Verifies up to SCRYPT_MAX_LOGINS passwords, each against its own hash. Each status becomes what
  * scrypt_verify_limited_with_buffers would return, without limits, for this login in these buffers,
- * whatever the other logins are.
+ * whatever the other logins are. A login with NULL and length 0 for its text is verified against a
+ * decoy: no password is right, and it is proved to take the work of a stored hash with log_n, r, p,
+ * a salt of salt_len bytes and a key of key_len bytes. The salt of a $7$ hash is its letters: for n
+ * bytes these are (4 * n + 2) / 3. The status is SCRYPT_E_HASH_PARAMS_INVALID if no new hash can
+ * have log_n, r, p and key_len. Without such a login these numbers are ignored.
  *
  * If all hashes that are not rejected have the log_n and r of the first, and the buffers are long
  * enough for one derivation with all their chunks, the keys are derived in one batch. If table and
@@ -337,10 +342,11 @@ typedef struct scrypt_login {
  * the rest are tried again as a batch in the same way. Afterwards the used parts of chunks and
  * scratch are zeros. On x86-64-v3 a batch of two takes 0.56 of the time of two calls, and a batch
  * of four 0.41 of the time of four; on some processors a batch of two takes as long as two calls.
- * SCRYPT_E_BUFFER_SIZE for a greater count; then no login is read, and no status is written. */
+ * SCRYPT_E_BUFFER_SIZE for a greater count; then no login is read, and no status is written.
+ * SCRYPT_E_SALT_INVALID if salt_len is more than 86, the letters of 64 bytes. */
 SCRYPT_NODISCARD
-int scrypt_verify_batch_with_buffers(const scrypt_login *logins, size_t count, int *statuses,
-                                     const scrypt_buffers *buffers);
+int scrypt_verify_batch_with_buffers(const scrypt_login *logins, size_t count, uint32_t log_n, uint32_t r, uint32_t p,
+                                     size_t salt_len, size_t key_len, int *statuses, const scrypt_buffers *buffers);
 
 /* Compares a hash with wanted parameters: returns SCRYPT_NEEDS_REHASH if its log_n, r, p or key
  * length is less than wanted, or if it is a PHC string without a salt or a key; otherwise
@@ -474,11 +480,11 @@ const scrypt_options *scrypt_hasher_options(const scrypt_hasher *hasher);
  * This and the next two calls wait for a slot of the hasher for up to timeout_ms milliseconds, or
  * without a limit if that is negative, and then return SCRYPT_E_TIMEOUT; the timeout doesn't end a
  * derivation.
- * For a login whose name doesn't exist, pass NULL with text_len 0: the call derives with the
- * parameters of new hashes, and returns SCRYPT_MISMATCH after the time of a wrong password for such
- * a hash, so that a timing attack doesn't tell which names exist. While hashes of older parameters
- * are stored, it does: then verify against the hash of another user, chosen by a keyed hash of the
- * name, and ignore the result.
+ * For a login whose name doesn't exist, pass NULL with text_len 0: the call verifies a decoy with
+ * the parameters and lengths of new hashes, like scrypt_verify_batch_with_buffers, and returns
+ * SCRYPT_MISMATCH after the work of a wrong password for such a hash, so that a timing attack
+ * doesn't tell which names exist. While hashes of older parameters are stored, it does: then verify
+ * against the hash of another user, chosen by a keyed hash of the name, and ignore the result.
  * SCRYPT_E_NULL_POINTER; the errors of scrypt_hash_cost, without waiting; SCRYPT_E_CLOSED,
  * SCRYPT_E_TIMEOUT, SCRYPT_E_OUT_OF_MEMORY, and last SCRYPT_MISMATCH if the password is wrong. */
 SCRYPT_NODISCARD

@@ -48,7 +48,7 @@ def in_batch(library, params, text, count):
         room.madvise(mmap.MADV_HUGEPAGE)
         rooms.append((ctypes.c_char * len(room)).from_buffer(room))
     buffers = ours.buffers(rooms, lens)
-    return lambda: library.scrypt_verify_batch_with_buffers(logins, count, statuses, buffers) == 0 and not any(statuses)
+    return lambda: library.scrypt_verify_batch_with_buffers(logins, count, 0, 0, 0, 0, 0, statuses, buffers) == 0 and not any(statuses)
 
 
 def libxcrypt(library, text):

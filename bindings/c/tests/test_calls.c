@@ -60,23 +60,23 @@ static void hashes(uint32_t p, size_t tables, char texts[2][SCRYPT_PHC_CAPACITY]
   }
 }
 
-/* Each login has the right password, another one, or no hash, whatever the others have. */
+/* Each login has the right password, another one, no hash in its text, or no text, whatever the others have. */
 static void batches(uint32_t p, size_t tables, char texts[2][SCRYPT_PHC_CAPACITY]) {
-  static const char *const PASSWORDS[] = {"pw", "PW", "pw"};
-  static const int STATUSES[] = {SCRYPT_OK, SCRYPT_MISMATCH, SCRYPT_E_ENCODING_INVALID};
+  static const char *const PASSWORDS[] = {"pw", "PW", "pw", "pw"};
+  static const int STATUSES[] = {SCRYPT_OK, SCRYPT_MISMATCH, SCRYPT_E_ENCODING_INVALID, SCRYPT_MISMATCH};
   size_t count, kinds, i;
   for (count = 0; count <= SCRYPT_MAX_LOGINS; count++)
-    for (kinds = p; kinds < 81; kinds += 16) {
+    for (kinds = p; kinds < 256; kinds += 25) {
       scrypt_buffers in = new_buffers(6, 1, p * (uint32_t)(count > 0 ? count : 1), 0, tables);
       scrypt_login logins[SCRYPT_MAX_LOGINS];
       int statuses[] = {-1, -1, -1, -1}, wanted[] = {-1, -1, -1, -1};
       size_t kind = kinds;
-      for (i = 0; i < count; i++, kind /= 3) {
-        const char *text = kind % 3 == 2 ? "$8$" : texts[i % 2];
-        logins[i] = (scrypt_login){PASSWORDS[kind % 3], 2, text, strlen(text)};
-        wanted[i] = STATUSES[kind % 3];
+      for (i = 0; i < count; i++, kind /= 4) {
+        const char *text = kind % 4 == 3 ? NULL : kind % 4 == 2 ? (i % 2 ? "" : "$8$") : texts[i % 2];
+        logins[i] = (scrypt_login){PASSWORDS[kind % 4], 2, text, text != NULL ? strlen(text) : 0};
+        wanted[i] = STATUSES[kind % 4];
       }
-      check(scrypt_verify_batch_with_buffers(logins, count, statuses, &in) == SCRYPT_OK, "a batch");
+      check(scrypt_verify_batch_with_buffers(logins, count, 6, 1, p, 16, 32, statuses, &in) == SCRYPT_OK, "a batch");
       check(memcmp(statuses, wanted, sizeof wanted) == 0, "each status is that of a separate call");
       free_buffers(in);
     }

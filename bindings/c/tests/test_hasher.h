@@ -144,17 +144,21 @@ static void end_watched(int tables) {
   (void)ADD(ended, 1);
 }
 
-static int all_match; /* each key is taken to match its hash */
-static int watched_batch(const scrypt_login *logins, size_t count, int *statuses, const scrypt_buffers *buffers) {
-  uint32_t log_n = 0, r = 1, p = 0;
+static size_t decoy_salt_len, decoy_key_len; /* of the last batch */
+static int watched_batch(const scrypt_login *logins, size_t count, uint32_t decoy_log_n, uint32_t decoy_r,
+                         uint32_t decoy_p, size_t salt_len, size_t len, int *statuses,
+                         const scrypt_buffers *buffers) {
+  uint32_t log_n = decoy_log_n, r = decoy_r, p = decoy_p;
   size_t key_len, i;
-  int tables, status;
-  status = scrypt_hash_params(logins[0].text, logins[0].text_len, &log_n, &r, &p, &key_len);
+  int tables, status = SCRYPT_OK;
+  if (logins[0].text != NULL)
+    status = scrypt_hash_params(logins[0].text, logins[0].text_len, &log_n, &r, &p, &key_len);
+  decoy_salt_len = salt_len, decoy_key_len = len;
   for (i = 0; i < count; i++) expect(statuses[i] != SCRYPT_OK, "SCRYPT_OK before the derivation");
   expect(buffers->chunks_len == count * 128 * r * p, "other chunks than those of all logins");
   tables = begin_watched(logins, count, buffers->table_len, log_n, r);
-  status |= scrypt_verify_batch_with_buffers(logins, count, statuses, buffers);
-  for (i = 0; i < count && all_match; i++) statuses[i] = SCRYPT_OK;
+  status |= scrypt_verify_batch_with_buffers(logins, count, decoy_log_n, decoy_r, decoy_p, salt_len, len, statuses,
+                                             buffers);
   end_watched(tables);
   return status;
 }

@@ -150,20 +150,14 @@ static void decoy(void) {
       OF(1, 100, 1, .key_len = 12, .salt_len = 3)};
   for (size_t i = 0; i < sizeof PARAMS / sizeof PARAMS[0]; i++) {
     scrypt_hasher *hasher = made_of(&PARAMS[i]);
-    const char *text = hasher->decoy;
-    scrypt_cost cost = {0}, *new = &hasher->cost;
+    const size_t n = PARAMS[i].salt_len;
     max_inside = max_tables_inside = 4;
     IS(scrypt_hasher_verify(hasher, "right", 5, NULL, 0, NULL, -1), SCRYPT_MISMATCH);
     IS(scrypt_hasher_verify(hasher, NULL, 0, NULL, 0, NULL, -1), SCRYPT_MISMATCH);
     IS(scrypt_hasher_verify(hasher, NULL, 1, NULL, 0, NULL, -1), SCRYPT_E_NULL_POINTER);
-    IS(scrypt_hash_cost(text, strlen(text), SIZE_MAX, UINT64_MAX, 0, &cost), SCRYPT_OK);
-    expect(cost.log_n == new->log_n && cost.r == new->r && cost.p == new->p, "parameters");
-    IS(cost.key_len, hasher->options.key_len);
-    IS(strlen(text) - 15 - (8 * cost.key_len + 5) / 6, hasher->options.salt_len);
+    IS(decoy_key_len, PARAMS[i].key_len);
+    IS(decoy_salt_len, PARAMS[i].mcf ? (8 * n + 5) / 6 : n);
     new_salts(hasher);
-    all_match = 1;
-    IS(scrypt_hasher_verify(hasher, "right", 5, NULL, 0, NULL, -1), SCRYPT_MISMATCH);
-    all_match = 0;
     scrypt_hasher_close(hasher);
     IS(scrypt_hasher_verify(hasher, "right", 5, NULL, 0, NULL, -1), SCRYPT_E_CLOSED);
     scrypt_hasher_free(&hasher);

@@ -40,7 +40,8 @@ static void each_pointer(void) {
 
 /* NULL that is nothing, or meets another error. */
 static void others(void) {
-  static const scrypt_login FOUR[] = {LOGIN, LOGIN, LOGIN, LOGIN}, NO_TEXT[] = {LOGIN, {"p", 1, NULL, 1}};
+  static const scrypt_login FOUR[] = {LOGIN, LOGIN, LOGIN, LOGIN}, NO_TEXT[] = {LOGIN, {"p", 1, NULL, 1}},
+                            NO_NAME[] = {{"p", 1, NULL, 0}};
   const scrypt_buffers all = *given.buffers, NO_CHUNKS = {NULL, 0, all.table, 1, all.scratch, 1},
                        NO_TABLE = {all.chunks, 1, NULL, 0, all.scratch, 1}, NO_SCRATCH = {all.chunks, 1, all.table, 1, NULL, 0};
   const struct {
@@ -55,7 +56,7 @@ static void others(void) {
       {"thin, no chunks", scrypt_key_thin(SECRETS, 4, 1, 1, 9, made.output, 0, &NO_CHUNKS), SCRYPT_E_NULL_POINTER},
       {"hash, no scratch", scrypt_hash_with_buffers(SECRETS, 99, 1, 1, 32, 0, made.text, 99, &NO_SCRATCH), SCRYPT_E_NULL_POINTER},
       {"verify, no table", scrypt_verify_limited_with_buffers("p", 1, "", 0, 0, 0, 0, &NO_TABLE), SCRYPT_E_NULL_POINTER},
-      {"a batch, no chunks", scrypt_verify_batch_with_buffers(FOUR, 5, made.statuses, &NO_CHUNKS), SCRYPT_E_NULL_POINTER},
+      {"a batch, no chunks", scrypt_verify_batch_with_buffers(FOUR, 5, 4, 1, 1, 16, 32, made.statuses, &NO_CHUNKS), SCRYPT_E_NULL_POINTER},
       {"generate_salt, no byte", scrypt_generate_salt(NULL, 0), SCRYPT_OK},
       {"phc, p of 0 too", scrypt_hash_with_salt(NULL, 5, "s", 1, 4, 1, 0, 32, 0, made.text, 99), SCRYPT_E_NULL_POINTER},
       {"phc, no salt", scrypt_hash_with_salt("p", 1, NULL, 0, 4, 1, 1, 32, 0, made.text, 99), SCRYPT_E_SALT_INVALID},
@@ -65,12 +66,14 @@ static void others(void) {
       {"verify_limited, an empty text", scrypt_verify_limited(NULL, 0, NULL, 0, 0, 0, 0), SCRYPT_E_ENCODING_INVALID},
       {"verify_limited, no bytes", scrypt_verify_limited("p", 1, NULL, 9, 0, 0, 0), SCRYPT_E_NULL_POINTER},
       {"needs_rehash, an empty text", scrypt_needs_rehash(NULL, 0, 4, 1, 1, 32), SCRYPT_E_ENCODING_INVALID},
-      {"a batch of none", scrypt_verify_batch_with_buffers(NULL, 0, NULL, given.buffers), SCRYPT_OK},
-      {"a batch, a text", scrypt_verify_batch_with_buffers(NO_TEXT, 2, made.statuses, given.buffers), SCRYPT_E_NULL_POINTER},
-      {"a batch of five", scrypt_verify_batch_with_buffers(FOUR, 5, made.statuses, given.buffers), SCRYPT_E_BUFFER_SIZE},
-      {"sizeof in place of a count", scrypt_verify_batch_with_buffers(FOUR, sizeof FOUR, made.statuses, given.buffers),
+      {"a batch of none", scrypt_verify_batch_with_buffers(NULL, 0, 4, 1, 1, 16, 32, NULL, given.buffers), SCRYPT_OK},
+      {"a batch, a text", scrypt_verify_batch_with_buffers(NO_TEXT, 2, 4, 1, 1, 16, 32, made.statuses, given.buffers), SCRYPT_E_NULL_POINTER},
+      {"a batch, a salt of 87", scrypt_verify_batch_with_buffers(NO_NAME, 1, 4, 1, 1, 87, 32, made.statuses, given.buffers),
+       SCRYPT_E_SALT_INVALID},
+      {"a batch of five", scrypt_verify_batch_with_buffers(FOUR, 5, 4, 1, 1, 16, 32, made.statuses, given.buffers), SCRYPT_E_BUFFER_SIZE},
+      {"sizeof in place of a count", scrypt_verify_batch_with_buffers(FOUR, sizeof FOUR, 4, 1, 1, 16, 32, made.statuses, given.buffers),
        SCRYPT_E_BUFFER_SIZE},
-      {"a count that no memory has", scrypt_verify_batch_with_buffers(FOUR, SIZE_MAX, made.statuses, given.buffers),
+      {"a count that no memory has", scrypt_verify_batch_with_buffers(FOUR, SIZE_MAX, 4, 1, 1, 16, 32, made.statuses, given.buffers),
        SCRYPT_E_BUFFER_SIZE},
   };
   size_t i;

@@ -140,12 +140,17 @@ static void check_call(const char *name, int status) {
 /* Parameters that are not accepted: N in place of log_n, even if its last 8 bits are a log_n, and an
  * r * p of 2^30. */
 static void rejected(uint32_t log_n, uint32_t r, uint32_t p) {
+  static const scrypt_login NOBODY = {"pw", 2, NULL, 0};
+  int status = SCRYPT_OK;
   given.log_n = log_n, given.r = r, given.p = p;
-#define CALL(name, arguments)                       \
-  if (strstr(#arguments, "given.log_n") != NULL)    \
+#define CALL(name, arguments)                                                                                    \
+  if (strstr(#arguments, "given.log_n") != NULL && strcmp(#name, "scrypt_verify_batch_with_buffers") != 0)       \
     check(name arguments == SCRYPT_E_INVALID_PARAMS, #name ", parameters that are not accepted");
 #include "each_call.h"
 #undef CALL
+  /* In a batch they are those of the decoy, and each login has its own status. */
+  check(scrypt_verify_batch_with_buffers(&NOBODY, 1, log_n, r, p, 16, 32, &status, given.buffers) == SCRYPT_OK &&
+            status == SCRYPT_E_HASH_PARAMS_INVALID, "a decoy, parameters that are not accepted");
 }
 
 static void *arguments(void *text) {

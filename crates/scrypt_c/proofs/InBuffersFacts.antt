@@ -1,11 +1,14 @@
 -- What verifying leaves in the caller's buffers.
-use Rattle.std.proofs.Common.{◌≡◌, ◌∙◌, ◌-◌, ◌≤◌, ℕ, List, ap, arith, length, w32, SFits, of_z, to_z}
+use Rattle.std.proofs.Common.{◌≡◌, ◌∙◌, ◌-◌, ◌≤◌, ℕ, List, ap, arith, length, refl, true, false, w32, SFits, of_z, to_z}
 use Rattle.std.proofs.lemmas.Int.{to_z-of_z}
+use Rattle.std.proofs.lemmas.Bool.{false_from_ne_true}
 use Rattle.std.proofs.lemmas.Bool.Decides.{Decides-and, nat_tests}
 use Rattle.std.specs.Bool.{Decides}
-use Rattle.std.specs.Prelude.{IsTrue, Result, ℤ, nat_le, ⊤}
-use Rattle.password_hash.specs.Refusal.{Refusal}
+use Rattle.std.specs.Prelude.{◌&&◌, Bool, Err, IsTrue, Result, ℤ, nat_le, ⊤}
+use Rattle.password_hash.specs.Refusal.{Refusal, ParamsInvalid}
+use Rattle.scrypt.specs.Accepted.{Parameters, are_accepted, is_stored_len}
 use Rattle.scrypt.specs.Cost.{chunks_bytes, scratch_words, table_words}
+use Rattle.scrypt.specs.Decoy.{decoy_reading}
 use Rattle.scrypt.specs.InBuffers.{are_enough}
 use Rattle.scrypt.specs.Logins.{Attempt, verdict_on}
 use Rattle.scrypt.specs.Workspace.{Workspace}
@@ -17,6 +20,16 @@ use Rattle.scrypt_c.specs.Statuses.{IsKeyStatus, buffers_status}
 pub kept_status : {out : Result ⊤ Refusal} (status : ℤ) (w : Workspace) (a b : Attempt) → a ≡ b → SFits w32 status
     → status ≡ buffers_status out → out ≡ verdict_on w a → to_z w32 (of_z w32 status) ≡ buffers_status (verdict_on w b)
 kept_status {out} status w a b same fits is verdict = to_z-of_z w32 status fits ∙ is ∙ ap buffers_status (rw (← same) verdict)
+
+-- parameters that no new hash can have make no decoy
+
+both : (a b : Bool) → a && b ≡ true → (a ≡ true) × (b ≡ true)
+both true b is = (refl, is)
+both false b is = absurd cc
+
+pub none_decoy : (c : Parameters) (salt : List ℕ) → ¬ (IsTrue (are_accepted c.log_n c.r c.p) × IsTrue (is_stored_len c.output_len))
+    → decoy_reading c salt ≡ Err ParamsInvalid
+none_decoy c salt refused = rw (false_from_ne_true (are_accepted c.log_n c.r c.p && is_stored_len c.output_len) (λ is. refused (both _ _ is))) refl
 
 fits : (m n : ℕ) → Decides (nat_le m n) (m ≤ n)
 fits m n = grind (arith, nat_tests)

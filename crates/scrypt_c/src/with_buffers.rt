@@ -6,27 +6,29 @@
 
 ghost use Rattle.std.specs.Prelude.{◌≡◌, ◌≢◌, ◌↔◌, ◌⊎◌, ◌<◌, ◌≤◌, [], ◌∷◌, length, replicate, IsTrue};
 ghost use Rattle.password_hash.specs.Refusal.{refusal};
+ghost use Rattle.scrypt.specs.Decoy.{decoy_reading};
 ghost use Rattle.scrypt.specs.InBuffers.{are_enough};
 ghost use Rattle.scrypt.specs.McfHash.{IsMadeHash as IsMadeMcf, made_text_len};
 ghost use Rattle.scrypt.specs.PhcHash.{IsMadeText, IsSaltLen};
 ghost use Rattle.scrypt.specs.Logins.{AreLeft, attempt_of};
+ghost use Rattle.scrypt.specs.Reading.{◌and_then◌, with_refusal};
 ghost use Rattle.scrypt.specs.StoredHash.{reading};
 ghost use Rattle.scrypt.specs.WithinLimits.{with_limited_refusal};
 ghost use Rattle.scrypt.specs.Workspace.{IsDone, IsLeft, verdict_in, workspace_of};
-ghost use Rattle.scrypt_c.specs.InBuffers.{statuses_in};
+ghost use Rattle.scrypt_c.specs.InBuffers.{login_attempt, statuses_in};
 ghost use Rattle.scrypt_c.specs.Limits.{limited_reading};
 ghost use Rattle.scrypt_c.specs.Made.{AreHashParams, IsTooLong, IsTooShort, IsWrittenTo, wanted};
 ghost use Rattle.scrypt_c.specs.Statuses.{buffers_status, short_status};
-ghost use Rattle.scrypt_c.specs.Texts.{bytes_reading};
 
 use crate::statuses::{
     BUFFER_SIZE, INVALID_PARAMS, OK, SALT_INVALID, limited_status_of, status_of,
 };
 use crate::target::Target;
 use crate::texts::{copy_to, limited_hash, stored_hash};
-use password_hash::Error;
+use password_hash::{Error, Result};
 use scrypt::{
-    CoreCount, LimitedError, Login, LoginHash, Params, StoredHash, mcf, phc, verify_logins, wipe,
+    CoreCount, Decoy, LimitedError, Login, LoginHash, Params, StoredHash, mcf, phc, verify_logins,
+    wipe,
 };
 
 /// Does what `scrypt_hash_phc` does, in the caller's buffers.
@@ -190,39 +192,57 @@ fn verify(
 /// caller's buffers. If there are fewer, pass empty texts for the last ones: an empty text is
 /// rejected without deriving a key.
 ///
-/// Writes to each status what `scrypt_verify_limited_with_buffers` returns, without limits, for that
-/// password and hash in these buffers, whatever the others are. All keys are derived in one batch if all hashes that are
-/// not rejected have the same `log_n` and `r` as the first of them, and each buffer is long enough
-/// for one derivation with the chunks of all: up to four chunks are then interleaved, one for each
-/// table and scratch. Otherwise the first is verified on its own, and the rest are tried in the
-/// same way.
+/// A login whose `unknown` is not 0 is verified against a decoy in place of its text: a decoy for
+/// hashes with these parameters, this length of the key and a salt as long as `salt`.
+///
+/// Writes to each status what `scrypt_verify_limited_with_buffers` returns, without limits, for
+/// that password and hash in these buffers, whatever the others are. For a decoy this is
+/// `MISMATCH`, or `BUFFER_SIZE`, or `HASH_PARAMS_INVALID` if no new hash has these parameters.
+///
+/// All keys are derived in one batch if all hashes that are not rejected have the same `log_n` and
+/// `r` as the first of them, and each buffer is long enough for one derivation with the chunks of
+/// all: up to four chunks are then interleaved, one for each table and scratch. Otherwise the first
+/// is verified on its own, and the rest are tried in the same way.
 #[unsafe(no_mangle)]
 pub extern "C" fn scrypt_verify_batch_with_buffers<'a>(
     password: &'a [u8],
     text: &'a [u8],
+    unknown: u8,
     password_2: &'a [u8],
     text_2: &'a [u8],
+    unknown_2: u8,
     password_3: &'a [u8],
     text_3: &'a [u8],
+    unknown_3: u8,
     password_4: &'a [u8],
     text_4: &'a [u8],
+    unknown_4: u8,
+    salt: &'a [u8],
+    log_n: u8,
+    r: u32,
+    p: u32,
+    key_len: usize,
     statuses: &mut [i32; 4],
     chunks: &mut [u8],
     table: &mut [u32],
     scratch: &mut [u32],
 )
-    ensures statuses { statuses.new
-        ≡ statuses_in (workspace_of chunks.old table.old scratch.old) ((password.now, text.now) ∷
-        (password_2.now, text_2.now) ∷ (password_3.now, text_3.now) ∷ (password_4.now, text_4.now) ∷ []) }
-    ensures left { AreLeft ((password.now, bytes_reading text.now) ∷ (password_2.now, bytes_reading text_2.now)
-        ∷ (password_3.now, bytes_reading text_3.now) ∷ (password_4.now, bytes_reading text_4.now) ∷ [])
+    ensures statuses { let decoy = decoy_reading (wanted log_n r p key_len) salt.now in
+        statuses.new ≡ statuses_in (workspace_of chunks.old table.old scratch.old)
+        (login_attempt decoy password.now text.now unknown ∷ login_attempt decoy password_2.now text_2.now unknown_2
+        ∷ login_attempt decoy password_3.now text_3.now unknown_3
+        ∷ login_attempt decoy password_4.now text_4.now unknown_4 ∷ []) }
+    ensures left { let decoy = decoy_reading (wanted log_n r p key_len) salt.now in
+        AreLeft (login_attempt decoy password.now text.now unknown ∷ login_attempt decoy password_2.now text_2.now unknown_2
+        ∷ login_attempt decoy password_3.now text_3.now unknown_3
+        ∷ login_attempt decoy password_4.now text_4.now unknown_4 ∷ [])
         (workspace_of chunks.old table.old scratch.old) (workspace_of chunks.new table.new scratch.new) }
 {
     let logins = [
-        login(password, text),
-        login(password_2, text_2),
-        login(password_3, text_3),
-        login(password_4, text_4),
+        login(password, text, unknown, salt, log_n, r, p, key_len),
+        login(password_2, text_2, unknown_2, salt, log_n, r, p, key_len),
+        login(password_3, text_3, unknown_3, salt, log_n, r, p, key_len),
+        login(password_4, text_4, unknown_4, salt, log_n, r, p, key_len),
     ];
     // Initialized to a mismatch, so that no entry accepts a password before its keys are compared.
     let mut verdicts = [Err(LimitedError::Hash(Error::PasswordInvalid)); 4];
@@ -232,13 +252,42 @@ pub extern "C" fn scrypt_verify_batch_with_buffers<'a>(
     *statuses = [status(a), status(b), status(c), status(d)];
 }
 
-// Reads the hash that a password is verified against.
-fn login<'p, 't>(password: &'p [u8], text: &'t [u8]) -> Login<'p, 't>
-    ensures attempt { attempt_of result ≡ (password.now, bytes_reading text.now) }
+// Returns the decoy of these parameters, or `ParamsInvalid` if no new hash can have them.
+#[tactic(auto, using(crate::proofs::InBuffersFacts::none_decoy))]
+fn decoy<'t>(salt: &'t [u8], log_n: u8, r: u32, p: u32, key_len: usize) -> Result<Decoy<'t>>
+    ensures reading { with_refusal result and_then (λ d. decoy_reading d.0 d.1)
+        ≡ decoy_reading (wanted log_n r p key_len) salt.now }
 {
-    let hash = match stored_hash(text) {
-        Ok(hash) => Ok(LoginHash::Stored(hash)),
-        Err(error) => Err(LimitedError::Hash(error)),
+    match Params::new_with_output_len(log_n, r, p, key_len) {
+        Ok(params) => Ok(Decoy::with_salt(&params, salt)),
+        Err(_) => Err(Error::ParamsInvalid),
+    }
+}
+
+// Reads the hash that a password is verified against, unless it is a decoy.
+fn login<'p, 't>(
+    password: &'p [u8],
+    text: &'t [u8],
+    unknown: u8,
+    salt: &'t [u8],
+    log_n: u8,
+    r: u32,
+    p: u32,
+    key_len: usize,
+) -> Login<'p, 't>
+    ensures attempt { attempt_of result ≡ login_attempt (decoy_reading (wanted log_n r p key_len) salt.now)
+        password.now text.now unknown }
+{
+    let hash = if unknown == 0 {
+        match stored_hash(text) {
+            Ok(hash) => Ok(LoginHash::Stored(hash)),
+            Err(error) => Err(LimitedError::Hash(error)),
+        }
+    } else {
+        match decoy(salt, log_n, r, p, key_len) {
+            Ok(decoy) => Ok(LoginHash::Decoy(decoy)),
+            Err(error) => Err(LimitedError::Hash(error)),
+        }
     };
     Login { password, hash }
 }
