@@ -6,7 +6,6 @@ import "C"
 import (
 	"context"
 	"fmt"
-	"math"
 	"runtime"
 	"sync/atomic"
 	"time"
@@ -383,24 +382,4 @@ func orDefault(n, usual int) int {
 		return usual
 	}
 	return n
-}
-
-// cost describes the cost of a derivation, or says that the parameters are not accepted.
-func (params Params) cost() string {
-	cost, err := params.costs()
-	if err == nil {
-		return inWords(cost)
-	}
-	return fmt.Sprintf("LogN %d, R %d and P %d are not accepted", params.LogN, params.R, params.P)
-}
-
-func inWords(cost C.scrypt_cost) string {
-	return explained(C.SCRYPT_E_TOO_COSTLY, cost, math.MaxUint64, math.MaxUint64, 0)
-}
-
-// explained returns the numbers of a status, in words.
-func explained(status C.int, cost C.scrypt_cost, maxMem C.size_t, maxWork C.uint64_t, minKeyLen C.size_t) string {
-	text := make([]byte, C.SCRYPT_EXPLANATION_CAPACITY)
-	C.scrypt_explain(status, &cost, maxMem, maxWork, minKeyLen, chars(text), size(text))
-	return C.GoString(chars(text))
 }
