@@ -4,8 +4,8 @@
 #   make try       compiles and runs the program, and proves nothing: it prints the first key of RFC 7914,
 #                  section 12, in about a minute
 #   make run       proves and builds the program build/bin/scrypt_tool, which prints that key
-#   make test      is the gate: proves everything, checks that wrong code is rejected, and runs every test; what
-#                  an earlier run on this machine has proved is not proved again
+#   make test      is the gate: proves everything, checks that wrong code is rejected, and runs every test; some
+#                  kits do not prove again what an earlier run on this machine has proved (docs/TRUST.md)
 # To use it:
 #   make lib       proves and builds the C libraries into build/lib, with code for x86-64-v2 and x86-64-v3; with
 #                  PRESET=arm64 the libraries for that processor, and the program, or with PRESET=windows the

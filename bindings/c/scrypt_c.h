@@ -29,7 +29,8 @@
  *
  * "yes" marks a proved function, with a few lines of C that check for NULL, reject N passed as
  * log_n, add the NUL to a text, and wipe the stack and the heap memory that the function used. The
- * other calls are written in C over the proved ones. All C code is tested.
+ * other calls are written in C over the proved ones, which compute each key and verdict. All C code
+ * is tested.
  *
  * Parameters are accepted if r > 0, p > 0, 128 * r * 2^log_n < 2^64 and r * p < 2^30. log_n is the
  * base-2 logarithm of N; an N that is passed instead is rejected if it is 64 or more.
@@ -138,7 +139,14 @@ int scrypt_key(const void *password, size_t password_len, const void *salt, size
                uint32_t p, uint8_t *output, size_t output_len);
 
 /* The caller's buffers for a derivation that allocates nothing, and their lengths: of chunks in bytes,
- * of table and scratch in words. */
+ * of table and scratch in words.
+ *
+ *   scrypt_buffers buffers;
+ *   int status = scrypt_buffer_lens(17, 8, 1, 0, &buffers);
+ *   if (status != SCRYPT_OK) return status;
+ *   buffers.chunks = malloc(buffers.chunks_len);
+ *   buffers.table = malloc(buffers.table_len * sizeof *buffers.table);
+ *   buffers.scratch = malloc(buffers.scratch_len * sizeof *buffers.scratch); */
 typedef struct scrypt_buffers {
   uint8_t *chunks;
   size_t chunks_len;
@@ -178,7 +186,7 @@ int scrypt_key_thin(const void *password, size_t password_len, const void *salt,
                     uint32_t r, uint32_t p, uint8_t s, uint8_t *output, size_t output_len,
                     const scrypt_buffers *buffers);
 
-/* Overwrites the buffers of a call with zeros; NULL is a buffer of no length. The data that a call
+/* Overwrites the buffers of a call with zeros; a NULL in it is a buffer of no length. Does nothing for NULL. The data that a call
  * leaves in them makes it possible to guess passwords at far less than scrypt's cost. */
 void scrypt_wipe(const scrypt_buffers *buffers);
 
@@ -543,9 +551,9 @@ int scrypt_calibrate(double seconds, size_t max_mem, uint32_t *log_n, uint32_t *
 
 /* ---- Salts, and the version ---- */
 
-/* Fills salt with random bytes from the system's getrandom; SCRYPT_SALT_LEN bytes are enough. Not
+/* Fills salt with random bytes from the system (getrandom; on Windows BCryptGenRandom); SCRYPT_SALT_LEN bytes are enough. Not
  * proved.
- * SCRYPT_E_NULL_POINTER, SCRYPT_E_NO_RANDOM_BYTES if getrandom fails: then a part of the salt may be
+ * SCRYPT_E_NULL_POINTER, SCRYPT_E_NO_RANDOM_BYTES if that fails: then a part of the salt may be
  * written, which must not be used. */
 SCRYPT_NODISCARD
 int scrypt_generate_salt(uint8_t *salt, size_t len);
