@@ -346,7 +346,7 @@ static size_t size_of_queue(const scrypt_hasher *hasher) {
   return sizeof(struct queue) + hasher->slots * sizeof(struct slot);
 }
 
-/* Maps the queue. Without the memory to wipe it on a fork there is none. */
+/* Maps the queue. Returns 0 if there is no memory for it, or for wiping it on a fork. */
 static int map_queue(scrypt_hasher *hasher) {
   const size_t size = size_of_queue(hasher);
   struct queue *queue = hasher->queue = (struct queue *)map_zeros(size);
