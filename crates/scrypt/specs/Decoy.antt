@@ -5,12 +5,13 @@ use Rattle.scrypt.specs.Accepted.{Parameters, are_accepted, is_stored_len, witho
 use Rattle.scrypt.specs.Hashing.{key_len_or_default}
 use Rattle.scrypt.specs.Reading.{Stored}
 
--- n times 256, which is not a byte: no password has this key
+-- The number 256, which is not a byte, n times. For n above 0 no password has this key.
 abbrev pub no_key : ℕ → List ℕ
 no_key n = replicate n 256
 
 -- The reading of a decoy: a hash with these parameters, this salt, and a key that no password has,
--- as long as the keys of hashes that are made with these parameters.
+-- as long as the keys of hashes that are made with these parameters; or the error if no hash can
+-- have them.
 abbrev pub decoy_reading : Parameters → List ℕ → Result Stored Refusal
 decoy_reading c salt =
     if are_accepted c.log_n c.r c.p && is_stored_len c.output_len

@@ -1,4 +1,5 @@
--- The public part of a verification, on which alone its work depends: lengths and parameters.
+-- The public part of a verification: lengths and parameters, or that there is no hash. In one
+-- workspace its work depends on nothing else.
 use Rattle.std.specs.Prelude.{◌≡◌, ℕ, drop, length, Option, None, Some, Result, Ok, Err}
 use Rattle.password_hash.specs.Refusal.{Refusal}
 use Rattle.scrypt.specs.Accepted.{Parameters}
