@@ -3,7 +3,7 @@
 - a broken link, or a link whose words name a definition that its file doesn't have
 - a name that no source has: text between backquotes that is a path (`mcf::Base64`), a word with an
   underscore (`scrypt_ro_mix`), a call (`new()`, `.verify(&hash)`), or a file of the repository
-- a public function of the crate scrypt that docs/API.md doesn't name
+- a public function of the crate scrypt that docs/RATTLE.md doesn't name
 - a call of the C header that the table at its top doesn't name
 - a number in a sentence that differs from the code, or from the page that has its measurement
 
@@ -119,7 +119,7 @@ def decided():
     yield "docs/DECISIONS.md", f"The default limit on memory is {limit} MiB"
     yield "crates/scrypt/src/buffers/owned.rt", f"16 MiB of chunks, {limit} MiB of table"
     together = number("crates/scrypt/src/buffers.rt", "MAX_INTERLEAVED_MEM: usize = ", ";") // mib
-    yield "docs/API.md", f"the `max_mem` of C's `scrypt_key`, {together} MiB"
+    yield "docs/RATTLE.md", f"the `max_mem` of C's `scrypt_key`, {together} MiB"
     yield "docs/PARAMETERS.md", f"up to four tables, if all buffers fit into {together} MiB together"
     yield "docs/DECISIONS.md", f"mappings up to {together} MiB are populated"
     yield "bindings/c/scrypt_c.h", f"as all buffers fit into {together} MiB"
@@ -180,7 +180,7 @@ def main():
     names = known_names(paths)
     documents = {path: read(path) for path in paths if path.endswith(".md")}
     found = [it for path, text in documents.items() for it in (*unknown_names(path, text, names), *broken_links(path, text))]
-    sys.exit("\n".join([*found, *unnamed_calls("docs/API.md", Library()), *unlisted_calls(), *wrong_numbers()]) or 0)
+    sys.exit("\n".join([*found, *unnamed_calls("docs/RATTLE.md", Library()), *unlisted_calls(), *wrong_numbers()]) or 0)
 
 
 if __name__ == "__main__":

@@ -1,5 +1,5 @@
 #!/bin/sh
-# Does what docs/API.md tells a new user of the crates: its commands, in an empty repository. Then it
+# Does what docs/RATTLE.md tells a new user of the crates: its commands, in an empty repository. Then it
 # proves the crate that they make, as `rt check` does, over the libraries that the gate has proved:
 # `rt check` itself takes only libraries that `make run` has built, and would prove them again.
 set -eu
@@ -8,12 +8,12 @@ top=$(cd "$(dirname "$0")/../.." && pwd)
 room=$(mktemp -d)
 trap 'rm -rf "$room"' EXIT
 cd "$room"
-sed -n '/^    touch crates.txt/,/^    END$/s/^    //p' "$top/docs/API.md" | sed "s|SCRYPT|$top|g" > start.sh
+sed -n '/^    touch crates.txt/,/^    END$/s/^    //p' "$top/docs/RATTLE.md" | sed "s|SCRYPT|$top|g" > start.sh
 sh -eu start.sh > start.log 2>&1 || { cat start.log; exit 1; }
 export PROVED_LIBRARIES="${PROVED_LIBRARIES:-$top/crates}" PYTHONPATH="$top"
 check=$(python3 -B -c 'from tools import prover_command; print(*prover_command.of("check", "app"))')
 cd crates/app
-awk '/^```/ { if (code) exit; code = $0 == "```rust"; next } code' "$top/docs/API.md" > src/hash.rt # as the page prints it
+awk '/^```/ { if (code) exit; code = $0 == "```rust"; next } code' "$top/docs/RATTLE.md" > src/hash.rt # as the page prints it
 # shellcheck disable=SC2086 # words without blanks
 $check > check.log 2>&1 || { cat check.log; exit 1; }
 grep '^logic=proved' check.log
