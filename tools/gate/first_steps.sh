@@ -7,7 +7,7 @@ cd "$(dirname "$0")/../.."
 room=$(mktemp -d)
 trap 'rm -rf "$room"' EXIT
 mkdir -p "$room"/{bin,tools/gate,bindings/cli,build,crates/scrypt_tool}
-cp Makefile "$room"
+sed 's|/usr/include/bsd/readpassphrase.h|Makefile|' Makefile > "$room/Makefile" # which is there
 cp tools/{setup,install}.sh tools/lacks "$room/tools"
 cp tools/gate/{run,step}.sh "$room/tools/gate"
 cp bindings/cli/{install.sh,scrypt_tool.1,scrypt_tool.bash} "$room/bindings/cli"
@@ -108,6 +108,7 @@ unset PROGRESS STEPS
 # ---- The program, installed beside an installation whose folder has the name that & of sed makes ----
 echo "run uses sh:dash" > tools/packages.txt
 fake rt "$room/kit"
+fake cc ""
 printf '#!/bin/sh\nmkdir -p build/bin && printf "#!/bin/sh\\necho the key of \\$*" > build/bin/scrypt_tool && chmod +x build/bin/*\n' > bindings/cli/build.sh
 chmod +x bindings/cli/build.sh
 for it in ab 'a&b' 'a|b'; do
