@@ -18,6 +18,7 @@ install(FILES ${TOP}/README.md ${TOP}/SECURITY.md ${TOP}/LICENSE ${TOP}/tools/re
 install(FILES ${BUILT}/PROVED.txt TYPE DOC OPTIONAL)
 install(DIRECTORY ${TOP}/docs TYPE DOC)
 install(FILES ${TOP}/bindings/README.md DESTINATION ${CMAKE_INSTALL_DOCDIR}/bindings)
+install(FILES ${TOP}/bindings/c/README.md DESTINATION ${CMAKE_INSTALL_DOCDIR}/bindings/c)
 
 if(WIN32)
   install(FILES ${BUILT}/lib/scrypt_c.def TYPE LIB COMPONENT dev)

@@ -133,7 +133,7 @@ def decided():
     yield "bindings/c/scrypt_c.h", f"More than {slots} processors count as {slots}"
     yield "bindings/c/scrypt_c.h", f"among the first {number('bindings/c/hasher.c', 'define MAX_SCANNED ', ' ')} that wait"
     new, longest = numbers["HASH_CAPACITY"] - 1, numbers["PHC_CAPACITY"] - 1
-    yield "bindings/README.md", f"{new} ASCII characters by default, and never more than {longest}"
+    yield "bindings/c/README.md", f"{new} ASCII characters by default, and never more than {longest}"
     edits = len(glob.glob("crates/*/must-fail/*.edit"))
     yield "docs/EVIDENCE.md", f"each `make test` must see rejected | {edits} |"
     lines = len(re.findall("^[^;\n]", read("bindings/c/kit_heap.ll"), re.M))
