@@ -1,8 +1,7 @@
 #!/usr/bin/env python3
-"""Runs the examples of README, of HASHER, of Python's, Go's and C's pages, and the C example of
-SECURITY, over build/lib.
+"""Runs the examples of README, of HASHER, and of Python's, Go's and C's pages, over build/lib.
 
-Go's and SECURITY's have code around them. `cargo test` runs the example of Rust's page, and
+Go's, and HASHER's in C, have code around them. `cargo test` runs the example of Rust's page, and
 tools/release/test.sh the example of JavaScript's. Missing tools are named with their Debian package.
 The script fails if an example fails or is missing.
 """
@@ -112,7 +111,7 @@ def run_go(room):
 
 
 def run_c(room):
-    log_in = LOGIN.format(example=examples("c", "SECURITY.md")[0])
+    log_in = LOGIN.format(example=examples("c", "docs/HASHER.md")[0])
     for example in [*examples("c", "bindings/c/README.md"), log_in]:
         source, program = written(room, "login.c", example), os.path.join(room, "login")
         run(["cc", "-std=c99", "-Wall", "-Wextra", "-Werror", f"-I{LIBRARY}", source, f"{LIBRARY}/libscrypt_c.a", "-o", program])

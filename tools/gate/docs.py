@@ -115,7 +115,7 @@ def decided():
     """The sentences with a number that the code decides, each with its file. PROMISES' are in promises.py."""
     mib, limits, numbers = 1 << 20, header.LIMITS, header.NUMBERS
     limit, key_len = limits["DEFAULT_MAX_MEM"] // mib, limits["DEFAULT_MIN_KEY_LEN"]
-    yield "SECURITY.md", f"limits are {limit} MiB, four times the work of the recommended parameters, and keys of {key_len} bytes"
+    yield "docs/HASHER.md", f"limits are {limit} MiB, four times the work of the recommended parameters, and keys of {key_len} bytes"
     yield "docs/DECISIONS.md", f"The default limit on memory is {limit} MiB"
     yield "crates/scrypt/src/buffers/owned.rt", f"16 MiB of chunks, {limit} MiB of table"
     together = number("crates/scrypt/src/buffers.rt", "MAX_INTERLEAVED_MEM: usize = ", ";") // mib
