@@ -1,70 +1,35 @@
+-- Written by hand against release 13f of the kit, by the steps of its docs/WALKS.md: the borrow
+-- checker does not cover a function that makes a struct whose `impl Model` has `also_owns`.
 use mathlib.Core.Path.{refl}
-use Rattle.scrypt_kernel.specs.declared.cores.count.CoreCount.{CoreCount}
-use Prim.Native.Nat.{ℕ}
 use mathlib.Core.List.{[], ◌∷◌}
-use seplogic.Ra.Ura.{Ura}
-use mir.Val.{vstruct, vcons, vunit, vnil}
-use base.Logic.{SProp, ent, emp, via, fst∗}
-use prog.Memory.{Memory}
-use prog.Routine.{Routine}
-use prog.Wp.{Calls, Loops, WpFn, Tables}
-use types.Logic.{Logic}
-use contract.Monad.{Fun}
-use contract.Running.{tables, tables_of}
-use sound.WpLaws.{WpFn-mono}
-use types.Kit.{‵, raw, ◌$◌, ◌∵◌, !, qed, move, suffices, done}
+use mir.Val.{Val, vstruct, vcons, vunit, vnil}
+use base.Fml.{ftrue}
+use types.Kit.{‵, raw, ◌⊛◌, ◌$◌, ◌∵◌, !, qed, split, move, drop, suffices, done}
 use types.Run.{no_more, and_then, unit_lit, returns, enter}
 use types.Part.{agg}
 use types.ByLocal.{alloc_all, pass_all, free_all, look_at, sets}
 use denote.RattleType.{owns}
 use denote.Shadow.{pure_i}
-use denote.Triple.Entry.{on_entry, alive}
-use denote.Triple.Spec.{Meets, triple_of}
-use denote.Triple.Table.{entered}
-use denote.Triple.Walked.{says, Stays, walk_of, Walks, ends_at, walked, walk_Meets}
-use Rattle.scrypt_kernel.specs.contracts.cores.count.CoreCount.of.Key.{name as key}
+use denote.Triple.Entry.{alive}
+use denote.Triple.Walked.{says, ends_at}
+use Rattle.std.proofs.raw_atomic.Walks.{proved}
+use Rattle.scrypt_kernel.specs.declared.cores.count.CoreCount.{CoreCount}
+use Rattle.scrypt_kernel.specs.contracts.cores.count.CoreCount.{the_row}
 use Rattle.scrypt_kernel.specs.contracts.cores.count.CoreCount.of as f
-use Rattle.scrypt_kernel.proofs.cores.count.CoreCount.of.Statement as stated
+use Rattle.scrypt_kernel.proofs.cores.count.CoreCount.of.Statement.{statement}
 use Rattle.scrypt_kernel.proofs.cores.count.CoreCount.of.Code as code
-use Rattle.scrypt_kernel.specs.contracts.cores.count.CoreCount as made
 
-abbrev stayed : Stays (f.ended).signature.params (f.ended).kept
-stayed = tt
-
-module _ {M : Type 1} {𝓤 : Ura M} (𝓛 : Logic 𝓤) (mem : Memory → SProp 𝓤) (run : Routine → Fun 𝓤) (C : Calls 𝓤 𝓛.H) (Λ : Loops 𝓤 𝓛.H) where
-  open 𝓛 use {H}
-
-  abbrev bound : ℕ × ℕ × ℕ → (walk_of 𝓛 f.ended stayed (f.clauses 𝓛 mem run)).Ghost
-  bound numbers = ((tt, tt, tt, tt, tt), numbers)
-
-  abbrev of_numbers : ℕ × ℕ × ℕ → CoreCount
-  of_numbers numbers = record { seal = tt; all = numbers.0; lanes = numbers.1; compressions = numbers.2 }
-
-  walk : (numbers : ℕ × ℕ × ℕ) → ent 𝓤 (on_entry 𝓛 f.signature tt tt tt tt)
-      (WpFn 𝓤 H C Λ code.function [] ((walk_of 𝓛 f.ended stayed (f.clauses 𝓛 mem run)).post (bound numbers)))
-  walk numbers =
-      qed 𝓛 (raw (alive 𝓛 f.signature tt tt) ∷ ‵ (owns [] tt tt) ∷ []) ∵ enter ! C Λ code.function [] _ $
-      alloc_all ! (λ l. pass_all ! refl tt $ sets ! (agg ! (and_then ! (unit_lit !) (no_more !))) refl (tt, (tt, tt)) $
-      returns ! (look_at ! 0 refl) $ free_all ! refl $
-      suffices ! _ (ends_at 𝓛 f.ended stayed (f.clauses 𝓛 mem run) (bound numbers) (vstruct (vcons vunit vnil)) (of_numbers numbers) tt tt) $
-      says ! (refl, refl, refl) $ pure_i ! (made.the_row.own_val (of_numbers numbers) (vstruct (vcons vunit vnil) ∷ []))
-      ((λ vss. (tt, (tt, tt))), tt) (((vunit ∷ [], tt), (refl, (refl, tt))), tt) $
-      move ! (1 ∷ 2 ∷ 0 ∷ []) $ done !)
-
-  walks : Walks 𝓛 f.ended stayed (WpFn 𝓤 H C Λ code.function) (f.clauses 𝓛 mem run)
-  walks =
-      walked 𝓛 f.ended stayed (f.clauses 𝓛 mem run) (WpFn 𝓤 H C Λ code.function) (λ κs. tt) (λ κs. tt)
-      (λ κs qs bounds a numbers are. via 𝓤 _ (fst∗ 𝓤 _ (emp 𝓤)) (walk numbers))
-
-meets : {M : Type 1} {𝓤 : Ura M} (𝓛 : Logic 𝓤) (mem : Memory → SProp 𝓤) (run : Routine → Fun 𝓤) (𝓣 : Tables 𝓤 𝓛.H)
-    → Meets 𝓛 f.signature (WpFn 𝓤 𝓛.H 𝓣.C 𝓣.Λ code.function) (f.spec 𝓛 mem run)
-meets {𝓤 = 𝓤} 𝓛 mem run 𝓣 =
-    walk_Meets 𝓛 f.ended stayed tt (f.clauses 𝓛 mem run) (WpFn 𝓤 𝓛.H 𝓣.C 𝓣.Λ code.function)
-    (WpFn-mono 𝓤 𝓛.H 𝓛.laws 𝓣 code.function) (walks 𝓛 mem run 𝓣.C 𝓣.Λ)
-
-pub of_spec : {M : Type 1} → stated.statement M
-unfolding tables_of
+pub of_spec : {M : Type 1} → statement M
 of_spec 𝓤 𝓛 𝓜 𝓡 wired =
-    entered 𝓤 𝓛.H (triple_of 𝓛 f.signature (f.spec 𝓛 𝓜.mem 𝓡.returns))
-    (tables 𝓤 𝓛.H 𝓜 𝓡 𝓡.env).C (tables 𝓤 𝓛.H 𝓜 𝓡 𝓡.env).Λ key code.function (code.unfolded 𝓤 𝓛.H 𝓜 𝓡 wired)
-    (meets 𝓛 𝓜.mem 𝓡.returns (tables_of 𝓤 𝓛.H 𝓜 (tables 𝓤 𝓛.H 𝓜 𝓡 𝓡.env)))
+    let c = f.clauses 𝓛 𝓜.mem 𝓡.returns in
+    proved 𝓛 f.ended tt c 𝓜 𝓡 tt f.Key.name code.function (code.unfolded 𝓤 𝓛.H 𝓜 𝓡 wired)
+    (λ κs. tt) (λ κs. tt) (λ κs qs bounds a n are.
+    let made : CoreCount = record { seal = tt; all = n.0; lanes = n.1; compressions = n.2 } in
+    let stored : Val = vstruct (vcons vunit vnil) in
+    qed 𝓛 ((raw (alive 𝓛 f.signature κs qs) ⊛ ‵ (owns [] a tt)) ∷ ‵ ftrue ∷ []) ∵
+    split ! $ move ! (2 ∷ []) $ drop ! $ enter ! _ _ _ _ _ $ alloc_all ! (λ l. pass_all ! refl tt $
+    sets ! (agg ! (and_then ! (unit_lit !) (no_more !))) refl (tt, (tt, tt)) $
+    returns ! (look_at ! 0 refl) $ free_all ! refl $
+    suffices ! _ (ends_at 𝓛 f.ended tt c ((κs, qs, bounds, a, tt), n) stored made tt tt) $ says ! (refl, refl, refl) $
+    pure_i ! (the_row.own_val made (stored ∷ [])) ((λ vss. (tt, (tt, tt))), tt) (((vunit ∷ [], tt), (refl, (refl, tt))), tt) $
+    move ! (1 ∷ 2 ∷ 0 ∷ []) $ done !))
