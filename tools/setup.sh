@@ -1,7 +1,7 @@
 #!/usr/bin/env bash
 # The first step of `make run`, `make lib`, `make js` and `make test`. As root on Debian it installs the packages of
 # tools/packages.txt that are missing, but not with NO_INSTALL=1. If something is still missing without which
-# the command cannot pass, it ends with one line, before any proof. It names the packages whose parts are left out.
+# the command cannot pass, it ends with one line, before any proof. A line for each part says what is not run.
 # usage: setup.sh run|lib|js|test [PREFIX]    with PRESET, DESTDIR and NO_INSTALL as make has them. With a prefix,
 #                                             `make install` follows
 set -u
@@ -14,14 +14,15 @@ end() { # WHY
 name=$1
 python3 -c 'import sys; sys.exit(sys.version_info < (3, 11))' 2> /dev/null ||
   end "needs Python 3.11 or later: nothing was proved"
-words() { sed -n "s/^$name $1 //p" tools/packages.txt; }
-needs=$(words needs) uses=$(words uses)
-case $name in
-  lib) if [ "${PRESET:-native}" != native ]; then needs="$needs $(python3 -B -m tools.presets needs "$PRESET")"; fi ;;
-  test) uses="$uses $(python3 -B -m tools.presets needs)" ;;
+rows=$(grep "^[^#|]*\\<$name\\>" tools/packages.txt)
+more() { rows+=$'\n'"$name | $(python3 -B -m tools.presets needs "$1") |$2"; }
+case $name:${PRESET:-native} in
+  test:*) for it in $(python3 -B -m tools.presets names); do more "$it" " the build and the tests for $it"; done ;;
+  lib:native) ;;
+  lib:*) more "$PRESET" '' ;;
 esac
 if [ $# = 2 ]; then # what is installed has to be linked
-  needs="$needs $uses" uses=''
+  rows=$(sed 's/[^|]*$//' <<< "$rows")
   place=${DESTDIR:-}$2
   while ! [ -e "$place" ]; do place=$(dirname "$place"); done
   [ -d "$place" ] && [ -w "$place" ] || end "install cannot write to $place, and nothing was proved: prefix=\$HOME/.local?"
@@ -35,17 +36,17 @@ absent() {
       *:*) command -v "${it%%:*}" > /dev/null || [ -e "${it%%:*}" ] ;;
       *) ! command -v dpkg-query > /dev/null ||
         [[ $(dpkg-query -W -f '${db:Status-Status}' "$it" 2> /dev/null) == installed* ]] ;;
-    esac || printf '%s ' "${it#*:}"
+    esac || printf ' %s' "${it#*:}"
   done
 }
 log=build/setup.log
 get() { apt-get install -o DPkg::Lock::Timeout=600 -qq -y --no-install-recommends "$@" >> $log 2>&1 < /dev/null; }
 
-# shellcheck disable=SC2086 # names without blanks
+# shellcheck disable=SC2046,SC2086 # names without blanks
 if [ "${NO_INSTALL:-}" != 1 ] && command -v apt-get > /dev/null && command -v dpkg-query > /dev/null && [ "$(id -u)" = 0 ]; then
-  absent=$(absent $needs $uses)
+  absent=$(absent $(grep -v "($name).*|" <<< "$rows" | cut -d'|' -f2))
   if [ -n "$absent" ]; then
-    echo "Installs these packages of Debian, in some minutes (NO_INSTALL=1 prevents it): ${absent% }"
+    echo "Installs these packages of Debian, in some minutes (NO_INSTALL=1 prevents it):$absent"
     mkdir -p build
     export DEBIAN_FRONTEND=noninteractive
     for it in $absent; do
@@ -59,13 +60,13 @@ if [ "${NO_INSTALL:-}" != 1 ] && command -v apt-get > /dev/null && command -v dp
     fi
   fi
 fi
-# shellcheck disable=SC2086
-absent=$(absent $needs)
+absent=$(absent $(sed -n 's/.*|\(.*\)|$/\1/p' <<< "$rows"))
 if [ -n "$absent" ]; then
   foreign=$(sed -nE 's/.*:([^ ]*).*/\1/p' <<< "$absent") # another machine's architecture
   end "needs these packages of Debian, and nothing was proved:$(
-    )${foreign:+ dpkg --add-architecture $foreign && apt-get update &&} apt-get install ${absent% }"
+    )${foreign:+ dpkg --add-architecture $foreign && apt-get update &&} apt-get install$absent"
 fi
-# shellcheck disable=SC2086
-absent=$(absent $uses)
-if [ -n "$absent" ]; then echo "make $name leaves out what uses these packages of Debian: apt-get install ${absent% }"; fi
+while IFS='|' read -r _ words what; do
+  absent=$(absent $words)
+  if [ -n "$absent" ]; then echo "not run without$absent:$what"; fi
+done <<< "$rows"

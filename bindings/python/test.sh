@@ -14,10 +14,9 @@ quiet() { "$@" > "$room/log" 2>&1 || { cat "$room/log"; exit 1; }; grep '^Ran ' 
 packed() { quiet $python -m hatchling build -t "$@"; }
 if [ "$system" != windows ]; then
   quiet $python -W error -m unittest test_hasher test_keys test_library test_texts test_threads
-  for framework in django passlib; do
-    if $python -c "import $framework" 2> /dev/null; then quiet $python -m unittest test_$framework
-    else "$top/tools/lacks" $framework python3-$framework; fi
-  done
+  imports() { $python -c "import $1" 2> /dev/null || { "$top/tools/lacks" "$1" "python3-$1"; return 1; }; }
+  for it in django passlib; do if imports $it; then quiet $python -m unittest test_$it; fi; done
+  imports bcrypt || true # the tests of Django leave out what needs it
   echo "called from Python"
 fi
 if ! $python -c 'import venv, ensurepip, hatchling' 2> /dev/null; then

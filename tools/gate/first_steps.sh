@@ -22,31 +22,34 @@ fake() { # COMMAND LINE: a command that prints this line, and notes how it is ca
 
 # ---- The first step ----
 cat > tools/packages.txt << 'END'
-run uses no-cc:gcc sh:dash
-lib needs sh:dash no-cc:gcc /no/cmake:cmake
-js uses no-node:nodejs unknown
+lib test | sh:dash no-cc:gcc /no/cmake:cmake |
+run | sh:dash no-cc:gcc | the link
+js test | sh:dash | what is here
+(js) test | no-node:nodejs unknown | the page
 END
-lacks="make lib needs these packages of Debian, and nothing was proved: apt-get install gcc cmake
-1"
+setup() { tools/setup.sh "$@" 2>&1; echo $?; }
+needs="needs these packages of Debian, and nothing was proved: apt-get install gcc"
 fake id 1000
 fake apt-get ""
 fake dpkg-query ""
-is "$(tools/setup.sh run 2>&1; echo $?)" "make run leaves out what uses these packages of Debian: apt-get install gcc
+is "$(setup run)" "not run without gcc: the link
 0"
-is "$(tools/setup.sh js 2>&1; echo $?)" "make js leaves out what uses these packages of Debian: apt-get install nodejs unknown
-0"
-is "$(DESTDIR="$room" tools/setup.sh run /usr 2>&1; echo $?)" "${lacks/lib needs*/run needs these packages of Debian, and nothing was proved: apt-get install gcc
-1}"
-is "$(tools/setup.sh lib 2>&1; echo $?)" "$lacks"
-is "$(tools/setup.sh lib "$room/Makefile/no" 2>&1; echo $?)" "make lib install cannot write to $room/Makefile, and nothing was proved: prefix=\$HOME/.local?
+is "$(DESTDIR="$room" setup run /usr)" "make run $needs
+1"
+is "$(setup lib)" "make lib $needs cmake
+1"
+is "$(setup lib "$room/Makefile/no")" "make lib install cannot write to $room/Makefile, and nothing was proved: prefix=\$HOME/.local?
 1"
 fake id 0
-is "$(NO_INSTALL=1 tools/setup.sh lib 2>&1; echo $?)" "$lacks"
+is "$(NO_INSTALL=1 setup lib)" "make lib $needs cmake
+1"
 if grep apt-get asked; then echo "installs packages, not as root or with NO_INSTALL=1"; exit 1; fi
-is "$(tools/setup.sh lib 2>&1; echo $?)" \
-  "Installs these packages of Debian, in some minutes (NO_INSTALL=1 prevents it): gcc cmake
-$lacks"
+is "$(setup lib)" "Installs these packages of Debian, in some minutes (NO_INSTALL=1 prevents it): gcc cmake
+make lib $needs cmake
+1"
 grep -q '^apt-get install .* gcc cmake$' asked
+is "$(setup js)" "not run without nodejs unknown: the page
+0"
 
 # ---- Steps, and the last lines ----
 cat > tools/gate/gate.mk << 'MK'
@@ -106,7 +109,7 @@ grep -q '^logic=proved functions=7' build/log/proved.log
 unset PROGRESS STEPS
 
 # ---- The program, installed beside an installation whose folder has the name that & of sed makes ----
-echo "run uses sh:dash" > tools/packages.txt
+echo "run | sh:dash |" > tools/packages.txt
 fake rt "$room/kit"
 fake cc ""
 printf '#!/bin/sh\nmkdir -p build/bin && printf "#!/bin/sh\\necho the key of \\$*" > build/bin/scrypt_tool && chmod +x build/bin/*\n' > bindings/cli/build.sh
