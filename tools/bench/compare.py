@@ -3,10 +3,10 @@
 usage: python3 -m tools.bench.compare LIBRARY [NAME=WORKER..] [--params 14,8,1:17,8,1]
        python3 -m tools.bench.compare LIBRARY [NAME=WORKER..] --picture FILE
 
-It prints *Compared with other libraries* of docs/PARAMETERS.md in Markdown, with, for p from 1 to 4, the nanoseconds of a core
-in docs/DECISIONS.md; or it draws speed.svg, the verifications a second of as many processes as there are processors. LIBRARY
-is libscrypt_c.so, and a WORKER is a program that tools/tests/worker.py describes. The environment variable RUNS (7) is the
-number of runs; of them the minimum counts, or for the picture the median.
+It prints *Compared with other libraries* of docs/BENCHMARKS.md in Markdown, with, for p from 1 to 4, the nanoseconds of a core;
+or it draws speed.svg, the verifications a second of as many processes as there are CPUs. LIBRARY is libscrypt_c.so, and a WORKER
+is a program that tools/tests/worker.py describes. The environment variable RUNS (7) is the number of runs; of them the minimum
+counts, or for the picture the median.
 
 All verify one hash, in each run in a new random order; if p is 1, this library verifies it also in batches of two and four.
 The processes of the picture run concurrently, each on its own processor, and all with the same implementation. This library

@@ -1,4 +1,4 @@
-"""Measures the tables of docs/PARAMETERS.md that are about this library only, and prints them in Markdown.
+"""Measures the tables of docs/PARAMETERS.md and docs/BENCHMARKS.md that are about this library only, and prints them in Markdown.
 
 usage: python3 -m tools.bench.here LIBRARY parameters [PICTURE]   *Time and attack*, and its picture parameters.svg
        python3 -m tools.bench.here LIBRARY thin                   *Smaller tables*

@@ -1,4 +1,4 @@
-"""Measures the package for JavaScript, plain JavaScript and Node's crypto: *In JavaScript* of docs/PARAMETERS.md.
+"""Measures the package for JavaScript, plain JavaScript and Node's crypto: *In JavaScript* of docs/BENCHMARKS.md.
 
 usage: python3 -m tools.bench.javascript [NAME=COMMAND..]
 

@@ -120,7 +120,7 @@ def decided():
     yield "crates/scrypt/src/buffers/owned.rt", f"16 MiB of chunks, {limit} MiB of table"
     together = number("crates/scrypt/src/buffers.rt", "MAX_INTERLEAVED_MEM: usize = ", ";") // mib
     yield "docs/RATTLE.md", f"the `max_mem` of C's `scrypt_key`, {together} MiB"
-    yield "docs/PARAMETERS.md", f"up to four tables, if all buffers fit into {together} MiB together"
+    yield "docs/BENCHMARKS.md", f"up to four tables, if all buffers fit into {together} MiB together"
     yield "docs/DECISIONS.md", f"mappings up to {together} MiB are populated"
     yield "bindings/c/scrypt_c.h", f"as all buffers fit into {together} MiB"
     yield "bindings/python/scrypt_c/key.py", f"or in {together} MiB without a limit"
@@ -149,7 +149,7 @@ def decided():
 
 def measured():
     """The sentences that repeat a measurement: from the table that compares libraries, and the minutes of README."""
-    table = [it[2:-2].split(" | ") for it in re.findall(r"^\| \(\d.*\|$", read("docs/PARAMETERS.md"), re.M) if it.count("|") == 8]
+    table = [it[2:-2].split(" | ") for it in re.findall(r"^\| \(\d.*\|$", read("docs/BENCHMARKS.md"), re.M) if it.count("|") == 8]
     table = {first: (float(time), ratios) for first, time, *ratios in table}
     two, four = (f"{table[f'(14, 8, 1), each of a batch of {it}'][0] / table['(14, 8, 1)'][0]:.2f}" for it in ("two", "four"))
     yield "bindings/README.md", f"each of two takes {two} of the time of one, each of four {four};"
