@@ -1,9 +1,10 @@
 #!/usr/bin/env python3
-"""Runs the examples of README, of HASHER, and of Python's, Go's and C's pages, over build/lib.
+"""Runs the examples of pages over build/lib: of README, of HASHER, of Python's, Go's and C's pages, and the quick starts
+of examples/README.
 
-Go's, and HASHER's in C, have code around them. `cargo test` runs the example of Rust's page, and
-tools/release/test.sh the example of JavaScript's. Missing tools are named with their Debian package.
-The script fails if an example fails or is missing.
+Most have code around them. `cargo test` runs the example of Rust's page, bindings/js/test the quick start for Express, and
+tools/release/test.sh the example of JavaScript's page. Missing tools are named with their Debian package. The script fails
+if an example fails or is missing.
 """
 
 import json
@@ -17,6 +18,31 @@ import tempfile
 TOP = os.path.dirname(os.path.dirname(os.path.abspath(__file__)))
 LIBRARY = os.path.join(TOP, "build", "lib")
 GO_MODULE = "nilomafy.example/scrypt"
+QUICK = "examples/README.md"
+DEBIANS = "/usr/bin/python3"  # which has Debian's packages
+
+# A rejected hash has the response of a wrong password, and at least half of its time.
+PYTHON_CHECKS = {
+    "docs/HASHER.md": "assert status_of_login('$2b$05$abc', 'x') == status_of_login(None, 'x') == 401",
+    "bindings/python/README.md": "assert is_right('$2b$05$abc', 'x') is False",
+}
+QUICK_PYTHON = {
+    "django": """
+from django.conf import settings
+settings.configure(PASSWORD_HASHERS=PASSWORD_HASHERS)
+from django.contrib.auth.hashers import check_password, make_password
+assert make_password("x").startswith("scrypt_c$scrypt$") and check_password("x", make_password("x"))
+""",
+    "fastapi": """
+def status(**form):
+    try:
+        return log_in(**form) or 204
+    except HTTPException as error:
+        return error.status_code
+assert status(name="ann", password="correct horse") == 204
+assert [status(name=it, password=that) for it, that in (("ann", "x"), ("eve", "x"), ("ann", "\\ud800"))] == [401] * 3
+""",
+}
 
 GO = """package main
 
@@ -39,13 +65,38 @@ func main() {{
 	}}
 }}
 """
+QUICK_GO = """package main
 
+import (
+	"context"
+	"errors"
+	"log"
+	"net/http"
+	"net/http/httptest"
+	"time"
 
-# A rejected hash has the response of a wrong password, and at least half of its time.
-PYTHON_CHECKS = {
-    "docs/HASHER.md": "assert status_of_login('$2b$05$abc', 'x') == status_of_login(None, 'x') == 401",
-    "bindings/python/README.md": "assert is_right('$2b$05$abc', 'x') is False",
-}
+	"nilomafy.example/scrypt"
+)
+
+{example}
+func main() {{
+	hasher, err := scrypt.NewHasher(scrypt.Options{{}})
+	if err != nil {{
+		log.Fatal(err)
+	}}
+	text, err := hasher.Hash(context.Background(), []byte("x"))
+	for form, status := range map[string]int{{"name=ann&password=x": 204, "name=ann&password=y": 401, "name=eve": 401}} {{
+		answer := httptest.NewRecorder()
+		request := httptest.NewRequest("POST", "/login?"+form, nil)
+		request.PostForm = request.URL.Query()
+		logIn(hasher, map[string]string{{"ann": text}})(answer, request)
+		if err != nil || answer.Code != status {{
+			log.Fatal(form, ": ", answer.Code, err)
+		}}
+	}}
+}}
+"""
+
 LOGIN = """#include <scrypt_c.h>
 #include <stdio.h>
 #include <string.h>
@@ -65,6 +116,31 @@ int main(void) {{
   return scrypt_hasher_new(NULL, &hasher) || !(seconds_of("nobody") > 0 && seconds_of("damaged") > seconds_of("nobody") / 2);
 }}
 """
+QUICK_C = """#include <scrypt_c.h>
+#include <string.h>
+{example}
+int main(void) {{
+  char text[SCRYPT_PHC_CAPACITY];
+  scrypt_hasher *hasher = NULL;
+  return scrypt_hasher_new(NULL, &hasher) ||
+         scrypt_hasher_hash(hasher, "x", 1, NULL, 0, text, sizeof text, -1) || status_of_login(hasher, text, "x") != 204 ||
+         status_of_login(hasher, text, "y") != 401 || status_of_login(hasher, NULL, "x") != 401 ||
+         status_of_login(hasher, "$2b$05$abc", "x") != 503;
+}}
+"""
+QUICK_RUST = """use scrypt_c::{{Error, Hasher}};
+
+{example}
+fn main() {{
+    let hasher = Hasher::default();
+    let text = hasher.hash(b"x").unwrap();
+    for (text, password, status) in [(Some(text.clone()), "x", 204), (Some(text), "y", 401), (None, "x", 401)] {{
+        let hasher = hasher.clone();
+        let answer = std::thread::spawn(move || log_in(&hasher, text.as_deref(), password));
+        assert_eq!(answer.join().unwrap(), status);
+    }}
+}}
+"""
 
 
 def examples(language, page="README.md"):
@@ -79,6 +155,7 @@ def examples(language, page="README.md"):
 def written(room, name, text):
     """Writes a file with this text, and returns its path."""
     path = os.path.join(room, name)
+    os.makedirs(os.path.dirname(path), exist_ok=True)
     with open(path, "w", encoding="utf-8") as file:
         file.write(text)
     return path
@@ -88,34 +165,52 @@ def run(command, **more):
     return subprocess.run(command, check=True, **more)
 
 
+def lacks(what, package):
+    run([os.path.join(TOP, "tools/lacks"), what, package])
+
+
 def run_python(room):
-    paths = {"PYTHONPATH": os.path.join(TOP, "bindings", "python"), "SCRYPT_C_LIBRARY": LIBRARY}
+    env = os.environ | {"PYTHONPATH": os.path.join(TOP, "bindings", "python"), "SCRYPT_C_LIBRARY": LIBRARY}
     for page in ["README.md", "docs/HASHER.md", "bindings/python/README.md"]:
         for example in examples("python", page):
             if "passlib" in example:  # bindings/python/tests has it
                 continue
             login = written(room, "login.py", example + PYTHON_CHECKS.pop(page, ""))
-            run([sys.executable, "-B", login], env=os.environ | paths)
+            run([sys.executable, "-B", login], env=env)
+    for example, (module, check) in zip(examples("python", QUICK), QUICK_PYTHON.items(), strict=True):
+        if subprocess.run([DEBIANS, "-c", f"import {module}"], stderr=subprocess.DEVNULL, env=env).returncode:
+            lacks(module, f"python3-{module}")
+        else:
+            run([DEBIANS, "-B", written(room, "login.py", example + check)], env=env)
 
 
 def run_go(room):
-    program = os.path.join(room, "go")
-    os.mkdir(program)
-    written(program, "main.go", GO.format(example=examples("go", "bindings/go/README.md")[0]))
     folder = os.path.join(room, "the module")  # as in a folder whose name has a blank
     shutil.copytree(os.path.join(TOP, "bindings", "go"), folder)
-    written(program, "go.mod", f"module login\n\nrequire {GO_MODULE} v0.0.0\n\nreplace {GO_MODULE} => {json.dumps(folder)}\n")
     for name in ["libscrypt_c.a", "scrypt_c.h"]:
         shutil.copy(os.path.join(LIBRARY, name), folder)
-    run(["go", "run", "-mod=mod", "."], cwd=program, env=os.environ | {"GOPROXY": "off"})
+    written(room, "go/go.mod", f"module login\n\nrequire {GO_MODULE} v0.0.0\n\nreplace {GO_MODULE} => {json.dumps(folder)}\n")
+    for around, page in (GO, "bindings/go/README.md"), (QUICK_GO, QUICK):
+        written(room, "go/main.go", around.format(example=examples("go", page)[0]))
+        run(["go", "run", "-mod=mod", "."], cwd=os.path.join(room, "go"), env=os.environ | {"GOPROXY": "off"})
 
 
 def run_c(room):
-    log_in = LOGIN.format(example=examples("c", "docs/HASHER.md")[0])
-    for example in [*examples("c", "bindings/c/README.md"), log_in]:
+    around = [(LOGIN, "docs/HASHER.md"), (QUICK_C, QUICK)]
+    for example in [*examples("c", "bindings/c/README.md"), *(it.format(example=examples("c", page)[0]) for it, page in around)]:
         source, program = written(room, "login.c", example), os.path.join(room, "login")
         run(["cc", "-std=c99", "-Wall", "-Wextra", "-Werror", f"-I{LIBRARY}", source, f"{LIBRARY}/libscrypt_c.a", "-o", program])
         run([program])
+
+
+def run_rust(room):
+    shutil.copytree(os.path.join(TOP, "bindings", "rust"), os.path.join(room, "scrypt_c"), ignore=shutil.ignore_patterns("target"))
+    written(room, "login/Cargo.toml", '[package]\nname = "login"\nversion = "1.0.0"\nedition = "2021"\n'
+            '[dependencies]\nscrypt_c = { path = "../scrypt_c" }\n')
+    written(room, "login/src/main.rs", QUICK_RUST.format(example=examples("rust", QUICK)[0]))
+    config = os.path.join(TOP, "tools/release/cargo.toml")
+    run(["cargo", "--config", config, "run", "--quiet", "--offline"], cwd=os.path.join(room, "login"),
+        env=os.environ | {"SCRYPT_C_LIBRARY": LIBRARY, "LD_LIBRARY_PATH": LIBRARY})
 
 
 def main():
@@ -123,13 +218,14 @@ def main():
         ("Python", run_python, "python3", "python3"),
         ("Go", run_go, "go", "golang-go"),
         ("C", run_c, "cc", "gcc"),
+        ("Rust", run_rust, "cargo", "cargo"),
     ]:
         if not shutil.which(command):
-            run([os.path.join(TOP, "tools/lacks"), command, package])
+            lacks(command, package)
             continue
         with tempfile.TemporaryDirectory() as room:
             runs(room)
-        print(f"the example in {language} runs")
+        print(f"the examples in {language} run")
 
 
 if __name__ == "__main__":

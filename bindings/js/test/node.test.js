@@ -71,6 +71,17 @@ test('the examples of README print what they say', () => {
   }
 });
 
+test('the quick start for Express answers', () => {
+  const [, program] = read('examples/README.md').match(/^```js$(.*?)^```$/ms);
+  deepStrictEqual(printsOfFile(`${program}
+    const answer = (name, password) =>
+      logIn({ body: { name, password } }, { sendStatus: console.log }, ({ code }) => console.log(code));
+    await answer('ann', 'correct horse');
+    await answer('ann', 'another');
+    await answer('eve', 'another');
+    await answer('ann');`), '204\n401\n401\nINVALID_TYPE\n');
+});
+
 // Makes Node look like this version, without what Node lacks before 18.14.
 const asBefore = (version) => `import { createRequire, syncBuiltinESMExports } from 'node:module';
   delete createRequire('/')('node:os').availableParallelism;
