@@ -48,7 +48,7 @@ from django.contrib.auth.hashers import (
 from django.utils.translation import gettext_noop as _
 
 from .arguments import raw_password
-from .declared import RECOMMENDED_LOG_N, RECOMMENDED_P, RECOMMENDED_R
+from .declared import MAX_SALT_LEN, RECOMMENDED_LOG_N, RECOMMENDED_P, RECOMMENDED_R
 from .errors import InvalidHashError, RefusedHashError, TooCostlyError, VerifyMismatchError
 from .hasher import PasswordHasher, shared
 from .key import log_of
@@ -213,7 +213,10 @@ class OverPasswordHasher(PHCPasswordHasher):
     _key: str  # the pattern of what follows them in a hash of `inner`
 
     def wrap(self, old: str) -> str:
-        """Returns what to store in place of a hash of `inner`. Raises a RefusedHashError."""
+        """Returns what to store in place of a hash of `inner`. Raises a RefusedHashError, or
+        ValueError if `hasher` makes `$7$` hashes: no password would match them."""
+        if self.hasher.options.mcf:  # a `$7$` hash encodes a new salt
+            raise ValueError("hasher has mcf=True, but a hash over another is a PHC string")
         name, _, parts = old.partition("$")
         found = re.fullmatch(f"({self._settings}){self._key}", parts, re.ASCII)
         if found is None or name != self.inner.algorithm:
@@ -241,7 +244,7 @@ class OverPasswordHasher(PHCPasswordHasher):
 
     def _judge(self, settings: str) -> None:
         found = re.fullmatch(self._settings, settings, re.ASCII)
-        if found is None:
+        if found is None or len(settings) > MAX_SALT_LEN:
             raise _invalid(f"the salt is not a cost and a salt of {self.inner.algorithm}")
         if int(found["cost"]) > self.max_cost:
             words = f"{self.inner.algorithm} has a cost of {found['cost']}"

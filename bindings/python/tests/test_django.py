@@ -315,12 +315,15 @@ class Over(unittest.TestCase):
             (pbkdf2, f"pbkdf2_sha256$1001$salt${43 * 'A'}=", scrypt_c.TooCostlyError),
             (bcrypt, f"bcrypt_sha256$$2b$06${letters}", scrypt_c.TooCostlyError),
             *((pbkdf2, it, scrypt_c.InvalidHashError) for it in [
-                "pbkdf2_sha256$9$salt$", "pbkdf2_sha1$9$salt$AAAA", "pbkdf2_sha256", "", f"bcrypt_sha256$$2b$05${letters}"]),
+                "pbkdf2_sha256$9$salt$", "pbkdf2_sha1$9$salt$AAAA", "pbkdf2_sha256", "", f"bcrypt_sha256$$2b$05${letters}",
+                f"pbkdf2_sha256$9${63 * 's'}${43 * 'A'}="]),  # its cost and salt do not fit into a salt of ours
             *((bcrypt, it, scrypt_c.InvalidHashError) for it in [
                 f"bcrypt$$2b$05${letters}", f"bcrypt_sha256$$2b$05${letters}a", "bcrypt_sha256$$2b$05$", "bcrypt_sha256"]),
         ]:
             with self.assertRaises(error, msg=old):
                 it.wrap(old)
+        with self.assertRaisesRegex(ValueError, "PHC"):  # from a $7$ hash `verify` could not read the salt
+            type("Crypt", (OverPBKDF2,), {"hasher": scrypt_c.PasswordHasher(4, mcf=True)})().wrap(f"pbkdf2_sha256$9$salt${43 * 'A'}=")
         most = type("Most", (OverPBKDF2,), {"max_cost": 10**7})().wrap(f"pbkdf2_sha256$1500000${22 * 's'}${43 * 'A'}=")
         self.assertLessEqual(len(most), 128, "Django's column, with the most iterations of Django so far")
         self.assertEqual(OverPBKDF2.max_cost, 4 * hashers.PBKDF2PasswordHasher.iterations)
