@@ -46,6 +46,15 @@ class scrypt(passlib.hash.scrypt):  # passlib names handlers as their scheme
         return shared(cls.default_rounds, cls.block_size, cls.parallelism, **options)
 
     @classmethod
+    def from_string(cls, hash: str | bytes) -> scrypt:
+        try:
+            return super().from_string(hash)
+        except (AssertionError, TypeError):  # passlib's own, also of a damaged hash
+            if not isinstance(hash, (str, bytes)):
+                raise
+            raise passlib.exc.MalformedHashError(cls) from None
+
+    @classmethod
     def verify(cls, secret: str | bytes, hash: str | bytes) -> bool:
         validate_secret(secret)
         stored = cls.from_string(hash)

@@ -61,9 +61,12 @@ class Handler(unittest.TestCase):
             (scrypt_c.TooCostlyError, "ln=21,r=8,p=1", 43),
             (ValueError, "ln=260,r=8,p=1", 43),
             (ValueError, "ln=6,r=8,p=1", 20),
+            (ValueError, "ln=6,p=1,r=8", 43),  # passlib: AssertionError
+            (ValueError, "ln=6,r=8,p=1", 45),  # passlib: TypeError
         ]:
             with self.assertRaises(error, msg=costs):
                 scrypt.verify("pw", f"$scrypt${costs}$c2FsdHNhbHQ${key_len * 'A'}")
+        self.assertRaises(TypeError, scrypt.verify, "pw", 1)
         for name, limit in [("max_work", scrypt_c.Params(6).work), ("max_mem", scrypt_c.Params(6).memory)]:
             small = scrypt.using(rounds=5)
             self.assertTrue(type("scrypt", (small,), {name: limit}).verify("pw", TEXT))
