@@ -215,11 +215,13 @@ func TestKeysInSteps(t *testing.T) {
 func TestKeyContextAndCalibrate(t *testing.T) {
 	ctx, cancel := context.WithTimeout(ctx, 100*time.Millisecond)
 	defer cancel()
-	end, _ := ctx.Deadline()
-	steps := 0
-	key, err := KeyContext(ctx, nil, nil, 1<<20, 8, 1, 32, func(float64) { steps++ })
-	late := time.Since(end) // 50 ms on an idle machine
-	check(t, err == context.DeadlineExceeded && key == nil && late < 500*time.Millisecond && steps < 100, err, late, steps)
+	steps, late := 0, 0
+	key, err := KeyContext(ctx, nil, nil, 1<<20, 8, 1, 32, func(float64) {
+		if steps++; ctx.Err() != nil {
+			late++
+		}
+	})
+	check(t, err == context.DeadlineExceeded && key == nil && late < 2 && steps < 100, err, late, steps)
 	found, err := Calibrate(50*time.Millisecond, 32<<20)
 	check(t, err == nil && found.LogN >= 10 && found.LogN <= 15 && found.P >= 1 && found.KeyLen == 32, found, err)
 }
@@ -250,20 +252,24 @@ func TestContexts(t *testing.T) {
 		"deriving":                      {false, false, costly, late, soon, context.Canceled},
 		"deriving at a deadline":        {false, false, costly, soon, late, context.DeadlineExceeded},
 	} {
-		hasher := newHasher(t, small)
-		inside := hasher.shared.inside
-		if it.isBusy {
-			busy(t, hasher)
-		} else if it.isFull {
-			hasher.shared.inside = nil
+		derives, isEarly := it.isBusy || it.text == costly && it.deadline > 0, false
+		for tries := time.Duration(1); derives != isEarly || tries == 1; tries++ { // on a loaded machine it may begin too late
+			hasher := newHasher(t, small)
+			inside := hasher.shared.inside
+			if it.isBusy {
+				busy(t, hasher)
+			} else if it.isFull {
+				hasher.shared.inside = nil
+			}
+			ctx, cancel := context.WithTimeout(ctx, tries*it.deadline)
+			time.AfterFunc(tries*it.canceled, cancel)
+			err := hasher.Verify(ctx, it.text, nil)
+			isEarly = hasher.Stats().Deriving > 0
+			isEnded := it.deadline > 0 || hasher.shared.calls.Load() == 0
+			check(t, errors.Is(err, it.want) && isEnded && tries < 20, why, err, tries)
+			cancel()
+			wait(func() bool { runtime.GC(); return len(inside) == 0 && runtime.NumGoroutine() <= goroutines })
 		}
-		ctx, cancel := context.WithTimeout(ctx, it.deadline)
-		begun, _ := time.Now(), time.AfterFunc(it.canceled, cancel)
-		err := hasher.Verify(ctx, it.text, nil)
-		isEnded := it.deadline > 0 || hasher.shared.calls.Load() == 0
-		check(t, errors.Is(err, it.want) && time.Since(begun) < time.Second/2 && isEnded, why, err)
-		cancel()
-		wait(func() bool { runtime.GC(); return len(inside) == 0 && runtime.NumGoroutine() <= goroutines })
 	}
 }
 

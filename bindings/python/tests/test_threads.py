@@ -70,7 +70,7 @@ class Threads(unittest.TestCase):
     def test_timeouts_signals_and_stats(self):
         """A call that waits returns at its timeout; an exception of a signal handler replaces its
         result. stats counts calls that wait, that derive, and that have failed."""
-        hasher = PasswordHasher(log_n=4, max_tables=1, timeout=0.2)
+        hasher = PasswordHasher(log_n=4, max_tables=1, timeout=0.1)
         before = signal.signal(signal.SIGALRM, signal.default_int_handler)
         self.addCleanup(signal.signal, signal.SIGALRM, before)
         with busy(hasher), ThreadPoolExecutor(1) as threads:
@@ -80,10 +80,10 @@ class Threads(unittest.TestCase):
             self.assertEqual(hasher.stats(), (1, 1, 0))
             self.assertIs(type(other.exception()), TimeoutError)
             self.assertEqual(hasher.stats(), (0, 1, 1))
-            signal.setitimer(signal.ITIMER_REAL, 0.05)
+            signal.setitimer(signal.ITIMER_REAL, 0.03)
             begun = time.monotonic()
             self.assertRaises(KeyboardInterrupt, hasher.verify, TEXT, "pw")
-            self.assertTrue(0.15 < time.monotonic() - begun < 0.6)
+            self.assertTrue(time.monotonic() - begun > 0.09 and hasher.stats().deriving == 1)
         self.assertEqual(hasher.stats(), (0, 0, 2))
 
     def test_timeout_in_milliseconds(self):
@@ -104,5 +104,5 @@ class Threads(unittest.TestCase):
         """A program with daemon threads exits; in a cycle of garbage a hasher is freed last."""
         for program in 3 * [DAEMONS] + [FINALIZERS]:
             command = [sys.executable, "-W", "ignore", "-c", program]  # Python 3.12 warns of forks
-            run = subprocess.run(command, capture_output=True, timeout=60)
+            run = subprocess.run(command, capture_output=True, timeout=600)
             self.assertEqual((run.stderr, run.returncode), (b"", 0))

@@ -20,10 +20,10 @@ fn rejected_keys() {
 /// A derivation that takes seconds is cancelled between two steps of about 10 ms, also by a panic.
 #[test]
 fn cancelled_between_steps() {
-    let (mut key, begun, mut steps) = ([0; 32], Instant::now(), 0);
+    let (mut key, begun, mut steps, mut last) = ([0; 32], Instant::now(), 0, 0.0);
     let params = Params::new(20, 8, 1).unwrap();
-    let progress = |_| {
-        steps += 1;
+    let progress = |done| {
+        (steps, last) = (steps + 1, done);
         match begun.elapsed() < Duration::from_millis(100) {
             true => ControlFlow::Continue(()),
             false => ControlFlow::Break(()),
@@ -31,9 +31,9 @@ fn cancelled_between_steps() {
     };
     let left = scrypt_in_steps(b"", b"", &params, &mut key, progress);
     assert_eq!((left, key), (Err(DeriveError::Cancelled), [0; 32]));
-    assert!(steps < 100, "{steps} steps in 100 ms");
+    assert!(steps < 100 && last < 0.9, "{steps} steps in 100 ms, of {last}");
     let panics = || scrypt_in_steps(b"", b"", &params, &mut [0; 32], |_| panic!("on purpose"));
-    assert!(begun.elapsed() < Duration::from_secs(2) && std::panic::catch_unwind(panics).is_err());
+    assert!(std::panic::catch_unwind(panics).is_err());
 }
 
 /// The library checks the limits; no number is truncated before.

