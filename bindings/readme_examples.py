@@ -205,7 +205,7 @@ def run_c(room):
 
 def run_rust(room):
     shutil.copytree(os.path.join(TOP, "bindings", "rust"), os.path.join(room, "scrypt_c"), ignore=shutil.ignore_patterns("target"))
-    written(room, "login/Cargo.toml", '[package]\nname = "login"\nversion = "1.0.0"\nedition = "2021"\n'
+    written(room, "login/Cargo.toml", '[package]\nname = "login"\nversion = "0.1.0"\nedition = "2021"\n'
             '[dependencies]\nscrypt_c = { path = "../scrypt_c" }\n')
     written(room, "login/src/main.rs", QUICK_RUST.format(example=examples("rust", QUICK)[0]))
     config = os.path.join(TOP, "tools/release/cargo.toml")
