@@ -12,7 +12,7 @@ use Rattle.std.proofs.lemmas.List.Elements.{All-from_get_or}
 use Rattle.std.proofs.lemmas.List.Sums.{list_all-from_AllPass}
 use Rattle.std.proofs.lemmas.Bool.Decides.{nat_tests}
 use Rattle.std.proofs.lemmas.Option.{cond_some}
-use Rattle.password_hash.specs.Letters.{is_value_letter, IsValue}
+use Rattle.password_hash.specs.Letters.{is_value, is_value_letter}
 use Rattle.password_hash.specs.Decimal.{DecimalGives, UnsignedGives, decimal_below, has_plus_or_leading_zero, is_decimal}
 
 digits : IsNumeralModel (AllDigits 10) (digits_value 10)
@@ -30,15 +30,13 @@ leads n small zero = elim (cases_lt 0 n) [
 ]
 
 -- a number in decimal digits is a value
-pub IsValue-decimal : (n : ℕ) → n < 2 ^ 32 → IsValue (decimal n)
-IsValue-decimal n small =
+pub is_value-decimal : (n : ℕ) → n < 2 ^ 32 → is_value (decimal n) ≡ true
+is_value-decimal n small =
     let (some, digits) = (decimal_is_IsNumeral n (omega arith)).0 in
     let letter = λ (i : ℕ) (below : i < length (decimal n)). let range = digit_at (decimal n) i digits below in
     is_value_letter_digit (get_or (decimal n) i 0) (omega (arith, range)) (omega (arith, range)) in
-    record {
-      some = some;
-      letters = list_all-from_AllPass is_value_letter (decimal n) (All-from_get_or (λ b. is_value_letter b ≡ true) (decimal n) 0 letter);
-    }
+    let letters = list_all-from_AllPass is_value_letter (decimal n) (All-from_get_or (λ b. is_value_letter b ≡ true) (decimal n) 0 letter) in
+    grind (arith, nat_tests)
   where
     is_value_letter_digit : (digit : ℕ) → 48 ≤ digit → digit ≤ 57 → is_value_letter digit ≡ true
     is_value_letter_digit digit low high = grind (arith, nat_tests)

@@ -1,9 +1,9 @@
 -- Pairs and their text, one more pair at the end, and texts of parts, each after a `$`.
-use Rattle.std.proofs.Common.{◌≡◌, ◌≢◌, ℕ, ◌+◌, ◌<◌, ◌≤◌, ◌==◌, Bool, List, [], ◌∷◌, ◌++◌, length, map, get_or, refl, sym, ap, ◌∙◌, arith, true, false, IsTrue}
+use Rattle.std.proofs.Common.{◌≡◌, ◌≢◌, ℕ, ◌+◌, ◌<◌, ◌≤◌, ◌==◌, Bool, List, [], ◌∷◌, ◌++◌, length, map, codes, get_or, refl, sym, ap, ◌∙◌, arith, true, false, IsTrue}
 use Rattle.std.proofs.Common.{◌&&◌, ◌||◌, not}
 use Rattle.std.specs.Prelude.{◌↔◌, All, Result, Ok, Err, IsOk, OnOk, OnErr, nat_eq}
 use Rattle.std.specs.List.{join_with_byte, slice_split, after_first, position_or_len, list_all, before_first, list_any}
-use Rattle.std.proofs.lemmas.Bool.{eqb-true, false≢true, ne_eqb, eq-eqb}
+use Rattle.std.proofs.lemmas.Bool.{and_parts, eqb-true, false≢true, ne_eqb, eq-eqb}
 use Rattle.std.proofs.lemmas.List.{append-nil, append_assoc, length-append, get_or_append_left, get_or_push, length_push, map-append, map_push, length-drop}
 use Rattle.std.proofs.lemmas.List.{take_at, drop_at, get_or_at}
 use Rattle.std.proofs.lemmas.Grind.{flat_map-append}
@@ -13,9 +13,9 @@ use Rattle.std.proofs.lemmas.List.Splits.{join_with_byte-slice_split, slice_spli
 use Rattle.std.proofs.lemmas.List.Quantifiers.{all_pairs_push}
 use Rattle.std.specs.Bool.{Decides}
 use Rattle.std.specs.Cmp.Lexicographic.{pointwise}
-use Rattle.std.proofs.lemmas.Bool.Decides.{same_from_decides, Decides-and, Decides-like, Decides-by_and, Decides-eqb, Decides-not}
+use Rattle.std.proofs.lemmas.Bool.Decides.{same_from_decides, Decides-and, Decides-like, Decides-by_and, Decides-eqb, Decides-not, nat_tests}
 use Rattle.std.proofs.lemmas.Slice.Eq.{bytes_eq-Decides, slice_eq-Decides}
-use Rattle.password_hash.specs.Letters.{is_identifier_letter, is_value_letter}
+use Rattle.password_hash.specs.Letters.{is_identifier, is_identifier_letter, is_value_letter}
 use Rattle.password_hash.specs.Pairs.{IsPair, pair_text, pairs_text, ArePairs, pair_of, pairs_of, pair_eq, with_pair}
 use Rattle.password_hash.specs.Parts.{dollar, parts_text, parts_of}
 
@@ -40,10 +40,27 @@ cut_at_first c xs ys none =
     let regrouped : xs ++ (c ∷ ys) ≡ (xs ++ (c ∷ [])) ++ ys = sym (append_assoc xs (c ∷ []) ys) in
     (rw at (take_at xs (c ∷ ys) (length xs) refl), rw (at, regrouped) (drop_at (xs ++ (c ∷ [])) ys (length xs + 1) (length_push xs c)))
 
+-- what is a pair
+pub record OfPair (pair : List ℕ × List ℕ) : Type 0 where
+  pub name : IsTrue (list_all is_identifier_letter pair.0)
+  pub no_version : pair.0 ≢ codes "v"
+  pub some : 0 < length pair.1
+  pub value : IsTrue (list_all is_value_letter pair.1)
+
+pub pair_is : (pair : List ℕ × List ℕ) → IsPair pair → OfPair pair
+pair_is pair is =
+    let others = (and_parts (is_identifier pair.0) _ is).1 in
+    record {
+      name = (and_parts _ _ (and_parts _ _ (and_parts _ _ is).0).1).1;
+      no_version = (Decides-not _ (bytes_eq-Decides pair.0 (codes "v"))).0 (and_parts _ _ others).0;
+      some = grind (arith, nat_tests);
+      value = (and_parts _ _ (and_parts _ _ others).1).1;
+    }
+
 -- a pair is determined by its text
 pub pair_of-pair_text : (pair : List ℕ × List ℕ) → IsPair pair → pair_of (pair_text pair) ≡ pair
 pair_of-pair_text pair h =
-    let none : Lacks 61 pair.0 = letters_lack is_identifier_letter 61 refl pair.0 h.name.letters in
+    let none : Lacks 61 pair.0 = letters_lack is_identifier_letter 61 refl pair.0 (pair_is pair h).name in
     let both = cut_at_first 61 pair.0 pair.1 none in
     λ i. (both.0 i, both.1 i)
 
@@ -51,8 +68,8 @@ pair_of-pair_text pair h =
 pub pair_text_lacks : (c : ℕ) → is_identifier_letter c ≡ false → is_value_letter c ≡ false → (61 == c) ≡ false
     → (pair : List ℕ × List ℕ) → IsPair pair → Lacks c (pair_text pair)
 pair_text_lacks c name value equals pair h =
-    All-append (λ b. (b == c) ≡ false) pair.0 (61 ∷ pair.1) (letters_lack is_identifier_letter c name pair.0 h.name.letters)
-    (All-cons (λ b. (b == c) ≡ false) 61 pair.1 equals (letters_lack is_value_letter c value pair.1 h.value.letters))
+    All-append (λ b. (b == c) ≡ false) pair.0 (61 ∷ pair.1) (letters_lack is_identifier_letter c name pair.0 (pair_is pair h).name)
+    (All-cons (λ b. (b == c) ≡ false) 61 pair.1 equals (letters_lack is_value_letter c value pair.1 (pair_is pair h).value))
 
 -- pieces that lack c are determined by their row
 pub slice_split-join : (c : ℕ) (piece : List ℕ) (pieces : List (List ℕ)) → All (Lacks c) (piece ∷ pieces)
@@ -184,7 +201,7 @@ pub texts_of_pairs : (pieces : List (List ℕ)) → All IsPair (map pair_of piec
 texts_of_pairs [] each = refl
 texts_of_pairs (piece ∷ pieces) each =
     rw (
-      pair_text-pair_of piece (All-head IsPair (pair_of piece) (map pair_of pieces) each).value.some,
+      pair_text-pair_of piece (pair_is (pair_of piece) (All-head IsPair (pair_of piece) (map pair_of pieces) each)).some,
       texts_of_pairs pieces (All-tail IsPair (pair_of piece) (map pair_of pieces) each),
     ) refl
 

@@ -6,7 +6,7 @@ use Rattle.std.specs.Prelude.{All, AllPairs, IfSome, IsSome, OnSome, decimal, is
 use Rattle.std.specs.Bool.{Decides}
 use Rattle.std.specs.List.{after_first, list_all, list_any, starts_with, join_with_byte, before_first}
 use Rattle.std.specs.Str.{bytes_eq}
-use Rattle.std.proofs.lemmas.Bool.{cases_Bool, false≢true, false_from_ne_true}
+use Rattle.std.proofs.lemmas.Bool.{and_parts, cases_Bool, false≢true, false_from_ne_true}
 use Rattle.std.proofs.lemmas.Bool.Decides.{Decides-and, Decides-by_and, Decides-eqb, Decides-like, Decides-ltb, Decides-not, nat_tests}
 use Rattle.std.proofs.lemmas.List.{get_or_at, length-append}
 use Rattle.std.proofs.lemmas.List.Elements.{All-append, All-head, All-nil, All-cons, All-tail, All-from_recursion, All-get_or}
@@ -18,18 +18,18 @@ use Rattle.std.proofs.lemmas.Slice.Eq.{bytes_eq-Decides, starts_is}
 use Rattle.base64.specs.Engines.{standard_no_pad}
 use Rattle.base64.specs.GeneralPurpose.{IsBytes, decoded_of}
 use Rattle.password_hash.specs.Decimal.{decimal_below}
-use Rattle.password_hash.specs.Letters.{IsIdentifier, IsValue, is_identifier_letter, is_value_letter}
-use Rattle.password_hash.specs.Pairs.{IsPair, ArePairs, pairs_of, pairs_text, pair_text}
+use Rattle.password_hash.specs.Letters.{is_identifier, is_identifier_letter, is_value_letter}
+use Rattle.password_hash.specs.Pairs.{IsPair, is_pair, ArePairs, pairs_of, pairs_text, pair_text}
 use Rattle.password_hash.specs.Parts.{parts_left, parts_of, parts_text}
 use Rattle.password_hash.specs.Phc.{IsHashText, IsKey, IsSalt, base64, hash_parts, hash_text, params_part, salt_and_key_parts, version_part}
-use Rattle.password_hash.specs.PhcReading.{are_bytes_from_to, are_pairs, decoded_bytes, hash_after, hash_of_parts, is_identifier, is_pair, is_value}
+use Rattle.password_hash.specs.PhcReading.{are_bytes_from_to, are_pairs, decoded_bytes, hash_after, hash_of_parts}
 use Rattle.password_hash.specs.PhcReading.{names_differ, params_and_rest, parsed_pairs, read_hash, salt_and_key, version_and_rest}
 use Rattle.password_hash.specs.ShortBytes.{AreBytesFromTo}
 use Rattle.password_hash.specs.declared.phc.hash.PasswordHash.{PasswordHash}
 use Rattle.base64.proofs.Streams.{decoded_of-ok}
 use Rattle.password_hash.proofs.Base64Facts.{decode_of-base64, base64_lacks}
-use Rattle.password_hash.proofs.DecimalFacts.{decimal_exact, IsValue-decimal}
-use Rattle.password_hash.proofs.ParamsFacts.{text_of_pairs, Lacks, equals_of_pairs, pairs_of-pairs_text, letters_lack, texts_lack, cut_at_first}
+use Rattle.password_hash.proofs.DecimalFacts.{decimal_exact, is_value-decimal}
+use Rattle.password_hash.proofs.ParamsFacts.{text_of_pairs, pair_is, Lacks, equals_of_pairs, pairs_of-pairs_text, letters_lack, texts_lack, cut_at_first}
 use Rattle.password_hash.proofs.ParamsFacts.{parts_of-parts_text, text_of_parts}
 
 -- a version below 2 ^ 32, or none
@@ -54,7 +54,7 @@ version_lacks : (version : Option ℕ) → IsVersion version → All (Lacks 36) 
 version_lacks None h = All-nil (Lacks 36)
 version_lacks (Some number) h =
     let equals = All-from_recursion (λ b. (b == 36) ≡ false) (codes "v=") (refl, (refl, tt)) in
-    let digits = letters_lack is_value_letter 36 refl (decimal number) (IsValue-decimal number h).letters in
+    let digits = letters_lack is_value_letter 36 refl (decimal number) (and_parts _ _ (is_value-decimal number h)).1 in
     let whole = All-append (λ b. (b == 36) ≡ false) (codes "v=") (decimal number) equals digits in
     All-from_recursion (Lacks 36) ((codes "v=" ++ decimal number) ∷ []) (whole, tt)
 
@@ -77,7 +77,7 @@ salt_and_key_lack c other (Some salt) (Some key) hs hk =
 -- no part of a hash has a `$`
 pub parts_lack : (text : List ℕ) (hash : PasswordHash) → IsHashText text hash → All (Lacks 36) (hash_parts hash)
 parts_lack text hash h =
-    All-cons (Lacks 36) hash.algorithm _ (letters_lack is_identifier_letter 36 refl hash.algorithm h.algorithm.letters)
+    All-cons (Lacks 36) hash.algorithm _ (letters_lack is_identifier_letter 36 refl hash.algorithm (and_parts _ _ (and_parts _ _ h.algorithm).1).1)
     (All-append (Lacks 36) (version_part hash.version) _ (version_lacks hash.version h.version)
     (All-append (Lacks 36) (params_part hash.params) _ (params_lack hash.params h.params)
     (salt_and_key_lack 36 refl hash.salt hash.hash h.salt h.key)))
@@ -86,9 +86,9 @@ parts_lack text hash h =
 pub params_no_version : (params : List (List ℕ × List ℕ)) → ArePairs params → All LacksVersion (params_part params)
 params_no_version [] h = All-nil LacksVersion
 params_no_version (pair ∷ params) h =
-    let is : IsPair pair = All-head IsPair pair params h.each in
+    let is = pair_is pair (All-head IsPair pair params h.each) in
     let equals = equals_of_pairs pair params in
-    let name = cut_at_first 61 pair.0 equals.0 (letters_lack is_identifier_letter 61 refl pair.0 is.name.letters) in
+    let name = cut_at_first 61 pair.0 equals.0 (letters_lack is_identifier_letter 61 refl pair.0 is.name) in
     let none : Lacks 61 (codes "v") = All-from_recursion (λ b. (b == 61) ≡ false) (codes "v") (refl, tt) in
     let text : LacksVersion (pairs_text (pair ∷ params)) = λ rest e.
     is.no_version (sym name.0 ∙ ap (before_first (λ b. b == 61)) (sym equals.1 ∙ e) ∙ (cut_at_first 61 (codes "v") rest none).0) in
@@ -105,26 +105,8 @@ lacking_no_version parts h = λ k d below rest e.
 leb_decided : (m n : ℕ) → Decides (nat_le m n) (m ≤ n)
 leb_decided m n = grind (arith, nat_tests)
 
-pub identifier_decided : (text : List ℕ) → Decides (is_identifier text) (IsIdentifier text)
-identifier_decided text = (
-  λ h. record { some = grind (arith, nat_tests); short = grind (arith, nat_tests); letters = grind arith },
-  λ is. grind (arith, nat_tests, is.some, is.short, is.letters),
-)
-
-value_decided : (text : List ℕ) → Decides (is_value text) (IsValue text)
-value_decided text = (
-  λ h. record { some = grind (arith, nat_tests); letters = grind arith },
-  λ is. grind (arith, nat_tests, is.some, is.letters),
-)
-
 differ_decided : (xs ys : List ℕ) → Decides (not (bytes_eq xs ys)) (xs ≢ ys)
 differ_decided xs ys = Decides-not (bytes_eq xs ys) (bytes_eq-Decides xs ys)
-
-pair_decided : (pair : List ℕ × List ℕ) → Decides (is_pair pair) (IsPair pair)
-pair_decided pair = Decides-like (is_pair pair)
-    (λ h. record { name = h.0; no_version = h.1.0; value = h.1.1 })
-    (λ (is : IsPair pair). (is.name, (is.no_version, is.value)))
-    (Decides-and _ _ (identifier_decided pair.0) (Decides-and _ _ (differ_decided pair.0 (codes "v")) (value_decided pair.1)))
 
 abbrev Differ : List ℕ × List ℕ → List ℕ × List ℕ → Type 0
 Differ first second = first.0 ≢ second.0
@@ -145,7 +127,7 @@ pub pairs_decided : (pairs : List (List ℕ × List ℕ)) → Decides (are_pairs
 pairs_decided pairs = Decides-like (are_pairs pairs)
     (λ h. record { each = h.0; once = h.1.0; short = h.1.1 })
     (λ (are : ArePairs pairs). (are.each, (are.once, are.short)))
-    (Decides-and _ _ (Decides-by_and is_pair IsPair (list_all is_pair) pair_decided refl (λ _ _. refl) pairs)
+    (Decides-and _ _ (Decides-by_and is_pair IsPair (list_all is_pair) (λ pair. (λ is. is, λ is. is)) refl (λ _ _. refl) pairs)
     (Decides-and _ _ (names_decided pairs) (leb_decided _ _)))
 
 bytes_decided : (xs : List ℕ) → Decides (list_all (λ byte. nat_lt byte 256) xs) (IsBytes xs)
@@ -240,7 +222,7 @@ hash_is_read text hash h =
     (lacking_no_version last no_equals) in
     rw (
       whole,
-      (identifier_decided hash.algorithm).1 h.algorithm,
+      h.algorithm,
       version_taken hash.version after h.version no_version,
       params_taken hash.params last h.params no_equals,
       salt_and_key_taken hash.salt hash.hash h.salt h.key h.key_after_salt,
@@ -316,7 +298,7 @@ pub read_is_hash : (text : List ℕ) (hash : PasswordHash) → read_hash text �
 unfolding read_hash
 read_is_hash text hash is = at (parts_of text) refl is
   where
-    after : (algorithm : List ℕ) (parts : List (List ℕ)) → parts_of text ≡ [] ∷ algorithm ∷ parts → IsIdentifier algorithm
+    after : (algorithm : List ℕ) (parts : List (List ℕ)) → parts_of text ≡ [] ∷ algorithm ∷ parts → is_identifier algorithm ≡ true
         → hash_after algorithm parts ≡ Some hash → IsHashText text hash
     after algorithm parts split named is =
         option_and_then_some _ (version_and_rest parts) hash is (λ version one is.
@@ -344,7 +326,7 @@ read_is_hash text hash is = at (parts_of text) refl is
     at ((byte ∷ first) ∷ []) split is = absurd cc
     at ((byte ∷ first) ∷ algorithm ∷ parts) split is = absurd cc
     at ([] ∷ algorithm ∷ parts) split is = elim (cases_Bool (is_identifier algorithm)) [
-      | inl named ↦ after algorithm parts split ((identifier_decided algorithm).0 named) (rw named at is)
+      | inl named ↦ after algorithm parts split named (rw named at is)
       | inr other ↦ let said = rw other at is in absurd cc
     ]
 

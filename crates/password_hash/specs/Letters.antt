@@ -1,5 +1,5 @@
 -- The letters of identifiers, names and values (PHC string format).
-use Rattle.std.specs.Prelude.{ℕ, ◌≤◌, ◌==◌, ◌&&◌, ◌||◌, Bool, nat_le, IsTrue, List, length}
+use Rattle.std.specs.Prelude.{ℕ, ◌==◌, ◌&&◌, ◌||◌, Bool, nat_le, List, length}
 use Rattle.std.specs.List.{list_all}
 
 -- `a-z`
@@ -29,12 +29,9 @@ abbrev pub is_base64_letter : ℕ → Bool
 is_base64_letter b = is_lowercase b || is_uppercase b || is_digit b || (b == 43) || (b == 47)
 
 -- an identifier: 1 to 32 of `a-z0-9-`
-pub record IsIdentifier (text : List ℕ) : Type 0 where
-  pub some : 1 ≤ length text
-  pub short : length text ≤ 32
-  pub letters : IsTrue (list_all is_identifier_letter text)
+abbrev pub is_identifier : List ℕ → Bool
+is_identifier text = nat_le 1 (length text) && (nat_le (length text) 32 && list_all is_identifier_letter text)
 
 -- a value: one or more of `a-zA-Z0-9/+.-`
-pub record IsValue (text : List ℕ) : Type 0 where
-  pub some : 1 ≤ length text
-  pub letters : IsTrue (list_all is_value_letter text)
+abbrev pub is_value : List ℕ → Bool
+is_value text = nat_le 1 (length text) && list_all is_value_letter text

@@ -1,16 +1,19 @@
 -- The parameters of a hash (PHC string format): pairs of a name and a value.
-use Rattle.std.specs.Prelude.{◌≢◌, ℕ, ◌≤◌, ◌==◌, ◌&&◌, Bool, nat_eq, List, [], ◌∷◌, ◌++◌, length, map, codes, All, AllPairs, Option}
+use Rattle.std.specs.Prelude.{◌≢◌, ℕ, ◌≤◌, ◌==◌, ◌&&◌, Bool, IsTrue, not, nat_eq, List, [], ◌∷◌, ◌++◌, length, map, codes, All, AllPairs, Option}
 use Rattle.std.specs.Borrow.{Bor}
 use Rattle.std.specs.List.{join_with_byte, slice_split, before_first, after_first}
 use Rattle.std.specs.Cmp.Lexicographic.{pointwise}
-use Rattle.password_hash.specs.Letters.{IsIdentifier, IsValue}
+use Rattle.std.specs.Str.{bytes_eq}
+use Rattle.password_hash.specs.Letters.{is_identifier, is_value}
 use Rattle.password_hash.specs.Parts.{pieces_left}
 
 -- a name, which is an identifier and is not `v`, and a value
-pub record IsPair (pair : List ℕ × List ℕ) : Type 0 where
-  pub name : IsIdentifier pair.0
-  pub no_version : pair.0 ≢ codes "v"
-  pub value : IsValue pair.1
+abbrev pub is_pair : List ℕ × List ℕ → Bool
+is_pair pair = is_identifier pair.0 && (not (bytes_eq pair.0 (codes "v")) && is_value pair.1)
+
+-- the same, as a statement
+abbrev pub IsPair : List ℕ × List ℕ → Type 0
+IsPair pair = IsTrue (is_pair pair)
 
 -- `name=value`
 abbrev pub pair_text : List ℕ × List ℕ → List ℕ

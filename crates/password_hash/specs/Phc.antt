@@ -1,8 +1,8 @@
 -- A hash in the PHC string format.
-use Rattle.std.specs.Prelude.{◌≡◌, ℕ, ◌^◌, ◌<◌, List, [], ◌∷◌, ◌++◌, codes, decimal, Option, None, Some, IfSome, OnSome, IsSome}
+use Rattle.std.specs.Prelude.{◌≡◌, ℕ, ◌^◌, ◌<◌, List, [], ◌∷◌, ◌++◌, codes, decimal, Option, None, Some, IfSome, OnSome, IsSome, IsTrue}
 use Rattle.base64.specs.Engines.{standard_no_pad}
 use Rattle.base64.specs.GeneralPurpose.{encode_of}
-use Rattle.password_hash.specs.Letters.{IsIdentifier}
+use Rattle.password_hash.specs.Letters.{is_identifier}
 use Rattle.password_hash.specs.Pairs.{pairs_text, ArePairs}
 use Rattle.password_hash.specs.Parts.{parts_text}
 use Rattle.password_hash.specs.ShortBytes.{AreBytesFromTo}
@@ -53,7 +53,7 @@ IsKey key = AreBytesFromTo 10 64 key
 -- the text is read as this hash
 pub record IsHashText (text : List ℕ) (hash : PasswordHash) : Type 0 where
   pub whole : text ≡ hash_text hash
-  pub algorithm : IsIdentifier hash.algorithm
+  pub algorithm : IsTrue (is_identifier hash.algorithm)
   pub version : IfSome hash.version (λ version. version < 2 ^ 32)
   pub params : ArePairs hash.params
   pub salt : IfSome hash.salt IsSalt

@@ -6,23 +6,11 @@ use Rattle.std.specs.Str.{bytes_eq}
 use Rattle.base64.specs.Engines.{standard_no_pad}
 use Rattle.base64.specs.GeneralPurpose.{decoded_of}
 use Rattle.password_hash.specs.Decimal.{decimal_below}
-use Rattle.password_hash.specs.Letters.{is_identifier_letter, is_value_letter}
-use Rattle.password_hash.specs.Pairs.{pairs_of, pairs_text}
+use Rattle.password_hash.specs.Letters.{is_identifier}
+use Rattle.password_hash.specs.Pairs.{is_pair, pairs_of, pairs_text}
 use Rattle.password_hash.specs.Parts.{parts_of}
 use Rattle.password_hash.specs.Phc.{base64}
 use Rattle.password_hash.specs.declared.phc.hash.PasswordHash.{PasswordHash}
-
--- decides `IsIdentifier`
-abbrev pub is_identifier : List ℕ → Bool
-is_identifier text = nat_le 1 (length text) && (nat_le (length text) 32 && list_all is_identifier_letter text)
-
--- decides `IsValue`
-abbrev pub is_value : List ℕ → Bool
-is_value text = nat_le 1 (length text) && list_all is_value_letter text
-
--- decides `IsPair`
-abbrev pub is_pair : List ℕ × List ℕ → Bool
-is_pair pair = is_identifier pair.0 && (not (bytes_eq pair.0 (codes "v")) && is_value pair.1)
 
 -- no name occurs twice
 abbrev pub names_differ : List (List ℕ × List ℕ) → Bool

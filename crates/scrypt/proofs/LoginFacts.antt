@@ -18,7 +18,6 @@ use Rattle.scrypt.specs.Key.{mixed_chunks}
 use Rattle.scrypt.specs.Limits.{SufficeFor}
 use Rattle.scrypt.specs.Logins.{Attempt, AreLeft, IsAlone, all_cost, all_of, attempt_of, attempts, chunks_cost, compare_cost, cores_on, count_of, hashed_on, own_cost, reading_of, reading_of_hash, shared, verdict_on, verify_cores, with_more}
 use Rattle.scrypt.specs.Reading.{◌and_then◌, Stored, chunks_of, mixed_of, verdict, verify_cost}
-use Rattle.scrypt.specs.StoredHash.{reading}
 use Rattle.scrypt.specs.WithinLimits.{with_limited_refusal, within}
 use Rattle.scrypt.specs.declared.limits.Limits.{Limits}
 use Rattle.scrypt.specs.InBuffers.{are_enough}

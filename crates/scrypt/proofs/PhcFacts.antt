@@ -1,7 +1,7 @@
-use Rattle.std.proofs.Common.{◌≡◌, ℕ, ◌^◌, ◌<◌, ◌≤◌, List, [], ◌∷◌, refl, rules, arith, Ok, Some, None, ◌≢◌, false, true, length, codes, sym, ◌∙◌, lit<, length-append, lit≤, IfErr, Option, decimal, ok_or, IsTrue, bytes_eq, IfOk}
+use Rattle.std.proofs.Common.{◌≡◌, ℕ, ◌^◌, ◌<◌, ◌≤◌, List, [], ◌∷◌, refl, rules, arith, Ok, Some, None, ◌≢◌, false, length, codes, sym, ◌∙◌, lit<, length-append, IfErr, Option, decimal, ok_or, IsTrue, bytes_eq, IfOk}
 use Rattle.std.proofs.lemmas.Bool.Decides.{nat_tests}
 use Rattle.password_hash.specs.Decimal.{decimal_below}
-use Rattle.password_hash.proofs.DecimalFacts.{decimal_exact, IsValue-decimal}
+use Rattle.password_hash.proofs.DecimalFacts.{decimal_exact, is_value-decimal}
 use Rattle.scrypt.specs.Accepted.{are_accepted, Parameters, without_len, is_stored_len}
 use Rattle.scrypt.proofs.AcceptedFacts.{checked_is, small_params, key_len_stored}
 use Rattle.scrypt.proofs.ReadingFacts.{AreGood, IsFault, checked_fault, checked_good, faults, if_good, made_right, made_stored, made_strong, no_password, then_good}
@@ -11,10 +11,8 @@ use Rattle.std.proofs.lemmas.Fmt.{length-decimal-le}
 use Rattle.std.proofs.lemmas.List.Elements.{All-from_recursion, All-nil}
 use Rattle.std.proofs.lemmas.List.Kept.{AllPairs-cons}
 use Rattle.std.proofs.lemmas.Slice.Eq.{bytes_eq-Decides}
-use Rattle.password_hash.specs.PhcReading.{is_identifier}
 use Rattle.password_hash.specs.Pairs.{ArePairs, IsPair}
 use Rattle.password_hash.proofs.ParamsFacts.{ArePairs-front}
-use Rattle.password_hash.proofs.PhcReadingFacts.{identifier_decided}
 use Rattle.password_hash.specs.Phc.{IsHashText, IsSalt, hash_text}
 use Rattle.password_hash.specs.declared.phc.hash.PasswordHash.{PasswordHash}
 use Rattle.scrypt.specs.PhcHash.{IsMadeHash, phc_params, read_phc}
@@ -67,10 +65,6 @@ pairs_good log_n r p (pair ∷ pairs) =
 differ : (name other : List ℕ) → bytes_eq name other ≡ false → name ≢ other
 differ name other apart same = false≢true (sym apart ∙ (bytes_eq-Decides name other).1 same)
 
-is_pair : (name : List ℕ) (n : ℕ) → is_identifier name ≡ true → bytes_eq name (codes "v") ≡ false → n < 2 ^ 32 → IsPair (name, decimal n)
-is_pair name n letters apart small =
-    record { name = (identifier_decided name).0 letters; no_version = differ name _ apart; value = IsValue-decimal n small }
-
 short : (n : ℕ) → n < 2 ^ 32 → length (decimal n) ≤ 10
 short n small = length-decimal-le 10 n (lit< tt) (omega (arith, small)) (omega (arith, small))
 
@@ -85,8 +79,8 @@ three_pairs m n k small_m small_n small_k =
     let p : List ℕ × List ℕ = (codes "p", decimal k) in
     record {
       each = All-from_recursion IsPair (ln ∷ r ∷ p ∷ []) (
-        is_pair (codes "ln") m refl refl small_m,
-        (is_pair (codes "r") n refl refl small_n, (is_pair (codes "p") k refl refl small_k, tt)),
+        is_value-decimal m small_m,
+        (is_value-decimal n small_n, (is_value-decimal k small_k, tt)),
       );
       once = AllPairs-cons Differ ln (r ∷ p ∷ []) (All-from_recursion (Differ ln) (r ∷ p ∷ [])
           (differ (codes "ln") (codes "r") refl, (differ (codes "ln") (codes "p") refl, tt)))
@@ -130,7 +124,7 @@ made_is_text c password salt hash fits len salted made =
     let long = length-key_by c password salt (key_len_or_default c) in
     record {
       whole = refl;
-      algorithm = rw made.algorithm (record { some = lit≤ tt; short = lit≤ tt; letters = refl });
+      algorithm = rw made.algorithm refl;
       version = rw made.version tt;
       params = rw made.params (three_pairs c.log_n c.r c.p (omega (arith, small.0)) (omega (arith, small.1)) (omega (arith, small.2)));
       salt = rw made.salt_is salted;

@@ -1,4 +1,4 @@
-use Rattle.std.proofs.Common.{◌≡◌, ℕ, ◌+◌, ◌<◌, ◌≤◌, List, ◌∷◌, ◌++◌, length, Ok, true, false, refl, arith, lit<, lit≤, length-append, All, codes, IsTrue}
+use Rattle.std.proofs.Common.{◌≡◌, ℕ, ◌+◌, ◌<◌, ◌≤◌, List, ◌∷◌, ◌++◌, length, Ok, true, false, refl, arith, lit<, length-append, All, codes, IsTrue}
 use Rattle.std.proofs.lemmas.Str.{IsUtf8-append, IsUtf8-from_ascii}
 use Rattle.std.proofs.lemmas.Str.Ascii.{IsAscii-from_all}
 use Rattle.std.proofs.lemmas.List.Elements.{All-cons, All-append, All-from_recursion, All-weaker}
@@ -30,7 +30,7 @@ has_text c salt key fits salted keyed =
     let small = small_params c.log_n c.r c.p fits in
     record {
       whole = refl;
-      algorithm = record { some = lit≤ tt; short = lit≤ tt; letters = refl };
+      algorithm = refl;
       version = tt;
       params = three_pairs c.log_n c.r c.p (omega (arith, small.0)) (omega (arith, small.1)) (omega (arith, small.2));
       salt = salted;

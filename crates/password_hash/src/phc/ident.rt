@@ -1,6 +1,6 @@
 //! The name of an algorithm or of a parameter.
-ghost use Rattle.std.specs.Prelude.{◌≡◌, ◌↔◌, Some, IsOk, IfOk, IfErr, codes};
-ghost use Rattle.password_hash.specs.Letters.{IsIdentifier};
+ghost use Rattle.std.specs.Prelude.{◌≡◌, ◌↔◌, Some, IsOk, IfOk, IfErr, IsTrue, codes};
+ghost use Rattle.password_hash.specs.Letters.{is_identifier};
 ghost use Rattle.password_hash.specs.declared.error.Error.TheVariants.{EncodingInvalid};
 
 use crate::letters::are_identifier_letters;
@@ -16,14 +16,14 @@ pub struct Ident {
 }
 
 impl Model for Ident {
-    ghost use Rattle.std.specs.Prelude.{ℕ, List};
-    ghost use Rattle.password_hash.specs.Letters.{IsIdentifier};
+    ghost use Rattle.std.specs.Prelude.{ℕ, List, IsTrue};
+    ghost use Rattle.password_hash.specs.Letters.{is_identifier};
 
     ghost Value = { List ℕ };
 
     ghost view = { λ a. a.bytes };
 
-    ghost invariant = { λ a. IsIdentifier a.bytes };
+    ghost invariant = { λ a. IsTrue (is_identifier a.bytes) };
 
     ghost inverse = { λ xs. record { bytes = xs } };
 }
@@ -44,7 +44,7 @@ impl Ident {
     ///
     /// Returns `EncodingInvalid` unless `text` is 1 to 32 of the letters `a-z0-9-`.
     pub fn new(text: &str) -> Result<Ident>
-        ensures exact { IsOk result ↔ IsIdentifier text.now }
+        ensures exact { IsOk result ↔ IsTrue (is_identifier text.now) }
         ensures value { IfOk result (λ ident. ident ≡ text.now) }
         ensures err { IfErr result (λ e. e ≡ EncodingInvalid) }
     {
@@ -57,7 +57,7 @@ impl Ident {
     /// Returns the identifier as text.
     pub fn as_str(&self) -> &str
         ensures value { result.now ≡ self.now }
-        ensures identifier { IsIdentifier result.now }
+        ensures identifier { IsTrue (is_identifier result.now) }
     {
         str::from_utf8(self.bytes.as_bytes()).unwrap()
     }

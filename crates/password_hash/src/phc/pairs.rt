@@ -16,15 +16,15 @@ pub struct Pairs<'a> {
 }
 
 impl<'a> Model for Pairs<'a> {
-    ghost use Rattle.std.specs.Prelude.{ℕ, List, All};
-    ghost use Rattle.password_hash.specs.Letters.{IsIdentifier};
+    ghost use Rattle.std.specs.Prelude.{ℕ, List, All, IsTrue};
+    ghost use Rattle.password_hash.specs.Letters.{is_identifier};
     ghost use Rattle.password_hash.specs.Pairs.{pairs_left};
 
     ghost Value = { List (List ℕ × List ℕ) };
 
     ghost view = { λ a. pairs_left a.left };
 
-    ghost invariant = { λ a. All (λ pair. IsIdentifier pair.0) (pairs_left a.left) };
+    ghost invariant = { λ a. All (λ pair. IsTrue (is_identifier pair.0)) (pairs_left a.left) };
 }
 
 impl<'a> Iterator for Pairs<'a> {

@@ -3,7 +3,7 @@ ghost use Rattle.std.specs.Prelude.{◌≡◌, ◌≢◌, ◌↔◌, ◌≤◌, 
 ghost use Rattle.std.specs.Prelude.{IsOk, IfErr, IfSome, IfNone, OnOk, OnErr, ok_or};
 ghost use Rattle.std.specs.Cmp.{and_equiv, on_equiv, partial_equiv_from_equiv};
 ghost use Rattle.std.specs.Cmp.Lexicographic.{lists_equiv, nat_list_eq_equiv, pointwise};
-ghost use Rattle.password_hash.specs.Letters.{IsValue};
+ghost use Rattle.password_hash.specs.Letters.{is_value};
 ghost use Rattle.password_hash.specs.Pairs.{ArePairs, IsPair, pair_eq, pairs_left, pairs_of, pairs_text, with_pair};
 ghost use Rattle.password_hash.specs.PhcReading.{parsed_pairs};
 ghost use Rattle.password_hash.specs.Value.{value_text};
@@ -187,7 +187,7 @@ fn is_pair(name: &str, value: &str) -> bool
 
 /// Returns whether `text` is a value: one or more of `a-zA-Z0-9/+.-`.
 fn is_value(text: &str) -> bool
-    ensures { (result ≡ true) ↔ IsValue text.now }
+    ensures { result ≡ is_value text.now }
 {
     !text.is_empty() && are_value_letters(text.as_bytes())
 }

@@ -1,9 +1,8 @@
-use Rattle.std.proofs.Common.{◌≡◌, ◌∙◌, ◌≤◌, ◌<◌, ◌*◌, ℕ, min, arith, refl, rules, true}
-use Rattle.std.proofs.lemmas.Fn.{FoldsTo-push}
+use Rattle.std.proofs.Common.{◌≡◌, ◌∙◌, ◌≤◌, ◌<◌, ◌*◌, min, arith, refl, rules, true}
 use denote.Param.Always.{mut_next}
 use Rattle.scrypt_kernel.proofs.CountFacts.{counted_between, counted_both, counted_none}
 use Rattle.scrypt_kernel.specs.Steps.{all_mixes}
-use Rattle.scrypt.specs.Stepping.{IsNext, lacking, max_step, mixes_done}
+use Rattle.scrypt.specs.Stepping.{lacking, mixes_done}
 use Rattle.scrypt.proofs.SteppingFacts.{all_mixes_cost, mixes_left, mixes_more, next_shown, none_shown, one_shown, times_so_far}
 use Rattle.scrypt.proofs.stepping.scrypt_in_steps.Goals as goal
 

@@ -1,7 +1,8 @@
 use Rattle.std.proofs.Common.{◌∙◌, sym, refl}
 use Rattle.std.proofs.lemmas.Bool.{false≢true, false_from_ne_true}
-use Rattle.password_hash.specs.PhcReading.{is_identifier, read_hash}
-use Rattle.password_hash.proofs.PhcReadingFacts.{identifier_decided, not_begun}
+use Rattle.password_hash.specs.Letters.{is_identifier}
+use Rattle.password_hash.specs.PhcReading.{read_hash}
+use Rattle.password_hash.proofs.PhcReadingFacts.{not_begun}
 use Rattle.password_hash.proofs.phc.hash.parse.Goals as goal
 
 pub returns-in_err-algorithm : goal.returns-in_err-algorithm
@@ -11,11 +12,11 @@ pub returns-in_default : goal.returns-in_default
 unfolding read_hash
 returns-in_default c =
     let other = false_from_ne_true (is_identifier c.in_ok-algorithm.algorithm.now) (λ named.
-    false≢true (c.in_default.ensures.exact.1 ((identifier_decided _).0 named))) in
+    false≢true (c.in_default.ensures.exact.1 named)) in
     record { value = rw (c.in_ok-algorithm.ensures, other) refl }
 
 pub returns : goal.returns
 unfolding read_hash
 returns c = record {
-  value = rw (c.in_ok-algorithm.ensures, (identifier_decided _).1 (c.in-Ok.ensures.exact.0 refl), ← c.in-Ok.ensures.value) c.parse_after.ensures;
+  value = rw (c.in_ok-algorithm.ensures, c.in-Ok.ensures.exact.0 refl, ← c.in-Ok.ensures.value) c.parse_after.ensures;
 }

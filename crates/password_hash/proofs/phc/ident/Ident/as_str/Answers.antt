@@ -2,6 +2,7 @@ use Rattle.std.proofs.Common.{◌≡◌, ℕ, ◌<◌, true, List, refl, arith, 
 use Rattle.std.specs.List.{list_all}
 use Rattle.std.specs.Prelude.{Result, Ok, Err, MatchResult, IsOk, IsUtf8}
 use Rattle.std.specs.Str.{IsAscii}
+use Rattle.std.proofs.lemmas.Bool.{and_parts}
 use Rattle.std.proofs.lemmas.Bool.Decides.{nat_tests}
 use Rattle.std.proofs.lemmas.List.Elements.{All-weaker}
 use Rattle.std.proofs.lemmas.List.Sums.{AllPass-from_list_all}
@@ -24,6 +25,6 @@ ascii_is_text P Q bs (Err e) h ascii = absurd (h.0 (IsUtf8-from_ascii bs ascii))
 
 pub unwrap-requires : goal.unwrap-requires
 unwrap-requires c =
-    let ascii = identifier_ascii c.self.inside.bytes c.self.invariant.letters in
+    let ascii = identifier_ascii c.self.inside.bytes (and_parts _ _ (and_parts _ _ c.self.invariant).1).1 in
     let text = rw (← c.as_bytes.ensures.value) at ascii in
     ascii_is_text _ _ c.as_bytes.result.now _ c.from_utf8.ensures.cases text
