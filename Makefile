@@ -8,7 +8,7 @@
 #                  kits do not prove again what an earlier run on this machine has proved (docs/TRUST.md)
 # To use it:
 #   make lib       proves and builds the C libraries into build/lib, with code for x86-64-v2 and x86-64-v3; with
-#                  PRESET=arm64 the libraries for that processor, and the program, or with PRESET=windows the
+#                  PRESET=arm64 the libraries for that CPU, and the program, or with PRESET=windows the
 #                  libraries for Windows, into build/PRESET
 #   make install   installs the built files below prefix=/usr/local, and honours DESTDIR; after make run alone, the
 #                  program with its man page and its completion
@@ -62,7 +62,7 @@ try: kit
 
 run: export STEPS = password_hash scrypt_kernel scrypt scrypt_commands scrypt_tool program
 run: setup-run
-	@echo "Proves and builds the program, in about 8 minutes on four idle processors. The steps' logs are in build/log."
+	@echo "Proves and builds the program, in about 8 minutes on four idle CPUs. The steps' logs are in build/log."
 	@$(PROVE) proved-scrypt_tool
 	@rm -f build/bin/scrypt_tool
 	@$(STEP) program --needs cc:gcc /usr/include/bsd/readpassphrase.h:libbsd-dev bindings/cli/build.sh
@@ -79,7 +79,7 @@ IS_CROSS = $(if $(BUILD_$(PRESET)),,yes)
 lib: export STEPS = password_hash scrypt_kernel scrypt $(if $(IS_CROSS),scrypt_commands) library linked \
   $(if $(IS_CROSS),program)
 lib: setup-lib
-	@echo "Proves and builds the C libraries, in about 8 minutes on four idle processors. The steps' logs are in build/log."
+	@echo "Proves and builds the C libraries, in about 8 minutes on four idle CPUs. The steps' logs are in build/log."
 	@$(PROVE) proved-scrypt$(if $(IS_CROSS),_commands)
 	@$(STEP) library $(or $(BUILD_$(PRESET)),python3 -m bindings.cross $(PRESET) scrypt_c scrypt_tool)
 	@$(STEP) linked $(MAKE) --no-print-directory linked

@@ -25,7 +25,7 @@
  *   the version of the library                       scrypt_version                           no
  *   the message and the name of a status             scrypt_strerror; scrypt_status_name      no
  *   whether a text was rejected as not a hash        scrypt_status_is_invalid_hash            no
- *   the numbers of a refusal, for a log              scrypt_explain                           no
+ *   the numbers of a rejection, for a log            scrypt_explain                           no
  *
  * "yes" marks a proved function, with a few lines of C that check for NULL, reject N passed as
  * log_n, add the NUL to a text, and wipe the stack and the heap memory that the function used. The
@@ -61,8 +61,8 @@
 #define SCRYPT_SALT_LEN 16
 #define SCRYPT_KEY_LEN 32
 
-/* The maximum length of the salt of a PHC string, and of a salt that a hasher draws; and the lengths
- * of the key of a new hash. */
+/* The maximum length of the salt of a PHC string, and of a salt that a hasher generates; and the
+ * lengths of the key of a new hash. */
 #define SCRYPT_MAX_SALT_LEN 64
 #define SCRYPT_MIN_KEY_LEN 10
 #define SCRYPT_MAX_KEY_LEN 64
@@ -186,8 +186,9 @@ int scrypt_key_thin(const void *password, size_t password_len, const void *salt,
                     uint32_t r, uint32_t p, uint8_t s, uint8_t *output, size_t output_len,
                     const scrypt_buffers *buffers);
 
-/* Overwrites the buffers of a call with zeros; a NULL in it is a buffer of no length. Does nothing for NULL. The data that a call
- * leaves in them makes it possible to guess passwords at far less than scrypt's cost. */
+/* Overwrites the buffers of a call with zeros; a NULL in it is a buffer of no length. Does nothing
+ * for NULL. The data that a call leaves in them makes it possible to guess passwords at far less
+ * than scrypt's cost. */
 void scrypt_wipe(const scrypt_buffers *buffers);
 
 /* ---- Keys in steps, to show the progress of a derivation or to abandon it ---- */
@@ -349,7 +350,7 @@ typedef struct scrypt_login {
  * are interleaved, but no more than four. Otherwise the first password is verified on its own, and
  * the rest are tried again as a batch in the same way. Afterwards the used parts of chunks and
  * scratch are zeros. On x86-64-v3 a batch of two takes 0.56 of the time of two calls, and a batch
- * of four 0.41 of the time of four; on some processors a batch of two takes as long as two calls.
+ * of four 0.41 of the time of four; on some CPUs a batch of two takes as long as two calls.
  * SCRYPT_E_BUFFER_SIZE for a greater count; then no login is read, and no status is written.
  * SCRYPT_E_SALT_INVALID if salt_len is more than 86, the letters of 64 bytes. */
 SCRYPT_NODISCARD
@@ -414,9 +415,9 @@ int scrypt_default_limits(uint32_t log_n, uint32_t r, uint32_t p, size_t key_len
  *   if (status == SCRYPT_OK)
  *     status = scrypt_hasher_verify(hasher, password, password_len, text, text_len, NULL, 1000);
  *
- * A hasher has a slot for each processor, but no more slots than max_tables. A call derives in a
+ * A hasher has a slot for each CPU, but no more slots than max_tables. A call derives in a
  * slot; the others wait in the wait queue, in FIFO order. Up to four waiting verifications with the
- * same log_n, r and p are derived in one batch, which is faster on some processors. They are
+ * same log_n, r and p are derived in one batch, which is faster on some CPUs. They are
  * searched for among the first 1000 that wait. A batch of two or more has no more chunks than its
  * slot has tables, and no more calls than the slot's share of all calls. While all slots are taken,
  * the leader of a batch waits for others to join it, for a batching window of up to 1 ms. An error
@@ -449,7 +450,7 @@ typedef struct scrypt_hasher scrypt_hasher;
  *   options.max_tables = 4;
  *
  * Each value is meant as it is, 0 too. The limits that SCRYPT_AUTO chooses are those of
- * scrypt_default_limits. More than 8192 processors count as 8192. */
+ * scrypt_default_limits. More than 8192 CPUs count as 8192. */
 typedef struct scrypt_options {
   size_t size;              /* sizeof (scrypt_options), so that later versions can add fields */
   uint32_t log_n, r, p;     /* of new hashes and keys: SCRYPT_RECOMMENDED_LOG_N, .. */
@@ -461,10 +462,10 @@ typedef struct scrypt_options {
                             /* is less; but no less than a new hash needs */
   uint64_t max_work;        /* maximum work of a hash */
   size_t min_key_len;       /* minimum key length of a hash that is verified, up to key_len */
-  size_t max_tables;        /* maximum number of tables: two for each processor, or the number of */
+  size_t max_tables;        /* maximum number of tables: two for each CPU, or the number of */
                             /* tables of max_mem that fit into 7/8 of the memory of the */
                             /* machine and of its control group if that is less; one or more */
-  size_t processors;        /* maximum number of slots: the processors that this process may use, */
+  size_t processors;        /* maximum number of slots: the CPUs that this process may use, */
                             /* by its affinity and CPU quota; one or more */
 } scrypt_options;
 
@@ -473,7 +474,7 @@ void scrypt_options_init(scrypt_options *options);
 
 /* Creates a hasher, with all defaults if options is NULL, and writes it; the caller frees it.
  * SCRYPT_E_NULL_POINTER if hasher is NULL, SCRYPT_E_OPTIONS_SIZE, SCRYPT_E_INVALID_PARAMS (also for
- * key_len and min_key_len, and without a table or a processor), SCRYPT_E_SALT_INVALID unless
+ * key_len and min_key_len, and without a table or a slot), SCRYPT_E_SALT_INVALID unless
  * salt_len is 1 to 64, SCRYPT_E_TOO_COSTLY if new hashes exceed the limits, SCRYPT_E_OUT_OF_MEMORY. */
 SCRYPT_NODISCARD
 int scrypt_hasher_new(const scrypt_options *options, scrypt_hasher **hasher);
@@ -551,16 +552,16 @@ int scrypt_calibrate(double seconds, size_t max_mem, uint32_t *log_n, uint32_t *
 
 /* ---- Salts, and the version ---- */
 
-/* Fills salt with random bytes from the system (getrandom; on Windows BCryptGenRandom); SCRYPT_SALT_LEN bytes are enough. Not
- * proved.
+/* Fills salt with random bytes from the system (getrandom; on Windows BCryptGenRandom);
+ * SCRYPT_SALT_LEN bytes are enough. Not proved.
  * SCRYPT_E_NULL_POINTER, SCRYPT_E_NO_RANDOM_BYTES if that fails: then a part of the salt may be
  * written, which must not be used. */
 SCRYPT_NODISCARD
 int scrypt_generate_salt(uint8_t *salt, size_t len);
 
-/* Returns the version of the linked library, and the processor that its proved code was built for,
+/* Returns the version of the linked library, and the CPU that its proved code was built for,
  * as in "1.0.0 x86-64-v2" or "1.0.0 arm64". If the library has code for two, it chooses the newer
- * one that the processor can run. */
+ * one that the CPU can run. */
 const char *scrypt_version(void);
 
 /* ---- Statuses ---- */

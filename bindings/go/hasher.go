@@ -35,11 +35,11 @@ type Options struct {
 	MCF     bool // whether new hashes are $7$ hashes of crypt(3); by default they are PHC strings
 	SaltLen int  // the length of a new hash's salt, 1 to 64 bytes: by default 16
 
-	// The maximum number of tables: by default two for each processor, or the number of tables of
+	// The maximum number of tables: by default two for each CPU, or the number of tables of
 	// MaxMem that fit in 7/8 of the memory, if that is less.
 	MaxTables int
 
-	// The number of slots, that is, of concurrent derivations: by default the number of processors
+	// The number of slots, that is, of concurrent derivations: by default the number of CPUs
 	// that the affinity and the CPU quota of the process allow, or runtime.GOMAXPROCS(0) if that
 	// was set to less than runtime.NumCPU().
 	Processors int
@@ -57,7 +57,7 @@ type Options struct {
 // A Hasher makes password hashes, and verifies passwords against hashes of either format. It is
 // safe for concurrent use by multiple goroutines. Calls wait in FIFO order for one of Processors
 // slots. Waiting verifications with the same LogN, R and P are derived in one batch if there are
-// tables for them, which takes less time on some processors. An error or a context of one call does
+// tables for them, which takes less time on some CPUs. An error or a context of one call does
 // not affect the others.
 //
 // A call whose context is done returns the context's error immediately. If it is in C by then,

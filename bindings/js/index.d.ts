@@ -213,7 +213,7 @@ export function storedText(
 ): Promise<string>;
 /**
  * Sets the maximum number of workers, and of calls that wait for one. Defaults: one worker for each
- * processor, up to four and, in Node, up to the number that fits into 7/8 of the memory of the
+ * CPU, up to four and, in Node, up to the number that fits into 7/8 of the memory of the
  * machine or the container; and 1000 calls.
  */
 export function configure(

@@ -9,7 +9,7 @@ is a program that tools/tests/worker.py describes. The environment variable RUNS
 counts, or for the picture the median.
 
 All verify one hash, in each run in a new random order; if p is 1, this library verifies it also in batches of two and four.
-The processes of the picture run concurrently, each on its own processor, and all with the same implementation. This library
+The processes of the picture run concurrently, each on its own CPU, and all with the same implementation. This library
 asks for pages of 2 MiB; with GLIBC_TUNABLES=glibc.malloc.hugetlb=1 malloc asks for them for the others too.
 """
 
@@ -71,7 +71,7 @@ def draw(args):
         for name, taken in in_all(args, (log_n, 8, 1), processes).items():
             rate = processes * 1e9 / statistics.median(taken)
             lines[DRAWN.get(name, name)].append((1 << (log_n - 10), rate, f"{log_n}: {rate:.3g}" if name == FOUR else ""))
-    title = f"verifications a second on {processes} processors, by log_n, r = 8, p = 1"
+    title = f"verifications a second on {processes} CPUs, by log_n, r = 8, p = 1"
     picture.draw(args.picture, title, lines, (2, 4, 8, 16, 32, 64, 128, 256))
 
 

@@ -24,7 +24,7 @@ YEAR = 365.25 * 86400
 
 
 def seconds(call, *arguments):
-    """The minimum processor time of a call: other work on the machine matters only if it slows memory down."""
+    """The minimum CPU time of a call: other work on the machine matters only if it slows memory down."""
     taken = []
     for _ in range(ours.RUNS):
         start = time.process_time()
@@ -51,7 +51,7 @@ def parameters(library, to=None):
         points.append((mib, taken, f"{log_n}: {taken:.2g}"))
         print(ours.line(log_n, f"{mib:,}", f"{taken:.2g}", f"{taken * 1e9 / YEAR:.2g}"), flush=True)
     if to:
-        title = "seconds of a processor for one login, r = 8, p = 1; beside each point its log_n and seconds"
+        title = "CPU seconds of one login, r = 8, p = 1; beside each point its log_n and seconds"
         picture.draw(to, title, {"one login": points}, (0.001, 0.01, 0.1, 1, 4))
 
 

@@ -130,7 +130,7 @@ def decided():
     yield "SECURITY.md", f"{number('bindings/c/clearing.c', 'BELOW = ', ',') / 1024:g} KiB of the stack"
     yield "SECURITY.md", f"`SCRYPT_STACK_BYTES`, {numbers['STACK_BYTES'] / 1024:g} KiB"
     slots = number("bindings/c/options.c", "define MAX_SLOTS ", " ")
-    yield "bindings/c/scrypt_c.h", f"More than {slots} processors count as {slots}"
+    yield "bindings/c/scrypt_c.h", f"More than {slots} CPUs count as {slots}"
     yield "bindings/c/scrypt_c.h", f"among the first {number('bindings/c/hasher.c', 'define MAX_SCANNED ', ' ')} that wait"
     new, longest = numbers["HASH_CAPACITY"] - 1, numbers["PHC_CAPACITY"] - 1
     yield "bindings/c/README.md", f"{new} ASCII characters by default, and never more than {longest}"

@@ -72,7 +72,7 @@ MK
 # until_said TEXT ends when the line of the command that runs it has this text, so that no load breaks the test.
 printf '#!/bin/sh\nuntil grep -q "$1" said; do sleep 0.1; done\n' > until_said
 chmod +x until_said
-no_times() { sed 's/ (.:.*//; /processor minutes$/d'; }
+no_times() { sed 's/ (.:.*//; /CPU-minutes$/d'; }
 is "$(JOBS=1 tools/gate/run.sh documents 2> /dev/null | no_times)" "proved: proved, 7 functions
 counted: 2 of 2 passed
 parts: 26 of 26 passed

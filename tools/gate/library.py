@@ -9,7 +9,7 @@ BACKEND is llvm, or rattle, the kit's own compiler. With a LEVEL, only this one 
 below the crate have to be proved.
 
 `rt ci` has proved the crate too, but leaves nothing of a static library that a build could begin with. So it is proved
-once more here, in about four processor minutes, and the proofs in KEPT are shared: with the other level,
+once more here, in about four CPU-minutes, and the proofs in KEPT are shared: with the other level,
 the kit's own compiler, arm64 and WebAssembly. A checked crate (`rattle check -o`) would be for one level alone.
 """
 

@@ -14,7 +14,7 @@ gate() { make --no-print-directory -f tools/gate/gate.mk "$@"; }
 if [ $# = 0 ]; then
   set -- gate
   export PROVED_LIBRARIES=$PWD/crates # of this run: nothing begins with what an earlier one kept
-  echo "Proves and tests everything, in about 44 minutes on four processors." \
+  echo "Proves and tests everything, in about 44 minutes on four CPUs." \
     "What each task prints is in build/log."
   rm -rf build/{gate,log,lib,bin,machine.sh} crates/*/out/rlib crates/scrypt_tool/out/scrypt_tool.o
   for preset in native asan tsan by-rattle $(python3 -m tools.presets names); do
@@ -53,7 +53,7 @@ if [ "$*" = gate ]; then
 fi
 if [ -n "$in_part" ]; then echo "in part: ${in_part#; }"; fi
 if [ -n "$without" ]; then echo "skipped: ${without#; }"; fi
-awk -v all="$(minutes)" '{ used += $3 } END { printf "%s minutes, %.1f processor minutes\n", all, used / 60 }' $results
+awk -v all="$(minutes)" '{ used += $3 } END { printf "%s minutes, %.1f CPU-minutes\n", all, used / 60 }' $results
 if [ "$skipped" = 0 ]; then skipped=; fi
 echo "$passed passed, $failed failed${skipped:+, $skipped skipped}"
 [ "$failed" = 0 ]

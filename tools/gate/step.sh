@@ -9,7 +9,7 @@
 #   LIMIT   the time after which the command and its children are ended, as timeout(1) takes it; without it there is none
 # If a needed command (or file) is missing, nothing is run. A command that ran nothing ends with the status 77. Both
 # are skipped: the line names the packages that `tools/lacks` was called with. build/log/results gets a line with the
-# name, the status, the seconds of a processor, and the packages.
+# name, the status, the CPU seconds, and the packages.
 set -u
 unset CDPATH
 name=$1 log=build/log/$1.log missing='' title=$1 number=0 EACH=${EACH:-60}
@@ -75,7 +75,7 @@ absent=$(sort -u "$LACKING" | tr '\n' ' ')
 absent=${absent% }
 rm -f "$LACKING" "$LACKING.time"
 echo "$name $status $used $absent" >> build/log/results
-how="($(minutes "$real"), $(minutes "$used") of a processor)"
+how="($(minutes "$real"), $(minutes "$used") of CPU time)"
 before=''
 if [ $status = 0 ] && ! [ -s "$log" ] && grep -qs '^logic=proved' "$log.before"; then
   mv "$log.before" "$log" && before='nothing to do: '

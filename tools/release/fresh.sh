@@ -3,7 +3,7 @@
 # kit alone. A user without rights, in a clone, runs `make try` and `make run`, and finds `make lib`, `make test` and
 # `make run install` stop immediately. Root, in the sources of an archive, without .git, runs
 # `make test NO_INSTALL=1`, which stops too, then `make test` and `make run install`. Needs root, mmdebstrap, a
-# network, and an hour of four processors. build/fresh.log has what each prints, and its time. If one fails, the
+# network, and an hour of four CPUs. build/fresh.log has what each prints, and its time. If one fails, the
 # root is kept.
 # usage: fresh.sh [setup]    with `setup`, without what is proved: it ends with the installation, and `make documents`
 set -euo pipefail

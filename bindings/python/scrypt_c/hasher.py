@@ -63,13 +63,13 @@ class PasswordHasher:
     parameters.
 
     `mcf` makes `$7$` hashes of crypt(3) instead of PHC hashes. A hasher is thread-safe. It has
-    `processors` slots, by default one for each processor that this process may use, and calls
+    `processors` slots, by default one for each CPU that this process may use, and calls
     derive in slots; the others wait in FIFO order, and raise TimeoutError after `timeout` seconds.
     Waiting verifications with the same N, r and p are derived in one batch, which takes less time
-    on some processors. An error, timeout or exception of one call does not affect the others.
+    on some CPUs. An error, timeout or exception of one call does not affect the others.
 
     A hasher holds at most `max_tables` tables, whatever p is. The default is two for each
-    processor, or the number of tables of `max_mem` that fit in 7/8 of the memory, if that is less.
+    CPU, or the number of tables of `max_mem` that fit in 7/8 of the memory, if that is less.
     It keeps their memory for later calls until `close` or the end of a `with` block.
 
     A hash that needs more than `max_mem` of memory, or whose `Params.work` is above `max_work`,

@@ -27,11 +27,11 @@ pub struct Options {
     pub format: Format,
     /// The length of the salt of a new hash, 1 to 64 bytes.
     pub salt_len: usize,
-    /// The maximum number of tables. `None`, the default, means two for each processor, or the
+    /// The maximum number of tables. `None`, the default, means two for each CPU, or the
     /// number of tables of `max_mem` that fit in 7/8 of the memory, if that is less.
     pub max_tables: Option<usize>,
     /// The number of slots, that is, of concurrent derivations. `None`, the default, means the
-    /// number of processors that the affinity and the CPU quota of the process allow.
+    /// number of CPUs that the affinity and the CPU quota of the process allow.
     pub processors: Option<usize>,
     /// How long a call waits for a slot before it returns `Timeout`, rounded up to milliseconds.
     /// The time of the derivation does not count. `None`, the default, means no timeout.
@@ -76,7 +76,7 @@ pub struct Stats {
 /// A hasher is thread-safe, and a clone is the same hasher. Calls wait in FIFO order for one of
 /// [`Options::processors`] slots, and return `Timeout` after [`Options::timeout`]. Waiting
 /// verifications with the same N, r and p are derived in one batch if there are tables for them,
-/// which takes less time on some processors. An error of one call does not affect the others.
+/// which takes less time on some CPUs. An error of one call does not affect the others.
 ///
 /// A hasher holds at most [`Options::max_tables`] tables, whatever p is, and keeps their memory for
 /// later calls until it is closed or dropped. It rejects, without waiting, a hash that exceeds the
@@ -121,7 +121,7 @@ impl Hasher {
     /// # Errors
     ///
     /// `InvalidParams` if the minimum key length exceeds the length of new keys, or without a table
-    /// or a processor; `SaltInvalid` unless the salt has 1 to 64 bytes; `TooCostly` if new hashes
+    /// or a slot; `SaltInvalid` unless the salt has 1 to 64 bytes; `TooCostly` if new hashes
     /// exceed the limits; and `OutOfMemory`.
     pub fn new(options: Options) -> Result<Hasher, Error> {
         let params = options.params;
