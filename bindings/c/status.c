@@ -45,26 +45,25 @@ const char *scrypt_status_name(int status) { return is_status(status) ? STATUSES
 
 int scrypt_status_is_invalid_hash(int status) { return status >= SCRYPT_E_ALGORITHM && status <= SCRYPT_E_VERSION; }
 
-static void add_number(char *text, size_t capacity, const char *words, uint64_t number) {
-  const size_t len = strlen(text);
-  (void)snprintf(text + len, capacity - len, "%s%" PRIu64, words, number);
-}
+/* The sentences of scrypt_explain, which JavaScript's package has from here. */
+#define N "%" PRIu64
+#define NEEDED "N=2^" N ", r=" N ", p=" N " need " N " bytes"
+#define WORK " and a work of " N
+#define AT_MOST " (at most " N ")"
+#define LENGTHS "its length is " N ", and at least " N " is required"
 
 void scrypt_explain(int status, const scrypt_cost *cost, size_t max_mem, uint64_t max_work, size_t min_key_len,
                     char *text, size_t capacity) {
-  const int is_costly = status == SCRYPT_E_TOO_COSTLY, has_most = is_costly && max_mem != SIZE_MAX;
+  const int is_costly = status == SCRYPT_E_TOO_COSTLY;
   if (cost == NULL || text == NULL || capacity == 0) return;
   text[0] = '\0';
-  if (status == SCRYPT_E_KEY_TOO_SHORT)
-    (void)snprintf(text, capacity, "its length is %" PRIu64 ", and at least %" PRIu64 " is required",
-                   (uint64_t)cost->key_len, (uint64_t)min_key_len);
+#define ADD(...) (void)snprintf(text + strlen(text), capacity - strlen(text), __VA_ARGS__)
+  if (status == SCRYPT_E_KEY_TOO_SHORT) ADD(LENGTHS, (uint64_t)cost->key_len, (uint64_t)min_key_len);
   if (!is_costly && status != SCRYPT_E_OUT_OF_MEMORY) return;
-  add_number(text, capacity, "log_n=", cost->log_n);
-  add_number(text, capacity, ", r=", cost->r);
-  add_number(text, capacity, ", p=", cost->p);
-  add_number(text, capacity, " need ", cost->bytes);
-  add_number(text, capacity, " bytes and a work of ", cost->work);
-  if (has_most) add_number(text, capacity, ", with max_mem=", max_mem);
-  if (is_costly && max_work != UINT64_MAX)
-    add_number(text, capacity, has_most ? " and max_work=" : ", with max_work=", max_work);
+  ADD(NEEDED, (uint64_t)cost->log_n, (uint64_t)cost->r, (uint64_t)cost->p, cost->bytes);
+  if (is_costly && max_mem != SIZE_MAX) ADD(AT_MOST, (uint64_t)max_mem);
+  ADD(WORK, cost->work);
+  if (is_costly && max_work != UINT64_MAX) ADD(AT_MOST, max_work);
+#undef ADD
 }
+#undef N

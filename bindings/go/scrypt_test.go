@@ -115,7 +115,6 @@ func TestOptions(t *testing.T) {
 // numbers to accepted ones.
 func TestRejectedArguments(t *testing.T) {
 	const stored, most = "1024$8$1$73656173616c74$703969a2643cb636f2e6", uint64(math.MaxUint64)
-	maxMem, _, _ := DefaultLimits()
 	hasher, closed, zero, secret := newHasher(t, small), newHasher(t, small), new(Hasher), make([]byte, 65)
 	check(t, closed.Close() == nil && closed.Close() == nil && zero.Close() == nil && zero.Options() == Options{} && zero.Stats() == Stats{})
 	made := func(options Options) error { return fault(NewHasher(options)) }
@@ -146,9 +145,9 @@ func TestRejectedArguments(t *testing.T) {
 		{with(0, 0, 1-1<<32, 0), ErrInvalidParams, "P:-4294967295"},
 		{with(16384, 0, 0, 0), ErrInvalidParams, "log_n is the logarithm of N, 14 for 16384): LogN 16384, R 8 and P 1"},
 		{with(57, 0, 0, 0), ErrInvalidParams, "LogN 57, R 8 and P 1 are not accepted: {"},
-		{verify(costly, Options{MaxWork: 16781311}), ErrTooCostly, fmt.Sprintf("with max_mem=%d and max_work=16781311", maxMem)},
-		{verify(costly, Options{MaxMem: 134223871}), ErrTooCostly, "need 134223872 bytes and a work of 16781312"},
-		{verify(noHash[:len(noHash)-2], Options{}), ErrKeyTooShort, "its length is 15, and at least 16 is required"},
+		{verify(costly, Options{MaxWork: 16781311}), ErrTooCostly, "a work of 16781312 (at most 16781311)"},
+		{verify(costly, Options{MaxMem: 134223871}), ErrTooCostly, "need 134223872 bytes (at most 134223871)"},
+		{verify(noHash[:len(noHash)-2], Options{}), ErrKeyTooShort, "its length is 15"},
 		{verify("$scrypt$ln=4,r=8,p=1$c2FsdHNhbHQ", Options{}), ErrRefused, "the hash has no key"},
 		{verify("$scrypt$ln=4,r=8,p=1", Options{}), ErrOutputSize, "the hash has no key"},
 		{fault(hasher.NeedsRehash("$scrypt$ln=4,r=8,p=1")), nil, ""},

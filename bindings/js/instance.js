@@ -1,6 +1,8 @@
 // An instance of the module: allocates in its memory, and calls its functions.
 import { NO_LIMIT } from './arguments.js';
-import { COST, KEY_TOO_SHORT, MISMATCH, NEEDS_REHASH, OK, TOO_COSTLY } from './declared.js';
+import {
+  AT_MOST, COST, KEY_TOO_SHORT, LENGTHS, MISMATCH, NEEDED, NEEDS_REHASH, OK, TOO_COSTLY, WORK,
+} from './declared.js';
 import { errorOf, outOfMemory } from './errors.js';
 
 const PAGE = 65536;
@@ -15,7 +17,6 @@ export class Instance {
   #base;
   #top;
   #isInside = false;
-  #cost = ''; // the cost of the call and its limits, for the message
 
   constructor(exports) {
     this.#calls = exports;
@@ -39,7 +40,6 @@ export class Instance {
     this.#clear(0, STACK);
     this.#clear(this.#base, this.#top);
     this.#top = this.#base;
-    this.#cost = '';
   }
 
   // For the module a slice is a pointer and a length.
@@ -55,19 +55,14 @@ export class Instance {
   /** Calls the module, with numbers and with memory that was taken. */
   call(name, ...args) {
     const status = this.#status(name, args);
-    if (status !== OK) throw this.#refusal(status);
+    if (status !== OK) throw errorOf(status);
   }
 
   /** The same for a call that can also return no. */
   isOk(name, ...args) {
     const status = this.#status(name, args);
-    if (![OK, MISMATCH, NEEDS_REHASH].includes(status)) throw this.#refusal(status);
+    if (![OK, MISMATCH, NEEDS_REHASH].includes(status)) throw errorOf(status);
     return status === OK;
-  }
-
-  #refusal(status) {
-    const isLimit = status === TOO_COSTLY || status === KEY_TOO_SHORT;
-    return errorOf(status, undefined, isLimit ? this.#cost : '');
   }
 
   /** Takes zeros above the memory that is taken. */
@@ -131,10 +126,10 @@ export class Instance {
   #within(name, args, limits) {
     const cost = this.structure(COST);
     const status = this.#status(name, [...args, ...limits, cost.at]);
-    const costs = [cost.bytes, cost.work, cost.key_len].map((place) => this.big(place));
-    this.#cost = inWords(costs.slice(0, limits.length), limits);
-    if (status !== OK) throw this.#refusal(status);
-    return this.#buffers(cost);
+    if (status === OK) return this.#buffers(cost);
+    const read = ([name, place]) => [name, this.big(place)];
+    const numbers = Object.fromEntries(Object.entries(cost).slice(1).map(read));
+    throw errorOf(status, undefined, explained(status, numbers, limits));
   }
 
   // The chunks, the table and the scratch, for the number of interleaved chunks that the memory
@@ -162,12 +157,17 @@ export class Instance {
   }
 }
 
-// The cost of a call, for a hash if there is a key, and its limits.
-function inWords([bytes, work, key], limits) {
-  const [most, maxWork, least] = limits.map((limit) => (limit === NO_LIMIT ? Infinity : limit));
-  const ofHash = key === undefined ? '' : `, a key of ${key} bytes (minKeyLength is ${least})`;
-  const ofWork = `a work of ${work} (maxwork is ${maxWork})`;
-  return `: ${bytes} bytes (maxmem is ${most}), ${ofWork}${ofHash}`;
+// Words with a number for each %.
+const filled = (words, ...numbers) => words.replace(/%/g, () => numbers.shift());
+const atMost = (limit) => (limit === NO_LIMIT ? '' : filled(AT_MOST, limit));
+
+// The numbers of a refusal, as the C library's scrypt_explain writes them.
+function explained(status, { log_n: logN, r, p, bytes, work, key_len: keyLen }, limits) {
+  const [maxMem, maxWork, minKeyLen] = limits;
+  if (status === KEY_TOO_SHORT) return `: ${filled(LENGTHS, keyLen, minKeyLen)}`;
+  if (status !== TOO_COSTLY) return '';
+  const needed = filled(NEEDED, ...[logN, r, p].map((it) => BigInt.asUintN(32, it)), bytes);
+  return `: ${needed}${atMost(maxMem)}${filled(WORK, work)}${atMost(maxWork)}`;
 }
 
 /** The addresses of words. */

@@ -57,8 +57,8 @@ class KeyFilesTest(unittest.TestCase):
 
     def test_limits(self):
         for open_file, file, _ in VECTORS:
-            self.refuses("maxmem=1048576", open_file, file, PASSWORD, maxmem=1 << 20)
-            self.refuses("max_work=32768", open_file, file, PASSWORD, max_work=1 << 15)
+            self.refuses("at most 1048576", open_file, file, PASSWORD, maxmem=1 << 20)
+            self.refuses("at most 32768", open_file, file, PASSWORD, max_work=1 << 15)
         file = VECTORS[1][1]
         for log_n, message in ((20, "need"), (30, "need"), (63, "invalid"), (255, "invalid")):
             costly = file[:7] + bytes([log_n]) + file[8:48]

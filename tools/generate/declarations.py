@@ -142,8 +142,13 @@ def javascript():
     yield from ("", "/** The size of each structure in bytes, and the offsets of its fields. */")
     yield from (f"export const {name.upper()} = {layout(structures[f'scrypt_{name}'])};" for name in ("cost", "progress"))
     yield from ("", *(f"export const {name} = {number};" for name, number in proved.items()))
+    status_c = read("bindings/c/status.c")
+    yield from ("", "/** The sentences of scrypt_explain in C, with % for each number. */")
+    for name, words in re.findall(r'^#define (\w+) ((?:"[^"]*"| N ?)+)$', status_c, re.M):
+        parts = re.findall(r'"([^"]*)"|(N)', words)
+        yield f"export const {name} = '{''.join(part or '%' for part, _ in parts)}';"
     yield from ("", "/** The name and the words of each status. */", "export const WORDS = new Map([")
-    for name, words in re.findall(r'ROW\((?:E_)?(\w+), ((?:"[^"]*"\s*)+)\)', read("bindings/c/status.c")):
+    for name, words in re.findall(r'ROW\((?:E_)?(\w+), ((?:"[^"]*"\s*)+)\)', status_c):
         in_n = re.sub(r'"\s*"|"', "", words).replace("2^log_n", "N").replace("; log_n is the logarithm of N, 14 for 16384", "")
         if "log_n" in in_n:
             sys.exit(f"bindings/c/status.c: the words of {name} speak of log_n in JavaScript too: {in_n}")

@@ -276,7 +276,7 @@ def long_passwords(program):
 def verdicts(program):
     """The verifications of bindings/cases.tsv, except a text with a zero byte, which no argument has."""
     for line in pathlib.Path(prompt.TOP, "bindings/cases.tsv").read_text("utf-8").splitlines()[1:]:
-        status, password, text = line.split("\t")
+        status, password, text = line.split("\t")[:3]
         if "\\0" not in text:
             *ended, error = run([program, "--default-limits", "verify", text], password.encode())
             refused = 2, "", "hash refused: " + status.removeprefix("HASH_").title().replace("_", "")

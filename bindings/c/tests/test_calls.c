@@ -250,8 +250,8 @@ static void words_of_statuses(void) {
 }
 
 #define MOST "18446744073709551615"
-#define WORST "log_n=4294967295, r=4294967295, p=4294967295 need " MOST " bytes and a work of " MOST
-#define COST "log_n=17, r=8, p=1 need 134220800 bytes and a work of 4195328"
+#define LESS "18446744073709551614"
+#define COST(max_mem, max_work) "N=2^17, r=8, p=1 need 134220800 bytes" max_mem " and a work of 4195328" max_work
 static const scrypt_cost of = {17, 8, 1, 10, 1, 1024, 33554432, 512, 134220800, 4195328},
                          worst = {UINT32_MAX, UINT32_MAX, UINT32_MAX, 1, 4, 1, 1, 1, UINT64_MAX, UINT64_MAX};
 static const struct {
@@ -261,13 +261,14 @@ static const struct {
   uint64_t max_work;
   const char *text;
 } EXPLANATIONS[] = {
-    {SCRYPT_E_TOO_COSTLY, &of, 1024, 77, COST ", with max_mem=1024 and max_work=77"},
-    {SCRYPT_E_TOO_COSTLY, &of, 0, UINT64_MAX, COST ", with max_mem=0"},
-    {SCRYPT_E_TOO_COSTLY, &of, SIZE_MAX, 0, COST ", with max_work=0"},
-    {SCRYPT_E_TOO_COSTLY, &of, SIZE_MAX, UINT64_MAX, COST},
+    {SCRYPT_E_TOO_COSTLY, &of, 1024, 77, COST(" (at most 1024)", " (at most 77)")},
+    {SCRYPT_E_TOO_COSTLY, &of, 0, UINT64_MAX, COST(" (at most 0)", "")},
+    {SCRYPT_E_TOO_COSTLY, &of, SIZE_MAX, 0, COST("", " (at most 0)")},
+    {SCRYPT_E_TOO_COSTLY, &of, SIZE_MAX, UINT64_MAX, COST("", "")},
     {SCRYPT_E_TOO_COSTLY, &worst, SIZE_MAX - 1, UINT64_MAX - 1,
-     WORST ", with max_mem=18446744073709551614 and max_work=18446744073709551614"},
-    {SCRYPT_E_OUT_OF_MEMORY, &of, 1024, 77, COST},
+     "N=2^4294967295, r=4294967295, p=4294967295 need " MOST " bytes (at most " LESS ") and a work of " MOST
+     " (at most " LESS ")"},
+    {SCRYPT_E_OUT_OF_MEMORY, &of, 1024, 77, COST("", "")},
     {SCRYPT_E_KEY_TOO_SHORT, &of, 1024, 77, "its length is 10, and at least 16 is required"},
     {SCRYPT_E_TIMEOUT, &of, 1024, 77, ""},
     {SCRYPT_OK, &of, 1024, 77, ""},

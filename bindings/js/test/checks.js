@@ -1,5 +1,4 @@
 // The checks for each engine. Each is a name and a function, which throws on failure.
-import { DEFAULT_MAX_MEM, DEFAULT_MAX_WORK, DEFAULT_MIN_KEY_LEN } from '../declared.js';
 import * as workers from '../index.js';
 import { compile } from '../load.js';
 import { OF, bytes, equal, hex, instead, opened, refused, utf8, wiping } from './support.js';
@@ -121,10 +120,11 @@ const OF_EACH = {
   },
   'the verifications of bindings/cases.tsv': async (api, { lines }) => {
     for (const line of lines.trimEnd().split('\n').slice(1)) {
-      const [status, password, it] = line.split('\t');
+      const [status, password, it, numbers] = line.split('\t');
       const text = it.replace('\\0', '\0');
       const wanted = { OK: true, MISMATCH: false }[status] ?? status;
       equal(await outcome(api.verify(password, text)), wanted, text.slice(0, 60));
+      if (numbers) await refused(status, () => api.verify(password, text), `: ${numbers}`);
       if (/OK|MISMATCH|TOO_/.test(status)) continue; // it can be read
       equal(await outcome(api.params(text)), status, text.slice(0, 60));
       equal(await outcome(api.needsRehash(text)), status, text.slice(0, 60));
@@ -151,8 +151,6 @@ const OF_EACH = {
     await refused('TOO_COSTLY', () => api.verify('', null, { maxmem: 1 }));
   },
   limits: async (api) => {
-    await refused('TOO_COSTLY', () => api.verify('', COSTLY), `: 11282432 bytes (maxmem is ${DEFAULT_MAX_MEM}), a work of `
-      + `16896000 (maxwork is ${DEFAULT_MAX_WORK}), a key of 32 bytes (minKeyLength is ${DEFAULT_MIN_KEY_LEN})`);
     equal(await api.verify('', COSTLY, { N: 16, p: 11000, dkLen: 32 }), false, 'as for new hashes');
     // 128 * r * p bytes of chunks, 128 * r * N of a table, and 256 * r of scratch.
     const [maxmem, maxwork] = [128 + 2048 + 256, 4 * (16 + 32)];
@@ -164,8 +162,10 @@ const OF_EACH = {
     for (const it of [{ maxmem: maxmem - 1 }, { maxwork: maxwork - 1 }, inherited]) {
       await refused('TOO_COSTLY', () => api.verify('', text, it));
     }
+    const numbers = ': N=2^4, r=1, p=1 need 2432 bytes and a work of 192 (at most 1)';
+    await refused('TOO_COSTLY', () => api.verify('', text, { maxmem: Infinity, maxwork: 1 }), numbers);
     const short = await api.hash('', { N: 2, dkLen: 10 });
-    await refused('KEY_TOO_SHORT', () => api.verify('', short), '10 bytes (minKeyLength is 16)');
+    await refused('KEY_TOO_SHORT', () => api.verify('', short));
     for (const damaged of ['$scrypt$ln=4,r=8,p=1', '$scrypt$ln=4,r=8,p=1$c2FsdHNhbHQ']) { // no key
       equal(await outcome(api.verify('', damaged)), 'OUTPUT_SIZE', damaged);
       equal(await api.needsRehash(damaged), true, damaged);

@@ -5,9 +5,9 @@ from __future__ import annotations
 from typing import Callable, Optional
 
 from .arguments import Bytes, in_64_bits, number, raw_bytes
-from .declared import AUTO, INVALID_OUTPUT_LEN, MAX_OUTPUT_LEN, TOO_COSTLY
-from .errors import InvalidParamsError, TooCostlyError, check
-from .params import NO_LIMIT, Params, accepted, cost_of
+from .declared import AUTO, INVALID_OUTPUT_LEN, MAX_OUTPUT_LEN
+from .errors import InvalidParamsError, check
+from .params import NO_LIMIT, Params, accepted, check_costs, cost_of
 from .steps import derived
 
 
@@ -42,11 +42,7 @@ def scrypt(
         raise ValueError(f"maxmem must not be negative: {maxmem}")
     max_work = NO_LIMIT if max_work is None else in_64_bits(max_work, "max_work")
     max_mem = in_64_bits(maxmem or NO_LIMIT, "maxmem")
-    status, cost = cost_of(params, max_mem, max_work)  # raises if they are not accepted
-    if status == TOO_COSTLY:
-        words = f"n={n}, r={r}, p={p} need {cost.bytes} bytes and a work of {cost.work}"
-        words += f", with maxmem={maxmem} and max_work={max_work}"
-        raise TooCostlyError("SCRYPT_E_TOO_COSTLY", words)
+    check_costs(*cost_of(params, max_mem, max_work), max_mem, max_work)
     if not 1 <= dklen <= MAX_OUTPUT_LEN:
         check(INVALID_OUTPUT_LEN, f"dklen={dklen}")
     return derived(password, salt, params, max_mem if maxmem else AUTO, dklen, progress)

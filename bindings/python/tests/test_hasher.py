@@ -48,16 +48,14 @@ REFUSED = [
      each("dklen", 0, -1, MAX_OUTPUT_LEN + 1, 32 + B64)),
     (scrypt_c.InvalidOutputLenError, f"1 to {MAX_OUTPUT_LEN} bytes", functools.partial(SMALL.key, "pw", salt=b"salt"),
      each("key_len", 0, -1, MAX_OUTPUT_LEN + 1, 32 + B64)),
-    (TooCostlyError, "log_n=17, r=8, p=1 need 134220800 bytes and a work of 4195328, with", made, [
-        {"log_n": 17, "max_mem": 134220799}, {"log_n": 17, "max_work": 4195327}]),
+    (TooCostlyError, "N=2^17, r=8, p=1 need 134220800 bytes (at most 134220799) and a work of 4195328", made, [
+        {"log_n": 17, "max_mem": 134220799}]),
+    (TooCostlyError, "134220800 bytes and a work of 4195328 (at most 4195327)", made, [{"log_n": 17, "max_work": 4195327}]),
     (TooCostlyError, "need", made, each("max_mem max_work", 0, -1)),  # not defaults
-    (TooCostlyError, f"need 256000512 bytes and a work of 272000000, with max_mem={scrypt_c.DEFAULT_MAX_MEM}",
-     verify, each("hash", f"$scrypt$ln=1,r=1,p=2000000{KEY}")),
-    (TooCostlyError, "n=16, r=8, p=1 need 19456 bytes and a work of 1536", key, [
-        {"maxmem": 19455}, *each("max_work", 1535, 0)]),
+    (TooCostlyError, "N=2^4, r=8, p=1 need 19456 bytes (at most 19455) and a work of 1536", key, each("maxmem", 19455)),
+    (TooCostlyError, "N=2^4, r=8, p=1 need 19456 bytes and a work of 1536 (at most ", key, each("max_work", 1535, 0)),
     (TooCostlyError, "even log_n=10, r=8, p=1 exceeds", calibrate, [
         {"seconds": 1e-6}, {"seconds": 1, "max_mem": 1 << 19}]),
-    (KeyTooShortError, "is 15, and at least 16", verify, each("hash", f"$scrypt$ln=4,r=8,p=1{KEY}")),
     (KeyTooShortError, "at least 14", PasswordHasher(key_len=14).verify, [
         {"hash": f"$7$46..../....saltsalt${16 * '.'}", "password": ""}]),
     (scrypt_c.InvalidHashError, "not a PHC or $7$ hash", verify, each("hash", "$scrypt$ln=\ud800")),

@@ -53,7 +53,7 @@ def outcome(call, *arguments):
 class Texts(unittest.TestCase):
     def test_cases(self):
         hasher = PasswordHasher()
-        for status, password, text in rows("cases.tsv"):
+        for status, password, text, *numbers in rows("cases.tsv"):
             text = text.replace("\\0", "\0")
             found, error = outcome(hasher.verify, text, password)
             self.assertEqual(found, status, text)
@@ -62,6 +62,7 @@ class Texts(unittest.TestCase):
             if error:
                 copy = pickle.loads(pickle.dumps(error))
                 self.assertEqual(*((type(it), it.name, str(it)) for it in (copy, error)))
+                self.assertTrue(str(error).endswith("".join(f": {it}" for it in numbers)), error)
             unread = isinstance(error, scrypt_c.InvalidHashError)
             for reads in (hasher.check_needs_rehash, params_of):
                 self.assertEqual(outcome(reads, text)[0], status if unread else "OK", text)

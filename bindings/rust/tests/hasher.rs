@@ -108,15 +108,6 @@ fn limits() {
     }
     let params = Params::new(19, 8, 1).unwrap();
     assert!(hasher(params, None).is_ok(), "new hashes above the default limits");
-    let words = |text: &str| Hasher::default().verify(b"", text).unwrap_err().to_string();
-    let Limits { max_mem, max_work } = Limits::DEFAULT;
-    let wanted = format!(
-        "log_n=19, r=8, p=1 need 536873984 bytes and a work of 16778240, \
-        with max_mem={max_mem} and max_work={max_work}"
-    );
-    let costly = words(&PHC.replace("ln=4", "ln=19"));
-    assert!(costly.ends_with(&wanted), "{costly}");
-    assert!(words(&text).ends_with(": its length is 15, and at least 16 is required"));
     for (min_key_len, wanted) in [
         (Some(15), Ok(())),
         (Some(0), Ok(())),

@@ -25,6 +25,10 @@ fn cases() {
         assert!(format!("{found:?}").starts_with(&wanted), "{text}: {found:?}, not {wanted}");
         let error = found.err();
         assert_eq!(error.map_or(false, |it| it.is_refused()), is_refused, "{text}");
+        if let Some(numbers) = row.get(3) {
+            let words = error.map(|it| it.to_string()).unwrap_or_default();
+            assert!(words.ends_with(&format!(": {numbers}")), "{words}");
+        }
         let unread = error.filter(Error::is_invalid_hash);
         assert_eq!(params_of(&text).err(), unread, "{text}");
         assert_eq!(hasher.needs_rehash(&text).err(), unread, "{text}");
