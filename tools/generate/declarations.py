@@ -62,9 +62,11 @@ def in_python(declared):
 
 def python():
     yield from (f'"""{NOTE}bindings/c/scrypt_c.h: its numbers, statuses, structures and calls. DO NOT EDIT."""', "", "from __future__ import annotations")
-    yield from ("", "import ctypes", "from ctypes import POINTER", "from typing import Any", "", "BYTES = ctypes.c_char_p")
+    yield from ("", "import ctypes", "import enum", "from ctypes import POINTER", "from typing import Any", "", "BYTES = ctypes.c_char_p")
     yield from (f"{short} = ctypes.c_{word if short == 'SIZE' else word.removesuffix('_t')}" for word, short in PYTHON.items())
-    yield from ("", f'VERSION_STRING = "{header.VERSION}"', *(f"{name} = {number}" for name, number in (NUMBERS | STATUSES).items()))
+    yield from ("", f'VERSION_STRING = "{header.VERSION}"', *(f"{name} = {number}" for name, number in NUMBERS.items()))
+    yield from ("", "", "class Status(enum.IntEnum):", '    """The statuses of scrypt_c.h, which an error of this package has."""', "")
+    yield from (f"    {name} = {number}  # {header.MEANINGS[name]}" for name, number in STATUSES.items())
     for name, fields in STRUCTURES.items():
         pairs = ", ".join(f'("{header.name_of(it)}", {in_python(it)})' for it in fields)
         yield from ("", "", f"class {inside(name)}(ctypes.Structure):", f"    _fields_ = [{pairs}]")

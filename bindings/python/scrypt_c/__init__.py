@@ -27,7 +27,7 @@ the library inside this package is used; if there is none, the one that the syst
 
 from .arguments import Bytes, Password
 from .calibration import calibrate
-from .declared import DEFAULT_MAX_MEM, DEFAULT_MAX_WORK, DEFAULT_MIN_KEY_LEN, VERSION_STRING
+from .declared import DEFAULT_MAX_MEM, DEFAULT_MAX_WORK, DEFAULT_MIN_KEY_LEN, VERSION_STRING, Status
 from .errors import (
     InvalidHashError,
     InvalidOutputLenError,
@@ -63,6 +63,7 @@ __all__ = [
     "RefusedHashError",
     "ScryptError",
     "Stats",
+    "Status",
     "TooCostlyError",
     "VerifyMismatchError",
     "calibrate",

@@ -4,11 +4,11 @@ from __future__ import annotations
 
 import ctypes
 
-from . import library
 from .arguments import in_64_bits
 from .arguments import seconds as time_of
-from .declared import DEFAULT_MAX_MEM, TOO_COSTLY
+from .declared import DEFAULT_MAX_MEM, Status
 from .errors import check
+from .library import lib
 from .params import Params
 
 MAX_SECONDS = 1e9
@@ -27,7 +27,7 @@ def calibrate(seconds: float, max_mem: int = DEFAULT_MAX_MEM) -> Params:
     if not 0 < seconds <= MAX_SECONDS:
         raise ValueError(f"seconds must be above 0 and at most {MAX_SECONDS:g}: {seconds}")
     log_n, r, p = ctypes.c_uint32(), ctypes.c_uint32(), ctypes.c_uint32()
-    status = library.calibrate(float(seconds), in_64_bits(max_mem, "max_mem"), log_n, r, p)
+    status = lib.scrypt_calibrate(float(seconds), in_64_bits(max_mem, "max_mem"), log_n, r, p)
     least = f"even log_n=10, r=8, p=1 exceeds {seconds} seconds or {max_mem} bytes"
-    check(status, least if status == TOO_COSTLY else "")
+    check(status, least if status == Status.TOO_COSTLY else "")
     return Params(log_n.value, r.value, p.value)

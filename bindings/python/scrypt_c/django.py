@@ -45,10 +45,9 @@ from django.contrib.auth.hashers import (
     mask_hash,
     must_update_salt,
 )
-from django.utils.translation import gettext_noop as _
 
 from .arguments import raw_password
-from .declared import MAX_SALT_LEN, RECOMMENDED_LOG_N, RECOMMENDED_P, RECOMMENDED_R
+from .declared import MAX_SALT_LEN, RECOMMENDED_LOG_N, RECOMMENDED_P, RECOMMENDED_R, Status
 from .errors import InvalidHashError, RefusedHashError, TooCostlyError, VerifyMismatchError
 from .hasher import PasswordHasher, shared
 from .key import log_of
@@ -71,7 +70,7 @@ class FalseIfRefused:
 
 
 def _invalid(why: str) -> InvalidHashError:
-    return InvalidHashError("SCRYPT_E_ENCODING_INVALID", why)
+    return InvalidHashError(Status.ENCODING_INVALID, why)
 
 
 class _Hasher(BasePasswordHasher):
@@ -104,6 +103,11 @@ class _Hasher(BasePasswordHasher):
             return weaker or must_update_salt(self.decode(encoded)["salt"], self.salt_entropy)
         except InvalidHashError:
             return True
+
+    def safe_summary(self, encoded: str) -> dict[str, Any]:
+        """Returns the parts of `decode`, by Django's words, without most of the salt and the key."""
+        shown = {name.replace("_", " "): part for name, part in self.decode(encoded).items()}
+        return {**shown, **{name: mask_hash(shown[name]) for name in ("salt", "hash")}}
 
     def harden_runtime(self, password: str, encoded: str) -> None:
         """Does nothing: additional work cannot give a hash with smaller parameters the time of a
@@ -152,18 +156,7 @@ class ScryptPasswordHasher(_Hasher):
         self._text(encoded)  # rejects all others
         algorithm, n, salt, r, p, key = encoded.split("$")
         numbers = {"work_factor": int(n), "block_size": int(r), "parallelism": int(p)}
-        return {"algorithm": algorithm, "salt": salt, "hash": key, **numbers}
-
-    def safe_summary(self, encoded: str) -> dict[str, Any]:
-        parts = self.decode(encoded)
-        return {
-            _("algorithm"): parts["algorithm"],
-            _("work factor"): parts["work_factor"],
-            _("block size"): parts["block_size"],
-            _("parallelism"): parts["parallelism"],
-            _("salt"): mask_hash(parts["salt"]),
-            _("hash"): mask_hash(parts["hash"]),
-        }
+        return {"algorithm": algorithm, **numbers, "salt": salt, "hash": key}
 
 
 class PHCPasswordHasher(_Hasher):
@@ -190,16 +183,7 @@ class PHCPasswordHasher(_Hasher):
         params, salt, key = parts
         if scheme != "7":
             salt = base64.b64decode(salt + "=" * (-len(salt) % 4)).decode("latin1")
-        return {"algorithm": self.algorithm, "params": params, "salt": salt, "hash": key}
-
-    def safe_summary(self, encoded: str) -> dict[str, Any]:
-        parts = self.decode(encoded)
-        return {
-            _("algorithm"): parts["algorithm"],
-            _("parameters"): parts["params"],
-            _("salt"): mask_hash(parts["salt"]),
-            _("hash"): mask_hash(parts["hash"]),
-        }
+        return {"algorithm": self.algorithm, "parameters": params, "salt": salt, "hash": key}
 
 
 class OverPasswordHasher(PHCPasswordHasher):
@@ -248,7 +232,7 @@ class OverPasswordHasher(PHCPasswordHasher):
             raise _invalid(f"the salt is not a cost and a salt of {self.inner.algorithm}")
         if int(found["cost"]) > self.max_cost:
             words = f"{self.inner.algorithm} has a cost of {found['cost']}"
-            raise TooCostlyError("SCRYPT_E_TOO_COSTLY", f"{words}, with max_cost={self.max_cost}")
+            raise TooCostlyError(Status.TOO_COSTLY, f"{words}, with max_cost={self.max_cost}")
 
     def _old(self, password: str, settings: str) -> str:
         """Returns the hash of `inner`."""

@@ -3,18 +3,20 @@ type, ValueError for a closed hasher, TimeoutError, and OSError if there are no 
 
 from __future__ import annotations
 
-from . import declared, library
+from .declared import Status
+from .library import lib
 
 
 class ScryptError(Exception):
-    """An error of this package; `name` is the name of the status in scrypt_c.h."""
+    """An error of this package. `status` is its `Status`; one that only a newer library has is an
+    int."""
 
-    def __init__(self, name: str, words: str) -> None:
+    def __init__(self, status: Status, words: str) -> None:
         super().__init__(words)
-        self.name = name
+        self.status = status
 
-    def __reduce__(self) -> tuple[type, tuple[str, str]]:
-        return type(self), (self.name, str(self))
+    def __reduce__(self) -> tuple[type, tuple[Status, str]]:
+        return type(self), (self.status, str(self))
 
 
 class VerifyMismatchError(ScryptError):
@@ -27,7 +29,7 @@ class RefusedHashError(ScryptError, ValueError):
 
 
 class InvalidHashError(RefusedHashError):
-    """The text is not a hash that this package reads; `name` and the message give the reason."""
+    """The text is not a hash that this package reads; `status` and the message give the reason."""
 
 
 class TooCostlyError(RefusedHashError):
@@ -55,16 +57,16 @@ class InvalidOutputLenError(ScryptError, ValueError):
 # The exceptions of the statuses that a call of this package can return, except the statuses of an
 # invalid hash.
 KINDS: dict[int, type[Exception]] = {
-    declared.MISMATCH: VerifyMismatchError,
-    declared.INVALID_PARAMS: InvalidParamsError,
-    declared.INVALID_OUTPUT_LEN: InvalidOutputLenError,
-    declared.OUT_OF_MEMORY: MemoryError,
-    declared.SALT_INVALID: InvalidSaltError,
-    declared.TOO_COSTLY: TooCostlyError,
-    declared.NO_RANDOM_BYTES: OSError,
-    declared.KEY_TOO_SHORT: KeyTooShortError,
-    declared.CLOSED: ValueError,
-    declared.TIMEOUT: TimeoutError,
+    Status.MISMATCH: VerifyMismatchError,
+    Status.INVALID_PARAMS: InvalidParamsError,
+    Status.INVALID_OUTPUT_LEN: InvalidOutputLenError,
+    Status.OUT_OF_MEMORY: MemoryError,
+    Status.SALT_INVALID: InvalidSaltError,
+    Status.TOO_COSTLY: TooCostlyError,
+    Status.NO_RANDOM_BYTES: OSError,
+    Status.KEY_TOO_SHORT: KeyTooShortError,
+    Status.CLOSED: ValueError,
+    Status.TIMEOUT: TimeoutError,
 }
 
 
@@ -73,9 +75,9 @@ def check(status: int, about: str = "") -> None:
     without secrets."""
     if status == 0:
         return
-    is_invalid = library.status_is_invalid_hash(status)
+    is_invalid = lib.scrypt_status_is_invalid_hash(status)
     kind = InvalidHashError if is_invalid else KINDS.get(status, ScryptError)
-    name = (library.status_name(status) or b"status %d" % status).decode()
-    words = library.strerror(status).decode()
-    message = f"{words}{about and ': '}{about}"
-    raise kind(name, message) if issubclass(kind, ScryptError) else kind(message)
+    message = f"{lib.scrypt_strerror(status).decode()}{about and ': '}{about}"
+    if not issubclass(kind, ScryptError):
+        raise kind(message)
+    raise kind({int(it): it for it in Status}.get(status, status), message)

@@ -20,20 +20,9 @@ from .arguments import (
     raw_text,
     seconds,
 )
-from .declared import (
-    INVALID_OUTPUT_LEN,
-    KEY_TOO_SHORT,
-    MAX_KEY_LEN,
-    MAX_OUTPUT_LEN,
-    MAX_SALT_LEN,
-    MIN_KEY_LEN,
-    NEEDS_REHASH,
-    OUT_OF_MEMORY,
-    SALT_INVALID,
-    TIMEOUT,
-    TOO_COSTLY,
-)
-from .errors import InvalidParamsError, VerifyMismatchError, check
+from .declared import MAX_KEY_LEN, MAX_OUTPUT_LEN, MAX_SALT_LEN, MIN_KEY_LEN, Status
+from .errors import VerifyMismatchError, check
+from .library import lib
 from .params import Params, accepted, check_costs, cost_of
 
 
@@ -97,26 +86,24 @@ class PasswordHasher:
     ) -> None:
         self._params = Params(*accepted(log_n, r, p), number(key_len, "key_len"))
         if not MIN_KEY_LEN <= self._params.key_len <= MAX_KEY_LEN:
-            lengths = f"{MIN_KEY_LEN} to {MAX_KEY_LEN} bytes"
-            words = f"the key of a hash must have {lengths}: key_len={key_len}"
-            raise InvalidParamsError("SCRYPT_E_INVALID_PARAMS", words)
+            check(Status.INVALID_PARAMS, f"key_len={key_len}")
         salt_len = number(salt_len, "salt_len")
         if not 1 <= salt_len <= MAX_SALT_LEN:
-            check(SALT_INVALID, f"salt_len={salt_len}")
+            check(Status.SALT_INVALID, f"salt_len={salt_len}")
         counts = {"max_tables": max_tables, "processors": processors}
         for name, count in counts.items():
             if count is not None and number(count, name) < 1:
                 raise ValueError(f"{name} must be at least 1: {count}")
         if min_key_len is not None and not 0 <= number(min_key_len, "min_key_len") <= key_len:
             words = f"min_key_len must be 0 to key_len, {key_len}: {min_key_len}"
-            raise InvalidParamsError("SCRYPT_E_INVALID_PARAMS", words)
+            check(Status.INVALID_PARAMS, words)
         self._timeout = seconds(timeout, "timeout")
         # As they were passed: None depends on the machine, and a copy may be on another machine.
         limits = {"max_mem": max_mem, "max_work": max_work, "min_key_len": min_key_len, **counts}
         others = {"salt_len": salt_len, "mcf": bool(mcf), "timeout": timeout}
         self._options: dict[str, Any] = {**others, **limits}
         options = declared.Options()
-        library.options_init(options)
+        lib.scrypt_options_init(options)
         options.log_n, options.r, options.p, options.key_len = self._params
         options.mcf, options.salt_len = bool(mcf), salt_len
         for name, limit in limits.items():
@@ -133,13 +120,13 @@ class PasswordHasher:
     @property
     def options(self) -> Options:
         """The options, with each default replaced by its value."""
-        options = library.hasher_options(self._c).contents
+        options = lib.scrypt_hasher_options(self._c).contents
         return Options(bool(options.mcf), *(getattr(options, name) for name in Options._fields[1:]))
 
     def stats(self) -> Stats:
         """Returns the current statistics, for metrics."""
         stats = declared.Stats()
-        check(library.hasher_stats(self._c, stats))
+        check(lib.scrypt_hasher_stats(self._c, stats))
         return Stats(stats.waiting, stats.deriving, stats.failed)
 
     def __repr__(self) -> str:
@@ -156,7 +143,7 @@ class PasswordHasher:
     def close(self) -> None:
         """Frees the memory that is kept. Derivations that have begun run to completion; waiting and
         later calls raise ValueError."""
-        library.hasher_close(self._c)
+        lib.scrypt_hasher_close(self._c)
 
     def __enter__(self) -> PasswordHasher:
         return self
@@ -171,7 +158,7 @@ class PasswordHasher:
         salt_len = len(raw_salt or b"")
         text = ctypes.create_string_buffer(library.text_capacity(salt_len))
         arguments = secret, len(secret), raw_salt, salt_len, text, len(text)
-        self._check(self._run(library.hasher_hash, *arguments))
+        self._check(self._run(lib.scrypt_hasher_hash, *arguments))
         return text.value.decode("ascii")
 
     def key(self, password: Password, *, salt: Bytes, key_len: int) -> bytes:
@@ -179,10 +166,10 @@ class PasswordHasher:
         a slot, as the other calls do."""
         secret, raw_salt = raw_password(password), raw_bytes(salt, "a salt")
         if not 1 <= number(key_len, "key_len") <= MAX_OUTPUT_LEN:
-            check(INVALID_OUTPUT_LEN, f"key_len={key_len}")
+            check(Status.INVALID_OUTPUT_LEN, f"key_len={key_len}")
         key = ctypes.create_string_buffer(key_len)
         arguments = secret, len(secret), raw_salt, len(raw_salt), key, key_len
-        self._check(self._run(library.hasher_key, *arguments))
+        self._check(self._run(lib.scrypt_hasher_key, *arguments))
         made = key.raw
         ctypes.memset(key, 0, key_len)
         return made
@@ -197,7 +184,7 @@ class PasswordHasher:
         limits = {"max_mem": self.options.max_mem, "max_work": self.options.max_work}
         other = PasswordHasher(log_n, r, p, **self._options | limits)
         if not _OTHERS.acquire(timeout=-1 if self._timeout is None else self._timeout):
-            check(TIMEOUT, f"timeout={self._timeout}")
+            check(Status.TIMEOUT, f"timeout={self._timeout}")
         try:
             with other:
                 return other.key(password, salt=salt, key_len=key_len)
@@ -214,8 +201,8 @@ class PasswordHasher:
         that its time does not reveal whether there is such a user.
         """
         raw, secret = None if hash is None else raw_text(hash), raw_password(password)
-        status = self._run(library.hasher_verify, secret, len(secret), raw, len(raw or b""), None)
-        if library.status_is_invalid_hash(status) and secret.startswith((b"$scrypt$", b"$7$")):
+        status = self._run(lib.scrypt_hasher_verify, secret, len(secret), raw, len(raw or b""), None)
+        if lib.scrypt_status_is_invalid_hash(status) and secret.startswith((b"$scrypt$", b"$7$")):
             check(status, "the hash comes first, and then the password")
         self._check(status, raw)
         return True
@@ -237,10 +224,10 @@ class PasswordHasher:
         """Returns whether a parameter of the hash, or the length of its key, is smaller than in new
         hashes."""
         raw = raw_text(hash)
-        status = library.hasher_needs_rehash(self._c, raw, len(raw))
-        if status != NEEDS_REHASH:
+        status = lib.scrypt_hasher_needs_rehash(self._c, raw, len(raw))
+        if status != Status.NEEDS_REHASH:
             check(status)
-        return status == NEEDS_REHASH
+        return status == Status.NEEDS_REHASH
 
     def _run(self, call: Callable[..., int], *arguments: object) -> int:
         """Makes a call, which waits for at most `timeout` seconds, and returns its status. Python
@@ -254,19 +241,19 @@ class PasswordHasher:
         """Raises the RefusedHashError of `verify` for this hash, without deriving."""
         raw, options = raw_text(hash), self.options
         limits = options.max_mem, options.max_work, options.min_key_len
-        self._check(library.hash_cost(raw, len(raw), *limits, declared.Cost()), raw)
+        self._check(lib.scrypt_hash_cost(raw, len(raw), *limits, declared.Cost()), raw)
 
     def _check(self, status: int, text: Optional[bytes] = None) -> None:
         """Raises the error of a status for this hash, or for a new one. The hash is only read for a
         message that has its parameters."""
-        if status not in (KEY_TOO_SHORT, OUT_OF_MEMORY, TOO_COSTLY):
-            check(status, f"timeout={self._timeout}" if status == TIMEOUT else "")
+        if status not in (Status.KEY_TOO_SHORT, Status.OUT_OF_MEMORY, Status.TOO_COSTLY):
+            check(status, f"timeout={self._timeout}" if status == Status.TIMEOUT else "")
             return
         options = self.options
         limits = options.max_mem, options.max_work, options.min_key_len
         cost = cost_of(self._params)[1]
         if text is not None:  # the text is a valid hash, so this writes its cost
-            library.hash_cost(text, len(text), *limits, cost)
+            lib.scrypt_hash_cost(text, len(text), *limits, cost)
         check(status, library.explained(status, cost, *limits))
 
 

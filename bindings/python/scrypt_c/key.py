@@ -5,7 +5,7 @@ from __future__ import annotations
 from typing import Callable, Optional
 
 from .arguments import Bytes, in_64_bits, number, raw_bytes
-from .declared import AUTO, INVALID_OUTPUT_LEN, MAX_OUTPUT_LEN
+from .declared import AUTO, MAX_OUTPUT_LEN, Status
 from .errors import InvalidParamsError, check
 from .params import NO_LIMIT, Params, accepted, check_costs, cost_of
 from .steps import derived
@@ -44,7 +44,7 @@ def scrypt(
     max_mem = in_64_bits(maxmem or NO_LIMIT, "maxmem")
     check_costs(*cost_of(params, max_mem, max_work), max_mem, max_work)
     if not 1 <= dklen <= MAX_OUTPUT_LEN:
-        check(INVALID_OUTPUT_LEN, f"dklen={dklen}")
+        check(Status.INVALID_OUTPUT_LEN, f"dklen={dklen}")
     return derived(password, salt, params, max_mem if maxmem else AUTO, dklen, progress)
 
 
@@ -53,5 +53,5 @@ def log_of(n: int) -> int:
     as hashlib rejects them."""
     if n < 2 or n & (n - 1):
         words = f"n must be a power of two above 1: {n}"
-        raise InvalidParamsError("SCRYPT_E_INVALID_PARAMS", words)
+        raise InvalidParamsError(Status.INVALID_PARAMS, words)
     return n.bit_length() - 1

@@ -32,7 +32,7 @@ def _loaded() -> ctypes.CDLL:
         ) from error
 
 
-_lib = _loaded()
+lib = _loaded()
 
 
 class Hasher(ctypes.c_void_p):
@@ -40,65 +40,35 @@ class Hasher(ctypes.c_void_p):
     signal handler's exception finds it in one of these two states; then it is freed with this
     object."""
 
-    def __del__(self, free: Any = _lib.scrypt_hasher_free, at: Any = ctypes.byref) -> None:
+    def __del__(self, free: Any = lib.scrypt_hasher_free, at: Any = ctypes.byref) -> None:
         free(at(self))
 
 
 class Derivation(ctypes.c_void_p):
     """The same of a scrypt_derivation."""
 
-    def __del__(self, free: Any = _lib.scrypt_derivation_free, at: Any = ctypes.byref) -> None:
+    def __del__(self, free: Any = lib.scrypt_derivation_free, at: Any = ctypes.byref) -> None:
         free(at(self))
 
 
-_types = declared.calls(Derivation, Hasher) | {"PyObject_GC_UnTrack": ([ctypes.py_object], None)}
-
-
-def _declared(name: str, library: ctypes.CDLL = _lib) -> Any:
-    call = getattr(library, name)
-    call.argtypes, call.restype = _types[name]
-    return call
-
-
-key = _declared("scrypt_key")
-params_cost = _declared("scrypt_params_cost")
-hash_cost = _declared("scrypt_hash_cost")
-derivation_new = _declared("scrypt_derivation_new")
-derivation_run = _declared("scrypt_derivation_run")
-derivation_finish = _declared("scrypt_derivation_finish")
-derivation_free = _declared("scrypt_derivation_free")
-hash_params = _declared("scrypt_hash_params")
-stored_text = _declared("scrypt_stored_text")
-calibrate = _declared("scrypt_calibrate")
-_declared("scrypt_hasher_free")
-_hasher_new = _declared("scrypt_hasher_new")
-options_init = _declared("scrypt_options_init")
-hasher_options = _declared("scrypt_hasher_options")
-hasher_stats = _declared("scrypt_hasher_stats")
-hasher_verify = _declared("scrypt_hasher_verify")
-hasher_hash = _declared("scrypt_hasher_hash")
-hasher_key = _declared("scrypt_hasher_key")
-hasher_needs_rehash = _declared("scrypt_hasher_needs_rehash")
-hasher_close = _declared("scrypt_hasher_close")
-_explain = _declared("scrypt_explain")
-strerror = _declared("scrypt_strerror")
-status_name = _declared("scrypt_status_name")
-status_is_invalid_hash = _declared("scrypt_status_is_invalid_hash")
+for _name, (_arguments, _result) in declared.calls(Derivation, Hasher).items():
+    _call = getattr(lib, _name)
+    _call.argtypes, _call.restype = _arguments, _result
 
 if sys.implementation.name == "cpython":
     # The interpreter's own functions: on Windows they are in a DLL, elsewhere in the program.
-    _interpreter = ctypes.PyDLL(None, handle=getattr(sys, "dllhandle", None))
-    _untrack = _declared("PyObject_GC_UnTrack", _interpreter)
+    _untrack = ctypes.PyDLL(None, handle=getattr(sys, "dllhandle", None)).PyObject_GC_UnTrack
+    _untrack.argtypes, _untrack.restype = [ctypes.py_object], None
 
 
 def hasher_new(options: Optional[declared.Options]) -> tuple[int, Hasher]:
-    """Creates a hasher, and returns the status and it. The garbage collector finalizes the objects of a cycle in any order, so it
-    could free a hasher that other objects still use. A hasher refers to nothing, so it is
-    untracked: it is freed when its last reference is gone."""
+    """Creates a hasher, and returns the status and it. The garbage collector finalizes the objects
+    of a cycle in any order, so it could free a hasher that other objects still use. A hasher refers
+    to nothing, so it is untracked: it is freed when its last reference is gone."""
     hasher = Hasher()
     if sys.implementation.name == "cpython":
         _untrack(hasher)
-    return _hasher_new(options, hasher), hasher
+    return lib.scrypt_hasher_new(options, hasher), hasher
 
 
 def explained(
@@ -106,7 +76,7 @@ def explained(
 ) -> str:
     """Returns the part of an error message that has the numbers of a status."""
     text = ctypes.create_string_buffer(declared.EXPLANATION_CAPACITY)
-    _explain(status, cost, max_mem, max_work, min_key_len, text, len(text))
+    lib.scrypt_explain(status, cost, max_mem, max_work, min_key_len, text, len(text))
     return text.value.decode()
 
 

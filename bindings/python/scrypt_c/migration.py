@@ -10,10 +10,10 @@ import base64
 import ctypes
 import re
 
-from . import library
 from .arguments import Bytes, number, raw_bytes
-from .declared import INVALID_OUTPUT_LEN, MAX_KEY_LEN, PHC_CAPACITY, SALT_INVALID
+from .declared import MAX_KEY_LEN, PHC_CAPACITY, Status
 from .errors import check
+from .library import lib
 from .params import accepted
 
 # The alphabet of `$7$` hashes, in the order of the values.
@@ -46,8 +46,8 @@ def _text(salt: Bytes, key: Bytes, n: int, r: int, p: int, key_len: int = 0) -> 
     room = ctypes.create_string_buffer(PHC_CAPACITY + 2 * (len(salt) + len(key)))
     for mcf, part in (0, key[:MAX_KEY_LEN]), (1, key):
         parts = salt, len(salt), part, len(part), *params, mcf
-        status = library.stored_text(*parts, room, len(room))
-        if status not in (SALT_INVALID, INVALID_OUTPUT_LEN):
+        status = lib.scrypt_stored_text(*parts, room, len(room))
+        if status not in (Status.SALT_INVALID, Status.INVALID_OUTPUT_LEN):
             break
     check(status)
     return room.raw.rstrip(b"\0").decode()

@@ -5,10 +5,11 @@ from __future__ import annotations
 import ctypes
 from typing import NamedTuple, Optional, Union
 
-from . import declared, library
+from . import declared
 from .arguments import in_64_bits, number, raw_text
-from .declared import INVALID_PARAMS
+from .declared import Status
 from .errors import check
+from .library import explained, lib
 
 # No limit.
 NO_LIMIT = 2**64 - 1
@@ -19,7 +20,7 @@ def accepted(log_n: int, r: int, p: int) -> tuple[int, int, int]:
     never 0, which could mean the default in C."""
     log_n, r, p = number(log_n, "log_n"), number(r, "r"), number(p, "p")
     if not (0 <= log_n <= 63 and 0 < r < 1 << 32 and 0 < p < 1 << 32):
-        check(INVALID_PARAMS, f"log_n={log_n}, r={r}, p={p}")
+        check(Status.INVALID_PARAMS, f"log_n={log_n}, r={r}, p={p}")
     return log_n, r, p
 
 
@@ -57,8 +58,8 @@ def cost_of(
     InvalidParamsError."""
     log_n, r, p = accepted(*params[:3])
     cost = declared.Cost()
-    status = int(library.params_cost(log_n, r, p, max_mem, max_work, cost))
-    if status == INVALID_PARAMS:
+    status = int(lib.scrypt_params_cost(log_n, r, p, max_mem, max_work, cost))
+    if status == Status.INVALID_PARAMS:
         check(status, f"log_n={log_n}, r={r}, p={p}")
     return status, cost
 
@@ -72,7 +73,7 @@ def check_costs(
     """Raises the exception of a status, for a derivation with this cost. A limit that is None is
     not one that it exceeds."""
     limits = (NO_LIMIT if it is None else in_64_bits(it, "a limit") for it in (max_mem, max_work))
-    check(status, library.explained(status, cost, *limits))
+    check(status, explained(status, cost, *limits))
 
 
 def params_of(hash: Union[str, bytes]) -> Params:
@@ -80,5 +81,5 @@ def params_of(hash: Union[str, bytes]) -> Params:
     it is not a scrypt hash."""
     raw = raw_text(hash)
     found = ctypes.c_uint32(), ctypes.c_uint32(), ctypes.c_uint32(), ctypes.c_size_t()
-    check(library.hash_params(raw, len(raw), *found))
+    check(lib.scrypt_hash_params(raw, len(raw), *found))
     return Params(*(it.value for it in found))

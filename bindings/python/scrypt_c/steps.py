@@ -5,9 +5,9 @@ from __future__ import annotations
 import ctypes
 from typing import Callable, Optional
 
-from . import library
 from .declared import AUTO
 from .errors import check
+from .library import Derivation, explained, lib
 from .params import NO_LIMIT, Params, cost_of
 
 STEP_MS = 10
@@ -31,18 +31,18 @@ def derived(
     key = ctypes.create_string_buffer(dklen)
     arguments = password, len(password), salt, len(salt), *params[:3]
     if progress is None and params.cores < LONG and (max_mem == AUTO or params.p == 1):
-        _check(library.key(*arguments, key, dklen), params, dklen)
+        _check(lib.scrypt_key(*arguments, key, dklen), params, dklen)
     else:
-        derivation, done = library.Derivation(), ctypes.c_double()
+        derivation, done = Derivation(), ctypes.c_double()
         try:
-            _check(library.derivation_new(*arguments, max_mem, dklen, derivation), params, dklen)
+            _check(lib.scrypt_derivation_new(*arguments, max_mem, dklen, derivation), params, dklen)
             while done.value < 1:
-                check(library.derivation_run(derivation, STEP_MS, done))
+                check(lib.scrypt_derivation_run(derivation, STEP_MS, done))
                 if progress is not None:
                     progress(done.value)
-            check(library.derivation_finish(derivation, password, len(password), key, dklen))
+            check(lib.scrypt_derivation_finish(derivation, password, len(password), key, dklen))
         finally:
-            library.derivation_free(derivation)
+            lib.scrypt_derivation_free(derivation)
     made = key.raw
     ctypes.memset(key, 0, dklen)
     return made
@@ -50,5 +50,5 @@ def derived(
 
 def _check(status: int, params: Params, dklen: int) -> None:
     if status:
-        cost = library.explained(status, cost_of(params)[1], NO_LIMIT, NO_LIMIT)
+        cost = explained(status, cost_of(params)[1], NO_LIMIT, NO_LIMIT)
         check(status, f"{cost}, and the key {dklen}")

@@ -13,7 +13,7 @@ import unittest
 import scrypt_c
 from scrypt_c import InvalidParamsError, InvalidSaltError, KeyTooShortError, Params, PasswordHasher
 from scrypt_c import TooCostlyError, VerifyMismatchError, calibrate, errors, params_of
-from scrypt_c.declared import MAX_OUTPUT_LEN, NO_RANDOM_BYTES
+from scrypt_c.declared import MAX_OUTPUT_LEN, Status
 from scrypt_c.migration import stored_text
 
 SMALL = PasswordHasher(log_n=4)
@@ -36,7 +36,7 @@ REFUSED = [
         *each("log_n", 57, 260, 4 + B64, -252), *each("r", 0, 8 + B32, 8 - B32),
         *each("p", 1 + B32, -1, 1 << 27), {"log_n": 0, "r": 0, "p": 0}]),
     (InvalidParamsError, "; log_n is the logarithm of N, 14 for 16384", made, each("log_n", 64, 1 << 17)),
-    (InvalidParamsError, "10 to 64 bytes: key_len=", made, each("key_len", 9, 65, 32 + B64, 32 - B64)),
+    (InvalidParamsError, "10 to 64 bytes", made, each("key_len", 9, 65, 32 + B64, 32 - B64)),
     (InvalidParamsError, RANGES, lambda it: it.memory + it.cores + it.work,
      each("it", Params(260), Params(-1), Params(4, 8 + B32), Params(4, 8, -1))),
     (InvalidParamsError, RANGES, key, [
@@ -75,7 +75,8 @@ REFUSED = [
     (TypeError, "a hash must be str or bytes, not", verify, each("hash", 5, bytearray(b"$"))),
     (TypeError, "a hash must be str or bytes, not", params_of, each("hash", None)),
     (MemoryError, "need 9223372036854776192 bytes", PasswordHasher(56, 1).hash, [{"password": ""}]),
-    (OSError, "random", errors.check, each("status", NO_RANDOM_BYTES)),
+    (scrypt_c.ScryptError, "unknown status", errors.check, each("status", 99)),  # of a newer library
+    (OSError, "random", errors.check, each("status", Status.NO_RANDOM_BYTES)),
     (MemoryError, "need 9223372036854776192 bytes", key, [
         {"n": 1 << 56, "r": 1}, {"n": 1 << 56, "r": 1, "progress": print}]),
 ]

@@ -14,7 +14,8 @@ import unittest
 from unittest import mock
 
 import scrypt_c
-from scrypt_c import Params, calibrate, library
+from scrypt_c import Params, calibrate
+from scrypt_c.library import lib
 from test_hasher import B64, key
 
 
@@ -31,7 +32,7 @@ def growth(call):
 class Keys(unittest.TestCase):
     def test_keys_equal_hashlib(self):
         """Also in the shortest steps. The minimum maxmem is the same as in hashlib."""
-        run = library.derivation_run
+        run = lib.scrypt_derivation_run
         for _ in range(int(os.environ.get("STEPS", 100))):
             costs = {"n": 2 << random.randrange(8), "salt": os.urandom(random.randrange(40))}
             for name, most in [("r", 9), ("p", 4), ("dklen", 99)]:
@@ -43,7 +44,7 @@ class Keys(unittest.TestCase):
             self.assertEqual(found, wanted, costs)
             for derive in (hashlib.scrypt, scrypt_c.scrypt):
                 self.assertRaises(ValueError, derive, password, **costs, maxmem=of.memory - 1)
-            with mock.patch.object(library, "derivation_run", lambda it, _, done: run(it, 0, done)):
+            with mock.patch.object(lib, "scrypt_derivation_run", lambda it, _, done: run(it, 0, done)):
                 found = scrypt_c.scrypt(password, **costs, progress=seen.append)
             self.assertEqual((found, seen, seen[-1]), (wanted, sorted(seen), 1), costs)
         most = {"maxmem": B64 + 1, "max_work": B64 + 1}

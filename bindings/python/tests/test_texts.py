@@ -46,7 +46,7 @@ def outcome(call, *arguments):
     try:
         call(*arguments)
     except scrypt_c.ScryptError as error:
-        return error.name.removeprefix("SCRYPT_").removeprefix("E_"), error
+        return error.status.name, error
     return "OK", None
 
 
@@ -61,7 +61,8 @@ class Texts(unittest.TestCase):
             self.assertEqual(isinstance(error, scrypt_c.RefusedHashError), refused, text)
             if error:
                 copy = pickle.loads(pickle.dumps(error))
-                self.assertEqual(*((type(it), it.name, str(it)) for it in (copy, error)))
+                self.assertEqual(*((type(it), it.status, str(it)) for it in (copy, error)))
+                self.assertIs(copy.status, scrypt_c.Status[status])
                 self.assertTrue(str(error).endswith("".join(f": {it}" for it in numbers)), error)
             unread = isinstance(error, scrypt_c.InvalidHashError)
             for reads in (hasher.check_needs_rehash, params_of):
