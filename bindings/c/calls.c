@@ -99,6 +99,11 @@ int scrypt_stored_text(const void *salt, size_t salt_len, const void *key, size_
   size_t text_len = 0;
   int status;
   if (is_null(salt, salt_len) || is_null(key, key_len) || is_null(text, capacity)) return SCRYPT_E_NULL_POINTER;
+  if (mcf == SCRYPT_PHC_OR_MCF) {
+    const size_t prefix_len = key_len < SCRYPT_MAX_KEY_LEN ? key_len : SCRYPT_MAX_KEY_LEN;
+    status = scrypt_stored_text(salt, salt_len, key, prefix_len, log_n, r, p, 0, text, capacity);
+    if (status != SCRYPT_E_SALT_INVALID && status != SCRYPT_E_INVALID_OUTPUT_LEN) return status;
+  }
   status = (mcf ? cleared_scrypt_stored_mcf : cleared_scrypt_stored_phc)(
       bytes_of(salt), salt_len, bytes_of(key), key_len, in_8_bits(log_n), r, p, text_of(text), without_nul(capacity),
       &text_len);

@@ -32,28 +32,12 @@ func storedText(salt, key []byte, N, r, p int) (string, error) {
 	if N < 1 || N&(N-1) != 0 {
 		return "", fmt.Errorf("%w: N must be a power of two: %d", ErrInvalidParams, N)
 	}
-	if len(key) == 0 {
-		return "", fmt.Errorf("%w: there is no key", ErrInvalidOutputLen)
-	}
-	params := Params{LogN: bits.TrailingZeros(uint(N)), R: r, P: p, KeyLen: len(key)}
-	if _, err := params.Memory(); err != nil {
-		return "", fmt.Errorf("%w: N is %d, r is %d and p is %d", err, N, r, p)
-	}
 	text := make([]byte, C.SCRYPT_PHC_CAPACITY+2*(len(salt)+len(key)))
-	store := func(key []byte, mcf C.int) C.int {
-		return C.scrypt_stored_text(pointer(salt), size(salt), pointer(key), size(key), number(params.LogN),
-			number(r), number(p), mcf, chars(text), size(text))
-	}
-	short := key
-	if len(short) > C.SCRYPT_MAX_KEY_LEN {
-		short = short[:C.SCRYPT_MAX_KEY_LEN]
-	}
-	status := store(short, 0)
-	if status == C.SCRYPT_E_SALT_INVALID || status == C.SCRYPT_E_INVALID_OUTPUT_LEN {
-		status = store(key, 1)
-	}
+	status := C.scrypt_stored_text(pointer(salt), size(salt), pointer(key), size(key),
+		number(bits.TrailingZeros(uint(N))), number(r), number(p), C.SCRYPT_PHC_OR_MCF, chars(text), size(text))
 	if err := failed(status); err != nil {
-		return "", fmt.Errorf("%w: neither format can store this one of %d bytes", err, len(salt))
+		const words = "%w: N is %d, r is %d and p is %d, the salt has %d bytes and the key has %d"
+		return "", fmt.Errorf(words, err, N, r, p, len(salt), len(key))
 	}
 	return strings.TrimRight(string(text), "\x00"), nil
 }

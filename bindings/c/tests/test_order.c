@@ -272,6 +272,7 @@ static void hashes(void) {
 static void stored_texts(void) {
   static const char SALTS[] = "saltsaltsaltsaltsaltsaltsaltsaltsaltsaltsaltsaltsaltsaltsaltsalt$";
 #define STORED(...) scrypt_stored_text(__VA_ARGS__)
+#define EITHER SCRYPT_PHC_OR_MCF
   meets("stored phc: p, salt, key, text", STORED("", 0, "", 0, 4, 2, 0, 0, NO_ROOM), SCRYPT_E_INVALID_PARAMS);
   meets("stored phc: no salt, key, text", STORED("", 0, "", 0, PARAMS, 0, NO_ROOM), SCRYPT_E_SALT_INVALID);
   meets("stored phc: a salt of 65 bytes", STORED(SALTS, 65, KEY, 20, PARAMS, 0, TEXT), SCRYPT_E_SALT_INVALID);
@@ -281,6 +282,10 @@ static void stored_texts(void) {
   meets("stored mcf: a $, key, text", STORED(SALTS, 65, "", 0, PARAMS, 1, NO_ROOM), SCRYPT_E_SALT_INVALID);
   meets("stored mcf: half a letter", STORED("s\xc3lt", 4, KEY, 20, PARAMS, 1, TEXT), SCRYPT_E_SALT_INVALID);
   meets("stored mcf: no key, text", STORED("", 0, "", 0, PARAMS, 1, NO_ROOM), SCRYPT_E_INVALID_OUTPUT_LEN);
+  meets("stored either: p, salt, key, text", STORED("$", 1, "", 0, 4, 2, 0, EITHER, NO_ROOM), SCRYPT_E_INVALID_PARAMS);
+  meets("stored either: a long $, key", STORED(SALTS, 65, KEY, 20, PARAMS, EITHER, TEXT), SCRYPT_E_SALT_INVALID);
+  meets("stored either: no key, text", STORED("", 0, "", 0, PARAMS, EITHER, NO_ROOM), SCRYPT_E_INVALID_OUTPUT_LEN);
+  meets("stored either: text", STORED("saltsalt", 8, KEY, 20, PARAMS, EITHER, text, 9), SCRYPT_E_BUFFER_SIZE);
   meets("stored mcf: text", STORED("n34PoBLMgF5", 11, KEY, 20, PARAMS, 1, text, sizeof MCF - 1), SCRYPT_E_BUFFER_SIZE);
 }
 

@@ -11,7 +11,7 @@ import ctypes
 import re
 
 from .arguments import Bytes, number, raw_bytes
-from .declared import MAX_KEY_LEN, PHC_CAPACITY, Status
+from .declared import PHC_CAPACITY, PHC_OR_MCF
 from .errors import check
 from .library import lib
 from .params import accepted
@@ -44,12 +44,8 @@ def _text(salt: Bytes, key: Bytes, n: int, r: int, p: int, key_len: int = 0) -> 
         raise ValueError(f"n must be a power of two above 1: {n}")
     params = accepted(n.bit_length() - 1, r, p)
     room = ctypes.create_string_buffer(PHC_CAPACITY + 2 * (len(salt) + len(key)))
-    for mcf, part in (0, key[:MAX_KEY_LEN]), (1, key):
-        parts = salt, len(salt), part, len(part), *params, mcf
-        status = lib.scrypt_stored_text(*parts, room, len(room))
-        if status not in (Status.SALT_INVALID, Status.INVALID_OUTPUT_LEN):
-            break
-    check(status)
+    parts = salt, len(salt), key, len(key), *params, PHC_OR_MCF
+    check(lib.scrypt_stored_text(*parts, room, len(room)))
     return room.raw.rstrip(b"\0").decode()
 
 
