@@ -29,7 +29,7 @@
  *
  * "yes" marks a proved function, with a few lines of C that check for NULL, reject N passed as
  * log_n, add the NUL to a text, and wipe the stack and the heap memory that the function used. The
- * other calls are written in C over the proved ones, which compute each key and verdict. All C code
+ * other calls are written in C over the proved ones, which compute each key and result. All C code
  * is tested.
  *
  * Parameters are accepted if r > 0, p > 0, 128 * r * 2^log_n < 2^64 and r * p < 2^30. log_n is the
@@ -289,7 +289,7 @@ SCRYPT_NODISCARD
 int scrypt_stored_text(const void *salt, size_t salt_len, const void *key, size_t key_len, uint32_t log_n, uint32_t r,
                        uint32_t p, int mcf, char *text, size_t capacity);
 
-/* Verifies a password against the text of a hash: returns SCRYPT_OK if the derived key is the key
+/* Verifies a password against a hash string: returns SCRYPT_OK if the derived key is the key
  * of the hash, and SCRYPT_MISMATCH if it is not, or if a PHC string has no salt or no key.
  * A text that is $7 or begins with $7$ is read as a $7$ hash, and any other as a PHC string.
  * The hash sets the parameters, and an untrusted one can demand any memory and time: one that
@@ -486,16 +486,16 @@ int scrypt_hasher_new(const scrypt_options *options, scrypt_hasher **hasher);
  * freed; or NULL for NULL. */
 const scrypt_options *scrypt_hasher_options(const scrypt_hasher *hasher);
 
-/* Verifies a password against the text of a hash, like scrypt_verify, within the limits of the
+/* Verifies a password against a hash string, like scrypt_verify, within the limits of the
  * hasher. If the password is right and needs_rehash is not NULL, *needs_rehash becomes 1 if the hash
  * is weaker than new hashes, so that a new one should be stored, and otherwise 0.
  * This and the next two calls wait for a slot of the hasher for up to timeout_ms milliseconds, or
  * without a limit if that is negative, and then return SCRYPT_E_TIMEOUT; the timeout doesn't end a
  * derivation.
- * For a login whose name doesn't exist, pass NULL with text_len 0: the call verifies a decoy with
+ * For an unknown user, pass NULL with text_len 0: the call verifies a decoy with
  * the parameters and lengths of new hashes, like scrypt_verify_batch_with_buffers, and returns
  * SCRYPT_MISMATCH after the work of a wrong password for such a hash, so that a timing attack
- * doesn't tell which names exist. While hashes of older parameters are stored, it does: then verify
+ * doesn't tell who exists. While hashes of older parameters are stored, it does: then verify
  * against the hash of another user, chosen by a keyed hash of the name, and ignore the result.
  * SCRYPT_E_NULL_POINTER; the errors of scrypt_hash_cost, without waiting; SCRYPT_E_CLOSED,
  * SCRYPT_E_TIMEOUT, SCRYPT_E_OUT_OF_MEMORY, and last SCRYPT_MISMATCH if the password is wrong. */

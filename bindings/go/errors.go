@@ -55,7 +55,7 @@ const (
 func (e Error) Error() string {
 	switch e {
 	case ErrRefused:
-		return "scrypt: the stored hash is refused"
+		return "scrypt: the stored hash is rejected"
 	case ErrInvalidOption:
 		return "scrypt: an option of a Hasher is out of range"
 	case ErrInvalidHash:

@@ -17,12 +17,12 @@ func logIn(ctx context.Context, hasher *scrypt.Hasher, users map[string]string, 
 	// Timeout: under load a log-in fails before its client gives up.
 	ctx, cancel := context.WithTimeout(ctx, 10*time.Second)
 	defer cancel()
-	// Unknown name: without a hash, Verify takes the time of a wrong password.
+	// Unknown user: without a hash, Verify takes the time of a wrong password.
 	text := users[name] // SELECT hash FROM users WHERE name = $1
 	stronger, err := hasher.VerifyAndUpdate(ctx, text, []byte(password))
-	// Refused hash: it is logged, and looks like a wrong password, with the same time.
+	// Rejected hash: it is logged, and looks like a wrong password, with the same time.
 	if errors.Is(err, scrypt.ErrRefused) {
-		log.Printf("the hash of %q is refused: %v", name, err)
+		log.Printf("the hash of %q is rejected: %v", name, err)
 		err = hasher.Verify(ctx, "", []byte(password))
 	}
 	// Rehash by compare-and-swap: a password that was changed in between is not overwritten.

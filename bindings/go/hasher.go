@@ -349,7 +349,7 @@ func (h *Hasher) run(ctx context.Context, password []byte,
 	}
 }
 
-// endOf returns the error of a context that is done. It is never nil, which would be a verdict, even
+// endOf returns the error of a context that is done. It is never nil, which would be a result, even
 // if a type of the caller has its own Done and the Err of another context.
 func endOf(ctx context.Context) error {
 	if err := ctx.Err(); err != nil {

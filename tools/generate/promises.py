@@ -41,7 +41,7 @@ def quoted(library, path, names):
 def reading(proof):
     """The definitions to read for the two promises, in reading order, with the lines of each file."""
     known = set()
-    for title, clauses in (("For the key", KEY), ("For the verdict, with those of the key", VERDICT)):
+    for title, clauses in (("For the key", KEY), ("For a verification, with those of the key", VERDICT)):
         modules = proof.reading(proof.clauses(clauses))
         every = [it for _, those in modules for it in those]
         yield filled(f"{title}: {len(every)} definitions of {sum(it.lines for it in every)} lines.", "- ")
@@ -87,7 +87,7 @@ def wrong(proof):
     """The errors in PROMISES, and in the numbers of lines to read that other pages state."""
     found = [] if read(PAGE) == page(proof) else [f"{PAGE} differs from the sources: make promises"]
     key, verdict = lines(proof, KEY), lines(proof, VERDICT)
-    stated = {"docs/TRUST.md": f"{key} lines for the key, {verdict} for the verdict", "README.md": f"[{verdict} lines]",
+    stated = {"docs/TRUST.md": f"{key} lines for the key, {verdict} for a verification", "README.md": f"[{verdict} lines]",
               "docs/EVIDENCE.md": f"a reviewer of the key reads {key} |"}
     for path, words in stated.items():
         if words not in " ".join(read(path).split()):

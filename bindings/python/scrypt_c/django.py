@@ -65,7 +65,7 @@ class FalseIfRefused:
         try:
             return super().verify(password, encoded)  # type: ignore[misc]
         except RefusedHashError as error:
-            LOG.error("a stored hash is refused: %s", error)
+            LOG.error("a stored hash is rejected: %s", error)
         return self.verify_no_hash(password)  # type: ignore[attr-defined]
 
 
@@ -91,7 +91,7 @@ class _Hasher(BasePasswordHasher):
             return False
 
     def verify_no_hash(self, password: str) -> bool:
-        """Returns False after the time of a wrong password, as for a name that doesn't exist. Under
+        """Returns False after the time of a wrong password, as for an unknown user. Under
         load a new hash would take longer, because only verifications are derived in batches."""
         return self.hasher.verify_and_update(None, password)[0]
 

@@ -1,4 +1,4 @@
-"""A handler for passlib: passlib.hash.scrypt, with keys and verdicts from this library.
+"""A handler for passlib: passlib.hash.scrypt, with keys and results from this library.
 
     from passlib.context import CryptContext
     from scrypt_c.passlib import scrypt
@@ -29,7 +29,7 @@ from .migration import from_passlib
 
 
 class scrypt(passlib.hash.scrypt):  # passlib names handlers as their scheme
-    """passlib.hash.scrypt, with keys and verdicts from libscrypt_c."""
+    """passlib.hash.scrypt, with keys and results from libscrypt_c."""
 
     default_rounds = RECOMMENDED_LOG_N
     # The options of PasswordHasher; None means its default.
