@@ -30,7 +30,7 @@ unexport CDPATH # with it, cd would go elsewhere
 PRESET ?= native
 export PRESET DESTDIR
 prefix = $(or $(PREFIX),/usr/local)
-STEP = PROGRESS=yes tools/gate/step.sh
+STEP = EACH=60 tools/gate/step.sh
 FIRST_KEY = key 4 1 1 64 "" < /dev/null
 
 # The libraries below the program, each after the libraries that it uses. The two lowest take about equally
@@ -65,7 +65,7 @@ run: setup-run
 	@echo "Proves and builds the program, in about 8 minutes on four idle CPUs. The steps' logs are in build/log."
 	@$(PROVE) proved-scrypt_tool
 	@rm -f build/bin/scrypt_tool
-	@$(STEP) program --needs cc:gcc /usr/include/bsd/readpassphrase.h:libbsd-dev bindings/cli/build.sh
+	@$(STEP) program cc:gcc /usr/include/bsd/readpassphrase.h:libbsd-dev bindings/cli/build.sh
 	@it=build/bin/scrypt_tool; if ! [ -e $$it ]; then it=crates/scrypt_tool/out/scrypt_tool; \
 	   echo "$$it shows a password that is typed: build/bin/scrypt_tool, which does not, was not linked."; fi; \
 	 echo "$$it prints the first key of RFC 7914, section 12:"; $$it $(FIRST_KEY)

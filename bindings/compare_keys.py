@@ -21,4 +21,4 @@ for line in sys.stdin:
         count += 1
 if count == 0:
     sys.exit("there are no keys")
-print(f"{count} keys are hashlib's")
+print(f"ok {count} keys are hashlib's")

@@ -225,7 +225,7 @@ def main():
             continue
         with tempfile.TemporaryDirectory() as room:
             runs(room)
-        print(f"the examples in {language} run")
+        print(f"ok the examples in {language} run")
 
 
 if __name__ == "__main__":

@@ -30,7 +30,7 @@ if $python -c 'import nacl' 2> /dev/null; then
   binds ${scheme}_str $client make > "$room/ours"
   $client check < "$room/ours"
   binds ${scheme}_str_verify $client check < "$room/theirs"
-  echo "called by PyNaCl, with hashes of libsodium and of this library"
+  echo "ok called by PyNaCl, with hashes of libsodium and of this library"
 else tools/lacks PyNaCl python3-nacl; fi
 
 # minisign makes a key with a password with libsodium, signs with this library, and rejects another
@@ -44,5 +44,5 @@ if has minisign minisign; then
   sign secret
   minisign -V -q -p "$room/key.pub" -m "$room/letter"
   if sign wrong; then echo "minisign took a wrong password" >&2; exit 1; fi
-  echo "called by minisign, with a key of libsodium"
+  echo "ok called by minisign, with a key of libsodium"
 fi

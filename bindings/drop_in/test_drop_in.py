@@ -202,4 +202,4 @@ def one_table():
 for test in (keys, overlapping, choices, limits, texts, one_table):
     test()
 for name, library in BY_COSTS.items():
-    print(f"{name}: as hashlib" + (", and as its own library" if library else ""))
+    print(f"ok {name}: as hashlib" + (", and as its own library" if library else ""))

@@ -265,7 +265,7 @@ func TestContexts(t *testing.T) {
 			err := hasher.Verify(ctx, it.text, nil)
 			isEarly = hasher.Stats().Deriving > 0
 			isEnded := it.deadline > 0 || hasher.shared.calls.Load() == 0
-			check(t, errors.Is(err, it.want) && isEnded && tries < 20, why, err, tries)
+			check(t, errors.Is(err, it.want) && isEnded && tries < 10, why, err, tries)
 			cancel()
 			wait(func() bool { runtime.GC(); return len(inside) == 0 && runtime.NumGoroutine() <= goroutines })
 		}

@@ -16,7 +16,7 @@ if [ "$system" = windows ]; then
   echo "called from Go, in Wine"
   exit
 fi
-quiet go test -count=1 -timeout 5m -vet=all -race -v .
+quiet go test -count=1 -timeout 1h -vet=all -race -v .
 echo "$(grep -c '^--- PASS' "$room/log") passed, 0 failed"
 python3 ../compare_keys.py < "$room/log"
 
@@ -26,4 +26,4 @@ quiet "$room/program" -test.run Example
 if ldd "$room/program" > /dev/null 2>&1; then echo "the program is not static" >&2; exit 1; fi
 if CGO_ENABLED=0 go build . 2> "$room/log"; then exit 1; fi
 grep -q 'undefined: scrypt_needs_cgo' "$room/log"
-echo "called from Go, also statically, with no report by go vet and the race detector"
+echo "ok called from Go, also statically, with no report by go vet and the race detector"

@@ -17,7 +17,6 @@ if [ "$system" != windows ]; then
   imports() { $python -c "import $1" 2> /dev/null || { "$top/tools/lacks" "$1" "python3-$1"; return 1; }; }
   for it in django passlib; do if imports $it; then quiet $python -m unittest test_$it; fi; done
   imports bcrypt || true # the tests of Django leave out what needs it
-  echo "called from Python"
 fi
 if ! $python -c 'import venv, ensurepip, hatchling' 2> /dev/null; then
   "$top/tools/lacks" "what makes wheels" python3-venv python3-hatchling
@@ -47,4 +46,4 @@ $python -m venv "$room/venv"
 "$room/venv/bin/pip" install --quiet --no-index "$room"/*.whl
 cmp "$room"/venv/lib/python3*/site-packages/scrypt_c/libscrypt_c.so.? "$lib/libscrypt_c.so"
 (cd tests && quiet "$room/venv/bin/python" -m unittest test_hasher)
-echo "installed by pip from the wheel of the source archive"
+echo "ok installed by pip from the wheel of the source archive"

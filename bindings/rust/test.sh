@@ -32,7 +32,6 @@ python3 bindings/compare_keys.py < "$room/log"
 crate cargo test --quiet --no-default-features --tests --no-run
 crate cargo doc --quiet --all-features --no-deps
 if has rustfmt rustfmt; then crate cargo fmt --check; fi
-echo "called from Rust"
 
 # The package, built elsewhere with its own library; without one the build prints what is missing.
 cp tools/release/NOTICES bindings/rust/
@@ -44,4 +43,4 @@ grep -q '^\$scrypt\$ln=' "$room/log"
 rm "$crate"/libscrypt_c*.a
 if (cd "$crate" && PKG_CONFIG=false cargo build --quiet 2> "$room/log"); then exit 1; fi
 grep -q 'needs the library libscrypt_c: false does not find scrypt_c' "$room/log"
-echo "packaged, and built elsewhere"
+echo "ok packaged, and built elsewhere"

@@ -12,7 +12,7 @@ cp tools/{setup,install}.sh tools/lacks "$room/tools"
 cp tools/gate/{run,step}.sh "$room/tools/gate"
 cp bindings/cli/{install.sh,scrypt_tool.1,scrypt_tool.bash} "$room/bindings/cli"
 cd "$room"
-unset NO_INSTALL PRESET PROGRESS STEPS NICE LIMIT EACH JOBS DESTDIR MAKEFLAGS # of who runs this
+unset NO_INSTALL PRESET STEPS NICE LIMIT EACH JOBS DESTDIR MAKEFLAGS # of who runs this
 export PATH="$room/bin:$PATH"
 is() { if [ "$1" != "$2" ]; then printf '%s\nand not: %s\n' "$1" "$2"; exit 1; fi; }
 fake() { # COMMAND LINE: a command that prints this line, and notes how it is called
@@ -60,10 +60,10 @@ STEP = @tools/gate/step.sh $@
 proved:; $(STEP) bash -c 'echo "logic=proved functions=7 axioms=0"; echo "so far: 1 of 7 functions checked"'
 counted:; $(STEP) bash -c 'echo "logic=proved functions=7 axioms=0"; echo "2 passed, 0 failed"'
 parts:; $(STEP) printf '%s\n' "a: 3 of 3 as they should be" "# pass 4" "Ran 5 tests in 1s" \
-	"100% tests passed, 0 tests failed out of 6" "test result: ok. 7 passed; 0 failed; 0 ignored" "ok     a check in a page"
+	"100% tests passed, 0 tests failed out of 6" "test result: ok. 7 passed; 0 failed; 0 ignored" "ok a check in a page"
 part:; $(STEP) tools/lacks it a b
 none:; $(STEP) bash -c 'tools/lacks it c; exit 77'
-needs: none; $(STEP) --needs nothing:d no-cc:gcc true
+needs: none; $(STEP) nothing:d no-cc:gcc true
 wrong:; $(STEP) bash -c 'echo why; exit 3'
 hangs:; @LIMIT=1 tools/gate/step.sh $@ bash -c 'sleep 7914 & echo $$! > child; sleep 7914'
 after: wrong
@@ -92,7 +92,7 @@ skipped: none (needs c); needs (needs d gcc)
 timeout 60 sh -c 'while grep -qs "^State:.[^Z]" "/proc/$(cat child)/status"; do sleep 0.1; done' ||
   { echo "a child of a task that hangs is left"; exit 1; }
 
-export PROGRESS=yes STEPS="proved other"
+export EACH=600 STEPS="proved other"
 EACH=1 JOBS=1 LIMIT=1m tools/gate/run.sh waits 2> /dev/null > said
 is "$(tools/gate/step.sh proved sh -c 'echo "so far: 3 of 7 functions checked"; ./until_said 42; echo "logic=proved functions=7"' |
   tee said | no_times)" \
@@ -106,7 +106,7 @@ is "$(EACH=1 tools/gate/step.sh other ./until_said 'runs for' | tee said | no_ti
 other: runs
 step 2 of 2, other: passed"
 grep -q '^logic=proved functions=7' build/log/proved.log
-unset PROGRESS STEPS
+unset EACH STEPS
 
 # ---- The program, installed beside an installation whose folder has the name that & of sed makes ----
 echo "run | sh:dash |" > tools/packages.txt

@@ -13,7 +13,7 @@ LIBRARY = build/lib/libscrypt_c.so
 # Other machines: targets that the kit proves for, and Windows.
 CROSS := $(shell $(PY) tools.presets proved)
 MACHINES := $(shell $(PY) tools.presets names)
-FOR = --needs $(shell $(PY) tools.presets needs $1) env -u CC
+FOR = $(shell $(PY) tools.presets needs $1) env -u CC
 ifdef BUILT
 proved =
 else
@@ -40,7 +40,7 @@ tasks: # of the targets OF
 	@echo $(foreach it,$(OF),$(or $($(it)),$(it)))
 
 # ---- The proofs ----
-proofs: private export PROGRESS = yes
+proofs: private export EACH = 600
 proofs: private LIMIT = 6h
 proofs:
 	+$(TASK) tools/gate/prove.sh
@@ -73,10 +73,9 @@ promises:
 
 # ---- The library from C ----
 library: $(call proved,proved-scrypt)
-	$(TASK) --needs cc:gcc $(PY) tools.gate.library crates/scrypt_c/out $(KEPT) llvm
+	$(TASK) $(PY) tools.gate.library crates/scrypt_c/out $(KEPT) llvm
 linked: $(call proved,library)
 	$(TASK) $(MAKE) --no-print-directory -f Makefile linked
-linked native asan tsan by-rattle: private NEEDS = --needs cmake:cmake ninja:ninja-build
 native asan tsan by-rattle: linked
 	$(TASK) tools/gate/c_tests.sh $@
 $(CROSS:%=library-%): library-%: library
@@ -94,7 +93,7 @@ module: library
 javascript: $(call proved,module) linked
 	$(TASK) bindings/js/test/test.sh
 # Both have a program that reads from a terminal.
-answers example-key_files: private NEEDS = --needs /dev/pts/ptmx:/dev/pts
+answers example-key_files: private NEEDS = /dev/pts/ptmx:/dev/pts
 $(examples): example-%: $(call proved,module) linked
 	$(TASK) examples/$*/test.sh
 examples-of-pages: linked
@@ -104,13 +103,13 @@ hostile: linked
 
 # ---- The program ----
 program: $(call proved,proved-scrypt_tool linked)
-	$(TASK) --needs cc:gcc /usr/include/bsd/readpassphrase.h:libbsd-dev tools/gate/program.sh
+	$(TASK) tools/gate/program.sh
 $(CROSS:%=program-%): program-%: $(call proved,proved-scrypt_tool)
 	$(TASK) $(call FOR,$*) $(PY) bindings.cross $* scrypt_tool
 $(CROSS:%=answers-%): answers-%: % program-%
 	$(TASK) $(call FOR,$*) env PRESET=$* tools/gate/program.sh
 oracle migration: private PROGRAM = build/bin/scrypt_tool # as it is installed, with the library's memory
-oracle migration: private NEEDS = --needs build/bin/scrypt_tool:libbsd-dev
+oracle migration: private NEEDS = build/bin/scrypt_tool:libbsd-dev
 answers oracle migration: program
 	$(TASK) $(PY) tools.tests.$(@:answers=program) $(PROGRAM)
 completions:

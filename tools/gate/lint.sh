@@ -13,7 +13,7 @@ lint() {
   fi
   wrong=$(find bindings crates examples tools -name "$kind" -not -path '*/out/*' \
     -not -path '*/target/*' -exec "$@" {} + 2>&1) || test -n "$wrong" || wrong="$1 failed"
-  test -z "$wrong" || { echo "$wrong"; failed=1; }
+  if test -z "$wrong"; then echo "ok $1"; else echo "$wrong"; failed=1; fi
 }
 
 lint '*.py' pyflakes3 pyflakes3

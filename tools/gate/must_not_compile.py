@@ -128,6 +128,8 @@ def wrong_edits():
         errors = re.findall(r"^src/\S+ error\[(.*)", ran.stdout + ran.stderr, re.M)
         if text.count(old) != 1 or ran.returncode == 0 or not errors or not all(error in it for it in errors):
             yield f"{name}, {file}: not rejected as it has to be: {new}\n{ran.stdout[-500:]}"
+        else:
+            print(f"ok {name}, {file}: rejected")
 
 
 if __name__ == "__main__":

@@ -45,7 +45,7 @@ by_esbuild() {
   [ "$(node "$app/dist/login.js")" = true ]
   mv "$app/away" "$app/node_modules"
   bundles lines
-  echo "bundled by esbuild"
+  echo "ok bundled by esbuild"
 }
 
 # What npm runs for a folder, in one that has no module yet.
@@ -69,6 +69,7 @@ grep -E '^# (pass|fail) ' "$room/log"
 if has esbuild esbuild esbuild --version; then by_esbuild; fi
 if has tsc node-typescript tsc --version; then
   tsc --strict --exactOptionalPropertyTypes --noEmit --target es2022 --module node16 $here/types.ts
+  echo "ok types"
 fi
 has chromium chromium chromium --version || exit 0
 python3 -B $here/in_browser.py
