@@ -134,8 +134,11 @@ def decided():
     yield "bindings/c/scrypt_c.h", f"among the first {number('bindings/c/hasher.c', 'define MAX_SCANNED ', ' ')} that wait"
     new, longest = numbers["HASH_CAPACITY"] - 1, numbers["PHC_CAPACITY"] - 1
     yield "bindings/c/README.md", f"{new} ASCII characters by default, and never more than {longest}"
-    edits = len(glob.glob("crates/*/must-fail/*.edit"))
-    yield "docs/EVIDENCE.md", f"each `make test` must see rejected | {edits} |"
+    yield "docs/EVIDENCE.md", f"each `make test` must see rejected | {len(glob.glob('crates/*/must-fail/*.edit'))} |"
+    parts = (glob.glob(f"crates/*/{it}/**/*.*t", recursive=True) for it in ("src", "specs", "proofs"))
+    rattle, definitions, proofs = (round(sum(read(it).count("\n") for it in part if "_tests/" not in it), -2) for part in parts)
+    yield "docs/EVIDENCE.md", f"(without test crates) | about {rattle:,} |"
+    yield "docs/EVIDENCE.md", f"| about {definitions:,} | | lines of proofs | about {proofs:,} |"
     lines = len(re.findall("^[^;\n]", read("bindings/c/kit_heap.ll"), re.M))
     yield "docs/TRUST.md", f"`bindings/c/kit_heap.ll`, {lines} lines of LLVM IR"
     worker = number("bindings/js/machine.js", "OF_WORKER = ", ";") // mib
@@ -155,6 +158,7 @@ def measured():
     yield "bindings/README.md", f"each of two takes {two} of the time of one, each of four {four};"
     yield "bindings/c/scrypt_c.h", f"batch of two takes {two} of the time of two calls, and a batch of four {four} of the time of four"
     yield "crates/scrypt/src/buffers.rt", f"two take {two} of the time, and four {four}"
+    yield "docs/PARAMETERS.md", f"four guesses in four tables take {four} of the time of four"
     milliseconds, (rust, libxcrypt, libsodium, _, openssl) = table["(17, 8, 1)"]
     yield "README.md", f"takes 128 MiB and {milliseconds / 1000:.2f} seconds"
     yield "README.md", f"{rust} of the time of the Rust crate scrypt, {libxcrypt} of libxcrypt's, {libsodium} of libsodium's and {openssl} of"
