@@ -251,7 +251,7 @@ SCRYPT_NODISCARD
 int scrypt_hash_password(const void *password, size_t password_len, char *text, size_t capacity);
 
 /* Writes the hash of password and salt, NUL-terminated, to text: the PHC string $scrypt$ln=.. if
- * mcf is 0, and otherwise the $7$ hash of crypt(3). The key has key_len bytes, 10 to 64. The salt of
+ * mcf is 0, and otherwise the $7$ hash of crypt(5). The key has key_len bytes, 10 to 64. The salt of
  * a PHC string has 1 to 64 bytes, and that of a $7$ hash any length. A capacity that is too small is
  * detected only after the derivation; SCRYPT_PHC_CAPACITY or SCRYPT_MCF_CAPACITY(salt_len) is enough.
  * SCRYPT_E_NULL_POINTER, SCRYPT_E_INVALID_PARAMS (also for key_len), SCRYPT_E_SALT_INVALID,
@@ -457,7 +457,7 @@ typedef struct scrypt_hasher scrypt_hasher;
 typedef struct scrypt_options {
   size_t size;              /* sizeof (scrypt_options), so that later versions can add fields */
   uint32_t log_n, r, p;     /* of new hashes and keys: SCRYPT_RECOMMENDED_LOG_N, .. */
-  int mcf;                  /* new hashes are PHC strings if 0, otherwise $7$ hashes of crypt(3) */
+  int mcf;                  /* new hashes are PHC strings if 0, otherwise $7$ hashes of crypt(5) */
   size_t key_len, salt_len; /* of new hashes: SCRYPT_KEY_LEN and SCRYPT_SALT_LEN */
   /* The rest are SCRYPT_AUTO: */
   size_t max_mem;           /* maximum bytes of the buffers for a hash, as in scrypt_hash_cost: */

@@ -32,7 +32,7 @@ const timedOut = status(C.SCRYPT_E_TIMEOUT)
 // that its comment names.
 type Options struct {
 	Params       // the parameters of new hashes: by default those of Recommended()
-	MCF     bool // whether new hashes are $7$ hashes of crypt(3); by default they are PHC strings
+	MCF     bool // whether new hashes are $7$ hashes of crypt(5); by default they are PHC strings
 	SaltLen int  // the length of a new hash's salt, 1 to 64 bytes: by default 16
 
 	// The maximum number of tables: by default two for each CPU, or the number of tables of

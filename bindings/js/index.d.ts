@@ -38,7 +38,7 @@ export interface KeyOptions extends Params {
 export interface HashOptions extends PartialParams {
   /** 1 to 64 bytes, or any number for `'mcf'`. Default: 16 random bytes. */
   salt?: Bytes | undefined;
-  /** `'phc'`, the default: `$scrypt$..`; or `'mcf'`, the format of crypt(3): `$7$..`. */
+  /** `'phc'`, the default: `$scrypt$..`; or `'mcf'`, the format of crypt(5): `$7$..`. */
   format?: 'phc' | 'mcf' | undefined;
   /**
    * The maximum bytes of memory. Default: 2 ** 30 + 2 ** 20, or 7/8 of the memory of the container

@@ -58,7 +58,7 @@ class Pages:
                                       autoescape=True, undefined=jinja2.StrictUndefined)
         safe = jinja2.utils.markupsafe.Markup
         self.env.filters["plain"] = lambda text: safe(markup.plain(text))
-        self.env.globals.update(kinds=KINDS, crate="", tables=(), groups=())
+        self.env.globals.update(kinds=KINDS, crate="", tables=(), groups=(), kit=())
 
     def write(self, name, template="page.html", **values):
         text = self.env.get_template(template).render(page=name, **values)
@@ -92,8 +92,18 @@ class Pages:
         every = [it for _, those in groups for it in those]
         lines = sum(it.lines for it in every)
         lead = READING.format(lines=lines, of=of, key=promises.lines(self.proof, promises.KEY))
-        self.write(page, title=f"The definitions of {of}", lead=lead, groups=groups)
+        self.write(page, title=f"The definitions of {of}", lead=lead, groups=groups, kit=self.of_kit(groups))
         return {"definitions": len(every), "lines": lines}
+
+    def of_kit(self, groups):
+        """The modules of the kit whose names these definitions use, and the names."""
+        found = {}
+        for module, those in groups:
+            used = set(re.findall(r"[\w']+", " ".join(it.text for it in those)))
+            for word, (name, _) in module.imports.items():
+                if word in used and name.split(".")[1] not in self.proof.crates:
+                    found.setdefault(name, set()).add(word)
+        return sorted((name, sorted(words)) for name, words in found.items())
 
     def phrases(self, rows):
         """Phrases with their clauses and an optional note."""

@@ -51,7 +51,7 @@ class PasswordHasher:
     """Makes password hashes with these parameters, and verifies passwords against hashes with any
     parameters.
 
-    `mcf` makes `$7$` hashes of crypt(3) instead of PHC hashes. A hasher is thread-safe. It has
+    `mcf` makes `$7$` hashes of crypt(5) instead of PHC hashes. A hasher is thread-safe. It has
     `processors` slots, by default one for each CPU that this process may use, and calls
     derive in slots; the others wait in FIFO order, and raise TimeoutError after `timeout` seconds.
     Waiting verifications with the same N, r and p are derived in one batch, which takes less time

@@ -13,7 +13,7 @@ pub enum Format {
     /// `$scrypt$ln=..,r=..,p=..$..`, of the Password Hashing Competition.
     #[default]
     Phc,
-    /// `$7$..`, of crypt(3).
+    /// `$7$..`, of crypt(5).
     Mcf,
 }
 
