@@ -43,10 +43,10 @@ byte_in_block password salt made cut skipped i k size low high inside is_made is
 pub length-pbkdf2 : (password salt : List ℕ) (n : ℕ) → length (pbkdf2 password salt n) ≡ n
 length-pbkdf2 password salt n = length-map-range_with_len (pbkdf2_byte password salt) 0 n
 
--- bytes that are written in two pieces, one after the other
-pub pbkdf2-append : (password salt : List ℕ) (n more : ℕ)
-    → pbkdf2 password salt n ++ pbkdf2_from password salt n more ≡ pbkdf2 password salt (n + more)
-pbkdf2-append password salt n more =
+-- bytes that are written as a piece of more
+pub pbkdf2-piece : (password salt : List ℕ) (at size n : ℕ) → at + size ≤ n
+    → pbkdf2_from password salt at size ≡ take size (drop at (pbkdf2 password salt n))
+pbkdf2-piece password salt at size n inside =
     same_lists _ _ (grind (arith, places, length-map-range_with_len))
     (λ i d h. grind (arith, places, get_or-map-range_with_len, length-map-range_with_len))
 

@@ -7,8 +7,10 @@ use Rattle.scrypt.proofs.comparing.is_derived_key.Given as goal
 
 -- the keys are the same as far as they were compared, and what was hashed since the first of the chunks is counted
 abbrev pub invariant-loop-i : goal.invariant-loop-i
-invariant-loop-i l = record {
-  compared : let key = key_bytes l.parts.key in
-      (l.same ≡ true) ↔ (take (min (96 * l.i) (length key)) key ≡ pbkdf2 l.password l.mixed (min (96 * l.i) (length key)));
-  counted : AreHashed ((min (96 * l.i) (length (key_bytes l.parts.key)) + 31) / 32 * end_cost (length l.mixed) 4) l.initial.cores l.cores;
-}
+invariant-loop-i l =
+    let key = key_bytes l.parts.key in
+    let at = min (96 * l.i) (length key) in
+    record {
+      compared : (l.same ≡ true) ↔ (take at key ≡ take at (pbkdf2 l.password l.mixed (length key)));
+      counted : AreHashed ((at + 31) / 32 * end_cost (length l.mixed) 4) l.initial.cores l.cores;
+    }
