@@ -54,10 +54,7 @@ if [ "${NO_INSTALL:-}" != 1 ] && command -v apt-get > /dev/null && command -v dp
     done
     apt-get update -qq > $log 2>&1
     # If one of them cannot be installed, the others are.
-    if ! get $absent; then
-      can=$(for it in $absent; do if apt-get install -s "$it" > /dev/null 2>&1; then printf '%s ' "$it"; fi; done)
-      get $can || echo "not all are installed: $log says why"
-    fi
+    get $absent || for it in $absent; do get "$it" || echo "$it is not installed: $log says why"; done
   fi
 fi
 absent=$(absent $(sed -n 's/.*|\(.*\)|$/\1/p' <<< "$rows"))

@@ -27,29 +27,21 @@ run | sh:dash no-cc:gcc | the link
 js test | sh:dash | what is here
 (js) test | no-node:nodejs unknown | the page
 END
-setup() { tools/setup.sh "$@" 2>&1; echo $?; }
+setup() { { tools/setup.sh "$@" 2>&1 && echo and passes; } | xargs; }
 needs="needs these packages of Debian, and nothing was proved: apt-get install gcc"
 fake id 1000
 fake apt-get ""
 fake dpkg-query ""
-is "$(setup run)" "not run without gcc: the link
-0"
-is "$(DESTDIR="$room" setup run /usr)" "make run $needs
-1"
-is "$(setup lib)" "make lib $needs cmake
-1"
-is "$(setup lib "$room/Makefile/no")" "make lib install cannot write to $room/Makefile, and nothing was proved: prefix=\$HOME/.local?
-1"
+is "$(setup run)" "not run without gcc: the link and passes"
+is "$(DESTDIR="$room" setup run /usr)" "make run $needs"
+is "$(setup lib)" "make lib $needs cmake"
+is "$(setup lib "$room/Makefile/no")" "make lib install cannot write to $room/Makefile, and nothing was proved: prefix=\$HOME/.local?"
 fake id 0
-is "$(NO_INSTALL=1 setup lib)" "make lib $needs cmake
-1"
-if grep apt-get asked; then echo "installs packages, not as root or with NO_INSTALL=1"; exit 1; fi
-is "$(setup lib)" "Installs these packages of Debian, in some minutes (NO_INSTALL=1 prevents it): gcc cmake
-make lib $needs cmake
-1"
+is "$(NO_INSTALL=1 setup lib)" "make lib $needs cmake"
+is "$(setup js)" "not run without nodejs unknown: the page and passes"
+if grep apt-get asked; then echo "installs packages, not as root, with NO_INSTALL=1, or in brackets"; exit 1; fi
+is "$(setup lib)" "Installs these packages of Debian, in some minutes (NO_INSTALL=1 prevents it): gcc cmake make lib $needs cmake"
 grep -q '^apt-get install .* gcc cmake$' asked
-is "$(setup js)" "not run without nodejs unknown: the page
-0"
 
 # ---- Steps, and the last lines ----
 cat > tools/gate/gate.mk << 'MK'
@@ -94,17 +86,11 @@ timeout 60 sh -c 'while grep -qs "^State:.[^Z]" "/proc/$(cat child)/status"; do 
 
 export EACH=600 STEPS="proved other"
 EACH=1 JOBS=1 LIMIT=1m tools/gate/run.sh waits 2> /dev/null > said
-is "$(tools/gate/step.sh proved sh -c 'echo "so far: 3 of 7 functions checked"; ./until_said 42; echo "logic=proved functions=7"' |
-  tee said | no_times)" \
-  "step 1 of 2, proved: begins
-proved: 42 % is checked
-step 1 of 2, proved: proved, 7 functions"
-is "$(tools/gate/step.sh proved true | no_times)" "step 1 of 2, proved: begins
-step 1 of 2, proved: nothing to do: proved, 7 functions"
-is "$(EACH=1 tools/gate/step.sh other ./until_said 'runs for' | tee said | no_times | sed 's/ for .*//' | uniq)" \
-  "step 2 of 2, other: begins
-other: runs
-step 2 of 2, other: passed"
+step() { tools/gate/step.sh "$@" | tee said | no_times | sed 's/ for .*//' | uniq | xargs; }
+is "$(step proved sh -c 'echo "so far: 3 of 7 functions checked"; ./until_said 42; echo "logic=proved functions=7"')" \
+  "step 1 of 2, proved: begins proved: 42 % is checked step 1 of 2, proved: proved, 7 functions"
+is "$(step proved true)" "step 1 of 2, proved: begins step 1 of 2, proved: nothing to do: proved, 7 functions"
+is "$(EACH=1 step other ./until_said 'runs for')" "step 2 of 2, other: begins other: runs step 2 of 2, other: passed"
 grep -q '^logic=proved functions=7' build/log/proved.log
 unset EACH STEPS
 

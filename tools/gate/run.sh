@@ -7,7 +7,7 @@
 set -u
 unset CDPATH
 cd "$(dirname "$0")/../.."
-begun=$SECONDS results=build/log/results
+results=build/log/results
 jobs=${JOBS:-$(($(nproc) + 2))} # with the proofs and what waits for them
 gate() { make --no-print-directory -f tools/gate/gate.mk "$@"; }
 
@@ -27,7 +27,7 @@ fi
 mkdir -p build/log
 : > $results
 tasks=$(gate tasks OF="$*")
-minutes() { printf '%d:%02d' $(((SECONDS - begun) / 60)) $(((SECONDS - begun) % 60)); }
+minutes() { printf '%d:%02d' $((SECONDS / 60)) $((SECONDS % 60)); }
 while sleep "${EACH:-60}" > /dev/null 2>&1; do
   ended=$(cut -d' ' -f1 $results | grep -cxFf <(tr ' ' '\n' <<< "$tasks"))
   echo "$(minutes) minutes: $ended of $(wc -w <<< "$tasks") tasks have ended"
