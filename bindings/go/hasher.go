@@ -224,9 +224,10 @@ func (h *Hasher) Key(ctx context.Context, password, salt []byte, keyLen int) ([]
 	return key, nil
 }
 
-// Verify returns nil if the password matches the hash, and ErrMismatch if it does not. For a user
-// who does not exist, pass "" as the text: Verify derives as for a new hash and returns ErrMismatch,
-// so that its time does not reveal whether there is such a user.
+// Verify returns nil if the password matches the hash, and ErrMismatch if it does not. For an
+// unknown user, pass "" as the text: Verify takes the time of a wrong password for a new hash, and
+// returns ErrMismatch. While hashes of older parameters are stored, their time tells who exists:
+// see docs/HASHER.md of the repository.
 //
 // Other errors match (errors.Is) the context's error, ErrClosed or ErrOutOfMemory. If the hash is
 // rejected, Verify returns, without waiting, an error that matches ErrRefused: ErrInvalidHash,

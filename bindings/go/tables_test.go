@@ -35,7 +35,7 @@ func TestCases(t *testing.T) {
 	hasher := newHasher(t, Options{})
 	for _, words := range rows(t, "../cases.tsv") {
 		text, want := strings.ReplaceAll(words[2], "\\0", "\x00"), statuses[words[0]]
-		if text == "" { // as for a name that doesn't exist
+		if text == "" { // as for an unknown user
 			want = ErrMismatch
 		}
 		err, isRefused := hasher.Verify(ctx, text, []byte(words[1])), want != nil && want != ErrMismatch

@@ -180,12 +180,13 @@ export class RefusedHashError extends ScryptError {
 export function scrypt(
   password: Bytes, salt: Bytes, options: KeyOptions & StepOptions & CallOptions,
 ): Promise<Uint8Array>;
-/** Makes the text of a hash with a random salt, in a worker. */
+/** Makes a hash string with a random salt, in a worker. */
 export function hash(password: Bytes, options?: HashOptions & CallOptions): Promise<string>;
 /**
- * Verifies a password against the text of a hash, in a worker. A text that is not a scrypt hash is
- * a `RefusedHashError`. Without a text, as for a user who does not exist, the result is `false`
- * after the work of a new hash, so that a timing attack does not tell which users exist.
+ * Verifies a password against a hash string, in a worker. A string that is not a scrypt hash is a
+ * `RefusedHashError`. Without one, for an unknown user, the result is `false` after the work of a
+ * new hash. While hashes of older parameters are stored, their time tells who exists: see
+ * docs/HASHER.md of the repository.
  */
 export function verify(
   password: Bytes, text: Bytes | null | undefined,

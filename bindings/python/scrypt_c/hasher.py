@@ -196,9 +196,10 @@ class PasswordHasher:
 
         Otherwise raises VerifyMismatchError. If the hash is rejected, raises a RefusedHashError
         without waiting: InvalidHashError if it is not a scrypt hash, or has no key, TooCostlyError
-        if it exceeds the limits, KeyTooShortError if its key is too short. For a user who does not
-        exist, pass None: the call derives as for a new hash, and raises VerifyMismatchError, so
-        that its time does not reveal whether there is such a user.
+        if it exceeds the limits, KeyTooShortError if its key is too short. For an unknown user,
+        pass None: the call takes the time of a wrong password for a new hash, and raises
+        VerifyMismatchError. While hashes of older parameters are stored, their time tells who
+        exists: see docs/HASHER.md of the repository.
         """
         raw, secret = None if hash is None else raw_text(hash), raw_password(password)
         status = self._run(lib.scrypt_hasher_verify, secret, len(secret), raw, len(raw or b""), None)

@@ -250,9 +250,9 @@ impl Hasher {
         self.verify_optional(password, Some(text))
     }
 
-    /// Like [`Hasher::verify`], with `None` for a user who does not exist: this derives as for a
-    /// new hash, and returns `PasswordInvalid`, so that the time does not reveal whether there is
-    /// such a user.
+    /// Like [`Hasher::verify`], with `None` for an unknown user: this takes the time of a wrong
+    /// password for a new hash, and returns `PasswordInvalid`. While hashes of older parameters are
+    /// stored, their time tells who exists: see docs/HASHER.md of the repository.
     ///
     /// # Errors
     ///

@@ -18,7 +18,7 @@ def stored_hash_for(name):
 
 
 class Backend(ModelBackend):
-    """Verifies the password for an unknown name too: against the stored hash of another user,
+    """Verifies the password for an unknown user too: against the stored hash of another user,
     because hashes of older parameters take another time than new ones. Django would make a new hash,
     which also takes longer under load, because only verifications are derived in batches."""
 

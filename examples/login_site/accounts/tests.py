@@ -79,7 +79,7 @@ class ClientTest(TestCase):
         self.assertEqual(len({it.getMessage() for it in logs.records}), 3, logs.output)
 
     def test_unknown_names_among_old_hashes(self):
-        """A hash of older parameters takes another time than a new one. The time of an unknown name
+        """A hash of older parameters takes another time than a new one. The time of an unknown user
         is that of some stored hash, always of the same, and no password logs in there."""
         old = "scrypt_c" + PasswordHasher(log_n=13).hash(PASSWORD)
         [page] = self.take_alike({f"{name}, with old hashes": (name, old) for name in ("ann", "nobody")}, 2)
