@@ -328,8 +328,7 @@ int scrypt_verify_limited_with_buffers(const void *password, size_t password_len
                                        size_t max_mem, uint64_t max_work, size_t min_key_len,
                                        const scrypt_buffers *buffers);
 
-/* A password, and the text of the hash that it is verified against, or NULL if there is no hash for
- * its name. */
+/* A password, and the hash string that it is verified against, or NULL for an unknown user. */
 typedef struct scrypt_login {
   const void *password;
   size_t password_len;
