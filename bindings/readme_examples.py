@@ -44,27 +44,6 @@ assert [status(name=it, password=that) for it, that in (("ann", "x"), ("eve", "x
 """,
 }
 
-GO = """package main
-
-import (
-	"context"
-	"errors"
-	"log"
-
-	"nilomafy.example/scrypt"
-)
-
-func login(ctx context.Context) error {{
-{example}
-	return err
-}}
-
-func main() {{
-	if err := login(context.Background()); err != nil {{
-		log.Fatal(err)
-	}}
-}}
-"""
 QUICK_GO = """package main
 
 import (
@@ -190,7 +169,7 @@ def run_go(room):
     for name in ["libscrypt_c.a", "scrypt_c.h"]:
         shutil.copy(os.path.join(LIBRARY, name), folder)
     written(room, "go/go.mod", f"module login\n\nrequire {GO_MODULE} v0.0.0\n\nreplace {GO_MODULE} => {json.dumps(folder)}\n")
-    for around, page in (GO, "bindings/go/README.md"), (QUICK_GO, QUICK):
+    for around, page in ("{example}", "bindings/go/README.md"), (QUICK_GO, QUICK):
         written(room, "go/main.go", around.format(example=examples("go", page)[0]))
         run(["go", "run", "-mod=mod", "."], cwd=os.path.join(room, "go"), env=os.environ | {"GOPROXY": "off"})
 
