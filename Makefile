@@ -70,18 +70,15 @@ run: setup-run
 	   echo "$$it shows a password that is typed: build/bin/scrypt_tool, which does not, was not linked."; fi; \
 	 echo "$$it prints the first key of RFC 7914, section 12:"; $$it $(FIRST_KEY)
 
-# Both levels of x86-64 are built in any case. rt lib gives both one name, so the newer one is moved.
-BUILD_native = sh -c 'cd crates/scrypt_c && rt lib --cpu x86-64-v3 && mkdir -p out/x86-64-v3 && \
-  mv out/libscrypt_c.a out/x86-64-v3/ && rt lib'
-BUILD_windows = sh -c 'rm -rf build/given && python3 -m tools.gate.library build/given crates/scrypt_c/out/incremental llvm && \
-  python3 -m bindings.bitcode build/given'
-IS_CROSS = $(if $(BUILD_$(PRESET)),,yes)
-lib: export STEPS = password_hash scrypt_kernel scrypt $(if $(IS_CROSS),scrypt_commands) library linked \
-  $(if $(IS_CROSS),program)
+# The libraries for Windows are made of those for this machine.
+IS_CROSS = $(filter-out native windows,$(PRESET))
+lib: export STEPS = password_hash scrypt_kernel scrypt $(if $(IS_CROSS),scrypt_commands) library \
+  $(filter windows,$(PRESET)) linked $(if $(IS_CROSS),program)
 lib: setup-lib
 	@echo "Proves and builds the C libraries, in about 8 minutes on four idle CPUs. The steps' logs are in build/log."
 	@$(PROVE) proved-scrypt$(if $(IS_CROSS),_commands)
-	@$(STEP) library $(or $(BUILD_$(PRESET)),python3 -m bindings.cross $(PRESET) scrypt_c scrypt_tool)
+	@$(STEP) library python3 -m bindings.build $(PRESET:windows=native) scrypt_c $(if $(IS_CROSS),scrypt_tool)
+	@$(if $(filter windows,$(PRESET)),$(STEP) windows python3 -m bindings.bitcode)
 	@$(STEP) linked $(MAKE) --no-print-directory linked
 	@$(if $(IS_CROSS),$(STEP) program bindings/cli/build.sh)
 linked: # compiles and links the proved code

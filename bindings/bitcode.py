@@ -1,12 +1,8 @@
 #!/usr/bin/env python3
 """Compiles the crate scrypt_c for Windows, a target that the kit doesn't have, from the input of
 the kit's clang for Linux: the same LLVM IR, by the same clang, with the same options. The output is
-in crates/scrypt_c/out/windows, for each level of x86-64.
-
-usage: python3 -m bindings.bitcode MADE
-
-MADE is a folder that tools/gate/library.py has made: the kit's library for each level, and next to
-it the folder `given` with the input of its clang.
+in crates/scrypt_c/out/windows, for each level of x86-64. That input is in crates/scrypt_c/out/native,
+next to what bindings/build.py has built.
 
 First each text is compiled for Linux, and has to equal the kit's object byte for byte. For Windows
 the text differs in two attributes of functions. It needs the kit.
@@ -19,13 +15,10 @@ import sys
 import tempfile
 from pathlib import Path
 
-from tools import copies, prover_command
+from tools import copies, presets, prover_command
 
 TARGET = "x86_64-w64-mingw32"
-OUT = Path("crates/scrypt_c/out/windows")
-
-# The path of the library of each level, in a folder like crates/scrypt_c/out.
-LEVELS = {"x86-64-v2": "libscrypt_c.a", "x86-64-v3": "x86-64-v3/libscrypt_c.a"}
+NATIVE, OUT = Path("crates/scrypt_c/out/native"), Path("crates/scrypt_c/out/windows")
 
 # The input and the output of the kit's clang for Linux, with the kit's names for its files.
 SOURCE, OBJECT = "module.bc", "module.o"
@@ -91,13 +84,14 @@ def build(archive, output, room):
     copies.run(tool("llvm-ar"), "rcs", output, made)
 
 
-def main(made):
+def main():
     with tempfile.TemporaryDirectory() as room:
-        for level, place in LEVELS.items():
-            build(Path(made, place), OUT / place, Path(room))
+        for level in presets.levels("windows"):
+            place = f"{level}/libscrypt_c.a"
+            build(NATIVE / place, OUT / place, Path(room))
             print(f"{level}: for Linux it is what the kit built, byte by byte; compiled for {TARGET}", flush=True)
 
 
 if __name__ == "__main__":
     os.chdir(copies.TOP)
-    main(*sys.argv[1:])
+    main()

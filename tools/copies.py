@@ -50,7 +50,7 @@ def leave_out(crate, function):
         shutil.rmtree(answers)
 
 
-def copy_toolchain(to, *flags, given=None):
+def copy_toolchain(to, flags, given=None):
     """The kit's toolchain, with these flags for the compiler. If a folder is given, the compiler saves its input there:
     its options, one a line, and module.bc. In that case it is called once."""
     own = f"{prover_command.kit()}/toolchain"
@@ -61,17 +61,17 @@ def copy_toolchain(to, *flags, given=None):
     compiler = to / "bin/clang"
     compiler.unlink()
     keep = f'mkdir "{given}"\ncp module.bc "{given}"\nprintf "%s\\n" "$@" > "{given}/options"\n' if given else ""
-    compiler.write_text(f'#!/bin/sh\nset -e\n{keep}exec "{own}/bin/clang" {" ".join(flags)} "$@"\n')
+    compiler.write_text(f'#!/bin/sh\nset -e\n{keep}exec "{own}/bin/clang" {flags} "$@"\n')
     compiler.chmod(0o755)
 
 
-def build(name, crate, output, *options, kept=None):
-    """Proves and builds a copy, starting with the kept proofs of its crate, and returns the verdict."""
-    if kept and os.path.isdir(kept):
-        shutil.copytree(kept, crate / "kept")
-    command = [*prover_command.of("build", name), "--jobs", "2", "--incremental", "kept", *options, "-o", output]
-    said = run(*command, cwd=crate)
-    verdict = re.search("^logic=proved .*", said, re.M)
-    if not verdict:
-        sys.exit(f"{said}{name}: not proved as wanted")
-    return verdict[0]
+def prove(*words, cwd):
+    """Runs rattle, shows what it prints, and returns the verdict."""
+    verdict, how = None, {"stdout": subprocess.PIPE, "stderr": subprocess.STDOUT, "text": True, "errors": "replace"}
+    with subprocess.Popen(list(map(str, words)), cwd=cwd, **how) as ran:
+        for line in ran.stdout:
+            print(line, end="", flush=True)
+            verdict = line if line.startswith("logic=proved ") else verdict
+    if ran.returncode or not verdict:
+        sys.exit(f"{cwd.name}: not proved as wanted")
+    return verdict

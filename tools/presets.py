@@ -1,10 +1,11 @@
-"""Reads the vendor part of CMakePresets.json about other machines: the kit's target and its backend,
-and the commands and files that are needed to build and run for them, each with its Debian package.
+"""Reads bindings/c/CMakePresets.json, the table of machines. A preset that the kit builds for has in its vendor part
+`kit`: the crates' backend (crates/scrypt/src/backends.rt), the target, if it isn't the kit's own, and options. Another
+machine than this has `needs`: the commands and files to build and run for it, each with its Debian package.
 
 usage: python3 -m tools.presets packages      the Debian packages of all
        python3 -m tools.presets needs [NAME]  the needs of all or one, as COMMAND:PACKAGE
        python3 -m tools.presets names         the other machines
-       python3 -m tools.presets proved        the machines for which the kit proves and compiles
+       python3 -m tools.presets proved        those for which the kit proves and compiles
 """
 
 import json
@@ -12,15 +13,22 @@ import sys
 from pathlib import Path
 
 FILE = Path(__file__).resolve().parents[1] / "bindings/c/CMakePresets.json"
-MACHINES = {it["name"]: it["vendor"] for it in json.loads(FILE.read_text("utf-8"))["configurePresets"] if "vendor" in it}
+PRESETS = {it["name"]: it for it in json.loads(FILE.read_text("utf-8"))["configurePresets"]}
+KIT, NEEDS = ({name: of["vendor"][part] for name, of in PRESETS.items() if part in of.get("vendor", ())} for part in ("kit", "needs"))
+
+
+def levels(preset):
+    """The levels of the preset's CPU, the oldest first."""
+    variables = PRESETS["base"]["cacheVariables"] | PRESETS[preset].get("cacheVariables", {})
+    return [it.split("=")[0] for it in variables["LEVELS"].split(";")]
 
 
 def main(which, name=None):
     if which == "needs":
-        return [f"{it}:{package}" for of in ([MACHINES[name]] if name else MACHINES.values()) for it, package in of["needs"].items()]
+        return [f"{it}:{package}" for of in ([NEEDS[name]] if name else NEEDS.values()) for it, package in of.items()]
     if which == "packages":
-        return [package for it in MACHINES.values() for package in it["needs"].values()]
-    return [it for it, of in MACHINES.items() if which == "names" or "kit" in of]
+        return [package for of in NEEDS.values() for package in of.values()]
+    return [it for it in NEEDS if which == "names" or it in KIT]
 
 
 if __name__ == "__main__":

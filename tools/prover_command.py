@@ -4,6 +4,7 @@ crates/*/out, or at the same paths in the folder that PROVED_LIBRARIES names in 
 import os
 import shutil
 import sys
+from glob import glob
 from pathlib import Path
 
 from tools.generate.sources import crates
@@ -12,15 +13,6 @@ from tools.generate.sources import crates
 def kit():
     """The folder of the Rattle kit."""
     return Path(shutil.which("rt") or sys.exit("the Rattle kit's command rt isn't here")).resolve().parents[1]
-
-
-def below(name):
-    """The crates of this repository below a crate, each after the crates that it uses."""
-    found = []
-    for used in crates()[name][1]:
-        if used in crates():
-            found += [crate for crate in [*below(used), used] if crate not in found]
-    return found
 
 
 def of(command, name):
@@ -33,7 +25,7 @@ def of(command, name):
     for library in ["std", *used]:
         place = f"{libraries}/{library}/out/rlib" if library in crates() else f"{folder}/rlibs"
         words += ["--extern", f"{library}={place}/{library}.rlib"]
-    for library in below(name):
-        words += ["-L", f"dependency={libraries}/{library}/out/rlib"]
-    words += ["-L", f"dependency={folder}/rlibs", "--antt-project", f"{folder}/rattle/logic/antt-project.json"]
+    for place in [*glob(f"{libraries}/*/out/rlib"), f"{folder}/rlibs"]:
+        words += ["-L", f"dependency={place}"]
+    words += ["--antt-project", f"{folder}/rattle/logic/antt-project.json"]
     return [*words, "--logic-built", f"{folder}/logic_built"]

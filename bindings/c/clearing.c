@@ -7,7 +7,7 @@
 
 /* A batch has an array of this size for each login. */
 #if BASE_PAYS > SCRYPT_MAX_LOGINS || (defined HAS_NEWER && NEWER_PAYS > SCRYPT_MAX_LOGINS)
-#error "a level in LEVELS of CMakeLists.txt has more tables than SCRYPT_MAX_LOGINS"
+#error "a level in CMakePresets.json has more tables than SCRYPT_MAX_LOGINS"
 #endif
 
 #ifdef HAS_NEWER

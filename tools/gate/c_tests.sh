@@ -7,9 +7,7 @@ unset CDPATH
 cd "$(dirname "$0")/../.."
 targets=all
 if [ "$1" = by-rattle ]; then
-  cp -R build/gate/kept build/gate/kept-by-rattle
-  python3 -B -m tools.gate.library crates/scrypt_c/out/by-rattle build/gate/kept-by-rattle rattle \
-    x86-64-v3
+  python3 -B -m bindings.build by-rattle scrypt_c
 fi
 cd bindings/c
 cmake --preset "$1"

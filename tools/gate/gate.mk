@@ -6,8 +6,6 @@ TASK = @NICE=$(or $(NICE),10) LIMIT=$(or $(LIMIT),2h) tools/gate/step.sh $@ $(NE
 NEEDS =
 PY = python3 -B -m
 
-# The proofs that building the crate scrypt_c keeps.
-KEPT = build/gate/kept
 PROGRAM = crates/scrypt_tool/out/scrypt_tool
 LIBRARY = build/lib/libscrypt_c.so
 # Other machines: targets that the kit proves for, and Windows.
@@ -73,15 +71,15 @@ promises:
 
 # ---- The library from C ----
 library: $(call proved,proved-scrypt)
-	$(TASK) $(PY) tools.gate.library crates/scrypt_c/out $(KEPT) llvm
+	$(TASK) $(PY) bindings.build native scrypt_c
 linked: $(call proved,library)
 	$(TASK) $(MAKE) --no-print-directory -f Makefile linked
 native asan tsan by-rattle: linked
 	$(TASK) tools/gate/c_tests.sh $@
 $(CROSS:%=library-%): library-%: library
-	$(TASK) $(call FOR,$*) $(PY) bindings.cross $* scrypt_c=$(KEPT)
+	$(TASK) $(call FOR,$*) $(PY) bindings.build $* scrypt_c
 library-windows: library
-	$(TASK) $(call FOR,windows) $(PY) bindings.bitcode crates/scrypt_c/out
+	$(TASK) $(call FOR,windows) $(PY) bindings.bitcode
 $(MACHINES): %: library-%
 	$(TASK) $(call FOR,$*) tools/gate/c_tests.sh $*
 
@@ -89,7 +87,7 @@ $(MACHINES): %: library-%
 python go rust drop-in: linked
 	$(TASK) bindings/$(subst -,_,$@)/test.sh
 module: library
-	$(TASK) $(PY) bindings.js.build $(KEPT)
+	$(TASK) $(PY) bindings.js.build
 javascript: $(call proved,module) linked
 	$(TASK) bindings/js/test/test.sh
 # Both have a program that reads from a terminal.
@@ -105,7 +103,7 @@ hostile: linked
 program: $(call proved,proved-scrypt_tool linked)
 	$(TASK) tools/gate/program.sh
 $(CROSS:%=program-%): program-%: $(call proved,proved-scrypt_tool)
-	$(TASK) $(call FOR,$*) $(PY) bindings.cross $* scrypt_tool
+	$(TASK) $(call FOR,$*) $(PY) bindings.build $* scrypt_tool
 $(CROSS:%=answers-%): answers-%: % program-%
 	$(TASK) $(call FOR,$*) env PRESET=$* tools/gate/program.sh
 oracle migration: private PROGRAM = build/bin/scrypt_tool # as it is installed, with the library's memory

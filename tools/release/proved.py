@@ -18,7 +18,7 @@ from pathlib import Path
 
 KEPT = Path("build/proved.json")
 # The files that the kit built. All other packed files are compiled and linked from these, reproducibly.
-BUILT = ["crates/scrypt_c/out/**/libscrypt_c.a", "crates/scrypt_tool/out/**/scrypt_tool.o", "bindings/js/scrypt.wasm"]
+BUILT = ["crates/scrypt_c/out/*/*/libscrypt_c.a", "crates/scrypt_tool/out/**/scrypt_tool.o", "bindings/js/scrypt.wasm"]
 UNPROVED = "There is no verdict here: `make dist UNPROVED=1` packed what was built, proved or not."
 GATE = """\
 The gate proved each crate in this commit's own clone. The library for C is proved once for both levels of

@@ -1,10 +1,7 @@
 """Plants leaks of secrets into the C library, and fails unless bindings/c/tests/test_secrets.c finds each.
 
-usage: python3 -m tools.tests.leaks MADE
-
-MADE is a folder that tools/gate/library.py has made, as crates/scrypt_c/out after `make test`. The proved code is
-changed in the LLVM IR that the kit gives its clang, where no proof has to accept it. It needs the kit, valgrind and
-an x86-64-v3 processor, and takes about five minutes.
+The proved code that `make lib` has left is changed in the LLVM IR that the kit gives its clang, where no proof has to
+accept it. It needs the kit, valgrind and a CPU of the newest level, and takes about five minutes.
 """
 
 import os
@@ -16,9 +13,9 @@ import tempfile
 from pathlib import Path
 
 from bindings import bitcode
-from tools import copies
+from tools import copies, presets
 
-LEVEL = "x86-64-v3"
+LEVEL = presets.levels("native")[-1]
 
 # A read of a table at a number or a byte. The value is stored, because valgrind drops a load that nothing uses.
 NUMBER = "%leak.index = zext i32 {} to i64"
@@ -86,11 +83,12 @@ class Copy:
     """A copy of the repository, and test_secrets of it over an archive of one level."""
 
     def __init__(self, room):
-        self.tree, self.build, self.archive = room / "tree", room / "build", room / "libscrypt_c.a"
+        self.tree, self.build, self.archive = room / "tree", room / "build", room / LEVEL / "libscrypt_c.a"
         shutil.copytree(".", self.tree, ignore=shutil.ignore_patterns(".git", "build", "out", "target", "node_modules"))
-        self.options = [f"-DPROVED={room}", f"-DLEVELS={LEVEL}=4={self.archive.name}", f"-DBUILT={room}", "-DPACKAGES="]
+        self.options = [f"-DPROVED={room}", f"-DLEVELS={LEVEL}=4", f"-DBUILT={room}", "-DPACKAGES="]
 
     def put(self, compiled):
+        self.archive.parent.mkdir(exist_ok=True)
         self.archive.unlink(missing_ok=True)
         copies.run(bitcode.tool("llvm-ar"), "rcs", self.archive, compiled)
 
@@ -105,10 +103,10 @@ class Copy:
         return ran == wanted
 
 
-def main(made):
+def main():
     with tempfile.TemporaryDirectory() as folder:
         room = Path(folder)
-        copy, archive = Copy(room), Path(made, bitcode.LEVELS[LEVEL])
+        copy, archive = Copy(room), bitcode.NATIVE / LEVEL / "libscrypt_c.a"
         given, changed, compiled = archive.parent / "given", room / "changed.ll", room / "changed.o"
         text = bitcode.printed(given, room)
         bitcode.check(archive, given, text, room)
@@ -131,4 +129,4 @@ def main(made):
 
 if __name__ == "__main__":
     os.chdir(copies.TOP)
-    sys.exit(main(*sys.argv[1:]))
+    sys.exit(main())

@@ -1,5 +1,5 @@
 /* The memory that the calls allocate and free: in a program whose malloc, mmap and munmap record
- * it, and fail on request. */
+ * it, and fail on request. PAYS is the number of tables that is fastest, by CMakePresets.json. */
 #define _GNU_SOURCE
 #include "child.h"
 #include "scrypt_c.h"
@@ -78,7 +78,7 @@ static int derive(uint32_t log_n, uint32_t p, size_t max_mem) {
 /* The most chunks for four tables of 32 MiB and their scratches, in the 129 MiB that the header states. */
 enum { MOST = ((129 << 20) - 4 * ((128 * R << 15) + 256 * R)) / (128 * R) };
 
-static void tables_of_keys(size_t that_pay) {
+static void tables_of_keys(void) {
   static const struct {
     const char *why;
     uint32_t log_n, p;
@@ -99,14 +99,14 @@ static void tables_of_keys(size_t that_pay) {
   for (i = 0; i < sizeof KEYS / sizeof KEYS[0]; i++) {
     const uint32_t log_n = KEYS[i].log_n, p = KEYS[i].p;
     const int wanted = KEYS[i].tables > 0 ? SCRYPT_E_OUT_OF_MEMORY : SCRYPT_E_INVALID_PARAMS;
-    const size_t tables = fewer(KEYS[i].tables, that_pay);
+    const size_t tables = fewer(KEYS[i].tables, PAYS);
     REFUSES(KEYS[i].why, log_n, tables, wanted, scrypt_key(SECRETS, log_n, R, p, key, sizeof key));
     REFUSES(KEYS[i].why, log_n, tables, wanted, derive(log_n, p, SCRYPT_AUTO));
   }
 }
 
 /* All buffers together are within the limit. */
-static void tables_of_limited_keys(size_t that_pay) {
+static void tables_of_limited_keys(void) {
   static const size_t EACH = 4 * (32 * R << 14) + 4 * 64 * R, CHUNKS = 4 * 128 * R;
   const struct {
     const char *why;
@@ -117,7 +117,7 @@ static void tables_of_limited_keys(size_t that_pay) {
   size_t i;
   for (i = 0; i < sizeof BOUNDS / sizeof BOUNDS[0]; i++) {
     const int wanted = BOUNDS[i].tables > 0 ? SCRYPT_E_OUT_OF_MEMORY : SCRYPT_E_TOO_COSTLY;
-    const size_t tables = fewer(BOUNDS[i].tables, that_pay);
+    const size_t tables = fewer(BOUNDS[i].tables, PAYS);
     REFUSES(BOUNDS[i].why, 14, tables, wanted, derive(14, 4, BOUNDS[i].max_mem));
   }
 }
@@ -189,13 +189,11 @@ static void not_unmapped(void) {
 }
 
 int main(void) {
-  /* The number of tables that is fastest, by the measurements in docs/DECISIONS.md. */
-  const size_t that_pay = strstr(scrypt_version(), "x86-64-v2") != NULL ? 3 : 4;
 #ifndef IS_EMULATED
   little_is_touched();
 #endif
-  tables_of_keys(that_pay);
-  tables_of_limited_keys(that_pay);
+  tables_of_keys();
+  tables_of_limited_keys();
   one_table_of_hashes();
   no_table();
   one_of_several();
