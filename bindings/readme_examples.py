@@ -7,6 +7,7 @@ tools/release/test.sh the example of JavaScript's page. Missing tools are named 
 if an example fails or is missing.
 """
 
+import glob
 import json
 import os
 import re
@@ -144,8 +145,8 @@ def run(command, **more):
     return subprocess.run(command, check=True, **more)
 
 
-def lacks(what, package):
-    run([os.path.join(TOP, "tools/lacks"), what, package])
+def lacks(what, *packages):
+    run([os.path.join(TOP, "tools/lacks"), what, *packages])
 
 
 def run_python(room):
@@ -197,10 +198,10 @@ def main():
         ("Python", run_python, "python3", "python3"),
         ("Go", run_go, "go", "golang-go"),
         ("C", run_c, "cc", "gcc"),
-        ("Rust", run_rust, "cargo", "cargo"),
+        ("Rust", run_rust, "cargo", "cargo librust-password-hash-dev"),
     ]:
-        if not shutil.which(command):
-            lacks(command, package)
+        if not shutil.which(command) or command == "cargo" and not glob.glob("/usr/share/cargo/registry/password-hash-0.4*"):
+            lacks(command, *package.split())
             continue
         with tempfile.TemporaryDirectory() as room:
             runs(room)
