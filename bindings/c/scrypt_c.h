@@ -273,16 +273,17 @@ int scrypt_hash_with_buffers(const void *password, size_t password_len, const vo
                              uint32_t r, uint32_t p, size_t key_len, int mcf, char *text, size_t capacity,
                              const scrypt_buffers *buffers);
 
+/* The value of mcf by which scrypt_stored_text chooses the format. */
 #define SCRYPT_PHC_OR_MCF 2
 
 /* Writes the hash of a salt and a key that another program has derived with these parameters,
- * NUL-terminated, to text: a PHC string if mcf is 0, and otherwise a $7$ hash; but for
- * SCRYPT_PHC_OR_MCF a PHC string with the first 64 bytes of the key if the lengths allow it, and only
- * otherwise a $7$ hash. The text is read as exactly these parts. For a PHC string the salt has 1 to
- * 64 bytes and the key 10 to 64; a shorter key is a prefix of a longer one. The salt of a $7$ hash is UTF-8 without a $; it is copied
- * unchanged to offset 14 of the text. If it contains a zero byte, strlen(text) is too short: the
- * length is 14 + salt_len + strlen(text + 14 + salt_len). A capacity of
- * SCRYPT_PHC_CAPACITY + 2 * (salt_len + key_len) is enough. Nothing is allocated.
+ * NUL-terminated, to text: a PHC string if mcf is 0; if it is SCRYPT_PHC_OR_MCF, a PHC string with
+ * the first 64 bytes of the key if the lengths allow it, and otherwise a $7$ hash; for any other
+ * value a $7$ hash. The text is read as exactly these parts. For a PHC string the salt has 1 to 64
+ * bytes and the key 10 to 64; a shorter key is a prefix of a longer one. The salt of a $7$ hash is
+ * UTF-8 without a $; it is copied unchanged to offset 14 of the text. If it contains a zero byte,
+ * strlen(text) is too short: the length is 14 + salt_len + strlen(text + 14 + salt_len). A capacity
+ * of SCRYPT_PHC_CAPACITY + 2 * (salt_len + key_len) is enough. Nothing is allocated.
  * SCRYPT_E_NULL_POINTER, SCRYPT_E_INVALID_PARAMS, SCRYPT_E_SALT_INVALID, SCRYPT_E_INVALID_OUTPUT_LEN for the
  * length of the key, SCRYPT_E_BUFFER_SIZE. */
 SCRYPT_NODISCARD
