@@ -268,7 +268,7 @@ func (h *Hasher) refusal(text []byte) error {
 }
 
 // VerifyAndUpdate is like Verify. If the password matches, and the hash is weaker than new hashes, it
-// also returns the text of a new hash to store in its place, and otherwise "". Its errors are those of
+// also returns a new hash to store in its place, and otherwise "". Its errors are those of
 // Verify and, for the new hash, of Hash.
 func (h *Hasher) VerifyAndUpdate(ctx context.Context, text string, password []byte) (newText string, err error) {
 	if err := h.Verify(ctx, text, password); err != nil {

@@ -76,7 +76,7 @@ export type UpdateOptions = VerifyOptions & Pick<HashOptions, 'format'>;
 export interface Verification {
   /** Whether the password is that of the hash. */
   verified: boolean;
-  /** The text of a new hash, or `undefined` if the stored one is kept. */
+  /** The string of a new hash, or `undefined` if the stored one is kept. */
   newHash: string | undefined;
 }
 
@@ -194,7 +194,7 @@ export function verify(
 ): Promise<boolean>;
 /**
  * The same; and if the password is right, and the hash is weaker than a new hash with these options,
- * the text of a new hash to store in its place. That is made in the same worker.
+ * a new hash string to store in its place. That is made in the same worker.
  */
 export function verifyAndUpdate(
   password: Bytes, text: Bytes | null | undefined,
