@@ -29,9 +29,9 @@ pub struct Scrypt {
 /// use scrypt_c::Scrypt;
 ///
 /// # fn main() -> scrypt_c::password_hash_0_4::Result<()> {
-/// let mut drawn = [0; 16];
-/// scrypt_c::generate_salt(&mut drawn).expect("random bytes of the system");
-/// let salt = SaltString::b64_encode(&drawn)?;
+/// let mut bytes = [0; 16];
+/// scrypt_c::generate_salt(&mut bytes).expect("random bytes of the system");
+/// let salt = SaltString::b64_encode(&bytes)?;
 /// let text = Scrypt.hash_password(b"hunter42", &salt)?.to_string();
 /// Scrypt.verify_password(b"hunter42", &PasswordHash::new(&text)?)?;
 /// # Ok(())
