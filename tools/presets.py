@@ -2,10 +2,9 @@
 `kit`: the crates' backend (crates/scrypt/src/backends.rt), the target, if it isn't the kit's own, and options. Another
 machine than this has `needs`: the commands and files to build and run for it, each with its Debian package.
 
-usage: python3 -m tools.presets packages      the Debian packages of all
-       python3 -m tools.presets needs [NAME]  the needs of all or one, as COMMAND:PACKAGE
-       python3 -m tools.presets names         the other machines
-       python3 -m tools.presets proved        those for which the kit proves and compiles
+usage: python3 -m tools.presets needs NAME  the needs of a machine, as COMMAND:PACKAGE
+       python3 -m tools.presets names       the other machines
+       python3 -m tools.presets proved      those for which the kit proves and compiles
 """
 
 import json
@@ -25,9 +24,7 @@ def levels(preset):
 
 def main(which, name=None):
     if which == "needs":
-        return [f"{it}:{package}" for of in ([NEEDS[name]] if name else NEEDS.values()) for it, package in of.items()]
-    if which == "packages":
-        return [package for of in NEEDS.values() for package in of.values()]
+        return [f"{it}:{package}" for it, package in NEEDS[name].items()]
     return [it for it in NEEDS if which == "names" or it in KIT]
 
 

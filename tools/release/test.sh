@@ -2,7 +2,7 @@
 # Tests build/dist as a user would install it, in a fresh root of Debian without the kit: its package, its archive in
 # another folder, and the packages of each language, by the lines of README.md. The arm64 packages run in
 # Debian's emulator, and the Windows packages in Wine. Needs root, mmdebstrap, a network, and for these
-# machines the packages that `python3 -m tools.presets packages` prints.
+# machines the packages that `python3 -m tools.presets needs PRESET` prints.
 # usage: test.sh [PRESET..]    as dist.sh was called
 set -euo pipefail
 unset CDPATH
