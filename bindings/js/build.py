@@ -17,12 +17,10 @@ from bindings.js import lower
 from tools import copies, presets, prover_command
 from tools.generate import declarations
 
-TOP = Path(__file__).resolve().parents[2]
-
 TARGET = presets.KIT["javascript"]["target"]
-MADE = TOP / "build/wasm/scrypt64.wasm"
-MODULE = TOP / "bindings/js/scrypt.wasm"
-INSTANCE = TOP / "bindings/js/instance.js"
+MADE = Path("build/wasm/scrypt64.wasm")
+MODULE = Path("bindings/js/scrypt.wasm")
+INSTANCE = Path("bindings/js/instance.js")
 GLOBALS = 6  # the section of them
 
 # The calls that the package makes. Others are left out: those that allocate have no allocator on

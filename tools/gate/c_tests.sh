@@ -6,9 +6,7 @@ set -eu
 unset CDPATH
 cd "$(dirname "$0")/../.."
 targets=all
-if [ "$1" = by-rattle ]; then
-  python3 -B -m bindings.build by-rattle scrypt_c
-fi
+if [ "$1" = by-rattle ]; then python3 -B -m bindings.build by-rattle scrypt_c; fi
 cd bindings/c
 cmake --preset "$1"
 case $1 in asan | tsan | by-rattle) # only what the preset tests
