@@ -50,7 +50,7 @@ def main(preset, *names):
     for name in names:
         out = Path(f"crates/{name}/out/{preset}").resolve()
         shutil.rmtree(out, ignore_errors=True)
-        for level in presets.levels(preset)[: None if name == "scrypt_c" else 1]:
+        for level in list(presets.levels(preset))[: None if name == "scrypt_c" else 1]:
             build(name, preset, level, out / MADE[name].format(level))
 
 

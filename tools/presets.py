@@ -17,9 +17,9 @@ KIT, NEEDS = ({name: of["vendor"][part] for name, of in PRESETS.items() if part 
 
 
 def levels(preset):
-    """The levels of the preset's CPU, the oldest first."""
+    """The levels of the preset's CPU, the oldest first, each with its number of tables."""
     variables = PRESETS["base"]["cacheVariables"] | PRESETS[preset].get("cacheVariables", {})
-    return [it.split("=")[0] for it in variables["LEVELS"].split(";")]
+    return dict(it.split("=") for it in variables["LEVELS"].split(";"))
 
 
 def main(which, name=None):

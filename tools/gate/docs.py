@@ -17,6 +17,7 @@ import re
 import subprocess
 import sys
 
+from tools import presets
 from tools.generate import header, specs
 from tools.generate.library import Library
 from tools.generate.sources import read
@@ -147,6 +148,8 @@ def decided():
     yield "bindings/js/README.md", f"It needs Node {text_of('bindings/js/package.json', 'node.: .>=', chr(34))}"
     yield "bindings/python/README.md", f"It needs Python {text_of('bindings/python/pyproject.toml', 'requires-python = .>=', chr(34))}"
     yield "bindings/rust/README.md", f"It needs Rust {text_of('bindings/rust/Cargo.toml', 'rust-version = .', chr(34))}"
+    for level, tables in presets.levels("native").items():
+        yield "bindings/README.md", f"with {level} up to {['three', 'four'][int(tables) - 3]}"
     yield "bindings/README.md", f"with CMake {text_of('bindings/c/CMakeLists.txt', r'cmake_minimum_required.VERSION ', r'[)]')}"
 
 

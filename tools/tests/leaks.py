@@ -15,7 +15,7 @@ from pathlib import Path
 from bindings import bitcode
 from tools import copies, presets
 
-LEVEL = presets.levels("native")[-1]
+LEVEL = list(presets.levels("native"))[-1]
 
 # A read of a table at a number or a byte. The value is stored, because valgrind drops a load that nothing uses.
 NUMBER = "%leak.index = zext i32 {} to i64"
