@@ -81,11 +81,11 @@ after: did not begin, since what it needs failed
 in part: part (needs a b)
 skipped: none (needs c); needs (needs d gcc)
 4 passed, 3 failed, 2 skipped"
-timeout 60 sh -c 'while grep -qs "^State:.[^Z]" "/proc/$(cat child)/status"; do sleep 0.1; done' ||
+timeout 600 sh -c 'while grep -qs "^State:.[^Z]" "/proc/$(cat child)/status"; do sleep 0.1; done' ||
   { echo "a child of a task that hangs is left"; exit 1; }
 
 export EACH=600 STEPS="proved other"
-EACH=1 JOBS=1 LIMIT=1m tools/gate/run.sh waits 2> /dev/null > said
+EACH=1 JOBS=1 LIMIT=1h tools/gate/run.sh waits 2> /dev/null > said
 step() { tools/gate/step.sh "$@" | tee said | no_times | sed 's/ for .*//' | uniq | xargs; }
 is "$(step proved sh -c 'echo "so far: 3 of 7 functions checked"; ./until_said 42; echo "logic=proved functions=7"')" \
   "step 1 of 2, proved: begins proved: 42 % is checked step 1 of 2, proved: proved, 7 functions"
