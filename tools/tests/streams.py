@@ -42,7 +42,7 @@ def without_reader(words):
 def writes_of(stream, words):
     """The content of each write to an output of a run, through a pipe that keeps writes separate, and holds only few."""
     read, write = os.pipe2(os.O_DIRECT)
-    run(words, timeout=10, **{stream: write})
+    run(words, timeout=600, **{stream: write})
     os.close(write)
     with open(read, "rb", buffering=0) as pipe:
         return [text.decode() for text in iter(lambda: pipe.read(1 << 16), b"")]
