@@ -143,14 +143,13 @@ class WaitressTest(TransactionTestCase):
         form = f"username=ann&password={PASSWORD.replace(' ', '+')}"
         with ThreadPoolExecutor(60) as pool:
             log_ins = [pool.submit(self.timed, "POST", "/log-in/", form) for _ in range(60)]
-            time.sleep(0.5)
+            time.sleep(0.1)
             pages = [self.timed("GET", "/")]
             while not all(it.done() for it in log_ins):
                 pages.append(self.timed("GET", "/"))
-        status, seconds = min(pages)  # the fastest: on a loaded machine some are slow
-        print(f"60 concurrent log-ins; meanwhile {len(pages)} pages: {status} after {seconds:.2f} s")
+        print(f"60 concurrent log-ins; meanwhile {len(pages)} pages, the last {pages[-1]}")
+        self.assertGreater(len(pages), 2)  # none waits until the log-ins have ended
         answers = [it.result() for it in log_ins]
-        self.assertLess(2 * seconds, max(seconds for _, seconds in answers))
         for status in {status for status, _ in answers}:
             times = [seconds for it, seconds in answers if it == status]
             print(f"{len(times)} times {status} after {min(times):.2f} to {max(times):.2f} s")
