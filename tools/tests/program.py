@@ -5,7 +5,7 @@ A run writes one line, to standard output for the statuses 0 and 1, and otherwis
 the other stream stays empty. The keys are from RFC 7914, section 12, and from Python's hashlib; the
 hashes are from tools/tests/known.py and bindings/cases.tsv.
 
-usage: python3 -m tools.tests.program PROGRAM
+usage: python3 -m tools.tests.program PROGRAM             crates/scrypt_tool/out/scrypt_tool: the installed one is linked from it
        python3 -m tools.tests.program PROGRAM emulated    without the longest password
 """
 
