@@ -201,7 +201,7 @@ void scrypt_wipe(const scrypt_buffers *buffers);
  *   int status = scrypt_derivation_new(password, password_len, salt, salt_len, 20, 8, 1,
  *                                      SCRYPT_AUTO, 32, &steps);
  *   while (status == SCRYPT_OK && done < 1) {
- *     status = scrypt_derivation_run(steps, 10, &done);
+ *     status = scrypt_derivation_run(steps, SCRYPT_STEP_MS, &done);
  *     show(done);
  *   }
  *   if (status == SCRYPT_OK) status = scrypt_derivation_finish(steps, password, password_len, key, 32);
@@ -223,6 +223,9 @@ typedef struct scrypt_derivation scrypt_derivation;
 SCRYPT_NODISCARD
 int scrypt_derivation_new(const void *password, size_t password_len, const void *salt, size_t salt_len, uint32_t log_n,
                           uint32_t r, uint32_t p, size_t max_mem, size_t output_len, scrypt_derivation **derivation);
+
+/* The milliseconds of a step that the packages choose, about a hundred steps a second. */
+#define SCRYPT_STEP_MS 10
 
 /* Derives for about this many milliseconds, or until all chunks are mixed, but always at least one
  * block mix of each interleaved chunk. Writes the fraction that is done: 1 if all chunks are mixed,

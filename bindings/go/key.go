@@ -27,7 +27,7 @@ func Key(password, salt []byte, N, r, p, keyLen int) ([]byte, error) {
 // and at the end, of 128 * r * p bytes, is one step each.
 func KeyContext(ctx context.Context, password, salt []byte, N, r, p, keyLen int,
 	progress func(done float64)) ([]byte, error) {
-	return keyInSteps(ctx, password, salt, N, r, p, keyLen, progress, 10)
+	return keyInSteps(ctx, password, salt, N, r, p, keyLen, progress, C.SCRYPT_STEP_MS)
 }
 
 // keyInSteps takes the time of a step in milliseconds.

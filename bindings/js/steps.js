@@ -1,8 +1,6 @@
 // Keys and verdicts in steps of about 10 ms.
-import { PROGRESS } from './declared.js';
+import { PROGRESS, STEP_MS } from './declared.js';
 import { places } from './instance.js';
-
-const STEP_MS = 10;
 
 /** Lets the event loop run: a page paints, and messages come in. A timer would wait longer. */
 export const turn = () => new Promise((resolve) => {

@@ -5,12 +5,10 @@ from __future__ import annotations
 import ctypes
 from typing import Callable, Optional
 
-from .declared import AUTO
+from .declared import AUTO, STEP_MS
 from .errors import check
 from .library import Derivation, explained, lib
 from .params import NO_LIMIT, Params, cost_of
-
-STEP_MS = 10
 
 # A key of fewer Salsa20/8 cores, which take about 40 ms, is derived in one call, which is faster
 # than several.

@@ -34,7 +34,7 @@ pub fn scrypt_in_steps(
     output: &mut [u8],
     progress: impl FnMut(f64) -> ControlFlow<()>,
 ) -> Result<(), DeriveError> {
-    by_steps(password, salt, params, output, progress, 10)
+    by_steps(password, salt, params, output, progress, STEP_MS as u32)
 }
 
 // `milliseconds` is the duration of a step.

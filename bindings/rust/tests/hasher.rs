@@ -60,7 +60,7 @@ fn options() {
     assert!(Some(1) <= max_tables && max_tables <= processors.map(|it| 2 * it), "{usual:?}");
     let (limits, min_key_len) = (Some(Limits::DEFAULT), Some(Limits::DEFAULT_MIN_KEY_LEN));
     let values = Options { max_tables, processors, limits, min_key_len, ..Options::default() };
-    assert_eq!(usual, values);
+    assert_eq!((usual, usual.salt_len), (values, 16));
     let (limits, min_key_len) = (Some(Limits { max_mem: 1 << 20, max_work: 1 << 16 }), Some(32));
     let given =
         Options { max_tables: Some(3), processors: Some(2), limits, min_key_len, ..small() };
