@@ -35,16 +35,11 @@ export interface KeyOptions extends Params {
   maxwork?: number | undefined;
 }
 
-export interface HashOptions extends PartialParams {
+export interface HashOptions extends PartialParams, Pick<KeyOptions, 'maxmem'> {
   /** 1 to 64 bytes, or any number for `'mcf'`. Default: 16 random bytes. */
   salt?: Bytes | undefined;
   /** `'phc'`, the default: `$scrypt$..`; or `'mcf'`, the format of crypt(5): `$7$..`. */
   format?: 'phc' | 'mcf' | undefined;
-  /**
-   * The maximum bytes of memory. Default: 2 ** 30 + 2 ** 20, or 7/8 of the memory of the container
-   * if that is less.
-   */
-  maxmem?: number | undefined;
 }
 
 /**
@@ -93,14 +88,12 @@ export interface CallOptions {
   timeout?: number | undefined;
 }
 
-export interface StepOptions {
+export interface StepOptions extends Pick<CallOptions, 'signal'> {
   /**
    * Called about a hundred times a second with the fraction that is done, from 0 to 1. An exception
    * from it ends the call and rejects the promise.
    */
   onProgress?: ((fraction: number) => void) | undefined;
-  /** Ends the call between two steps, and the promise is rejected with the signal's reason. */
-  signal?: AbortSignal | undefined;
 }
 
 export type ErrorCode =

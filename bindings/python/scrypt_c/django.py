@@ -36,7 +36,7 @@ from __future__ import annotations
 import base64
 import logging
 import re
-from typing import Any, Optional
+from typing import Any
 
 from django.contrib.auth.hashers import (
     BasePasswordHasher,
@@ -49,7 +49,7 @@ from django.contrib.auth.hashers import (
 from .arguments import raw_password
 from .declared import MAX_SALT_LEN, RECOMMENDED_LOG_N, RECOMMENDED_P, RECOMMENDED_R, Status
 from .errors import InvalidHashError, RefusedHashError, TooCostlyError, VerifyMismatchError
-from .hasher import PasswordHasher, shared
+from .hasher import Limited, PasswordHasher, shared
 from .key import log_of
 from .migration import from_django
 from .params import accepted, params_of
@@ -114,24 +114,17 @@ class _Hasher(BasePasswordHasher):
         hash with larger ones."""
 
 
-class ScryptPasswordHasher(_Hasher):
+class ScryptPasswordHasher(Limited, _Hasher):
     """The format of Django's own ScryptPasswordHasher: scrypt$N$SALT$r$p$KEY."""
 
     algorithm = "scrypt"
     work_factor = 2**RECOMMENDED_LOG_N
     block_size = RECOMMENDED_R
     parallelism = RECOMMENDED_P
-    # The options of PasswordHasher; None means its default.
-    max_mem: Optional[int] = None
-    max_work: Optional[int] = None
-    max_tables: Optional[int] = None
-    timeout: Optional[float] = None
 
     @property
     def hasher(self) -> PasswordHasher:  # type: ignore[override]
-        names = "max_mem", "max_work", "max_tables", "timeout"
-        options = {name: getattr(self, name) for name in names}
-        return shared(log_of(self.work_factor), self.block_size, self.parallelism, **options)
+        return shared(log_of(self.work_factor), self.block_size, self.parallelism, self)
 
     def encode(
         self, password: str, salt: str, n: Any = None, r: Any = None, p: Any = None

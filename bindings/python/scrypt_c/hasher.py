@@ -156,7 +156,7 @@ class PasswordHasher:
         secret = raw_password(password)
         raw_salt = None if salt is None else raw_bytes(salt, "a salt")
         salt_len = len(raw_salt or b"")
-        text = ctypes.create_string_buffer(library.text_capacity(salt_len))
+        text = ctypes.create_string_buffer(declared.PHC_CAPACITY + 2 * salt_len)
         arguments = secret, len(secret), raw_salt, salt_len, text, len(text)
         self._check(self._run(lib.scrypt_hasher_hash, *arguments))
         return text.value.decode("ascii")
@@ -271,6 +271,16 @@ if hasattr(os, "register_at_fork"):
     after = {f"after_in_{it}": _OTHERS.release for it in ("parent", "child")}
     os.register_at_fork(before=_OTHERS.acquire, **after)
 
+class Limited:
+    """The options of a shared hasher, as attributes of the classes for Django and passlib; None means
+    its default."""
+
+    max_mem: Optional[int] = None
+    max_work: Optional[int] = None
+    max_tables: Optional[int] = None
+    timeout: Optional[float] = None
+
+
 _SHARED: dict[tuple[object, ...], PasswordHasher] = {}
 
 
@@ -278,11 +288,12 @@ def shared(
     log_n: int = declared.RECOMMENDED_LOG_N,
     r: int = declared.RECOMMENDED_R,
     p: int = declared.RECOMMENDED_P,
-    **options: Any,
+    of: Union[Limited, type[Limited]] = Limited,
 ) -> PasswordHasher:
-    """Returns the hasher with these arguments that all callers of this process share, so that its
-    slots and its `max_tables` are for all of them together. It is kept."""
+    """Returns the hasher with these arguments and attributes that all callers of this process share,
+    so that its slots and its `max_tables` are for all of them together. It is kept."""
+    options = {name: getattr(of, name) for name in Limited.__annotations__}
     named = {name: it for name, it in options.items() if it is not None}
-    at = *accepted(log_n, r, p), *sorted(named.items())
+    at = *accepted(log_n, r, p), *named.items()
     # Two threads can make one each; setdefault keeps the first, and the other has no tables yet.
     return _SHARED.get(at) or _SHARED.setdefault(at, PasswordHasher(log_n, r, p, **named))

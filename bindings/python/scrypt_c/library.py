@@ -78,8 +78,3 @@ def explained(
     text = ctypes.create_string_buffer(declared.EXPLANATION_CAPACITY)
     lib.scrypt_explain(status, cost, max_mem, max_work, min_key_len, text, len(text))
     return text.value.decode()
-
-
-def text_capacity(salt_len: int) -> int:
-    """Returns a capacity that is enough for a hash of either format."""
-    return declared.PHC_CAPACITY + 2 * salt_len

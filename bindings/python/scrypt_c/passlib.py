@@ -16,34 +16,25 @@ without a `$`, neither format of the hasher has it: it derives the key, and pass
 
 from __future__ import annotations
 
-from typing import Optional
-
 import passlib.exc
 import passlib.hash
 from passlib.utils.handlers import validate_secret
 
 from .declared import RECOMMENDED_LOG_N
 from .errors import InvalidSaltError, VerifyMismatchError
-from .hasher import PasswordHasher, shared
+from .hasher import Limited, PasswordHasher, shared
 from .migration import from_passlib
 
 
-class scrypt(passlib.hash.scrypt):  # passlib names handlers as their scheme
+class scrypt(Limited, passlib.hash.scrypt):  # passlib names handlers as their scheme
     """passlib.hash.scrypt, with keys and results from libscrypt_c."""
 
     default_rounds = RECOMMENDED_LOG_N
-    # The options of PasswordHasher; None means its default.
-    max_mem: Optional[int] = None
-    max_work: Optional[int] = None
-    max_tables: Optional[int] = None
-    timeout: Optional[float] = None
 
     @classmethod
     def hasher(cls) -> PasswordHasher:
         """Returns the hasher of this class, for instance for its `stats`."""
-        names = "max_mem", "max_work", "max_tables", "timeout"
-        options = {name: getattr(cls, name) for name in names}
-        return shared(cls.default_rounds, cls.block_size, cls.parallelism, **options)
+        return shared(cls.default_rounds, cls.block_size, cls.parallelism, cls)
 
     @classmethod
     def from_string(cls, hash: str | bytes) -> scrypt:

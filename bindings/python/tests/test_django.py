@@ -27,7 +27,7 @@ from scrypt_c.django import FalseIfRefused, OverBCrypt, OverPBKDF2  # noqa: E402
 from scrypt_c.django import PHCPasswordHasher, ScryptPasswordHasher  # noqa: E402
 from scrypt_c.hasher import shared  # noqa: E402
 from test_hasher import KEY, refuse_a_lone_surrogate  # noqa: E402
-from test_keys import growth  # noqa: E402
+from test_keys import growth_of_logins  # noqa: E402
 
 NO_KEY = f"{86 * 'A'}=="  # 64 bytes of zeros, which no password has
 COSTLY = [
@@ -129,13 +129,7 @@ class Hashers(unittest.TestCase):
         it.hasher.close()
         type(it).timeout = 60  # another hasher, which has no memory yet
         calls = [lambda: it.verify("PW", stored), lambda: it.verify_no_hash("PW"), lambda: it.encode("pw", "salt") == ""]
-
-        def log_in():
-            with ThreadPoolExecutor(24) as pool:
-                answers = [pool.submit(calls[place % 3]) for place in range(24)]
-            self.assertEqual({answer.result() for answer in answers}, {False})
-
-        self.assertLess(growth(log_in)[0], 3 << 25)
+        self.assertLess(growth_of_logins(*calls), 3 << 25)
 
     def test_salts_and_weak_hashes(self):
         """decode returns the salt that encode was given; a hash with a short salt is weak."""

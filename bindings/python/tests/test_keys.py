@@ -11,6 +11,7 @@ import signal
 import threading
 import time
 import unittest
+from concurrent.futures import ThreadPoolExecutor
 from unittest import mock
 
 import scrypt_c
@@ -27,6 +28,17 @@ def growth(call):
         step()
         peaks.append(int(re.search(r"VmHWM:\s*(\d+)", status.read_text("ascii"))[1]) << 10)
     return peaks[1] - peaks[0], peaks[2] - peaks[0]
+
+
+def growth_of_logins(*calls):
+    """The same for 24 threads, each of which makes one of these calls, whose results are False."""
+
+    def log_in():
+        with ThreadPoolExecutor(24) as pool:
+            answers = [pool.submit(calls[place % len(calls)]) for place in range(24)]
+        assert not any(answer.result() for answer in answers)
+
+    return growth(log_in)[0]
 
 
 class Keys(unittest.TestCase):

@@ -4,7 +4,6 @@ import pathlib
 import re
 import unittest
 import warnings
-from concurrent.futures import ThreadPoolExecutor
 from unittest import mock
 
 import passlib.hash
@@ -14,7 +13,7 @@ import scrypt_c
 from scrypt_c.hasher import shared
 from scrypt_c.passlib import scrypt
 from test_hasher import refuse_a_lone_surrogate
-from test_keys import growth
+from test_keys import growth_of_logins
 
 SMALL = {"rounds": 6, "block_size": 8}
 TEXT = scrypt.using(**SMALL).hash("pw")
@@ -97,10 +96,4 @@ class Handler(unittest.TestCase):
         text = TEXT.replace("ln=6", "ln=15")
         other = scrypt.using(rounds=6, block_size=7, salt=65 * b"\xff").hash("pw").replace("ln=6", "ln=15")
         calls = [lambda: one.verify("pw", text), lambda: one.hash("pw") == text, lambda: one.verify("pw", other)]
-
-        def log_in():
-            with ThreadPoolExecutor(24) as pool:
-                answers = [pool.submit(calls[place % 3]) for place in range(24)]
-            self.assertEqual({answer.result() for answer in answers}, {False})
-
-        self.assertLess(growth(log_in)[0], 4 << 25)
+        self.assertLess(growth_of_logins(*calls), 4 << 25)

@@ -93,12 +93,13 @@ const BY_STATUS: [(c_int, Error); 14] = [
 ];
 
 impl DeriveError {
-    // The error of a derivation with accepted parameters, from its status, which is not OK.
-    pub(crate) fn of(status: i32) -> DeriveError {
+    // The result of a derivation with accepted parameters, from its status.
+    pub(crate) fn check(status: i32) -> Result<(), DeriveError> {
         match status {
-            INVALID_OUTPUT_LEN => DeriveError::InvalidOutputLen,
-            OUT_OF_MEMORY => DeriveError::OutOfMemory,
-            other => DeriveError::Status(other),
+            OK => Ok(()),
+            INVALID_OUTPUT_LEN => Err(DeriveError::InvalidOutputLen),
+            OUT_OF_MEMORY => Err(DeriveError::OutOfMemory),
+            other => Err(DeriveError::Status(other)),
         }
     }
 }

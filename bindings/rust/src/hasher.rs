@@ -298,19 +298,14 @@ impl Hasher {
 
     // The error of `TOO_COSTLY` or `KEY_TOO_SHORT`, with its numbers.
     fn refusal(&self, status: c_int, text: &str) -> Error {
-        let mut cost = RawCost::default();
-        // SAFETY: the hasher lives until this returns, its options do not change, and the pointer
-        // and the length are from one `str`.
-        let options = unsafe {
-            let options = &*scrypt_hasher_options(self.raw());
-            let (bytes, work, min) = (options.max_mem, options.max_work, options.min_key_len);
-            scrypt_hash_cost(text.as_ptr().cast(), text.len(), bytes, work, min, &mut cost);
-            options
-        };
-        let limits = Limits { max_mem: options.max_mem, max_work: options.max_work };
+        let (mut cost, Options { limits, min_key_len, .. }) = (RawCost::default(), self.options());
+        let (limits, min) = (limits.unwrap_or_default(), min_key_len.unwrap_or_default());
+        let (at, max_mem, max_work) = (text.as_ptr().cast(), limits.max_mem, limits.max_work);
+        // SAFETY: the pointer and the length are from one `str`, and `cost` is a local variable.
+        unsafe { scrypt_hash_cost(at, text.len(), max_mem, max_work, min, &mut cost) };
         match Params::of_library(cost.log_n, cost.r, cost.p) {
             Ok(params) if status == TOO_COSTLY => Error::TooCostly(Cost::of(params, limits)),
-            Ok(_) => Error::KeyTooShort { len: cost.key_len, min: options.min_key_len },
+            Ok(_) => Error::KeyTooShort { len: cost.key_len, min },
             Err(why) => why.into(),
         }
     }

@@ -45,7 +45,7 @@ pub use steps::scrypt_in_steps;
 #[cfg(feature = "password-hash")]
 pub use traits_0_4::{Scrypt, ALG_ID};
 
-use calls::{scrypt_generate_salt, scrypt_key, OK};
+use calls::{scrypt_generate_salt, scrypt_key};
 
 /// Derives a key from `password` and `salt`, and writes it to `output`. The key length in `params`
 /// is ignored.
@@ -71,25 +71,13 @@ pub fn scrypt(
     output: &mut [u8],
 ) -> Result<(), DeriveError> {
     let Params { log_n, r, p, .. } = *params;
+    let (password_at, salt_at) = (password.as_ptr().cast(), salt.as_ptr().cast());
+    let (at, len) = (output.as_mut_ptr(), output.len());
     // SAFETY: each pointer and the length after it are from one slice, and only this call borrows
     // the output.
-    let status = unsafe {
-        scrypt_key(
-            password.as_ptr().cast(),
-            password.len(),
-            salt.as_ptr().cast(),
-            salt.len(),
-            log_n.into(),
-            r,
-            p,
-            output.as_mut_ptr(),
-            output.len(),
-        )
-    };
-    match status {
-        OK => Ok(()),
-        other => Err(DeriveError::of(other)),
-    }
+    DeriveError::check(unsafe {
+        scrypt_key(password_at, password.len(), salt_at, salt.len(), log_n.into(), r, p, at, len)
+    })
 }
 
 /// Fills `salt` with random bytes from the system; 16 bytes are enough for a key or a hash.

@@ -3,7 +3,6 @@
 use crate::calls::*;
 use crate::{DeriveError, Params};
 use std::ops::ControlFlow;
-use std::os::raw::c_int;
 use std::ptr::null_mut;
 
 /// Derives a key like [`scrypt`](crate::scrypt()), in steps of about 10 ms. After each step it
@@ -47,49 +46,28 @@ fn by_steps(
     milliseconds: u32,
 ) -> Result<(), DeriveError> {
     let (mut derivation, mut done) = (Derivation(null_mut()), 0.0);
-    let (log_n, r, p) = (params.log_n().into(), params.r(), params.p());
-    let (password_at, len) = (password.as_ptr().cast(), output.len());
+    let Params { log_n, r, p, .. } = *params;
+    let (password_at, salt_at) = (password.as_ptr().cast(), salt.as_ptr().cast());
+    let (at, len, auto) = (output.as_mut_ptr(), output.len(), AUTO as usize);
     // SAFETY: here and below each pointer and the length after it are from one slice, and the
     // others are those of local variables.
-    check(unsafe {
-        let (salt_at, max_mem) = (salt.as_ptr().cast(), AUTO as usize);
-        scrypt_derivation_new(
-            password_at,
-            password.len(),
-            salt_at,
-            salt.len(),
-            log_n,
-            r,
-            p,
-            max_mem,
-            len,
-            &mut derivation.0,
-        )
+    #[rustfmt::skip]
+    DeriveError::check(unsafe {
+        scrypt_derivation_new(password_at, password.len(), salt_at, salt.len(), log_n.into(), r, p,
+            auto, len, &mut derivation.0)
     })?;
     while done < 1.0 {
-        // SAFETY: as above; `it` is a derivation of the library's, which only this thread has.
-        check(unsafe { scrypt_derivation_run(derivation.0, milliseconds, &mut done) })?;
+        // SAFETY: as above; only this thread has the derivation.
+        let status = unsafe { scrypt_derivation_run(derivation.0, milliseconds, &mut done) };
+        DeriveError::check(status)?;
         if progress(done).is_break() {
             return Err(DeriveError::Cancelled);
         }
     }
     // SAFETY: as above.
-    check(unsafe {
-        scrypt_derivation_finish(
-            derivation.0,
-            password_at,
-            password.len(),
-            output.as_mut_ptr(),
-            len,
-        )
+    DeriveError::check(unsafe {
+        scrypt_derivation_finish(derivation.0, password_at, password.len(), at, len)
     })
-}
-
-fn check(status: c_int) -> Result<(), DeriveError> {
-    match status {
-        OK => Ok(()),
-        other => Err(DeriveError::of(other)),
-    }
 }
 
 // Dropping it wipes and frees what the library keeps of a derivation.
