@@ -1,7 +1,6 @@
 // The errors.
 import {
-  ALGORITHM, BUFFER_SIZE, ENCODING_INVALID, HASH_PARAMS_INVALID, HASH_PARAM_INVALID, KEY_TOO_SHORT,
-  OUTPUT_SIZE, OUT_OF_MEMORY, TOO_COSTLY, VERSION, WORDS,
+  ALGORITHM, BUFFER_SIZE, KEY_TOO_SHORT, OUT_OF_MEMORY, TOO_COSTLY, VERSION, WORDS,
 } from './declared.js';
 
 /** An error of a call: `code` for programs, `message` for people. Neither holds a secret. */
@@ -22,16 +21,15 @@ export class RefusedHashError extends ScryptError {
   }
 }
 
-const codesOf = (...statuses) => new Set(statuses.map((status) => WORDS.get(status)[0]));
-const NO_HASH = codesOf(
-  ALGORITHM, ENCODING_INVALID, HASH_PARAMS_INVALID, HASH_PARAM_INVALID, OUTPUT_SIZE, VERSION,
-);
-const OUTSIDE_LIMITS = codesOf(KEY_TOO_SHORT, TOO_COSTLY);
+const codesFrom = (first, last) =>
+  [...WORDS].filter(([status]) => status >= first && status <= last).map(([, [code]]) => code);
+const NO_HASH = codesFrom(ALGORITHM, VERSION); // as scrypt_status_is_invalid_hash of the C library
+const OUTSIDE_LIMITS = codesFrom(TOO_COSTLY, KEY_TOO_SHORT);
 
 /** The error of a call that reads the text of a hash, and perhaps a password, as bytes. */
 export function errorOfHash(error, password = new Uint8Array()) {
-  const isNoHash = NO_HASH.has(error.code);
-  if (!isNoHash && !OUTSIDE_LIMITS.has(error.code)) return error;
+  const isNoHash = NO_HASH.includes(error.code);
+  if (!isNoHash && !OUTSIDE_LIMITS.includes(error.code)) return error;
   const isHash = /^\$(scrypt|7)\$/.test(new TextDecoder().decode(password.subarray(0, 8)));
   const hint = isNoHash && isHash ? ': the password comes first, and then the hash' : '';
   return new RefusedHashError(error.code, error.message + hint);

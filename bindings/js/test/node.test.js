@@ -7,6 +7,7 @@ import { mkdirSync, mkdtempSync, readFileSync, rmSync, symlinkSync, writeFileSyn
 import { tmpdir } from 'node:os';
 import { test } from 'node:test';
 import { fileURLToPath } from 'node:url';
+import { WORDS } from '../declared.js';
 import { ScryptError, storedText } from '../node.js';
 import { checks } from './checks.js';
 import { hex } from './support.js';
@@ -39,6 +40,13 @@ test('the texts of bindings/stored.tsv', async () => {
     else await rejects(stored, ScryptError, line);
     if (N >= 1 && N < 64) await rejects(stored, /may be its logarithm/, line);
   }
+});
+
+test('the type of codes has those of all statuses that a call can return', () => {
+  const codes = [...WORDS.values()].map(([code]) => code);
+  const never = ['OK', 'MISMATCH', 'NEEDS_REHASH', 'BUFFER_SIZE', 'UNFINISHED', 'INVALID_PROGRESS'];
+  const typed = [...read('bindings/js/index.d.ts').matchAll(/^  \| '(\w+)'/gm)].map(([, it]) => it);
+  deepStrictEqual(codes.filter((it) => !typed.includes(it)), never);
 });
 
 // Programs on the command line, with a flag that a file must not have. They exit by themselves.

@@ -6,9 +6,8 @@ import ctypes
 from typing import Callable, Optional
 
 from .declared import AUTO, STEP_MS
-from .errors import check
-from .library import Derivation, explained, lib
-from .params import NO_LIMIT, Params, cost_of
+from .library import Derivation, lib
+from .params import Params, check_costs, cost_of
 
 # A key of fewer Salsa20/8 cores, which take about 40 ms, is derived in one call, which is faster
 # than several.
@@ -29,24 +28,21 @@ def derived(
     key = ctypes.create_string_buffer(dklen)
     arguments = password, len(password), salt, len(salt), *params[:3]
     if progress is None and params.cores < LONG and (max_mem == AUTO or params.p == 1):
-        _check(lib.scrypt_key(*arguments, key, dklen), params, dklen)
+        status = lib.scrypt_key(*arguments, key, dklen)
     else:
         derivation, done = Derivation(), ctypes.c_double()
         try:
-            _check(lib.scrypt_derivation_new(*arguments, max_mem, dklen, derivation), params, dklen)
-            while done.value < 1:
-                check(lib.scrypt_derivation_run(derivation, STEP_MS, done))
+            status = lib.scrypt_derivation_new(*arguments, max_mem, dklen, derivation)
+            while not status and done.value < 1:
+                status = lib.scrypt_derivation_run(derivation, STEP_MS, done)
                 if progress is not None:
                     progress(done.value)
-            check(lib.scrypt_derivation_finish(derivation, password, len(password), key, dklen))
+            finish = lib.scrypt_derivation_finish
+            status = status or finish(derivation, password, len(password), key, dklen)
         finally:
             lib.scrypt_derivation_free(derivation)
+    if status:
+        check_costs(status, cost_of(params)[1], None, None)
     made = key.raw
     ctypes.memset(key, 0, dklen)
     return made
-
-
-def _check(status: int, params: Params, dklen: int) -> None:
-    if status:
-        cost = explained(status, cost_of(params)[1], NO_LIMIT, NO_LIMIT)
-        check(status, f"{cost}, and the key {dklen}")
