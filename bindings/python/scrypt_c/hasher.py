@@ -271,6 +271,7 @@ if hasattr(os, "register_at_fork"):
     after = {f"after_in_{it}": _OTHERS.release for it in ("parent", "child")}
     os.register_at_fork(before=_OTHERS.acquire, **after)
 
+
 class Limited:
     """The options of a shared hasher, as attributes of the classes for Django and passlib; None means
     its default."""

@@ -127,7 +127,7 @@ class Hashers(unittest.TestCase):
         it = type("Ours", (ScryptPasswordHasher,), costs)()
         stored = it.encode("pw", 22 * "s")
         it.hasher.close()
-        type(it).timeout = 60  # another hasher, which has no memory yet
+        type(it).timeout = 600  # another hasher, which has no memory yet
         calls = [lambda: it.verify("PW", stored), lambda: it.verify_no_hash("PW"), lambda: it.encode("pw", "salt") == ""]
         self.assertLess(growth_of_logins(*calls), 3 << 25)
 

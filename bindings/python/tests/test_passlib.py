@@ -92,7 +92,7 @@ class Handler(unittest.TestCase):
             self.assertFalse(one.verify("PW", one.hash("pw")))
 
     def test_memory_of_many_threads(self):
-        one = type("scrypt", (scrypt.using(rounds=15),), {"max_tables": 2, "timeout": 60})  # 32 MiB each
+        one = type("scrypt", (scrypt.using(rounds=15),), {"max_tables": 2, "timeout": 600})  # 32 MiB each
         text = TEXT.replace("ln=6", "ln=15")
         other = scrypt.using(rounds=6, block_size=7, salt=65 * b"\xff").hash("pw").replace("ln=6", "ln=15")
         calls = [lambda: one.verify("pw", text), lambda: one.hash("pw") == text, lambda: one.verify("pw", other)]
