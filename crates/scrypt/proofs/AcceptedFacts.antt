@@ -1,5 +1,6 @@
 use Rattle.scrypt.specs.Accepted.{are_accepted, is_output_len, is_stored_len, Parameters, parameters_eq}
 use Rattle.password_hash.specs.Refusal.{ParamsInvalid}
+use Rattle.scrypt.specs.PhcHash.{is_salt_len}
 use Rattle.scrypt.specs.Reading.{checked}
 use Rattle.scrypt_kernel.specs.Pbkdf2.{max_output_len}
 use Rattle.std.specs.Option.{option_eq}
@@ -45,6 +46,10 @@ output_len_decided n = Decides-and _ _ (leb_decided 1 n) (leb_decided n max_outp
 pub stored_len_decided : (n : ℕ) → Decides (is_stored_len (Some n)) ((10 ≤ n) × (n ≤ 64))
 unfolding is_stored_len
 stored_len_decided n = Decides-and _ _ (leb_decided 10 n) (leb_decided n 64)
+
+pub salt_len_decided : (n : ℕ) → Decides (is_salt_len n) ((1 ≤ n) × (n ≤ 64))
+unfolding is_salt_len
+salt_len_decided n = Decides-and _ _ (leb_decided 1 n) (leb_decided n 64)
 
 -- numbers that are accepted are parameters
 

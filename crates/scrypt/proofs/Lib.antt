@@ -29,8 +29,6 @@ pub mod McfTextFacts
 pub mod StoredHashFacts
 -- The texts of salts and keys.
 pub mod TextOfKeyFacts
--- The errors of hashing, in every format: there is one at a time.
-pub mod HashingFacts
 -- Texts of stored hashes, read by the definitions alone, so that a wrong bound, order or refusal in a definition does not check.
 pub mod ReadingVectors
 -- Facts on a derivation in steps.

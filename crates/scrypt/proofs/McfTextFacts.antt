@@ -13,7 +13,7 @@ use Rattle.password_hash.proofs.McfFacts.{IsField-crypt64_of}
 use Rattle.scrypt.specs.Accepted.{Parameters, are_accepted, is_stored_len, without_len}
 use Rattle.scrypt.proofs.KeyFacts.{key_by-are_bytes, length-key_by}
 use Rattle.scrypt.specs.McfParams.{five_letter_number, params_letters, params_text, field_params}
-use Rattle.scrypt.specs.McfHash.{IsMadeHash, IsMcfHashText, made_hash, made_key, made_text_len, mcf_id, mcf_text, read_mcf}
+use Rattle.scrypt.specs.McfHash.{IsMcfHashText, made_hash, made_key, made_mcf, made_text_len, mcf_id, mcf_text, read_mcf}
 use Rattle.scrypt.specs.Hashing.{key_len_or_default}
 use Rattle.scrypt.specs.Reading.{Stored}
 use Rattle.scrypt.proofs.AcceptedFacts.{checked_is, key_len_stored, numbers, output_len_decided, small_params}
@@ -107,7 +107,8 @@ read_is_text text s is =
 
 -- the text that hashing makes
 pub made_text : (c : Parameters) (password salt : List ℕ) → IsTrue (are_accepted c.log_n c.r c.p) → IsTrue (is_stored_len c.output_len)
-    → IsMadeHash c password salt (mcf_text (made_hash c password salt))
+    → read_mcf (made_mcf c password salt) ≡ Ok (made_hash c password salt)
+unfolding made_mcf
 made_text c password salt good fits =
     let stored = key_len_stored c.output_len fits in
     let letters = crypt64_of salt in
@@ -122,8 +123,9 @@ made_text c password salt good fits =
       key_len = (output_len_decided (length key)).1 (omega (arith, long, stored.0), omega (arith, long, stored.1));
     })
 
-pub length-made_text : (c : Parameters) (password salt : List ℕ) → length (mcf_text (made_hash c password salt)) ≡ made_text_len c (length salt)
-length-made_text c password salt =
+pub made_mcf_len : (c : Parameters) (password salt : List ℕ) → length (made_mcf c password salt) ≡ made_text_len c (length salt)
+unfolding made_mcf
+made_mcf_len c password salt =
     let letters = crypt64_of salt in
     let key = made_key c password salt in
     omega (
@@ -135,12 +137,6 @@ length-made_text c password salt =
       length-crypt64_of key ∙ ap encoded_len (length-key_by c password letters (key_len_or_default c)),
     )
 
--- made texts with these parameters, this salt and any password are alike in length
-pub made_length : (c : Parameters) (password salt text : List ℕ) → IsTrue (are_accepted c.log_n c.r c.p) → IsTrue (is_stored_len c.output_len)
-    → IsMadeHash c password salt text → length text ≡ made_text_len c (length salt)
-made_length c password salt text good fits made =
-    ap length (text_of made ∙ sym (text_of (made_text c password salt good fits))) ∙ length-made_text c password salt
-
 -- a text that was written whole
 
 -- the parts of a hash with this key
@@ -148,8 +144,9 @@ abbrev with_key : Parameters → List ℕ → List ℕ → Stored
 with_key c salt key = record { params = without_len c; salt = crypt64_of salt; key = key }
 
 pub whole_is_made : (c : Parameters) (password salt key text : List ℕ) → text ≡ mcf_text (with_key c salt key) → key ≡ made_key c password salt
-    → IsTrue (are_accepted c.log_n c.r c.p) → IsTrue (is_stored_len c.output_len) → IsMadeHash c password salt text
-whole_is_made c password salt key text is derived good fits = rw (is, derived) (made_text c password salt good fits)
+    → text ≡ made_mcf c password salt
+unfolding made_mcf
+whole_is_made c password salt key text is derived = rw (is, derived) refl
 
 pub whole_is_ascii : (c : Parameters) (salt key text : List ℕ) → text ≡ mcf_text (with_key c salt key) → IsTrue (are_accepted c.log_n c.r c.p) → IsAscii text
 whole_is_ascii c salt key text is good =

@@ -13,9 +13,12 @@ use Rattle.std.proofs.lemmas.List.Kept.{AllPairs-cons}
 use Rattle.std.proofs.lemmas.Slice.Eq.{bytes_eq-Decides}
 use Rattle.password_hash.specs.Pairs.{ArePairs, IsPair}
 use Rattle.password_hash.proofs.ParamsFacts.{ArePairs-front}
-use Rattle.password_hash.specs.Phc.{IsHashText, IsSalt, hash_text}
+use Rattle.password_hash.specs.Phc.{IsHashText, IsKey, IsSalt, hash_text}
 use Rattle.password_hash.specs.declared.phc.hash.PasswordHash.{PasswordHash}
-use Rattle.scrypt.specs.PhcHash.{IsMadeHash, phc_params, read_phc}
+use Rattle.scrypt.specs.PhcHash.{is_salt_len, made_phc, phc_hash, phc_params, read_phc, salt_refusal}
+use Rattle.password_hash.specs.Refusal.{OutOfMemory, refusal}
+use Rattle.password_hash.specs.declared.error.Error.{Error}
+use Rattle.password_hash.specs.declared.error.Error.TheVariants.{OutOfMemory as NoMemory}
 use Rattle.scrypt.specs.Hashing.{key_len_or_default}
 use Rattle.scrypt.specs.Reading.{NamesNoPassword}
 use Rattle.scrypt.proofs.KeyFacts.{key_by-are_bytes, length-key_by}
@@ -108,32 +111,47 @@ params_good hash = search (rules, if_good, pairs_good)
 pub params_none : (hash : PasswordHash) → NamesNoPassword (phc_params hash)
 params_none hash = no_password (phc_params hash) (params_fault hash)
 
--- a made hash is read as it was made
-pub made_read : (c : Parameters) (password salt : List ℕ) (hash : PasswordHash) → IsTrue (are_accepted c.log_n c.r c.p)
-    → IsMadeHash c password salt hash → read_phc hash ≡ Ok (made_stored c password salt)
-unfolding phc_params
-made_read c password salt hash fits made =
-    rw (made.algorithm, made.version, made.params, written_read c fits, made.salt_is, made.key_is) refl
+-- the hash of a salt and a key has a text
 
--- a made hash has a text
-pub made_is_text : (c : Parameters) (password salt : List ℕ) (hash : PasswordHash) → IsTrue (are_accepted c.log_n c.r c.p)
-    → IsTrue (is_stored_len c.output_len) → IsSalt salt → IsMadeHash c password salt hash → IsHashText (hash_text hash) hash
-made_is_text c password salt hash fits len salted made =
+pub has_text : (c : Parameters) (salt key : List ℕ) → IsTrue (are_accepted c.log_n c.r c.p) → IsSalt salt → IsKey key
+    → IsHashText (hash_text (phc_hash c salt key)) (phc_hash c salt key)
+has_text c salt key fits salted keyed =
     let small = small_params c.log_n c.r c.p fits in
-    let stored = key_len_stored c.output_len len in
-    let long = length-key_by c password salt (key_len_or_default c) in
     record {
       whole = refl;
-      algorithm = rw made.algorithm refl;
-      version = rw made.version tt;
-      params = rw made.params (three_pairs c.log_n c.r c.p (omega (arith, small.0)) (omega (arith, small.1)) (omega (arith, small.2)));
-      salt = rw made.salt_is salted;
-      key = rw made.key_is (record {
-        are_bytes = key_by-are_bytes c password salt (key_len_or_default c);
-        enough = omega (arith, long, stored.0);
-        fits = omega (arith, long, stored.1);
-      });
-      key_after_salt = rw (made.key_is, made.salt_is) refl;
+      algorithm = refl;
+      version = tt;
+      params = three_pairs c.log_n c.r c.p (omega (arith, small.0)) (omega (arith, small.1)) (omega (arith, small.2));
+      salt = salted;
+      key = keyed;
+      key_after_salt = refl;
     }
+
+pub made_is_text : (c : Parameters) (password salt : List ℕ) → IsTrue (are_accepted c.log_n c.r c.p) → IsTrue (is_stored_len c.output_len)
+    → IsSalt salt → IsHashText (hash_text (made_phc c password salt)) (made_phc c password salt)
+unfolding made_phc
+made_is_text c password salt fits len salted =
+    let stored = key_len_stored c.output_len len in
+    let long = length-key_by c password salt (key_len_or_default c) in
+    has_text c salt _ fits salted (record {
+      are_bytes = key_by-are_bytes c password salt (key_len_or_default c);
+      enough = omega (arith, long, stored.0);
+      fits = omega (arith, long, stored.1);
+    })
+
+-- a hash can have a salt of 16 bytes, so hashing with it only runs out of memory
+pub only_memory : (salt : List ℕ) (why : Error) → length salt ≡ 16 → refusal why ≡ salt_refusal salt → why ≡ NoMemory
+unfolding is_salt_len
+only_memory salt why long is = at why (rw long at is)
+  where
+    at : (why : Error) → refusal why ≡ OutOfMemory → why ≡ NoMemory
+    at NoMemory is = refl
+    at others is = absurd cc
+
+-- a made hash is read as it was made
+pub made_read : (c : Parameters) (password salt : List ℕ) → IsTrue (are_accepted c.log_n c.r c.p)
+    → read_phc (made_phc c password salt) ≡ Ok (made_stored c password salt)
+unfolding made_phc phc_params
+made_read c password salt fits = rw (written_read c fits) refl
 
 pub ruleset made_hashes = (made_is_text, made_read, made_right, made_strong)

@@ -9,8 +9,8 @@ use Rattle.password_hash.specs.Parts.{parts_of}
 use Rattle.password_hash.specs.Phc.{IsHashText, IsSalt, hash_text}
 use Rattle.password_hash.specs.Refusal.{Refusal, EncodingInvalid, PasswordInvalid}
 use Rattle.password_hash.specs.declared.phc.hash.PasswordHash.{PasswordHash}
-use Rattle.scrypt.specs.McfHash.{mcf_id, read_fields, read_mcf}
-use Rattle.scrypt.specs.PhcHash.{IsMadeHash, phc_params}
+use Rattle.scrypt.specs.McfHash.{made_hash, made_mcf, mcf_id, read_fields, read_mcf}
+use Rattle.scrypt.specs.PhcHash.{made_phc, phc_params}
 use Rattle.scrypt.specs.Accepted.{are_accepted, is_stored_len, Parameters}
 use Rattle.scrypt.specs.Reading.{◌and_then◌, IsOfText, NamesNoPassword, Stored, mapped}
 use Rattle.scrypt.specs.StoredHash.{Formatted, McfText, PhcHash, formatted, is_mcf_text, is_stored_text, key_len_or_zero, params_and_len, params_reading, reading, whole}
@@ -20,7 +20,7 @@ use Rattle.scrypt.specs.Limits.{SufficeFor}
 use Rattle.scrypt.specs.WithinLimits.{within}
 use Rattle.scrypt.specs.declared.limits.Limits.{Limits}
 use Rattle.scrypt.proofs.AcceptedFacts.{bounds}
-use Rattle.scrypt.proofs.McfTextFacts.{read_is_text}
+use Rattle.scrypt.proofs.McfTextFacts.{made_text, read_is_text}
 use Rattle.scrypt.proofs.PhcFacts.{made_is_text, made_read, params_fault, params_good, params_none}
 use Rattle.scrypt.proofs.ReadingFacts.{AreGood, IsFault, enough_within, made_stored, mapped_refused, no_password, part_fault, some_fault, then_fault}
 
@@ -164,18 +164,21 @@ scrypt_is_phc is named = rw (is.whole, named) refl
 
 -- a hash that is read in its format is read so by its text
 
-pub made_mcf : (text : List ℕ) {s : Stored} → read_mcf text ≡ Ok s → reading text ≡ Ok s
+pub read_as_mcf : (text : List ℕ) {s : Stored} → read_mcf text ≡ Ok s → reading text ≡ Ok s
 unfolding reading formatted
-made_mcf text is = rw (mcf_is_seven (is_mcf is).1) is
+read_as_mcf text is = rw (mcf_is_seven (is_mcf is).1) is
 
-pub made_phc : (c : Parameters) (password salt : List ℕ) (hash : PasswordHash) → IsTrue (are_accepted c.log_n c.r c.p)
-    → IsTrue (is_stored_len c.output_len) → IsSalt salt → IsMadeHash c password salt hash
-    → reading (hash_text hash) ≡ Ok (made_stored c password salt)
-unfolding reading formatted
-made_phc c password salt hash fits len salted made =
-    let is = made_is_text c password salt hash fits len salted made in
-    rw (scrypt_is_phc is made.algorithm, hash_is_read (hash_text hash) hash is) (made_read c password salt hash fits made)
+pub mcf_reading : (c : Parameters) (password salt : List ℕ) → IsTrue (are_accepted c.log_n c.r c.p) → IsTrue (is_stored_len c.output_len)
+    → reading (made_mcf c password salt) ≡ Ok (made_hash c password salt)
+mcf_reading c password salt fits len = read_as_mcf _ (made_text c password salt fits len)
 
-pub ruleset made_texts = (made_mcf, made_phc)
+pub phc_reading : (c : Parameters) (password salt : List ℕ) → IsTrue (are_accepted c.log_n c.r c.p) → IsTrue (is_stored_len c.output_len)
+    → IsSalt salt → reading (hash_text (made_phc c password salt)) ≡ Ok (made_stored c password salt)
+unfolding reading formatted made_phc
+phc_reading c password salt fits len salted =
+    let is = made_is_text c password salt fits len salted in
+    rw (scrypt_is_phc is refl, hash_is_read _ _ is) (made_read c password salt fits)
+
+pub ruleset made_texts = (mcf_reading, phc_reading)
 
 pub ruleset errors_of_reading = (mcf_none, params_none, stored_none, whole_of_text)

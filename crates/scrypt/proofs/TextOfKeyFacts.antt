@@ -6,37 +6,23 @@ use Rattle.std.specs.Str.{IsUtf8}
 use Rattle.password_hash.specs.Crypt64.{crypt64_of, encoded_len, letter, letters_of}
 use Rattle.password_hash.specs.Mcf.{IsField}
 use Rattle.password_hash.specs.Parts.{dollar}
-use Rattle.password_hash.specs.Phc.{IsHashText, IsKey, IsSalt, hash_text}
+use Rattle.password_hash.specs.Phc.{IsKey, IsSalt, hash_text}
 use Rattle.password_hash.proofs.Crypt64Facts.{IsPlain, crypt64_of-plain, length-letters_of, letter-ascii, letters_of-plain}
 use Rattle.password_hash.proofs.GroupFacts.{length-crypt64_of}
 use Rattle.password_hash.proofs.PhcReadingFacts.{hash_is_read}
 use Rattle.scrypt.specs.Accepted.{Parameters, are_accepted, is_output_len}
 use Rattle.scrypt.specs.McfHash.{mcf_text}
 use Rattle.scrypt.specs.McfParams.{params_letters, params_text}
-use Rattle.scrypt.specs.PhcHash.{phc_params, read_phc}
+use Rattle.scrypt.specs.PhcHash.{phc_hash, phc_params, read_phc}
 use Rattle.scrypt.specs.StoredHash.{formatted, reading}
-use Rattle.scrypt.specs.TextOfKey.{IsTextOfKey, parts_of_key, phc_hash}
+use Rattle.scrypt.specs.TextOfKey.{IsTextOfKey, parts_of_key}
 use Rattle.scrypt.proofs.AcceptedFacts.{small_params}
 use Rattle.scrypt.proofs.McfHashFacts.{is_mcf}
 use Rattle.scrypt.proofs.McfTextFacts.{text_read}
-use Rattle.scrypt.proofs.PhcFacts.{three_pairs, written_read}
-use Rattle.scrypt.proofs.StoredHashFacts.{made_mcf, mcf_is_seven, scrypt_is_phc}
+use Rattle.scrypt.proofs.PhcFacts.{has_text, written_read}
+use Rattle.scrypt.proofs.StoredHashFacts.{mcf_is_seven, read_as_mcf, scrypt_is_phc}
 
 -- a PHC string
-
-has_text : (c : Parameters) (salt key : List ℕ) → IsTrue (are_accepted c.log_n c.r c.p) → IsSalt salt → IsKey key
-    → IsHashText (hash_text (phc_hash c salt key)) (phc_hash c salt key)
-has_text c salt key fits salted keyed =
-    let small = small_params c.log_n c.r c.p fits in
-    record {
-      whole = refl;
-      algorithm = refl;
-      version = tt;
-      params = three_pairs c.log_n c.r c.p (omega (arith, small.0)) (omega (arith, small.1)) (omega (arith, small.2));
-      salt = salted;
-      key = keyed;
-      key_after_salt = refl;
-    }
 
 is_read : (c : Parameters) (salt key : List ℕ) → IsTrue (are_accepted c.log_n c.r c.p)
     → read_phc (phc_hash c salt key) ≡ Ok (parts_of_key c salt key)
@@ -58,7 +44,7 @@ pub mcf_of_key : (c : Parameters) (salt key : List ℕ) → IsTrue (are_accepted
 mcf_of_key c salt key fits field bytes len =
     let s = parts_of_key c salt key in
     let read = text_read (mcf_text s) s (record { whole = refl; params = fits; no_len = refl; salt = field; key = bytes; key_len = len }) in
-    (mcf_is_seven (is_mcf read).1, made_mcf (mcf_text s) read)
+    (mcf_is_seven (is_mcf read).1, read_as_mcf (mcf_text s) read)
 
 pub length-mcf_of_key : (c : Parameters) (salt key : List ℕ)
     → length (mcf_text (parts_of_key c salt key)) ≡ 14 + length salt + (1 + encoded_len (length key))

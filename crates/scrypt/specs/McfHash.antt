@@ -1,5 +1,5 @@
 -- `$7$` hashes of crypt(5): how they are read and made.
-use Rattle.std.specs.Prelude.{◌≡◌, ℕ, ◌+◌, ◌<◌, List, [], ◌∷◌, ◌++◌, All, length, drop, codes, if◌then◌else◌, IsTrue, Option, None, ok_or, Result, Ok, Err, ⊤, bytes_eq}
+use Rattle.std.specs.Prelude.{◌≡◌, ℕ, ◌+◌, ◌<◌, List, [], ◌∷◌, ◌++◌, All, length, drop, codes, if◌then◌else◌, IsTrue, None, ok_or, Result, Ok, Err, bytes_eq}
 use Rattle.password_hash.specs.Crypt64.{crypt64_of, decoded, encoded_len}
 use Rattle.password_hash.specs.Mcf.{IsField}
 use Rattle.password_hash.specs.Parts.{dollar, parts_of}
@@ -7,7 +7,7 @@ use Rattle.password_hash.specs.Refusal.{Refusal, Algorithm, EncodingInvalid, Out
 use Rattle.scrypt.specs.Accepted.{Parameters, are_accepted, is_output_len, without_len}
 use Rattle.scrypt.specs.KeyOfParams.{key_by}
 use Rattle.scrypt.specs.McfParams.{field_params, params_text}
-use Rattle.scrypt.specs.Hashing.{HashingIsRefused, IsNamedOrNone, key_len_or_default}
+use Rattle.scrypt.specs.Hashing.{key_len_or_default}
 use Rattle.scrypt.specs.Reading.{◌and_then◌, Stored}
 
 -- the id of `$7$` hashes
@@ -59,19 +59,11 @@ made_key c password salt = key_by c password (crypt64_of salt) (key_len_or_defau
 abbrev pub made_hash : Parameters → List ℕ → List ℕ → Stored
 made_hash c password salt = record { params = without_len c; salt = crypt64_of salt; key = made_key c password salt }
 
--- the text is the hash that these parameters make of a password and a salt
-abbrev pub IsMadeHash : Parameters → List ℕ → List ℕ → List ℕ → Type 0
-IsMadeHash c password salt text = read_mcf text ≡ Ok (made_hash c password salt)
+-- the text of that hash
+unfoldable pub made_mcf : Parameters → List ℕ → List ℕ → List ℕ
+made_mcf c password salt = mcf_text (made_hash c password salt)
 
 -- the length of the text, for a salt of n bytes: the parameters, the letters of the salt, `$`, and
 -- the letters of the key
 abbrev pub made_text_len : Parameters → ℕ → ℕ
 made_text_len c n = 14 + encoded_len n + (1 + encoded_len (key_len_or_default c))
-
--- the caller named the algorithm `7` or none
-abbrev pub IsMcfOrNone : Option (List ℕ) → Type 0
-IsMcfOrNone = IsNamedOrNone mcf_id
-
--- the errors of hashing, in a format that allows every salt
-abbrev pub HashIsRefused : Option (List ℕ) → Option ℕ → Refusal → Type 0
-HashIsRefused = HashingIsRefused mcf_id ⊤

@@ -1,8 +1,6 @@
 -- The texts that store a salt and a key, which any program has derived.
-use Rattle.std.specs.Prelude.{◌≡◌, ℕ, Bool, List, codes, None, Some, Ok}
-use Rattle.password_hash.specs.declared.phc.hash.PasswordHash.{PasswordHash}
+use Rattle.std.specs.Prelude.{◌≡◌, ℕ, Bool, List, Ok}
 use Rattle.scrypt.specs.Accepted.{Parameters, without_len}
-use Rattle.scrypt.specs.PhcParams.{written_pairs}
 use Rattle.scrypt.specs.Reading.{Stored}
 use Rattle.scrypt.specs.StoredHash.{is_mcf_text, reading}
 
@@ -13,13 +11,3 @@ parts_of_key c salt key = record { params = without_len c; salt = salt; key = ke
 -- the text has this format, and is read as these parts
 abbrev pub IsTextOfKey : Bool → Parameters → List ℕ → List ℕ → List ℕ → Type 0
 IsTextOfKey is_mcf c salt key text = (is_mcf_text text ≡ is_mcf) × (reading text ≡ Ok (parts_of_key c salt key))
-
--- the PHC hash of these parts
-abbrev pub phc_hash : Parameters → List ℕ → List ℕ → PasswordHash
-phc_hash c salt key = record {
-  algorithm = codes "scrypt";
-  version = None;
-  params = written_pairs c;
-  salt = Some salt;
-  hash = Some key;
-}

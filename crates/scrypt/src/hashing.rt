@@ -1,8 +1,9 @@
 // Hashing, in every format, with any source of memory.
 
-ghost use Rattle.std.specs.Prelude.{◌≡◌, ◌↔◌, None, length, IfErr, IfOk, IsTrue, OnOk, option_map};
+ghost use Rattle.std.specs.Prelude.{◌≡◌, None, length, IfErr, IfOk, IsTrue, OnOk, option_map};
 ghost use Rattle.scrypt.specs.Cost.{AreCounted, hash_cost};
-ghost use Rattle.scrypt.specs.Hashing.{IsCallRefused, IsNamedOrNone, key_len_or_default};
+ghost use Rattle.password_hash.specs.Refusal.{Refusal, refusal};
+ghost use Rattle.scrypt.specs.Hashing.{call_refusal, is_named_or_none, key_len_or_default};
 ghost use Rattle.scrypt.specs.KeyOfParams.{cost_by, key_by};
 ghost use Rattle.scrypt.specs.Mixing.{IsReady, IsSpent};
 ghost use Rattle.password_hash.specs.declared.error.Error.TheVariants.{OutOfMemory};
@@ -19,29 +20,19 @@ use std::alloc::Global;
 ///
 /// Returns `Algorithm` if `alg_id` is given and not `name`, and otherwise `Version` if `version` is
 /// given.
-#[tactic(auto, using(crate::specs::Hashing::of_algorithm, crate::specs::Hashing::of_version))]
 pub(crate) fn check_call(name: &str, alg_id: Option<&str>, version: Option<Version>) -> Result<()>
-    ensures named { OnOk result (IsNamedOrNone name.now (option_map (λ s. s.now) alg_id.entry)) }
+    ensures named { OnOk result (IsTrue (is_named_or_none name.now (option_map (λ s. s.now) alg_id.entry))) }
     ensures none { OnOk result (version ≡ None) }
-    ensures err { IfErr result (IsCallRefused name.now (option_map (λ s. s.now) alg_id.entry) version) }
+    ensures err { IfErr result (λ e. (why : Refusal)
+        → refusal e ≡ call_refusal name.now (option_map (λ s. s.now) alg_id.entry) version why) }
 {
-    if !is_named_or_none(name, alg_id) {
+    if alg_id.unwrap_or(name) != name {
         return Err(Error::Algorithm);
     }
     if version.is_some() {
         return Err(Error::Version);
     }
     Ok(())
-}
-
-// Returns whether the algorithm argument is `name` or missing.
-fn is_named_or_none(name: &str, alg_id: Option<&str>) -> bool
-    ensures { IsTrue result ↔ IsNamedOrNone name.now (option_map (λ s. s.now) alg_id.entry) }
-{
-    match alg_id {
-        Some(id) => id == name,
-        None => true,
-    }
 }
 
 /// Derives the key that hashing with these parameters stores, in three buffers that it allocates in

@@ -1,6 +1,6 @@
 //! Laws of the definitions. Each function does nothing at run time: its contract is the law.
 
-ghost use Rattle.std.specs.Prelude.{◌≡◌, ◌≢◌, ◌⊎◌, ◌↔◌, true, false, ℕ, ◌+◌, ◌-◌, ◌*◌, ◌%◌, ◌^◌, ◌<◌, ◌≤◌, List, [], ◌∷◌, ◌++◌, IsTrue, length, map, sum_by, take, Option, Result, Ok, Err, IsOk, IsSome, Some, All};
+ghost use Rattle.std.specs.Prelude.{◌≡◌, ◌≢◌, ◌⊎◌, ◌↔◌, true, false, ℕ, ◌+◌, ◌-◌, ◌*◌, ◌%◌, ◌^◌, ◌<◌, ◌≤◌, List, [], ◌∷◌, ◌++◌, IsTrue, length, map, sum_by, take, Result, Ok, Err, IsOk, IsSome, Some, All};
 ghost use Rattle.sha2.specs.Sha256.{sha256};
 ghost use Rattle.password_hash.specs.Crypt64.{Crypt64, encoded_len, letter_value, letters_of};
 ghost use Rattle.password_hash.specs.Mcf.{IsMcfText, fields_of};
@@ -24,10 +24,10 @@ ghost use Rattle.scrypt.specs.InBuffers.{are_enough};
 ghost use Rattle.scrypt.specs.Limits.{SufficeFor, are_within, buffers_bytes, limits_for_new, work};
 ghost use Rattle.scrypt.specs.Logins.{AreLeft, Attempt, cores_on, hashed_on};
 ghost use Rattle.scrypt.specs.McfParams.{params_letters, five_letter_number};
-ghost use Rattle.scrypt.specs.McfHash.{HashIsRefused as McfHashIsRefused, IsMadeHash as IsMadeMcf, IsMcfHashText, made_hash, mcf_text, read_fields, read_mcf};
+ghost use Rattle.scrypt.specs.McfHash.{IsMcfHashText, made_hash, made_mcf, read_fields, read_mcf};
 ghost use Rattle.scrypt.specs.OwnedBuffers.{AreFor};
 ghost use Rattle.scrypt.specs.PhcParams.{params_of_pairs, written_pairs};
-ghost use Rattle.scrypt.specs.PhcHash.{HashIsRefused, IsMadeHash, IsMadeText, phc_params, read_phc};
+ghost use Rattle.scrypt.specs.PhcHash.{is_salt_len, made_phc, phc_params, read_phc};
 ghost use Rattle.scrypt.specs.PublicPart.{AreSameAfter, public_hash, public_part};
 ghost use Rattle.scrypt.specs.Reading.{IsOfText, NamesNoPassword, Stored, verdict, verify_cost, weaker};
 ghost use Rattle.scrypt.specs.StoredHash.{is_mcf_text, is_stored_text, params_reading, reading};
@@ -102,20 +102,19 @@ pub fn mcf_texts_are_read()
 /// parameters, of the salt and of the key.
 #[tactic(auto, using(crate::proofs::PhcFacts::made_hashes, crate::proofs::McfTextFacts::made_text, password_hash::proofs::PhcReadingFacts::one_reading))]
 pub fn made_hashes_are_accepted()
-    ensures phc { (c : Parameters) (password salt : List ℕ) (hash : PasswordHash)
-        → IsTrue (are_accepted c.log_n c.r c.p) → IsMadeHash c password salt hash
-        → verdict password (read_phc hash) ≡ Ok tt }
-    ensures phc_printed { (c : Parameters) (password salt : List ℕ) (hash : PasswordHash)
+    ensures phc { (c : Parameters) (password salt : List ℕ) → IsTrue (are_accepted c.log_n c.r c.p)
+        → verdict password (read_phc (made_phc c password salt)) ≡ Ok tt }
+    ensures phc_printed { (c : Parameters) (password salt : List ℕ) → IsTrue (are_accepted c.log_n c.r c.p)
+        → IsTrue (is_stored_len c.output_len) → IsSalt salt
+        → IsHashText (hash_text (made_phc c password salt)) (made_phc c password salt) }
+    ensures phc_read_back { (c : Parameters) (password salt : List ℕ) (again : PasswordHash)
         → IsTrue (are_accepted c.log_n c.r c.p) → IsTrue (is_stored_len c.output_len) → IsSalt salt
-        → IsMadeHash c password salt hash → IsHashText (hash_text hash) hash }
-    ensures phc_read_back { (c : Parameters) (password salt : List ℕ) (hash again : PasswordHash)
-        → IsTrue (are_accepted c.log_n c.r c.p) → IsTrue (is_stored_len c.output_len) → IsSalt salt
-        → IsMadeHash c password salt hash → IsHashText (hash_text hash) again
-        → verdict password (read_phc again) ≡ Ok tt }
-    ensures mcf { (c : Parameters) (password salt text : List ℕ) → IsMadeMcf c password salt text
-        → verdict password (read_mcf text) ≡ Ok tt }
-    ensures mcf_written { (c : Parameters) (password salt : List ℕ) → IsTrue (are_accepted c.log_n c.r c.p)
-        → IsTrue (is_stored_len c.output_len) → IsMadeMcf c password salt (mcf_text (made_hash c password salt)) }
+        → IsHashText (hash_text (made_phc c password salt)) again → verdict password (read_phc again) ≡ Ok tt }
+    ensures mcf { (c : Parameters) (password salt : List ℕ) → IsTrue (are_accepted c.log_n c.r c.p)
+        → IsTrue (is_stored_len c.output_len) → verdict password (read_mcf (made_mcf c password salt)) ≡ Ok tt }
+    ensures mcf_read { (c : Parameters) (password salt : List ℕ) → IsTrue (are_accepted c.log_n c.r c.p)
+        → IsTrue (is_stored_len c.output_len)
+        → read_mcf (made_mcf c password salt) ≡ Ok (made_hash c password salt) }
 {}
 
 /// A text that is `$7` or begins with `$7$` is read by its fields, and the text of a PHC hash as
@@ -146,36 +145,26 @@ pub fn parameters_are_those_of_the_reading()
 /// below `2^64` each. A key has the requested length.
 #[tactic(auto, using(crate::proofs::PhcFacts::made_hashes, crate::proofs::StoredHashFacts::made_texts, crate::proofs::KeyFacts::lengths, crate::proofs::ReadingFacts::made_within))]
 pub fn made_texts_are_accepted()
-    ensures phc { (c : Parameters) (password salt : List ℕ) (hash : PasswordHash)
-        → IsTrue (are_accepted c.log_n c.r c.p) → IsTrue (is_stored_len c.output_len) → IsSalt salt
-        → IsMadeHash c password salt hash
-        → (verdict password (reading (hash_text hash)) ≡ Ok tt)
-        × (weaker c (reading (hash_text hash)) ≡ Ok false) }
-    ensures phc_read { (c : Parameters) (password salt : List ℕ) (hash : PasswordHash)
-        → IsTrue (are_accepted c.log_n c.r c.p) → IsTrue (is_stored_len c.output_len) → IsSalt salt
-        → IsMadeHash c password salt hash
-        → reading (hash_text hash) ≡ Ok (record {
+    ensures phc { (c : Parameters) (password salt : List ℕ) → IsTrue (are_accepted c.log_n c.r c.p)
+        → IsTrue (is_stored_len c.output_len) → IsSalt salt
+        → (verdict password (reading (hash_text (made_phc c password salt))) ≡ Ok tt)
+        × (weaker c (reading (hash_text (made_phc c password salt))) ≡ Ok false) }
+    ensures phc_read { (c : Parameters) (password salt : List ℕ) → IsTrue (are_accepted c.log_n c.r c.p)
+        → IsTrue (is_stored_len c.output_len) → IsSalt salt
+        → reading (hash_text (made_phc c password salt)) ≡ Ok (record {
           params = without_len c;
           salt = salt;
           key = key_by c password salt (key_len_or_default c);
         }) }
-    ensures phc_within { (defaults : Limits) (c : Parameters) (password salt : List ℕ) (hash : PasswordHash)
-        (n : ℕ) → IsTrue (are_accepted c.log_n c.r c.p) → IsTrue (is_stored_len c.output_len) → IsSalt salt
-        → IsMadeHash c password salt hash → n ≤ key_len_or_default c → buffers_bytes c.log_n c.r c.p < 2 ^ 64
-        → work c.log_n c.r c.p < 2 ^ 64
-        → within (limits_for_new defaults c n) (reading (hash_text hash)) ≡ reading (hash_text hash) }
+    ensures phc_within { (defaults : Limits) (c : Parameters) (password salt : List ℕ) (n : ℕ)
+        → IsTrue (are_accepted c.log_n c.r c.p) → IsTrue (is_stored_len c.output_len) → IsSalt salt
+        → n ≤ key_len_or_default c → buffers_bytes c.log_n c.r c.p < 2 ^ 64 → work c.log_n c.r c.p < 2 ^ 64
+        → within (limits_for_new defaults c n) (reading (hash_text (made_phc c password salt)))
+        ≡ reading (hash_text (made_phc c password salt)) }
     ensures key_len { (c : Parameters) (password salt : List ℕ) (n : ℕ) → length (key_by c password salt n) ≡ n }
-    ensures mcf { (c : Parameters) (password salt text : List ℕ) → IsMadeMcf c password salt text
-        → (verdict password (reading text) ≡ Ok tt) × (weaker c (reading text) ≡ Ok false) }
-{}
-
-/// For invalid arguments, hashing has only one possible error.
-#[tactic(auto, using(crate::proofs::HashingFacts::refused_once))]
-pub fn hashing_refusals_are_one()
-    ensures phc { (salt : List ℕ) (alg_id : Option (List ℕ)) (version : Option ℕ) (one other : Refusal)
-        → HashIsRefused salt alg_id version one → HashIsRefused salt alg_id version other → one ≡ other }
-    ensures mcf { (alg_id : Option (List ℕ)) (version : Option ℕ) (one other : Refusal)
-        → McfHashIsRefused alg_id version one → McfHashIsRefused alg_id version other → one ≡ other }
+    ensures mcf { (c : Parameters) (password salt : List ℕ) → IsTrue (are_accepted c.log_n c.r c.p)
+        → IsTrue (is_stored_len c.output_len) → (verdict password (reading (made_mcf c password salt)) ≡ Ok tt)
+        × (weaker c (reading (made_mcf c password salt)) ≡ Ok false) }
 {}
 
 /// A password is accepted if and only if the stored key is the key of its length that the
@@ -203,13 +192,12 @@ pub fn reading_names_no_password()
 {}
 
 /// A hash that was made with the wanted parameters is not weaker than wanted.
-#[tactic(auto, using(crate::proofs::PhcFacts::made_hashes))]
+#[tactic(auto, using(crate::proofs::PhcFacts::made_hashes, crate::proofs::McfTextFacts::made_text))]
 pub fn rehashing_converges()
-    ensures phc { (c : Parameters) (password salt : List ℕ) (hash : PasswordHash)
-        → IsTrue (are_accepted c.log_n c.r c.p) → IsMadeHash c password salt hash
-        → weaker c (read_phc hash) ≡ Ok false }
-    ensures mcf { (c : Parameters) (password salt text : List ℕ) → IsMadeMcf c password salt text
-        → weaker c (read_mcf text) ≡ Ok false }
+    ensures phc { (c : Parameters) (password salt : List ℕ) → IsTrue (are_accepted c.log_n c.r c.p)
+        → weaker c (read_phc (made_phc c password salt)) ≡ Ok false }
+    ensures mcf { (c : Parameters) (password salt : List ℕ) → IsTrue (are_accepted c.log_n c.r c.p)
+        → IsTrue (is_stored_len c.output_len) → weaker c (read_mcf (made_mcf c password salt)) ≡ Ok false }
 {}
 
 /// Numbers below 2^30 and their five letters determine each other, any five letters encode a
@@ -272,12 +260,12 @@ pub fn work_is_independent_of_secrets()
 pub fn decoys_cost_what_hashes_cost()
     ensures rejected { (c : Parameters) (password salt : List ℕ) → IsTrue (are_accepted c.log_n c.r c.p)
         → IsTrue (is_stored_len c.output_len) → verdict password (decoy_reading c salt) ≡ Err PasswordInvalid }
-    ensures phc { (c : Parameters) (password salt text any : List ℕ) → IsTrue (are_accepted c.log_n c.r c.p)
-        → IsTrue (is_stored_len c.output_len) → IsSalt salt → IsMadeText c password salt text
-        → length any ≡ length salt → public_hash (decoy_reading c any) ≡ public_hash (reading text) }
-    ensures mcf { (c : Parameters) (password salt text any : List ℕ) → IsTrue (are_accepted c.log_n c.r c.p)
-        → IsTrue (is_stored_len c.output_len) → IsMadeMcf c password salt text
-        → length any ≡ encoded_len (length salt) → public_hash (decoy_reading c any) ≡ public_hash (reading text) }
+    ensures phc { (c : Parameters) (password salt any : List ℕ) → IsTrue (are_accepted c.log_n c.r c.p)
+        → IsTrue (is_stored_len c.output_len) → IsSalt salt → length any ≡ length salt
+        → public_hash (decoy_reading c any) ≡ public_hash (reading (hash_text (made_phc c password salt))) }
+    ensures mcf { (c : Parameters) (password salt any : List ℕ) → IsTrue (are_accepted c.log_n c.r c.p)
+        → IsTrue (is_stored_len c.output_len) → length any ≡ encoded_len (length salt)
+        → public_hash (decoy_reading c any) ≡ public_hash (reading (made_mcf c password salt)) }
 {}
 
 /// With a table that keeps one row in `2^s`, the `N` steps of the walk together recompute at most
@@ -355,6 +343,7 @@ pub fn conditions_are_inequalities()
         ↔ ((0 < r) × (0 < p) × (128 * r * 2 ^ log_n < 2 ^ 64) × (r * p < 2 ^ 30)) }
     ensures output { (n : ℕ) → IsTrue (is_output_len n) ↔ ((1 ≤ n) × (n ≤ max_output_len)) }
     ensures stored { (n : ℕ) → IsTrue (is_stored_len (Some n)) ↔ ((10 ≤ n) × (n ≤ 64)) }
+    ensures salt { (n : ℕ) → IsTrue (is_salt_len n) ↔ ((1 ≤ n) × (n ≤ 64)) }
     ensures enough { (c : Parameters) (chunks table scratch : List ℕ)
         → IsTrue (are_enough c chunks table scratch)
         ↔ ((chunks_bytes c.r c.p ≤ length chunks) × (table_words c.log_n c.r ≤ length table)

@@ -6,7 +6,8 @@ ghost use Rattle.scrypt.specs.Accepted.{without_len};
 ghost use Rattle.scrypt.specs.Hashing.{key_len_or_default};
 ghost use Rattle.scrypt.specs.KeyOfParams.{key_by};
 ghost use Rattle.scrypt.specs.Limits.{buffers_bytes, limits_for_new, work};
-ghost use Rattle.scrypt.specs.PhcHash.{IsMadeText};
+ghost use Rattle.password_hash.specs.Phc.{hash_text};
+ghost use Rattle.scrypt.specs.PhcHash.{made_phc};
 ghost use Rattle.scrypt.specs.Reading.{verdict, weaker};
 ghost use Rattle.scrypt.specs.StoredHash.{reading};
 ghost use Rattle.scrypt.specs.WithinLimits.{within};
@@ -27,7 +28,7 @@ use std::alloc::Global;
 ///
 /// Returns `OutOfMemory` if an allocation fails.
 pub fn hash_text(alloc: Global, password: &[u8], salt: [u8; 16], params: &Params) -> Result<String>
-    ensures made { IfOk result (λ text. IsMadeText params.now password.now salt (string_bytes text)) }
+    ensures made { IfOk result (λ text. string_bytes text ≡ hash_text (made_phc params.now password.now salt)) }
     ensures read { IfOk result (λ text. reading (string_bytes text) ≡ Ok (record {
       params = without_len params.now;
       salt = salt;

@@ -1,6 +1,6 @@
 -- The parameters of new hashes, and their texts, which are written to the caller's buffer or do not
 -- fit it.
-use Rattle.std.specs.Prelude.{◌≡◌, ℕ, ◌<◌, ◌≤◌, List, length, Some, IsTrue}
+use Rattle.std.specs.Prelude.{◌≡◌, ℕ, ◌<◌, ◌≤◌, List, ◌++◌, drop, length, Some, IsTrue}
 use Rattle.std.specs.Str.{IsUtf8}
 use Rattle.scrypt.specs.Accepted.{are_accepted, is_stored_len, Parameters}
 use Rattle.scrypt.specs.InBuffers.{IsCopiedTo}
@@ -13,18 +13,21 @@ wanted log_n r p key_len = record { log_n = log_n; r = r; p = p; output_len = So
 abbrev pub AreHashParams : ℕ → ℕ → ℕ → ℕ → Type 0
 AreHashParams log_n r p key_len = IsTrue (are_accepted log_n r p) × IsTrue (is_stored_len (Some key_len))
 
--- such a text, in UTF-8, is a prefix of the caller's buffer, the rest is unchanged, and this is its
+-- this text, in UTF-8, is a prefix of the caller's buffer, the rest is unchanged, and this is its
 -- length
+abbrev pub IsWritten : List ℕ → List ℕ → List ℕ → ℕ → Type 0
+IsWritten text old new len = IsUtf8 text × (len ≡ length text) × (new ≡ text ++ drop len old)
+
+-- such a text is
 abbrev pub IsWrittenTo : (List ℕ → Type 0) → List ℕ → List ℕ → ℕ → Type 0
 IsWrittenTo IsMade old new len = IsCopiedTo (λ text. IsUtf8 text × IsMade text) old new len
 
--- the new text does not fit the caller's buffer, and this is its length
-abbrev pub IsTooLong : (List ℕ → Type 0) → List ℕ → ℕ → Type 0
-IsTooLong IsMade buffer len = (text : List ℕ) × IsMade text × (len ≡ length text) × (length buffer < len)
+-- this text does not fit the caller's buffer, and this is its length
+abbrev pub IsTooLong : List ℕ → List ℕ → ℕ → Type 0
+IsTooLong text buffer len = (len ≡ length text) × (length buffer < len)
 
--- Why no text is written although a new hash can have these parameters: the text does not fit the
--- caller's buffer, and this is its length, or else the buffers of the derivation are too short, and
--- the length is unchanged.
-abbrev pub IsTooShort : (List ℕ → Type 0) → ℕ → Type 0 → List ℕ → ℕ → ℕ → Type 0
-IsTooShort IsMade made_len Enough buffer old new =
-    (length buffer < made_len → IsTooLong IsMade buffer new) × (made_len ≤ length buffer → (¬ Enough) × (new ≡ old))
+-- Why this text is not written: it does not fit the caller's buffer, and this is its length, or else
+-- the buffers of the derivation are too short, and the length is unchanged.
+abbrev pub IsTooShort : List ℕ → Type 0 → List ℕ → ℕ → ℕ → Type 0
+IsTooShort text Enough buffer old new =
+    (length buffer < length text → new ≡ length text) × (length text ≤ length buffer → (¬ Enough) × (new ≡ old))

@@ -1,13 +1,14 @@
 //! Hashes: making their texts, and verifying passwords against them.
 
-ghost use Rattle.std.specs.Prelude.{◌≡◌, ◌≢◌, ◌⊎◌, ◌↔◌, length};
+ghost use Rattle.std.specs.Prelude.{◌≡◌, ◌≢◌, ◌⊎◌, ◌↔◌, length, IsTrue};
+ghost use Rattle.password_hash.specs.Phc.{hash_text};
 ghost use Rattle.password_hash.specs.Refusal.{with_refusal};
-ghost use Rattle.scrypt.specs.McfHash.{IsMadeHash as IsMadeMcf};
-ghost use Rattle.scrypt.specs.PhcHash.{IsMadeText, IsSaltLen};
+ghost use Rattle.scrypt.specs.McfHash.{made_mcf};
+ghost use Rattle.scrypt.specs.PhcHash.{is_salt_len, made_phc};
 ghost use Rattle.scrypt.specs.Reading.{weaker};
 ghost use Rattle.scrypt.specs.StoredHash.{reading};
 ghost use Rattle.scrypt_c.specs.Limits.{limited_reading};
-ghost use Rattle.scrypt_c.specs.Made.{AreHashParams, IsTooLong, IsWrittenTo, wanted};
+ghost use Rattle.scrypt_c.specs.Made.{AreHashParams, IsTooLong, IsWritten, wanted};
 ghost use Rattle.scrypt_c.specs.Statuses.{IsVerifyStatus, ReadsParams, rehash_status};
 ghost use Rattle.scrypt_c.specs.Texts.{bytes_reading};
 
@@ -43,12 +44,12 @@ pub extern "C" fn scrypt_hash_phc(
     text_len: &mut usize,
 ) -> i32
     ensures made { result ≡ OK
-        → IsWrittenTo (IsMadeText (wanted log_n r p key_len) password.now salt.now)
+        → IsWritten (hash_text (made_phc (wanted log_n r p key_len) password.now salt.now))
         text.old text.new text_len.new }
     ensures params { (result ≡ INVALID_PARAMS) ↔ (¬ AreHashParams log_n r p key_len) }
-    ensures salt { (result ≡ SALT_INVALID) ↔ (AreHashParams log_n r p key_len × ¬ IsSaltLen (length salt.now)) }
+    ensures salt { (result ≡ SALT_INVALID) ↔ (AreHashParams log_n r p key_len × ¬ IsTrue (is_salt_len (length salt.now))) }
     ensures size { result ≡ BUFFER_SIZE
-        → IsTooLong (IsMadeText (wanted log_n r p key_len) password.now salt.now) text.old text_len.new }
+        → IsTooLong (hash_text (made_phc (wanted log_n r p key_len) password.now salt.now)) text.old text_len.new }
     ensures status { (result ≡ OK) ⊎ (result ≡ INVALID_PARAMS) ⊎ (result ≡ SALT_INVALID)
         ⊎ (result ≡ OUT_OF_MEMORY) ⊎ (result ≡ BUFFER_SIZE) }
     ensures refused { result ≢ OK → text.new ≡ text.old }
@@ -83,12 +84,11 @@ pub extern "C" fn scrypt_hash_mcf(
     text: &mut [u8],
     text_len: &mut usize,
 ) -> i32
-    ensures made { result ≡ OK
-        → IsWrittenTo (IsMadeMcf (wanted log_n r p key_len) password.now salt.now)
+    ensures made { result ≡ OK → IsWritten (made_mcf (wanted log_n r p key_len) password.now salt.now)
         text.old text.new text_len.new }
     ensures params { (result ≡ INVALID_PARAMS) ↔ (¬ AreHashParams log_n r p key_len) }
     ensures size { result ≡ BUFFER_SIZE
-        → IsTooLong (IsMadeMcf (wanted log_n r p key_len) password.now salt.now) text.old text_len.new }
+        → IsTooLong (made_mcf (wanted log_n r p key_len) password.now salt.now) text.old text_len.new }
     ensures status { (result ≡ OK) ⊎ (result ≡ INVALID_PARAMS) ⊎ (result ≡ OUT_OF_MEMORY) ⊎ (result ≡ BUFFER_SIZE) }
     ensures refused { result ≢ OK → text.new ≡ text.old }
     ensures unchanged { result ≢ OK → result ≢ BUFFER_SIZE → text_len.new ≡ text_len.old }

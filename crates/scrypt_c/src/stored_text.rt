@@ -4,7 +4,7 @@ ghost use Rattle.std.specs.Prelude.{◌≡◌, ◌≢◌, ◌↔◌, ◌⊎◌, 
 ghost use Rattle.std.specs.Str.{IsUtf8};
 ghost use Rattle.password_hash.specs.Mcf.{IsField};
 ghost use Rattle.scrypt.specs.Accepted.{are_accepted, is_output_len, is_stored_len};
-ghost use Rattle.scrypt.specs.PhcHash.{IsSaltLen};
+ghost use Rattle.scrypt.specs.PhcHash.{is_salt_len};
 ghost use Rattle.scrypt.specs.TextOfKey.{IsTextOfKey};
 ghost use Rattle.scrypt_c.specs.Limits.{params_of};
 ghost use Rattle.scrypt_c.specs.Made.{IsTooLong, IsWrittenTo};
@@ -35,12 +35,12 @@ pub extern "C" fn scrypt_stored_phc(
         → IsWrittenTo (IsTextOfKey false (params_of log_n r p) salt.now key.now) text.old text.new text_len.new }
     ensures params { (result ≡ INVALID_PARAMS) ↔ (¬ IsTrue (are_accepted log_n r p)) }
     ensures salt { (result ≡ SALT_INVALID)
-        ↔ (IsTrue (are_accepted log_n r p) × ¬ IsSaltLen (length salt.now)) }
+        ↔ (IsTrue (are_accepted log_n r p) × ¬ IsTrue (is_salt_len (length salt.now))) }
     ensures key { (result ≡ INVALID_OUTPUT_LEN)
-        ↔ (IsTrue (are_accepted log_n r p) × IsSaltLen (length salt.now)
+        ↔ (IsTrue (are_accepted log_n r p) × IsTrue (is_salt_len (length salt.now))
         × ¬ IsTrue (is_stored_len (Some (length key.now)))) }
-    ensures size { result ≡ BUFFER_SIZE
-        → IsTooLong (IsTextOfKey false (params_of log_n r p) salt.now key.now) text.old text_len.new }
+    ensures size { result ≡ BUFFER_SIZE → (made : List ℕ)
+        × IsTextOfKey false (params_of log_n r p) salt.now key.now made × IsTooLong made text.old text_len.new }
     ensures status { (result ≡ OK) ⊎ (result ≡ INVALID_PARAMS) ⊎ (result ≡ SALT_INVALID)
         ⊎ (result ≡ INVALID_OUTPUT_LEN) ⊎ (result ≡ BUFFER_SIZE) }
     ensures refused { result ≢ OK → text.new ≡ text.old }

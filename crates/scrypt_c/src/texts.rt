@@ -1,11 +1,12 @@
 // The texts of hashes: read from the caller's bytes, and copied to the caller's buffer.
 
-ghost use Rattle.std.specs.Prelude.{◌≡◌, ◌≢◌, ◌↔◌, ◌⊎◌, ◌≤◌, ◌++◌, drop, length, IfErr, IfOk, IsOk};
+ghost use Rattle.std.specs.Prelude.{◌≡◌, ◌≢◌, ◌↔◌, ◌⊎◌, ◌≤◌, length, IfErr, IfOk, IsOk};
 ghost use Rattle.password_hash.specs.declared.error.Error.TheVariants.{EncodingInvalid};
 ghost use Rattle.scrypt.specs.Reading.{◌and_then◌, mapped, with_refusal};
 ghost use Rattle.scrypt.specs.StoredHash.{params_reading, reading};
 ghost use Rattle.scrypt.specs.WithinLimits.{with_limited_refusal};
 ghost use Rattle.scrypt_c.specs.Limits.{limited_reading};
+ghost use Rattle.scrypt_c.specs.Made.{IsWritten};
 ghost use Rattle.scrypt_c.specs.Texts.{bytes_params, bytes_reading};
 
 use crate::statuses::{BUFFER_SIZE, OK};
@@ -69,7 +70,7 @@ pub fn whole_params(hash: &StoredHash<'_>) -> Result<(Params, usize)>
 pub fn copy_to(text: &str, buffer: &mut [u8], text_len: &mut usize) -> i32
     ensures ok { (result ≡ OK) ↔ (length text.now ≤ length buffer.old) }
     ensures status { (result ≡ OK) ⊎ (result ≡ BUFFER_SIZE) }
-    ensures written { result ≡ OK → buffer.new ≡ text.now ++ drop (length text.now) buffer.old }
+    ensures written { result ≡ OK → IsWritten text.now buffer.old buffer.new text_len.new }
     ensures refused { result ≢ OK → buffer.new ≡ buffer.old }
     ensures len { text_len.new ≡ length text.now }
 {

@@ -5,11 +5,12 @@
 //! nothing after them has changed. Without one the buffers are unchanged.
 
 ghost use Rattle.std.specs.Prelude.{◌≡◌, ◌≢◌, ◌↔◌, ◌⊎◌, ◌<◌, ◌≤◌, [], ◌∷◌, length, replicate, IsTrue};
+ghost use Rattle.password_hash.specs.Phc.{hash_text};
 ghost use Rattle.password_hash.specs.Refusal.{refusal};
 ghost use Rattle.scrypt.specs.Decoy.{decoy_reading};
 ghost use Rattle.scrypt.specs.InBuffers.{are_enough};
-ghost use Rattle.scrypt.specs.McfHash.{IsMadeHash as IsMadeMcf, made_text_len};
-ghost use Rattle.scrypt.specs.PhcHash.{IsMadeText, IsSaltLen};
+ghost use Rattle.scrypt.specs.McfHash.{made_mcf};
+ghost use Rattle.scrypt.specs.PhcHash.{is_salt_len, made_phc};
 ghost use Rattle.scrypt.specs.Logins.{AreLeft, attempt_of};
 ghost use Rattle.scrypt.specs.Reading.{◌and_then◌, with_refusal};
 ghost use Rattle.scrypt.specs.StoredHash.{reading};
@@ -17,7 +18,7 @@ ghost use Rattle.scrypt.specs.WithinLimits.{with_limited_refusal};
 ghost use Rattle.scrypt.specs.Workspace.{IsDone, IsLeft, verdict_in, workspace_of};
 ghost use Rattle.scrypt_c.specs.InBuffers.{login_attempt, statuses_in};
 ghost use Rattle.scrypt_c.specs.Limits.{limited_reading};
-ghost use Rattle.scrypt_c.specs.Made.{AreHashParams, IsTooLong, IsTooShort, IsWrittenTo, wanted};
+ghost use Rattle.scrypt_c.specs.Made.{AreHashParams, IsTooLong, IsTooShort, IsWritten, wanted};
 ghost use Rattle.scrypt_c.specs.Statuses.{buffers_status, short_status};
 
 use crate::statuses::{
@@ -54,14 +55,14 @@ pub extern "C" fn scrypt_hash_phc_with_buffers(
     scratch: &mut [u32],
 ) -> i32
     ensures made { result ≡ OK
-        → IsWrittenTo (IsMadeText (wanted log_n r p key_len) password.now salt.now)
+        → IsWritten (hash_text (made_phc (wanted log_n r p key_len) password.now salt.now))
         text.old text.new text_len.new }
     ensures params { (result ≡ INVALID_PARAMS) ↔ (¬ AreHashParams log_n r p key_len) }
-    ensures salt { (result ≡ SALT_INVALID) ↔ (AreHashParams log_n r p key_len × ¬ IsSaltLen (length salt.now)) }
+    ensures salt { (result ≡ SALT_INVALID) ↔ (AreHashParams log_n r p key_len × ¬ IsTrue (is_salt_len (length salt.now))) }
     ensures buffers { result ≡ OK → IsTrue (are_enough (wanted log_n r p key_len) chunks.old table.old scratch.old) }
     ensures size { result ≡ BUFFER_SIZE
         → IsTrue (are_enough (wanted log_n r p key_len) chunks.old table.old scratch.old)
-        → IsTooLong (IsMadeText (wanted log_n r p key_len) password.now salt.now) text.old text_len.new }
+        → IsTooLong (hash_text (made_phc (wanted log_n r p key_len) password.now salt.now)) text.old text_len.new }
     ensures status { (result ≡ OK) ⊎ (result ≡ INVALID_PARAMS) ⊎ (result ≡ SALT_INVALID) ⊎ (result ≡ BUFFER_SIZE) }
     ensures used { (result ≡ OK) ⊎ (result ≡ BUFFER_SIZE)
         → IsTrue (are_enough (wanted log_n r p key_len) chunks.old table.old scratch.old)
@@ -106,14 +107,11 @@ pub extern "C" fn scrypt_hash_mcf_with_buffers(
     table: &mut [u32],
     scratch: &mut [u32],
 ) -> i32
-    ensures made { result ≡ OK
-        → IsWrittenTo (IsMadeMcf (wanted log_n r p key_len) password.now salt.now)
+    ensures made { result ≡ OK → IsWritten (made_mcf (wanted log_n r p key_len) password.now salt.now)
         text.old text.new text_len.new }
     ensures params { (result ≡ INVALID_PARAMS) ↔ (¬ AreHashParams log_n r p key_len) }
     ensures buffers { result ≡ OK → IsTrue (are_enough (wanted log_n r p key_len) chunks.old table.old scratch.old) }
-    ensures size { result ≡ BUFFER_SIZE
-        → IsTooShort (IsMadeMcf (wanted log_n r p key_len) password.now salt.now)
-        (made_text_len (wanted log_n r p key_len) (length salt.now))
+    ensures size { result ≡ BUFFER_SIZE → IsTooShort (made_mcf (wanted log_n r p key_len) password.now salt.now)
         (IsTrue (are_enough (wanted log_n r p key_len) chunks.old table.old scratch.old)) text.old text_len.old text_len.new }
     ensures status { (result ≡ OK) ⊎ (result ≡ INVALID_PARAMS) ⊎ (result ≡ BUFFER_SIZE) }
     ensures used { result ≡ OK → IsDone (wanted log_n r p key_len)

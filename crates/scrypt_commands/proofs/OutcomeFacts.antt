@@ -1,26 +1,20 @@
 -- Making hashes, carrying out a command, and the outcome and the plan of a run.
-use Rattle.std.proofs.Common.{◌≡◌, ◌⊎◌, ℕ, true, List, [], ◌∷◌, Option, Some, None, Ok, Err, inl, inr, length, ◌∙◌, ap, refl, sym, append-nil, arith}
-use Rattle.std.specs.Prelude.{IfSome, Result}
-use Rattle.std.specs.Bool.{Decides}
+use Rattle.std.proofs.Common.{◌≡◌, ◌⊎◌, ℕ, false, true, List, [], ◌∷◌, Option, Some, None, Ok, Err, inl, inr, length, ◌∙◌, ap, refl, sym, append-nil, arith}
+use Rattle.std.specs.Prelude.{Bool, IfSome, Result, if◌then◌else◌}
 use Rattle.std.specs.Io.KnownBytes.{Appends, Keeps}
 use Rattle.std.specs.Option.{option_map_or}
 use Rattle.password_hash.specs.Phc.{hash_text}
-use Rattle.password_hash.specs.Refusal.{Refusal, refusal, OutOfMemory as Refused}
-use Rattle.password_hash.specs.Refusal as refusals
+use Rattle.password_hash.specs.Refusal.{refusal, OutOfMemory as Refused, SaltInvalid as BadSalt}
 use Rattle.password_hash.specs.declared.error.Error.{Error}
 use Rattle.password_hash.specs.declared.error.Error.TheVariants.{OutOfMemory as NoMemory, SaltInvalid}
-use Rattle.password_hash.specs.declared.phc.hash.PasswordHash.{PasswordHash}
 use Rattle.scrypt.specs.Accepted.{Parameters}
-use Rattle.scrypt.specs.Hashing.{by_algorithm, by_memory, by_salt, by_version}
-use Rattle.scrypt.specs.PhcHash.{HashIsRefused, IsMadeHash, IsSaltLen}
+use Rattle.scrypt.specs.PhcHash.{is_salt_len, made_phc, salt_refusal}
 use Rattle.scrypt.specs.Reading.{◌and_then◌}
-use Rattle.std.proofs.lemmas.Bool.{false_from_ne_true}
-use Rattle.std.proofs.lemmas.Bool.Decides.{nat_tests}
-use Rattle.scrypt_commands.specs.CliError.{ErrorLine, FailsWith, error_line, hash_error, status_of}
+use Rattle.scrypt_commands.specs.CliError.{ErrorLine, FailsWith, error_line, hash_error, refuse, status_of}
 use Rattle.scrypt_commands.specs.Command.{request_of}
 use Rattle.scrypt_commands.specs.Invocation.{CommandLine, Tell, asked_by, command_by, command_line_of, invocation_by, invocation_of, name_of, text_of_words}
 use Rattle.scrypt_commands.specs.Options.{no_options, options_of}
-use Rattle.scrypt_commands.specs.Outcome.{Reply, is_salt_len, new_hash, outcome, phc_text, reply_by}
+use Rattle.scrypt_commands.specs.Outcome.{Reply, new_hash, outcome, reply_by}
 use Rattle.scrypt_commands.specs.Run.{AppendsReply, HasOutcome, OnInput, Streams, plan_of, plan_of_command, plan_of_words}
 use Rattle.scrypt_commands.specs.declared.command.Format.TheVariants.{Phc}
 use Rattle.scrypt_commands.specs.declared.command_line.Name.{Name}
@@ -29,34 +23,17 @@ use Rattle.scrypt_commands.specs.declared.error.CliError.{CliError}
 use Rattle.scrypt_commands.specs.declared.error.CliError.TheVariants.{InputFailed, OutOfMemory, OutputFailed}
 use Rattle.scrypt_commands.specs.declared.run.Ended.{Ended}
 
-salt_len_decided : (n : ℕ) → Decides (is_salt_len n) (IsSaltLen n)
-unfolding is_salt_len
-salt_len_decided n = grind (arith, nat_tests)
-
--- the text of a PHC hash that was made
-pub phc_made : (c : Parameters) (password salt text : List ℕ) (hash : PasswordHash) → IsMadeHash c password salt hash
-    → text ≡ hash_text hash → new_hash Phc c password salt ≡ Ok text
-unfolding phc_text
-phc_made c password salt text hash made is =
-    rw (is, (salt_len_decided (length salt)).1 made.salt_len, made.algorithm, made.version, made.params, made.salt_is, made.key_is) refl
-
--- the error of one that was not made
-pub phc_refused : (c : Parameters) (password salt : List ℕ) (why : Error) (refused : Refusal) → refusal why ≡ refused
-    → HashIsRefused salt None None refused → FailsWith (λ error. new_hash Phc c password salt ≡ Err (error_line error)) (hash_error why)
-phc_refused c password salt why refused is (by_algorithm h) = absurd (h tt)
-phc_refused c password salt why refused is (by_version h i) = absurd cc
-phc_refused c password salt why refused is (by_memory h i j) = inl (reported why is)
+-- the error of a PHC hash that was not made
+pub phc_refused : (c : Parameters) (password salt : List ℕ) (why : Error) → refusal why ≡ salt_refusal salt
+    → FailsWith (λ error. new_hash Phc c password salt ≡ Err (error_line error)) (hash_error why)
+phc_refused c password salt = at (is_salt_len (length salt))
   where
-    reported : (why : Error) → refusal why ≡ Refused → hash_error why ≡ OutOfMemory
-    reported NoMemory is = refl
-    reported others is = absurd cc
-phc_refused c password salt why refused is (by_salt h i none) =
-    let long = false_from_ne_true _ (λ fits. none ((salt_len_decided (length salt)).0 fits)) in
-    let same : why ≡ SaltInvalid = reported why is in rw same (inr (refl, rw long refl))
-  where
-    reported : (why : Error) → refusal why ≡ refusals.SaltInvalid → why ≡ SaltInvalid
-    reported SaltInvalid is = refl
-    reported others is = absurd cc
+    at : (fits : Bool) (why : Error) → refusal why ≡ (if fits then Refused else BadSalt)
+        → FailsWith (λ error. (if fits then Ok (hash_text (made_phc c password salt)) else refuse (hash_error SaltInvalid)) ≡ Err (error_line error)) (hash_error why)
+    at true NoMemory is = inl refl
+    at false SaltInvalid is = inr (refl, refl)
+    at true others is = absurd cc
+    at false others is = absurd cc
 
 -- what holds of every input holds of that of a reader
 pub on_any_input : (known : Option (List ℕ)) (P : List ℕ → Type 0) → ((input : List ℕ) → P input) → OnInput known P

@@ -1,15 +1,14 @@
 -- The outcome of a command line: the program's output for its arguments and its input.
-use Rattle.std.specs.Prelude.{◌≡◌, ℕ, ◌&&◌, Bool, false, true, nat_le, if◌then◌else◌, List, [], ◌++◌, length, codes, Option, None, Some, option_map, unwrap_or, Result, Ok, Err, ⊤}
+use Rattle.std.specs.Prelude.{◌≡◌, ℕ, Bool, false, true, if◌then◌else◌, List, [], ◌++◌, length, codes, Option, None, Some, option_map, unwrap_or, Result, Ok, Err, ⊤}
 use Rattle.std.specs.Result.{result_unwrap_or}
 use Rattle.hex.specs.Hex.{encode_lower}
 use Rattle.password_hash.specs.Phc.{hash_text}
 use Rattle.password_hash.specs.Refusal.{PasswordInvalid, Refusal}
 use Rattle.password_hash.specs.declared.error.Error.TheVariants.{SaltInvalid}
 use Rattle.scrypt.specs.Accepted.{Parameters}
-use Rattle.scrypt.specs.Hashing.{key_len_or_default}
 use Rattle.scrypt.specs.KeyOfParams.{cost_by, key_by}
-use Rattle.scrypt.specs.McfHash.{made_hash, mcf_text}
-use Rattle.scrypt.specs.PhcParams.{written_pairs}
+use Rattle.scrypt.specs.McfHash.{made_mcf}
+use Rattle.scrypt.specs.PhcHash.{is_salt_len, made_phc}
 use Rattle.scrypt.specs.Reading.{◌and_then◌ as ◌>>=◌, Stored, verdict, verify_cost, weaker}
 use Rattle.scrypt.specs.declared.limits.Limits.{Limits}
 use Rattle.scrypt.specs.declared.limits.TheConstants.Limits.{DEFAULT}
@@ -50,25 +49,11 @@ outcome (Err line) = record { status = 2; line = []; error = line }
 abbrev pub failure : CliError → Outcome
 failure error = record { status = status_of error; line = []; error = error_line error }
 
--- the text of the PHC hash of a password and a salt with these parameters
-unfoldable pub phc_text : Parameters → List ℕ → List ℕ → List ℕ
-phc_text c password salt = hash_text (record {
-  algorithm = codes "scrypt";
-  version = None;
-  params = written_pairs c;
-  salt = Some salt;
-  hash = Some (key_by c password salt (key_len_or_default c));
-})
-
--- whether a PHC hash can have a salt of this length: 1 to 64 bytes
-unfoldable pub is_salt_len : ℕ → Bool
-is_salt_len n = nat_le 1 n && nat_le n 64
-
 -- the text of a new hash of this format; a `$7$` hash takes any salt
 abbrev pub new_hash : Format → Parameters → List ℕ → List ℕ → Result (List ℕ) ErrorLine
 new_hash Phc c password salt =
-    if is_salt_len (length salt) then Ok (phc_text c password salt) else refuse (hash_error SaltInvalid)
-new_hash Mcf c password salt = Ok (mcf_text (made_hash c password salt))
+    if is_salt_len (length salt) then Ok (hash_text (made_phc c password salt)) else refuse (hash_error SaltInvalid)
+new_hash Mcf c password salt = Ok (made_mcf c password salt)
 
 -- The output line of a new key or hash of a password and a salt. A key is written as its
 -- hexadecimal digits, or as its bytes without a newline.

@@ -18,7 +18,6 @@ use crate::invocation::Machine;
 use crate::limit_options::LimitOptions;
 use crate::progress::derive_shown;
 use password_hash::Error;
-use scrypt::laws::mcf_texts_are_read;
 use scrypt::{
     Backend, CoreCount, DeriveError, LimitedError, Limits, Params, StoredHash, mcf, phc,
     scrypt_with_max_mem,
@@ -186,7 +185,6 @@ fn make_hash<M: Backend>(
 ) -> Result<String>
     ensures { Gives string_bytes (new_hash format params.now password.now salt.now) result }
 {
-    mcf_texts_are_read();
     match format {
         Format::Phc => {
             let hash = phc::hash::<M>(alloc, password, salt, params)?;

@@ -1,7 +1,8 @@
 -- Enrolling and logging in.
 use Rattle.std.specs.Prelude.{◌≡◌, ℕ, ◌+◌, ◌*◌, ◌≤◌, List, Bool, true, false, Option, None, Some, Ok, string_bytes}
 use Rattle.scrypt.specs.Accepted.{Parameters}
-use Rattle.scrypt.specs.PhcHash.{IsMadeText}
+use Rattle.password_hash.specs.Phc.{hash_text}
+use Rattle.scrypt.specs.PhcHash.{made_phc}
 use Rattle.scrypt.specs.Reading.{verdict, weaker}
 use Rattle.scrypt.specs.StoredHash.{reading}
 use Rattle.scrypt_kernel.specs.declared.cores.count.CoreCount.{CoreCount}
@@ -11,7 +12,7 @@ use Rattle.scrypt_examples.specs.declared.login.LoginOutcome.TheVariants.{In, In
 -- The text is a hash of the password and the salt, made with these parameters; so it accepts the
 -- password, and is not weaker than wanted.
 pub record IsEnrolled (wanted : Parameters) (password salt text : List ℕ) : Type 0 where
-  pub made : IsMadeText wanted password salt text
+  pub made : text ≡ hash_text (made_phc wanted password salt)
   pub accepts : verdict password (reading text) ≡ Ok tt
   pub strong : weaker wanted (reading text) ≡ Ok false
 

@@ -8,13 +8,13 @@ ghost use Rattle.scrypt.specs.Accepted.{are_accepted};
 ghost use Rattle.scrypt.specs.Cost.{AreCounted, hash_cost};
 ghost use Rattle.scrypt.specs.Hashing.{key_len_or_default};
 ghost use Rattle.scrypt.specs.KeyOfParams.{cost_by};
-ghost use Rattle.scrypt.specs.McfHash.{IsMadeHash as IsMadeMcf};
+ghost use Rattle.scrypt.specs.McfHash.{made_mcf};
 ghost use Rattle.scrypt.specs.Reading.{let_in, verdict, weaker};
 ghost use Rattle.scrypt.specs.StoredHash.{reading};
 ghost use Rattle.scrypt_examples.specs.Login.{IsEnrolled, lets_in, new_text};
 
 use password_hash::{Error, PasswordHasher, Result, mcf};
-use scrypt::laws::made_texts_are_accepted;
+use scrypt::laws::{hashers_are_accepted, made_texts_are_accepted};
 use scrypt::{CoreCount, Decoy, InvalidParams, Params, Scrypt, Simd, StoredHash, hash_text};
 use std::alloc::Global;
 
@@ -64,13 +64,14 @@ impl LoginPolicy {
     ///
     /// Returns `OutOfMemory` if an allocation fails.
     pub fn enroll_mcf(&self, alloc: Global, password: &[u8], salt: [u8; 16]) -> Result<String>
-        ensures made { IfOk result (λ text. IsMadeMcf self.now.wanted password.now salt (string_bytes text)) }
+        ensures made { IfOk result (λ text. string_bytes text ≡ made_mcf self.now.wanted password.now salt) }
         ensures accepts { IfOk result (λ text. verdict password.now (reading (string_bytes text)) ≡ Ok tt) }
         ensures strong { IfOk result (λ text. weaker self.now.wanted (reading (string_bytes text)) ≡ Ok false) }
         ensures err { IfErr result (λ e. e ≡ OutOfMemory) }
     {
         made_texts_are_accepted();
         let hasher = Scrypt::new_with_params(self.wanted);
+        hashers_are_accepted(&hasher);
         let hash: mcf::PasswordHash = hasher.hash_password(alloc, password, salt)?;
         Ok(hash.into_string())
     }

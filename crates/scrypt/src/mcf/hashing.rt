@@ -1,6 +1,6 @@
 // Making `$7$` hashes.
 
-ghost use Rattle.std.specs.Prelude.{◌≡◌, ◌↔◌, ◌⊎◌, ◌+◌, ◌<◌, ◌≤◌, true, ℕ, List, None, length, IfOk, IfErr, take, IsErrOf, IsOk, OnErr, OnOk, IsTrue, IsAscii};
+ghost use Rattle.std.specs.Prelude.{◌≡◌, ◌↔◌, ◌⊎◌, ◌+◌, ◌++◌, ◌<◌, ◌≤◌, ◌&&◌, true, nat_le, ℕ, List, if◌then◌else◌, None, Ok, Err, drop, length, IfOk, IfErr, take, IsErrOf, OnErr, OnOk, IsTrue, IsAscii};
 ghost use Rattle.std.specs.Str.{IsUtf8};
 ghost use Rattle.password_hash.specs.Crypt64.{crypt64_of, encoded_len};
 ghost use Rattle.password_hash.specs.Mcf.{IsField, IsMcf};
@@ -8,11 +8,11 @@ ghost use Rattle.password_hash.specs.declared.error.Error.TheVariants.{OutOfMemo
 ghost use Rattle.scrypt.specs.McfParams.{params_text};
 ghost use Rattle.scrypt.specs.Cost.{AreCounted, hash_cost};
 ghost use Rattle.scrypt.specs.KeyOfParams.{cost_by};
-ghost use Rattle.scrypt.specs.Hashing.{key_len_or_default};
+ghost use Rattle.scrypt.specs.Hashing.{call_refusal, is_named_or_none, key_len_or_default};
 ghost use Rattle.scrypt.specs.Accepted.{is_output_len};
 ghost use Rattle.scrypt.specs.TextOfKey.{IsTextOfKey, parts_of_key};
-ghost use Rattle.scrypt.specs.McfHash.{HashIsRefused, IsMadeHash, IsMcfOrNone, made_key, made_text_len, mcf_text};
-ghost use Rattle.password_hash.specs.Refusal.{refusal};
+ghost use Rattle.scrypt.specs.McfHash.{made_key, made_mcf, made_text_len, mcf_id, mcf_text};
+ghost use Rattle.password_hash.specs.Refusal.{OutOfMemory as NoMemory, with_refusal};
 ghost use Rattle.scrypt.specs.InBuffers.{are_enough, IsCopiedTo};
 ghost use Rattle.scrypt.specs.Mixing.{IsReady, IsSpent};
 ghost use Rattle.scrypt.specs.Workspace.{IsDone, workspace_of};
@@ -34,9 +34,9 @@ use std::alloc::Global;
 const PARAMS_LEN: usize = 14;
 
 impl PasswordHasher<PasswordHash> for Scrypt {
-    ghost hashes = { λ scrypt password salt hash. IsMadeHash scrypt password salt hash };
+    ghost hashes = { λ scrypt password salt hash. hash ≡ made_mcf scrypt password salt };
 
-    ghost refuses = { λ scrypt password salt why. HashIsRefused None None why };
+    ghost refuses = { λ scrypt password salt why. why ≡ NoMemory };
 
     /// Hashes the password with this value's parameters.
     fn hash_password_with_salt(
@@ -52,10 +52,10 @@ impl PasswordHasher<PasswordHash> for Scrypt {
 impl CustomizedPasswordHasher<PasswordHash> for Scrypt {
     type Params = Params;
 
-    ghost customizes = { λ _ password salt id version params hash. IsMcfOrNone id × (version ≡ None)
-        × IsMadeHash params password salt hash };
+    ghost customizes = { λ _ password salt id version params hash. IsTrue (is_named_or_none mcf_id id)
+        × (version ≡ None) × (hash ≡ made_mcf params password salt) };
 
-    ghost refuses = { λ _ password salt id version params why. HashIsRefused id version why };
+    ghost refuses = { λ _ password salt id version params why. why ≡ call_refusal mcf_id id version NoMemory };
 
     /// Hashes the password with `params`. The key has the length in `params`, or 32 bytes if
     /// `params` has no length. The salt of the derivation is the crypt Base64 of `salt`, as in the
@@ -66,7 +66,6 @@ impl CustomizedPasswordHasher<PasswordHash> for Scrypt {
     ///
     /// Returns the first of these errors: `Algorithm` if `alg_id` is given and not `7`, `Version`
     /// if `version` is given, and `OutOfMemory` if an allocation fails.
-    #[tactic(auto, using(crate::proofs::HashingFacts::errors))]
     fn hash_password_customized(
         &self,
         alloc: Global,
@@ -91,7 +90,7 @@ pub fn hash<W: Backend>(
     salt: &[u8],
     params: &Params,
 ) -> Result<PasswordHash>
-    ensures value { IfOk result (IsMadeHash params.now password.now salt.now) }
+    ensures value { IfOk result (λ text. text ≡ made_mcf params.now password.now salt.now) }
     ensures memory { IfErr result (λ e. e ≡ OutOfMemory) }
 {
     // The whole text is allocated before the buffers of the derivation.
@@ -124,12 +123,10 @@ fn key_by_letters<W: Backend>(
 }
 
 /// Returns the length in bytes of the text that hashing with these parameters and this salt makes.
-#[tactic(auto, using(crate::proofs::McfTextFacts::made_length))]
+#[tactic(auto, using(crate::proofs::McfTextFacts::made_mcf_len))]
 pub fn hash_len(params: &Params, salt: &[u8]) -> usize
     ensures value { result ≡ made_text_len params.now (length salt.now) }
-    ensures made { (password : List ℕ)
-        → (text : List ℕ) × IsMadeHash params.now password salt.now text × (length text ≡ result) }
-    ensures each { (password text : List ℕ) → IsMadeHash params.now password salt.now text → length text ≡ result }
+    ensures made { (password : List ℕ) → length (made_mcf params.now password salt.now) ≡ result }
 {
     params.expose_invariant();
     PARAMS_LEN
@@ -155,7 +152,7 @@ fn write_text(out: &mut [u8], params: &Params, salt: &[u8], key: &Output)
     requires len { length out.old ≡ made_text_len params.now (length salt.now) }
     requires key_len { length key.now ≡ key_len_or_default params.now }
     ensures made { (password : List ℕ) → key.now ≡ made_key params.now password salt.now
-        → IsMadeHash params.now password salt.now out.new }
+        → out.new ≡ made_mcf params.now password salt.now }
     ensures ascii { IsAscii out.new }
     ensures modular { IsMcf out.new }
 {
@@ -201,7 +198,7 @@ fn hash_of_text(text: Vec<u8>) -> PasswordHash
 ///
 /// Returns `OutOfMemory` exactly if `text` or another buffer is too short, and then changes
 /// nothing.
-#[tactic(auto, using(crate::proofs::HashingFacts::errors))]
+#[tactic(auto, using(std::proofs::lemmas::Bool::Decides::nat_tests))]
 pub fn hash_with_buffers<W: Backend>(
     password: &[u8],
     salt: &[u8],
@@ -212,13 +209,11 @@ pub fn hash_with_buffers<W: Backend>(
     scratch: &mut [u32],
     cores: &mut CoreCount,
 ) -> Result<usize>
-    ensures made { IfOk result (IsCopiedTo (IsMadeHash params.now password.now salt.now) text.old text.new) }
+    ensures len { with_refusal result ≡ if nat_le (made_text_len params.now (length salt.now)) (length text.old)
+        && are_enough params.now chunks.old table.old scratch.old
+        then Ok (made_text_len params.now (length salt.now)) else Err NoMemory }
+    ensures made { IfOk result (λ len. text.new ≡ made_mcf params.now password.now salt.now ++ drop len text.old) }
     ensures ascii { IfOk result (λ len. IsAscii (take len text.new)) }
-    ensures err { IfErr result (λ e. HashIsRefused None None (refusal e)) }
-    ensures short { IsErrOf result OutOfMemory ↔ (¬ (IsTrue (are_enough params.now chunks.old table.old scratch.old)
-        × (made_text_len params.now (length salt.now) ≤ length text.old))) }
-    ensures exact { IsOk result ↔ (IsTrue (are_enough params.now chunks.old table.old scratch.old)
-        × (made_text_len params.now (length salt.now) ≤ length text.old)) }
     ensures unwritten { OnErr result (text.new ≡ text.old) }
     ensures done { OnOk result (IsDone params.now (workspace_of chunks.old table.old scratch.old)
         (workspace_of chunks.new table.new scratch.new)) }
@@ -253,7 +248,7 @@ fn fill_with_hash<W: Backend>(
 )
     requires len { length text.old ≡ made_text_len params.now (length salt.now) }
     requires ready { IsReady buffer_room params.now.log_n 0 params.now.r params.now.p used.old }
-    ensures made { IsMadeHash params.now password.now salt.now text.new }
+    ensures made { text.new ≡ made_mcf params.now password.now salt.now }
     ensures ascii { IsAscii text.new }
     ensures spent { IsSpent buffer_room used.old used.new }
     ensures counted { AreCounted (cost_by params.now) (hash_cost (length password.now)

@@ -1,15 +1,15 @@
 // Making PHC hashes.
 
-ghost use Rattle.std.specs.Prelude.{◌≡◌, ◌↔◌, ◌⊎◌, ℕ, List, length, None, Some, false, IfErr, IfOk, IsErrOf, IsOk, OnErr, OnOk, IsTrue};
+ghost use Rattle.std.specs.Prelude.{◌≡◌, ◌↔◌, ◌⊎◌, length, codes, if◌then◌else◌, None, Some, Ok, Err, false, IfErr, IfOk, IsErrOf, OnErr, OnOk, IsTrue};
 ghost use Rattle.scrypt.specs.Cost.{AreCounted, hash_cost};
-ghost use Rattle.scrypt.specs.Hashing.{key_len_or_default};
-ghost use Rattle.scrypt.specs.KeyOfParams.{cost_by, key_by};
-ghost use Rattle.scrypt.specs.PhcHash.{HashIsRefused, IsMadeHash, IsScryptOrNone, IsSaltLen};
+ghost use Rattle.scrypt.specs.Hashing.{call_refusal, is_named_or_none, key_len_or_default};
+ghost use Rattle.scrypt.specs.KeyOfParams.{cost_by};
+ghost use Rattle.scrypt.specs.PhcHash.{is_salt_len, made_phc, phc_hash, salt_refusal};
 ghost use Rattle.scrypt.specs.Accepted.{is_stored_len};
-ghost use Rattle.scrypt.specs.TextOfKey.{IsTextOfKey, phc_hash};
+ghost use Rattle.scrypt.specs.TextOfKey.{IsTextOfKey};
 ghost use Rattle.password_hash.specs.Phc.{hash_text};
-ghost use Rattle.password_hash.specs.Refusal.{refusal};
-ghost use Rattle.password_hash.specs.declared.error.Error.TheVariants.{OutOfMemory, OutputSize, SaltInvalid};
+ghost use Rattle.password_hash.specs.Refusal.{OutOfMemory, SaltInvalid as BadSalt, refusal, with_refusal};
+ghost use Rattle.password_hash.specs.declared.error.Error.TheVariants.{OutputSize, SaltInvalid};
 ghost use Rattle.scrypt.specs.Workspace.{IsDone, are_enough, workspace_of};
 
 use crate::buffers::{ActiveBuffers, with_prefix};
@@ -23,9 +23,10 @@ use scrypt_kernel::memory::Buffer;
 use std::alloc::Global;
 
 impl PasswordHasher<PasswordHash> for Scrypt {
-    ghost hashes = { λ scrypt password salt hash. IsMadeHash scrypt password salt hash };
+    ghost hashes = { λ scrypt password salt hash. IsTrue (is_salt_len (length salt))
+        × (hash ≡ made_phc scrypt password salt) };
 
-    ghost refuses = { λ scrypt password salt why. HashIsRefused salt None None why };
+    ghost refuses = { λ scrypt password salt why. why ≡ salt_refusal salt };
 
     /// Hashes the password with this value's parameters.
     fn hash_password_with_salt(
@@ -41,10 +42,11 @@ impl PasswordHasher<PasswordHash> for Scrypt {
 impl CustomizedPasswordHasher<PasswordHash> for Scrypt {
     type Params = Params;
 
-    ghost customizes = { λ _ password salt id version params hash. IsScryptOrNone id × (version ≡ None)
-        × IsMadeHash params password salt hash };
+    ghost customizes = { λ _ password salt id version params hash. IsTrue (is_named_or_none (codes "scrypt") id)
+        × (version ≡ None) × IsTrue (is_salt_len (length salt)) × (hash ≡ made_phc params password salt) };
 
-    ghost refuses = { λ _ password salt id version params why. HashIsRefused salt id version why };
+    ghost refuses = { λ _ password salt id version params why.
+        why ≡ call_refusal (codes "scrypt") id version (salt_refusal salt) };
 
     /// Hashes the password with `params`. The key has the length in `params`, or 32 bytes if
     /// `params` has no length.
@@ -52,7 +54,6 @@ impl CustomizedPasswordHasher<PasswordHash> for Scrypt {
     /// Returns the first of these errors: `Algorithm` if `alg_id` is given and not `scrypt`,
     /// `Version` if `version` is given, `SaltInvalid` if `salt` does not have 1 to 64 bytes, and
     /// `OutOfMemory` if an allocation fails.
-    #[tactic(auto, using(crate::proofs::HashingFacts::errors, crate::proofs::HashingFacts::refused_alike))]
     fn hash_password_customized(
         &self,
         alloc: Global,
@@ -71,15 +72,16 @@ impl CustomizedPasswordHasher<PasswordHash> for Scrypt {
 ///
 /// Returns `SaltInvalid` if `salt` does not have 1 to 64 bytes, and otherwise `OutOfMemory` if an
 /// allocation fails.
-#[tactic(auto, using(crate::proofs::HashingFacts::errors))]
+#[tactic(auto, using(std::proofs::lemmas::Bool::Decides::nat_tests), unfolding(crate::specs::PhcHash::is_salt_len, crate::specs::PhcHash::made_phc))]
 pub fn hash<W: Backend>(
     alloc: Global,
     password: &[u8],
     salt: &[u8],
     params: &Params,
 ) -> Result<PasswordHash>
-    ensures made { IfOk result (λ hash. IsMadeHash params.now password.now salt.now hash) }
-    ensures err { IfErr result (λ e. HashIsRefused salt.now None None (refusal e)) }
+    ensures made { IfOk result (λ hash. IsTrue (is_salt_len (length salt.now))
+        × (hash ≡ made_phc params.now password.now salt.now)) }
+    ensures err { IfErr result (λ e. refusal e ≡ salt_refusal salt.now) }
 {
     let Ok(salt) = Salt::new(salt) else {
         return Err(Error::SaltInvalid);
@@ -92,9 +94,7 @@ pub fn hash<W: Backend>(
 
 // Returns the hash with this salt and this key.
 fn hash_of(params: &Params, salt: Salt, key: Output) -> PasswordHash
-    ensures made { (password : List ℕ) → key ≡ key_by params.now password salt (key_len_or_default params.now)
-        → IsMadeHash params.now password salt result }
-    ensures parts { result ≡ phc_hash params.now salt key }
+    ensures { result ≡ phc_hash params.now salt key }
 {
     PasswordHash {
         algorithm: ALG_ID,
@@ -110,12 +110,12 @@ fn hash_of(params: &Params, salt: Salt, key: Output) -> PasswordHash
 ///
 /// Returns `SaltInvalid` if `salt` does not have 1 to 64 bytes, and otherwise `OutputSize` if `key`
 /// does not have 10 to 64.
-#[tactic(auto, using(std::proofs::lemmas::Bool::Decides::nat_tests), unfolding(crate::specs::Accepted::is_stored_len))]
+#[tactic(auto, using(std::proofs::lemmas::Bool::Decides::nat_tests), unfolding(crate::specs::Accepted::is_stored_len, crate::specs::PhcHash::is_salt_len))]
 pub fn hash_of_key(params: &Params, salt: &[u8], key: &[u8]) -> Result<PasswordHash>
     ensures read { IfOk result (λ hash. IsTextOfKey false params.now salt.now key.now (hash_text hash)) }
-    ensures salt { IsErrOf result SaltInvalid ↔ (¬ IsSaltLen (length salt.now)) }
+    ensures salt { IsErrOf result SaltInvalid ↔ (¬ IsTrue (is_salt_len (length salt.now))) }
     ensures key { IsErrOf result OutputSize
-        ↔ (IsSaltLen (length salt.now) × ¬ IsTrue (is_stored_len (Some (length key.now)))) }
+        ↔ (IsTrue (is_salt_len (length salt.now)) × ¬ IsTrue (is_stored_len (Some (length key.now)))) }
     ensures err { IfErr result (λ e. (e ≡ SaltInvalid) ⊎ (e ≡ OutputSize)) }
 {
     params.expose_invariant();
@@ -138,7 +138,7 @@ pub fn hash_of_key(params: &Params, salt: &[u8], key: &[u8]) -> Result<PasswordH
 ///
 /// Returns `SaltInvalid` if `salt` does not have 1 to 64 bytes, and otherwise `OutOfMemory` exactly
 /// if a buffer is too short. On an error the buffers and the count are unchanged.
-#[tactic(auto, using(crate::proofs::HashingFacts::errors))]
+#[tactic(auto, using(std::proofs::lemmas::Bool::Decides::nat_tests), unfolding(crate::specs::PhcHash::is_salt_len, crate::specs::PhcHash::made_phc))]
 pub fn hash_with_buffers<W: Backend>(
     password: &[u8],
     salt: &[u8],
@@ -148,13 +148,9 @@ pub fn hash_with_buffers<W: Backend>(
     scratch: &mut [u32],
     cores: &mut CoreCount,
 ) -> Result<PasswordHash>
-    ensures made { IfOk result (λ hash. IsMadeHash params.now password.now salt.now hash) }
-    ensures err { IfErr result (λ e. HashIsRefused salt.now None None (refusal e)) }
-    ensures salt { IsErrOf result SaltInvalid ↔ (¬ IsSaltLen (length salt.now)) }
-    ensures short { IsErrOf result OutOfMemory
-        ↔ (IsSaltLen (length salt.now) × ¬ IsTrue (are_enough params.now chunks.old table.old scratch.old)) }
-    ensures exact { IsOk result
-        ↔ (IsSaltLen (length salt.now) × IsTrue (are_enough params.now chunks.old table.old scratch.old)) }
+    ensures made { with_refusal result ≡ if is_salt_len (length salt.now)
+        then if are_enough params.now chunks.old table.old scratch.old
+        then Ok (made_phc params.now password.now salt.now) else Err OutOfMemory else Err BadSalt }
     ensures done { OnOk result (IsDone params.now (workspace_of chunks.old table.old scratch.old)
         (workspace_of chunks.new table.new scratch.new)) }
     ensures counted { OnOk result (AreCounted (cost_by params.now)

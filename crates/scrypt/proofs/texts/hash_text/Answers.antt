@@ -1,24 +1,29 @@
 use Rattle.std.proofs.Common.{rules}
 use Rattle.password_hash.specs.Phc.{IsSalt}
+use Rattle.scrypt.proofs.PhcFacts.{only_memory}
 use Rattle.scrypt.proofs.texts.hash_text.Goals as goal
 
 pub returns : goal.returns
 returns c =
     let params = c.args.params.now in
-    let hash = c.in_ok-hash.hash in
     let made = rw c.new_with_params.ensures.value at c.in_ok-hash.ensures.ok in
-    let printed = c.in_ok-to_string.ensures.ok in
+    let printed = rw made.1 at c.in_ok-to_string.ensures.ok in
     let salt : IsSalt c.args.salt = record { are_bytes = λ i. search rules; enough = search rules; fits = search rules } in
     let accepted = c.expose_invariant.ensures.accepted in
     let stored = c.expose_invariant.ensures.stored in
-    let law = c.made_texts_are_accepted.ensures.phc params c.args.password.now c.args.salt hash accepted stored salt made in
-    let read = c.made_texts_are_accepted.ensures.phc_read params c.args.password.now c.args.salt hash accepted stored salt made in
+    let law = c.made_texts_are_accepted.ensures.phc params c.args.password.now c.args.salt accepted stored salt in
+    let read = c.made_texts_are_accepted.ensures.phc_read params c.args.password.now c.args.salt accepted stored salt in
     record {
-      made = (hash, made, printed);
+      made = printed;
       read = rw printed read;
       accepts = rw printed law.0;
       strong = rw printed law.1;
       within = λ defaults n short bytes little. rw printed (c.made_texts_are_accepted.ensures.phc_within defaults params c.args.password.now
-          c.args.salt hash n accepted stored salt made short bytes little);
+          c.args.salt n accepted stored salt short bytes little);
       err = tt;
     }
+
+pub returns-in_err-hash-clause-err : goal.returns-in_err-hash-clause-err
+returns-in_err-hash-clause-err c =
+    let none = only_memory c.args.salt _ (search rules) c.in_err-hash.ensures.err in
+    search (rules, none)

@@ -1,25 +1,32 @@
-use Rattle.std.proofs.Common.{◌∙◌, arith, sym}
-use Rattle.scrypt.specs.McfHash.{IsMadeHash}
-use Rattle.scrypt_c.proofs.MadeFacts.{written_ascii}
+use Rattle.std.proofs.Common.{◌∙◌, arith, length, sym}
+use Rattle.scrypt.specs.McfHash.{made_text_len}
+use Rattle.scrypt.proofs.AcceptedFacts.{leb_decided}
+use Rattle.scrypt.proofs.McfTextFacts.{made_mcf_len}
+use Rattle.scrypt_c.proofs.MadeFacts.{len_is, written_ascii}
 use Rattle.scrypt_c.specs.Made.{wanted}
 use Rattle.scrypt_c.proofs.with_buffers.scrypt_hash_mcf_with_buffers.Goals as goal
 
 pub returns-in-Ok-hashed-clause-made : goal.returns-in-Ok-hashed-clause-made
 returns-in-Ok-hashed-clause-made c done =
     let wants = wanted c.args.log_n c.args.r c.args.p c.args.key_len in
-    let copied = rw c.in-Ok.ensures.value at c.in-Ok-hashed.ensures.made in
-    written_ascii (IsMadeHash wants c.args.password.now c.args.salt.now) _ _ _ copied c.in-Ok-hashed.ensures.ascii
+    let made = rw c.in-Ok.ensures.value at c.in-Ok-hashed.ensures in
+    written_ascii _ _ _ _ (len_is _ _ _ made.len ∙ sym (made_mcf_len wants c.args.password.now c.args.salt.now)) made.made made.ascii
 
 pub returns-in-Err-clause-size : goal.returns-in-Err-clause-size
 returns-in-Err-clause-size c short =
-    let exact = rw c.in-Ok.ensures.value at c.in-Err.ensures.exact in
+    let wants = wanted c.args.log_n c.args.r c.args.p c.args.key_len in
+    let exact = rw c.in-Ok.ensures.value at c.in-Err.ensures.len in
     let len = rw c.in-Ok.ensures.value at c.hash_len.ensures.value in
-    let made = c.hash_len.ensures.made c.args.password.now in
-    let is_made = rw c.in-Ok.ensures.value at made.1 in
+    let made = rw c.in-Ok.ensures.value at c.hash_len.ensures.made c.args.password.now in
     let same = c.hash_with_buffers-hashed.auto.text in
     let left = c.too_short.ensures in (
-      λ long. let is = left.long (omega (arith, len, long, same)) in (made.0, is_made, is ∙ sym made.2, omega (arith, is, len, long)),
-      λ fits. ((λ enough. let ok = exact.1 (enough, fits) in absurd cc), left.fits (omega (arith, len, fits, same))),
+      λ long. left.long (omega (arith, made, long, same)) ∙ sym made,
+      λ fits. (
+        (λ enough.
+            let fit = (leb_decided (made_text_len wants (length c.args.salt.now)) (length c.args.text.now)).1 (omega (arith, made, len, fits)) in
+            let wrong = rw (fit, enough) at exact in absurd cc),
+        left.fits (omega (arith, made, fits, same)),
+      ),
     )
 
 pub returns-in-Ok-hashed-clause-used : goal.returns-in-Ok-hashed-clause-used

@@ -8,4 +8,4 @@ returns-clause-read c =
     let salt : IsSalt c.args.salt.now = record { are_bytes = λ i. search rules; enough = search rules; fits = search rules } in
     let key : IsKey c.args.key.now = record { are_bytes = λ i. search rules; enough = search rules; fits = search rules } in
     let read = phc_of_key c.args.params.now c.args.salt.now c.args.key.now c.expose_invariant.ensures.accepted salt key in
-    rw (c.hash_of.ensures.parts, c.in-Ok.ensures.value, c.in-Ok-new.ensures.value) read
+    rw (c.hash_of.ensures, c.in-Ok.ensures.value, c.in-Ok-new.ensures.value) read
