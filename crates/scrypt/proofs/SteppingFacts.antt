@@ -44,10 +44,6 @@ mixes_more (suc n) x some more = omega arith
 pub more_mixes : (n d c a m : ℕ) → d < a → m ≡ min (d + c) a → n * m ≡ n * d + n * min c (a - d)
 more_mixes n d c a m less is = let sum : m ≡ d + min c (a - d) = omega (arith, is) in rw sum (omega arith)
 
--- the cores of a step
-pub cores_of_step : (i j n x y c : ℕ) → j ≡ i + n * x → y ≡ x → y * (n * c) ≡ (j - i) * c
-cores_of_step i j n x y c is same = let between : j - i ≡ n * x = omega (arith, is) in rw (between, same) (omega arith)
-
 -- all mixes of a chunk are done, as the code finds it
 pub all_done : (log_n m d n : ℕ) → log_n ≤ 56 → 2 * 2 ^ log_n % 2 ^ 64 ≤ m → m ≡ min (d + n) (all_mixes log_n) → m ≡ all_mixes log_n
 all_done log_n m d n small enough is =
@@ -57,14 +53,9 @@ all_done log_n m d n small enough is =
     let fits : 2 * 2 ^ log_n % 2 ^ 64 ≡ 2 * 2 ^ log_n = ap (λ z. z % 2 ^ 64) same ∙ shifted ∙ double ∙ omega arith in
     omega (arith, fits, enough, is)
 
-sum_times : (a b c : ℕ) → (a + b) * c ≡ a * c + b * c
-sum_times a b c = omega arith
-
 -- the cores so far, and those of a step
-pub times_so_far : (i j c : ℕ) → i ≤ j → j * c ≡ i * c + (j - i) * c
-times_so_far i j c order =
-    let sum : j ≡ i + (j - i) = omega arith in
-    ap (λ n. n * c) sum ∙ sum_times i (j - i) c
+pub cores_more : (i j n x c : ℕ) → j ≡ i + n * x → j * c ≡ i * c + x * (n * c)
+cores_more i j n x c is = rw is (omega arith)
 
 -- the cores of all mixes
 pub all_mixes_cost : (log_n r p i n m : ℕ) → i ≡ p → m ≡ 0 → (i * all_mixes log_n + n * m) * (2 * r) ≡ cost log_n r p
@@ -115,7 +106,7 @@ next_shown most scalar c at table scratch count j t s going table_is scratch_is 
     let width : n ≤ interleaved_chunks c.log_n c.r c.p t s = omega (arith, by_table, by_scratch, going.within.few, going.within.chunks) in
     let near : n * x ≤ interleaved_chunks c.log_n c.r c.p t s * count = mul-le n x _ count width (omega arith) in
     let more : 1 ≤ n * x = mul-le 1 1 n x (going.within.some left) (omega (arith, going.within.mixes)) in
-    let cores : j * (2 * c.r) ≡ mixes_done c at * (2 * c.r) + (n * x) * (2 * c.r) = rw is (sum_times (mixes_done c at) (n * x) (2 * c.r)) in
+    let cores = cores_more (mixes_done c at) j n x (2 * c.r) is in
     record {
       more = omega (arith, cores, mul-le-mul_right (2 * c.r) more);
       near = omega (arith, cores, mul-le-mul_right (2 * c.r) near);

@@ -107,8 +107,8 @@ pub fn step<W: Backend>(
         (length table.old) (length scratch.old)) (params.now.p - result.chunks) }
     ensures exact { mixes_done params.now result
         ≡ mixes_done params.now at + at.interleaved * min count (lacking params.now at) }
-    ensures counted { AreCountedAs true
-        ((mixes_done params.now result - mixes_done params.now at) * (2 * params.now.r)) cores.old cores.new }
+    ensures counted { AreCountedAs true (min count (lacking params.now at) * (at.interleaved * (2 * params.now.r)))
+        cores.old cores.new }
 {
     params.expose_invariant();
     if at.chunks == params.p() as usize {
@@ -270,7 +270,8 @@ fn mix_more<W: Backend>(
     ensures mixed { (b : ℕ → List ℕ)
         → IsMixing pivot n b (32 * params.now.r) params.now.log_n done table.old scratch.old
         → IsMixing pivot n b (32 * params.now.r) params.now.log_n result table.new scratch.new }
-    ensures counted { AreCountedAs true ((result - done) * (n * (2 * params.now.r))) cores.old cores.new }
+    ensures counted { AreCountedAs true (min count (all_mixes params.now.log_n - done) * (n * (2 * params.now.r)))
+        cores.old cores.new }
 {
     params.expose_invariant();
     let r = params.r() as usize;

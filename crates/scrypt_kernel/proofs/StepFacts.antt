@@ -14,9 +14,9 @@ use Rattle.scrypt_kernel.proofs.RoMixFacts.{part_of_row, place_inside, row_after
 pub one_more_times : (i m c : ℕ) → i ≤ m → (m + 1 - i) * c ≡ (m - i) * c + c
 one_more_times i m c order = let next : m + 1 - i ≡ m - i + 1 = omega arith in rw next (omega arith)
 
--- the cores of the mixes from i to j, and of those from j to k
-pub times_along : (i j k c : ℕ) → i ≤ j → j ≤ k → (k - i) * c ≡ (j - i) * c + (k - j) * c
-times_along i j k c one two = let sum : k - i ≡ (j - i) + (k - j) = omega arith in rw sum (omega arith)
+-- the cores of n mixes and of m more
+pub times_sum : (k n m c : ℕ) → k ≡ n + m → k * c ≡ n * c + m * c
+times_sum k n m c sum = rw sum (omega arith)
 
 -- before the first mix
 pub no_mix_yet : {p : List ℕ} {n s : ℕ} {b : ℕ → List ℕ} {v x : List ℕ} (log_n : ℕ)

@@ -69,7 +69,7 @@ pub fn step_chunks<O: OrderedBlocks>(
     ensures done { result ≡ min (done + count) (all_mixes log_n) }
     ensures mixed { (b : ℕ → List ℕ) → IsMixing O.pivot O.count b (32 * r) log_n done table.old scratch.old
         → IsMixing O.pivot O.count b (32 * r) log_n result table.new scratch.new }
-    ensures counted { AreCountedAs O.simd ((result - done) * (O.count * (2 * r))) cores.old cores.new }
+    ensures counted { AreCountedAs O.simd (min count (all_mixes log_n - done) * (O.count * (2 * r))) cores.old cores.new }
 {
     let n = O::count();
     let len = 32 * r;

@@ -1,4 +1,4 @@
-use Rattle.std.proofs.Common.{◌≡◌, ◌≤◌, ◌-◌, ◌*◌, ◌/◌, ◌+◌, ℕ, List, min, arith, length, refl, replicate, rules, take, take_all, ◌↔◌, ◌&&◌, Bool, true, ◌++◌, drop, ◌∙◌, sym, ap, ap₂, length-take-le, take-add}
+use Rattle.std.proofs.Common.{◌≡◌, ◌-◌, ◌*◌, ◌/◌, ◌+◌, ℕ, List, min, arith, length, refl, replicate, rules, take, take_all, ◌↔◌, ◌&&◌, Bool, true, ◌++◌, drop, ◌∙◌, sym, ap, ap₂, length-take-le, take-add}
 use Rattle.std.proofs.lemmas.Bool.{and_from, and_parts}
 use Rattle.std.proofs.lemmas.List.{drop-take, take-take}
 use Rattle.scrypt_kernel.specs.Pbkdf2.{pbkdf2}

@@ -1,9 +1,9 @@
-use Rattle.std.proofs.Common.{◌≡◌, ◌∙◌, ◌≤◌, ◌<◌, ◌*◌, min, arith, refl, rules, true}
+use Rattle.std.proofs.Common.{◌≡◌, ◌∙◌, ◌<◌, ◌*◌, min, arith, refl, rules, true}
 use denote.Param.Always.{mut_next}
 use Rattle.scrypt_kernel.proofs.CountFacts.{counted_between, counted_both, counted_none}
 use Rattle.scrypt_kernel.specs.Steps.{all_mixes}
 use Rattle.scrypt.specs.Stepping.{lacking, mixes_done}
-use Rattle.scrypt.proofs.SteppingFacts.{all_mixes_cost, mixes_left, mixes_more, next_shown, none_shown, one_shown, times_so_far}
+use Rattle.scrypt.proofs.SteppingFacts.{all_mixes_cost, cores_more, mixes_left, mixes_more, next_shown, none_shown, one_shown}
 use Rattle.scrypt.proofs.stepping.scrypt_in_steps.Goals as goal
 
 pub steps-smaller : goal.steps-smaller
@@ -31,7 +31,6 @@ steps-init g c =
 pub steps-preserved : goal.steps-preserved
 steps-preserved g c =
     let params = c.args.params.now in
-    let onward : mixes_done params c.steps.at ≤ mixes_done params c.step-at.result = omega (arith, c.step-at.ensures.exact) in
     let next = next_shown _ _ params c.steps.at c.steps.table c.steps.scratch c.args.count _ _ _ c.steps.invariant.going (c.steps.auto.table ∙ c.begin-at.auto.table) (c.steps.auto.scratch ∙ c.begin-at.auto.scratch)
     c.expose_invariant.ensures.some.0 c.requires.some (omega (arith, c.steps-test.true, c.p.ensures.value)) c.step-at.ensures.exact in
     let is_true = c.if-not-go_on.false in
@@ -40,8 +39,7 @@ steps-preserved g c =
       going = c.step-at.ensures.going;
       under_way = c.step-at.ensures.under_way _ _ c.steps.invariant.under_way;
       shown = one_shown _ _ _ _ _ _ _ c.steps.invariant.shown next (rw (is_true, c.cores_done.ensures.exact) at c.go_on.ensures);
-      counted = counted_both _ c.steps.invariant.counted c.step-at.ensures.counted
-          (times_so_far (mixes_done params c.steps.at) (mixes_done params c.step-at.result) (2 * params.r) onward);
+      counted = counted_both _ c.steps.invariant.counted c.step-at.ensures.counted (cores_more _ _ _ _ (2 * params.r) c.step-at.ensures.exact);
     }
 
 pub returns-clause-derived : goal.returns-clause-derived
@@ -64,8 +62,7 @@ returns-clause-shown g c =
 pub returns-then-not-go_on-clause-cancelled : goal.returns-then-not-go_on-clause-cancelled
 returns-then-not-go_on-clause-cancelled g c _ =
     let params = c.args.params.now in
-    let onward : mixes_done params c.steps.at ≤ mixes_done params c.step-at.result = omega (arith, c.step-at.ensures.exact) in
-    let cores = times_so_far (mixes_done params c.steps.at) (mixes_done params c.step-at.result) (2 * params.r) onward in
+    let cores = cores_more _ _ c.steps.at.interleaved (min c.args.count (lacking params c.steps.at)) (2 * params.r) c.step-at.ensures.exact in
     let next = next_shown _ _ params c.steps.at c.steps.table c.steps.scratch c.args.count _ _ _ c.steps.invariant.going (c.steps.auto.table ∙ c.begin-at.auto.table) (c.steps.auto.scratch ∙ c.begin-at.auto.scratch)
     c.expose_invariant.ensures.some.0 c.requires.some (omega (arith, c.steps-test.true, c.p.ensures.value)) c.step-at.ensures.exact in
     let is_false = c.if-not-go_on.true in (

@@ -1,8 +1,8 @@
-use Rattle.std.proofs.Common.{◌≡◌, ◌∙◌, ◌-◌, ◌*◌, ℕ, List, min, arith, take_all, take_at}
+use Rattle.std.proofs.Common.{◌≡◌, ◌∙◌, ◌*◌, ℕ, List, arith, take_all, take_at}
 use Rattle.scrypt_kernel.specs.Steps.{all_mixes}
 use Rattle.scrypt.specs.Cost.{chunks_bytes}
-use Rattle.scrypt.specs.Stepping.{AreMixed, first_b, lacking, mixes_done, words_from}
-use Rattle.scrypt.proofs.SteppingFacts.{all_done, chunks_inside, cores_of_step, more_mixes}
+use Rattle.scrypt.specs.Stepping.{AreMixed, first_b, words_from}
+use Rattle.scrypt.proofs.SteppingFacts.{all_done, chunks_inside, more_mixes}
 use Rattle.scrypt.proofs.stepping.step.Goals as goal
 
 pub end_group-requires-clause-inside : goal.end_group-requires-clause-inside
@@ -27,38 +27,15 @@ returns-clause-under_way g c password salt at =
       next = after.next;
     }
 
--- what a step within a chunk adds
+-- what a step within a group adds
 pub returns-then-mixes-log_n-clause-exact : goal.returns-then-mixes-log_n-clause-exact
 returns-then-mixes-log_n-clause-exact g c =
-    let params = c.args.params.now in
-    omega (
-      arith,
-      more_mixes c.args.at.interleaved c.args.at.mixes c.args.count (all_mixes params.log_n) c.mix_more-mixes.result
-          c.requires.going.within.mixes c.mix_more-mixes.ensures.done,
-    )
-
-pub returns-then-mixes-log_n-clause-counted : goal.returns-then-mixes-log_n-clause-counted
-returns-then-mixes-log_n-clause-counted g c =
-    let params = c.args.params.now in
-    let some : c.mix_more-mixes.result - c.args.at.mixes ≡ min c.args.count (lacking params c.args.at) = omega (arith, c.mix_more-mixes.ensures.done, c.requires.going.within.mixes) in
-    rw (cores_of_step (mixes_done params c.args.at) (mixes_done params (record c.args.at { mixes = c.mix_more-mixes.result })) c.args.at.interleaved _ _ (2 * params.r)
-    (returns-then-mixes-log_n-clause-exact g c) some) at c.mix_more-mixes.ensures.counted
+    omega (arith, more_mixes c.args.at.interleaved _ _ _ _ c.requires.going.within.mixes c.mix_more-mixes.ensures.done)
 
 pub returns-clause-exact : goal.returns-clause-exact
 returns-clause-exact g c =
     let params = c.args.params.now in
     let all : c.mix_more-mixes.result ≡ all_mixes params.log_n =
     all_done params.log_n c.mix_more-mixes.result _ _ (omega (arith, c.log_n.ensures)) (rw c.log_n.ensures.value at c.if-mixes-log_n.false) c.mix_more-mixes.ensures.done in
-    rw (c.begin_group.ensures.start.0, c.begin_group.ensures.start.1)
-    (omega (
-      arith,
-      rw all at (more_mixes c.args.at.interleaved c.args.at.mixes c.args.count (all_mixes params.log_n) c.mix_more-mixes.result
-          c.requires.going.within.mixes c.mix_more-mixes.ensures.done),
-    ))
-
-pub returns-clause-counted : goal.returns-clause-counted
-returns-clause-counted g c =
-    let params = c.args.params.now in
-    let some : c.mix_more-mixes.result - c.args.at.mixes ≡ min c.args.count (lacking params c.args.at) = omega (arith, c.mix_more-mixes.ensures.done, c.requires.going.within.mixes) in
-    rw (cores_of_step (mixes_done params c.args.at) (mixes_done params c.begin_group.result) c.args.at.interleaved _ _ (2 * params.r)
-    (returns-clause-exact g c) some) at c.mix_more-mixes.ensures.counted
+    let more = more_mixes c.args.at.interleaved _ _ _ _ c.requires.going.within.mixes c.mix_more-mixes.ensures.done in
+    rw (c.begin_group.ensures.start.0, c.begin_group.ensures.start.1) (omega (arith, rw all at more))

@@ -1,6 +1,8 @@
-use Rattle.std.proofs.Common.{◌≡◌, ◌≤◌, ◌+◌, ◌-◌, ◌*◌, ◌/◌, ℕ, ap, refl, arith}
+use Rattle.std.proofs.Common.{◌≡◌, ◌+◌, ◌-◌, ◌*◌, ◌/◌, ℕ, ap, min, refl, arith}
+use Rattle.std.proofs.lemmas.Nat.{one_shl}
+use Rattle.scrypt_kernel.specs.Steps.{all_mixes}
 use Rattle.scrypt_kernel.proofs.CountFacts.{counted_both}
-use Rattle.scrypt_kernel.proofs.StepFacts.{mixing_front, mixing_longer, steps_walked, times_along}
+use Rattle.scrypt_kernel.proofs.StepFacts.{mixing_front, mixing_longer, steps_walked, times_sum}
 use Rattle.scrypt_kernel.proofs.steps.step_chunks.Goals as goal
 
 pub returns-then-at-end-clause-mixed : goal.returns-then-at-end-clause-mixed
@@ -33,10 +35,8 @@ returns-else-at-end-clause-mixed g c b at =
 pub returns-then-at-end-clause-counted : goal.returns-then-at-end-clause-counted
 returns-then-at-end-clause-counted g c =
     let whole : 32 * c.args.r / 32 ≡ c.args.r = omega arith in
-    let end : ℕ = c.args.done + c.min.result in
     let from : ℕ = c.fill_on-at.result in
-    let filled : c.args.done ≤ from = omega (arith, c.fill_on-at.ensures.done) in
-    let within : from ≤ end = omega (arith, c.fill_on-at.ensures.done) in
-    counted_both _ (rw whole at c.fill_on-at.ensures.counted)
-    (rw whole at (c.take_steps.ensures.steps.whole refl))
-    (times_along c.args.done from end (g.O.OrderedBlocks.count * (2 * c.args.r)) filled within)
+    let sum : min c.args.count (all_mixes c.args.log_n - c.args.done) ≡ (from - c.args.done) + (c.args.done + c.min.result - from) =
+    omega (arith, c.fill_on-at.ensures.done, c.min.ensures, one_shl c.args.log_n 64 (omega (arith, c.requires.small))) in
+    counted_both _ (rw whole at c.fill_on-at.ensures.counted) (rw whole at (c.take_steps.ensures.steps.whole refl))
+    (times_sum _ _ _ (g.O.OrderedBlocks.count * (2 * c.args.r)) sum)
