@@ -11,8 +11,8 @@ use Rattle.scrypt_kernel.specs.Diagonal.{AreInverse, permuted}
 use Rattle.scrypt_kernel.proofs.BlockMixFacts.{length-block_mix}
 use Rattle.scrypt_kernel.proofs.OrderFacts.{length-permuted, out_then_in, standard_of, zip_out}
 use Rattle.scrypt_kernel.proofs.CountFacts.{counted_both, counted_none}
-use Rattle.scrypt_kernel.specs.KeptRows.{AddsRow, mixed_in, place}
-use Rattle.scrypt_kernel.proofs.PartFacts.{length-part, part-take, part_after, part_append_front, part_inside, parts_apart}
+use Rattle.scrypt_kernel.specs.KeptRows.{AddsRow, AfterRowTurns, mixed_in, place}
+use Rattle.scrypt_kernel.proofs.PartFacts.{length-part, part-take, part_after, part_append_front, part_inside, part_longer, parts_apart, take_longer}
 use Rattle.std.proofs.lemmas.Bool.{cases_lt}
 use Rattle.std.proofs.lemmas.List.{drop-drop, length-take, length-take-le}
 use Rattle.std.proofs.Math.Nat.{mul-le-mul_right}
@@ -104,6 +104,17 @@ adds_row f n s m a before after added at room long is each =
           ∙ part_after s ((m + 1) * n) k (take a before) added (omega (arith, front, at))
           ∙ each k h ∙ ap f (part_of_row n s m k before h);
     }
+
+-- a row that is begun, in memory that was made longer
+pub begun_longer : {p q : List ℕ} {n s m i : ℕ} {x : ℕ → List ℕ} {before after : List ℕ} (longer : List ℕ)
+    → AfterRowTurns p q n s m i x before after → (m + 2) * (n * s) ≤ length after → take (length after) longer ≡ after
+    → AfterRowTurns p q n s m i x before longer
+begun_longer {n = n} {s = s} {m = m} {after = after} longer begun room is = record {
+  kept = take_longer ((m + 1) * (n * s)) after longer (omega arith) is ∙ begun.kept;
+  mixed = λ k h.
+      let inside = place_inside n s (m + 1) (m + 2) k h (omega arith) in
+      rw (part_longer s (place n (m + 1) k) after longer (omega (arith, inside)) is) (begun.mixed k h);
+}
 
 -- the row after one that is in another order
 module _ (p q : List ℕ) (inverse : AreInverse p q) where

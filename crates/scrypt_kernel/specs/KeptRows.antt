@@ -1,11 +1,11 @@
 -- The rows that a table keeps, and the walk over them.
-use Rattle.std.specs.Prelude.{◌≡◌, ℕ, ◌+◌, ◌-◌, ◌*◌, ◌/◌, ◌%◌, ◌^◌, ◌<◌, ◌≤◌, Bool, List, length}
+use Rattle.std.specs.Prelude.{◌≡◌, ℕ, ◌+◌, ◌-◌, ◌*◌, ◌/◌, ◌%◌, ◌^◌, ◌<◌, ◌≤◌, Bool, List, length, take}
 use Rattle.scrypt_kernel.specs.declared.cores.count.CoreCount.{CoreCount}
 use Rattle.scrypt_kernel.specs.Words.{part, xor_words}
 use Rattle.scrypt_kernel.specs.Count.{AreCountedAs}
 use Rattle.scrypt_kernel.specs.BlockMix.{block_mix}
 use Rattle.scrypt_kernel.specs.RoMix.{integerify, row, walk}
-use Rattle.scrypt_kernel.specs.Diagonal.{permuted}
+use Rattle.scrypt_kernel.specs.Diagonal.{AfterTurns, permuted}
 use Rattle.scrypt_kernel.specs.Table.{extra_rows}
 
 -- len is the length of a row in words: 32 * r with r at least 1
@@ -27,6 +27,12 @@ pub record AddsRow (f : List ℕ → List ℕ) (n part_len m : ℕ) (before afte
   pub len : (m + 2) * (n * part_len) ≤ length after
   pub kept : (i : ℕ) → i < (m + 1) * n → part part_len after i ≡ part part_len before i
   pub added : (k : ℕ) → k < n → part part_len after (place n (m + 1) k) ≡ f (part part_len before (place n m k))
+
+-- after rows 0 to m of `before`, kept, comes a row that is begun: the block mix of row m of chunk k,
+-- whose X is now x k, after i double steps
+pub record AfterRowTurns (p q : List ℕ) (n part_len m i : ℕ) (x : ℕ → List ℕ) (before after : List ℕ) : Type 0 where
+  pub kept : take ((m + 1) * (n * part_len)) after ≡ take ((m + 1) * (n * part_len)) before
+  pub mixed : (k : ℕ) → k < n → AfterTurns p q (part part_len before (place n m k)) i (x k) (part part_len after (place n (m + 1) k))
 
 -- of the rows 0 to rows - 1 of chunk k of n, for its input b, the table keeps each row whose number
 -- is a multiple of 2 ^ spacing

@@ -3,9 +3,7 @@
 ghost use Rattle.std.specs.Prelude.{◌≡◌, ℕ, ◌+◌, ◌*◌, ◌/◌, ◌%◌, ◌<◌, ◌≤◌, List, ◌++◌, length, take};
 ghost use Rattle.std.specs.Vec.{vec_capacity};
 ghost use Rattle.scrypt_kernel.specs.Count.{AreCountedAs};
-ghost use Rattle.scrypt_kernel.specs.Diagonal.{AfterTurns};
-ghost use Rattle.scrypt_kernel.specs.KeptRows.{AddsRow, IsRowLen, mixed_in, place};
-ghost use Rattle.scrypt_kernel.specs.Words.{part};
+ghost use Rattle.scrypt_kernel.specs.KeptRows.{AddsRow, AfterRowTurns, IsRowLen, mixed_in};
 
 use crate::CoreCount;
 use crate::block_mix::{mix, take_turn};
@@ -210,12 +208,9 @@ fn take_turn_of_next<O: OrderedBlocks>(
     requires last { end ≡ (i + 1) * (O.count * len) }
     requires room { end + row_len ≤ length memory.old }
     requires inside { j < len / 32 }
-    ensures mixed { (k : ℕ) → k < O.count
-        → AfterTurns O.pivot O.inverse_pivot (part len memory.old (place O.count i k)) j
-        (O.held x k) (part len memory.old (place O.count (i + 1) k))
-        → AfterTurns O.pivot O.inverse_pivot (part len memory.old (place O.count i k)) (j + 1)
-        (O.held result k) (part len memory.new (place O.count (i + 1) k)) }
-    ensures kept { take end memory.new ≡ take end memory.old }
+    ensures turned { (first : List ℕ)
+        → AfterRowTurns O.pivot O.inverse_pivot O.count len i j (λ k. O.held x k) first memory.old
+        → AfterRowTurns O.pivot O.inverse_pivot O.count len i (j + 1) (λ k. O.held result k) first memory.new }
     ensures len { length memory.new ≡ length memory.old }
     ensures counted { AreCountedAs O.simd (O.count * 2) cores.old cores.new }
 {

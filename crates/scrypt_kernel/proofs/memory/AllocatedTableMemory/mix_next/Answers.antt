@@ -4,9 +4,9 @@ use Rattle.std.proofs.Math.Seq.{take-add}
 use Rattle.scrypt_kernel.specs.Words.{block, part}
 use Rattle.scrypt_kernel.specs.KeptRows.{mixed_in, place}
 use Rattle.scrypt_kernel.proofs.CountFacts.{counted_both, counted_none}
-use Rattle.scrypt_kernel.proofs.BlockMixFacts.{all_turns, no_turn, turns_at}
-use Rattle.scrypt_kernel.proofs.PartFacts.{length-part, part-take, part_longer, take_longer}
-use Rattle.scrypt_kernel.proofs.RoMixFacts.{adds_row, one_mix, part_of_row, place_inside}
+use Rattle.scrypt_kernel.proofs.BlockMixFacts.{all_turns, no_turn}
+use Rattle.scrypt_kernel.proofs.PartFacts.{length-part, part_longer, take_longer}
+use Rattle.scrypt_kernel.proofs.RoMixFacts.{adds_row, begun_longer, one_mix, part_of_row, place_inside}
 use Rattle.scrypt_kernel.proofs.memory.AllocatedTableMemory.mix_next.Goals as goal
 
 pub turns-init : goal.turns-init
@@ -19,56 +19,37 @@ turns-init g c =
     let row_len = ap (λ n. n * len) c.count.ensures.value in
     let row_is = rw row_len at c.part.ensures.value in
     record {
-      kept = take_longer _ first all c.requires.last c.make_room.ensures.words;
+      turned = record {
+        kept = take_longer _ first all c.requires.last c.make_room.ensures.words;
+        mixed = λ k h.
+            let room = place_inside n len i (i + 1) k h (omega arith) in
+            let b = part len first (place n i k) in
+            let long : length b ≡ len = length-part len (place n i k) first (omega (arith, room, c.requires.last)) in
+            let input_is = c.of.ensures.parts k (omega (arith, h, c.count-2.ensures.value))
+            ∙ ap (λ z. part len z k) row_is ∙ part_of_row n len i k c.as_slice-rows.result.now h
+            ∙ ap (λ z. part len z (place n i k)) c.as_slice-rows.ensures.value
+            ∙ part_longer len (place n i k) first all (omega (arith, room, c.requires.last)) c.make_room.ensures.words in
+            no_turn _ _ g.met.O.OrderedBlocks.inverse b (omega (arith, long, c.requires.row.some)) (omega (arith, long, c.requires.row.whole))
+            _ _ (c.read-x.ensures.value k h ∙ ap (λ z. block z (2 * (len / 32) - 1)) input_is
+            ∙ ap (λ w. block b (2 * (w / 32) - 1)) (sym long));
+      };
       len = omega (arith, rw row_len at c.make_room.ensures.long);
       room = c.make_room.ensures.room;
-      mixed = λ k h.
-          let room = place_inside n len i (i + 1) k h (omega arith) in
-          let b = part len first (place n i k) in
-          let long : length b ≡ len =
-          length-part len (place n i k) first (omega (arith, room, c.requires.last)) in
-          let input_is = c.of.ensures.parts k (omega (arith, h, c.count-2.ensures.value))
-          ∙ ap (λ z. part len z k) row_is ∙ part_of_row n len i k c.as_slice-rows.result.now h
-          ∙ ap (λ z. part len z (place n i k)) c.as_slice-rows.ensures.value
-          ∙ part_longer len (place n i k) first all (omega (arith, room, c.requires.last))
-          c.make_room.ensures.words in
-          no_turn _ _ g.met.O.OrderedBlocks.inverse b (omega (arith, long, c.requires.row.some)) (omega (arith, long, c.requires.row.whole))
-          _ _ (c.read-x.ensures.value k h ∙ ap (λ z. block z (2 * (len / 32) - 1)) input_is
-          ∙ ap (λ w. block b (2 * (w / 32) - 1)) (sym long));
       counted = counted_none _ _ _ (omega arith);
     }
 
 pub turns-preserved : goal.turns-preserved
 turns-preserved g c =
-    let n = g.O.OrderedBlocks.count in
-    let len = c.args.len in
-    let i = c.args.i in
-    let end = (i + 1) * (n * len) in
-    let old = c.turns.self.memory.items in
     let longer = c.lengthen.new.self.memory.items in
     let new = c.take_turn_of_next-x.new.memory in
-    let row_len = ap (λ n. n * len) c.count.ensures.value in
-    let same : length new ≡ length longer =
-    c.take_turn_of_next-x.ensures.len ∙ ap length c.as_mut_slice-memory.ensures.value in
+    let same : length new ≡ length longer = c.take_turn_of_next-x.ensures.len ∙ ap length c.as_mut_slice-memory.ensures.value in
     let is : take c.lengthen.new.self.memory.len (new ++ drop (length new) longer) ≡ new =
     take_at new _ c.lengthen.new.self.memory.len (omega (arith, same)) in
-    let longer_kept = take_longer end old longer (omega (arith, c.turns.invariant.len)) c.lengthen.ensures.words
-    ∙ c.turns.invariant.kept in
-    let turn_kept = rw (row_len, c.as_mut_slice-memory.ensures.value) at c.take_turn_of_next-x.ensures.kept in
+    let begun = begun_longer longer c.turns.invariant.turned c.turns.invariant.len c.lengthen.ensures.words in
     record {
-      kept = ap (take end) is ∙ turn_kept ∙ longer_kept;
+      turned = rw is (c.take_turn_of_next-x.ensures.turned _ (rw c.as_mut_slice-memory.ensures.value begun));
       len = omega (arith, ap length is, same, c.turns.invariant.len, c.lengthen.ensures.len);
       room = omega (arith, c.turns.invariant.room, c.lengthen.ensures.room);
-      mixed = λ k h.
-          let room = place_inside n len i (i + 1) k h (omega arith) in
-          let next_room = place_inside n len (i + 1) (i + 2) k h (omega arith) in
-          let input_is = sym (part-take len (place n i k) end longer room)
-          ∙ ap (λ z. part len z (place n i k)) longer_kept ∙ part-take len (place n i k) end c.args.self.now.memory.items room in
-          let old_is = part_longer len (place n (i + 1) k) old longer
-          (omega (arith, next_room, c.turns.invariant.len)) c.lengthen.ensures.words in
-          turns_at _ _ _ _ _ _ _ _ _ _ _ _ input_is old_is (sym (ap (λ z. part len z (place n (i + 1) k)) is))
-          (rw c.as_mut_slice-memory.ensures.value at (c.take_turn_of_next-x.ensures.mixed k h))
-          (c.turns.invariant.mixed k h);
       counted = counted_both _ c.turns.invariant.counted c.take_turn_of_next-x.ensures.counted (omega arith);
     }
 
@@ -86,7 +67,7 @@ returns-clause-words g c =
     let row_long : length added ≡ n * len =
     length-take-le (n * len) _ (omega (arith, length-drop end all, c.turns.invariant.len)) in
     adds_row (mixed_in p q 1) n len i end first all added refl c.requires.last row_long
-    (rw row_long (take-add end (n * len) all ∙ ap (λ z. z ++ added) c.turns.invariant.kept)) (λ k h.
+    (rw row_long (take-add end (n * len) all ∙ ap (λ z. z ++ added) c.turns.invariant.turned.kept)) (λ k h.
     let b = part len first (place n i k) in
     let room = place_inside n len i (i + 1) k h (omega arith) in
     let next_room = place_inside n len (i + 1) (i + 2) k h (omega arith) in
@@ -94,5 +75,5 @@ returns-clause-words g c =
     let full = length-part len (place n (i + 1) k) all (omega (arith, next_room, c.turns.invariant.len)) in
     part_of_row n len (i + 1) k all h
     ∙ all_turns p q g.met.O.OrderedBlocks.inverse b (omega (arith, long, c.requires.row.some))
-    (omega (arith, long, c.requires.row.whole)) _ _ _ (omega (arith, long)) (full ∙ sym long) (c.turns.invariant.mixed k h)
+    (omega (arith, long, c.requires.row.whole)) _ _ _ (omega (arith, long)) (full ∙ sym long) (c.turns.invariant.turned.mixed k h)
     ∙ one_mix p q b ∙ ap (mixed_in p q 1) (sym (part_of_row n len i k first h)))
