@@ -3,10 +3,7 @@
 #ifndef ARGUMENTS_H
 #define ARGUMENTS_H
 
-#include "scrypt_c.h"
-
-#include <stdlib.h>
-#include <string.h>
+#include "buffers.h"
 
 static __thread struct {
   const void *password, *salt, *key;
@@ -47,10 +44,8 @@ static __thread struct {
 /* Sets the buffers: for up to this number of tables, and no more than a derivation can use. */
 static void take_arguments(const void *password, size_t password_len, const void *salt, size_t salt_len, uint32_t log_n,
                            uint32_t r, uint32_t p, size_t key_len, size_t max_tables) {
-  scrypt_buffers *in = given.buffers;
   scrypt_cost cost;
   if (scrypt_params_cost(log_n, r, p, SIZE_MAX, UINT64_MAX, &cost) != SCRYPT_OK) exit(3);
-  if (cost.tables > max_tables) cost.tables = max_tables;
   given.password = password, given.password_len = password_len;
   given.salt = salt, given.salt_len = salt_len;
   given.log_n = log_n, given.r = r, given.p = p;
@@ -60,13 +55,7 @@ static void take_arguments(const void *password, size_t password_len, const void
   given.max_mem = SIZE_MAX, given.max_work = UINT64_MAX;
   given.timeout_ms = -1;
   given.seconds = 1e-9; /* too short for any parameters */
-  in->chunks_len = cost.chunks_len;
-  in->table_len = cost.tables * cost.table_len;
-  in->scratch_len = cost.tables * cost.scratch_len;
-  in->chunks = calloc(in->chunks_len, 1);
-  in->table = calloc(in->table_len, 4);
-  in->scratch = calloc(in->scratch_len, 4);
-  if (in->chunks == NULL || in->table == NULL || in->scratch == NULL) exit(3);
+  *given.buffers = new_buffers(log_n, r, p, 0, cost.tables < max_tables ? cost.tables : max_tables);
   given.milliseconds = 60000, *made.derivation = NULL, *made.hasher = NULL;
   if (scrypt_derivation_new(password, password_len, salt, salt_len, log_n, r, p, SIZE_MAX, key_len,
                             &given.derivation) != SCRYPT_OK) exit(3);
@@ -79,9 +68,7 @@ static void take_text(const char *text, const scrypt_login *logins, size_t count
 }
 
 static void free_arguments(void) {
-  free(given.buffers->chunks);
-  free(given.buffers->table);
-  free(given.buffers->scratch);
+  free_buffers(*given.buffers);
   scrypt_derivation_free(&given.derivation);
   scrypt_derivation_free(made.derivation);
   scrypt_hasher_free(made.hasher);

@@ -5,11 +5,7 @@
  * is phc or mcf, prints the text with a key of LEN bytes, and the statuses of verifying it with its
  * password and with a wrong password. If HOW is need, prints the bytes that a derivation needs. For
  * random_keys.py. */
-#include "scrypt_c.h"
-
-#include <stdio.h>
-#include <stdlib.h>
-#include <string.h>
+#include "buffers.h"
 
 enum { MAX = 512 };
 
@@ -27,26 +23,13 @@ static size_t bytes_of(const char *text, uint8_t *bytes) {
   return len;
 }
 
-static void *filled(size_t len) {
-  void *buffer = malloc(len);
-  if (buffer == NULL) exit(3);
-  return memset(buffer, 0xa5, len);
-}
-
 #define GIVEN of->password, of->password_len, of->salt, of->salt_len, of->log_n, of->r, of->p
 
 static int key_in_buffers(const struct line *of, size_t tables, uint8_t *key) {
-  scrypt_buffers in;
-  int status = scrypt_buffer_lens(of->log_n, of->r, of->p, (uint8_t)of->s, &in);
-  if (status != SCRYPT_OK) return status;
-  if (of->s == 0) in.table_len *= tables, in.scratch_len *= tables;
-  in.chunks = (uint8_t *)filled(in.chunks_len);
-  in.table = (uint32_t *)filled(4 * in.table_len), in.scratch = (uint32_t *)filled(4 * in.scratch_len);
-  if (of->s != 0) status = scrypt_key_thin(GIVEN, (uint8_t)of->s, key, of->len, &in);
-  else status = scrypt_key_with_buffers(GIVEN, key, of->len, &in);
-  free(in.chunks);
-  free(in.table);
-  free(in.scratch);
+  scrypt_buffers in = new_buffers(of->log_n, of->r, of->p, (uint8_t)of->s, tables);
+  int status = of->s != 0 ? scrypt_key_thin(GIVEN, (uint8_t)of->s, key, of->len, &in)
+                          : scrypt_key_with_buffers(GIVEN, key, of->len, &in);
+  free_buffers(in);
   return status;
 }
 
@@ -84,5 +67,5 @@ int main(void) {
     else if (strcmp(how, "need") == 0) print_need(&it);
     else print_text(&it, strcmp(how, "mcf") == 0);
   }
-  return 0;
+  return failed;
 }
