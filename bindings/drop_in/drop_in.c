@@ -27,42 +27,25 @@ static uint8_t log_of(uint64_t n) {
   return log_n;
 }
 
-static int overlap(const uint8_t *a, size_t a_len, const uint8_t *b, size_t b_len) {
-  return a_len > 0 && b_len > 0 && (uintptr_t)a < (uintptr_t)b + b_len && (uintptr_t)b < (uintptr_t)a + a_len;
-}
-
-/* Derives a key in one table, as these libraries do: memory for several might not be available. */
-static int derive_in_one(const uint8_t *password, size_t password_len, const uint8_t *salt, size_t salt_len, uint8_t log_n,
-                         uint32_t r, uint32_t p, uint8_t *output, size_t output_len) {
+/* Derives a key in one table, as these libraries do: memory for several might not be available. Like them, it accepts
+ * an output of 0 bytes, and an output that overlaps the password. */
+static int derive_key(const uint8_t *password, size_t password_len, const uint8_t *salt, size_t salt_len, uint8_t log_n,
+                      uint32_t r, uint32_t p, uint8_t *output, size_t output_len) {
+  const size_t len = output_len > 0 ? output_len : 1;
+  uint8_t *key = malloc(len);
   scrypt_derivation *it = NULL;
   scrypt_cost cost;
   double done = 0;
-  int status = scrypt_params_cost(log_n, r, p, SIZE_MAX, UINT64_MAX, &cost);
+  int status = key == NULL ? SCRYPT_E_OUT_OF_MEMORY : scrypt_params_cost(log_n, r, p, SIZE_MAX, UINT64_MAX, &cost);
   if (status == SCRYPT_OK)
-    status = scrypt_derivation_new(password, password_len, salt, salt_len, log_n, r, p, cost.bytes, output_len, &it);
+    status = scrypt_derivation_new(password, password_len, salt, salt_len, log_n, r, p, cost.bytes, len, &it);
   while (status == SCRYPT_OK && done < 1) status = scrypt_derivation_run(it, UINT32_MAX, &done);
-  if (status == SCRYPT_OK) status = scrypt_derivation_finish(it, password, password_len, output, output_len);
+  if (status == SCRYPT_OK) status = scrypt_derivation_finish(it, password, password_len, key, len);
   scrypt_derivation_free(&it);
+  if (status == SCRYPT_OK && output_len > 0) memcpy(output, key, output_len);
+  if (key != NULL) explicit_bzero(key, len);
+  free(key);
   return status;
-}
-
-/* Derives a key, if the parameters are within the limits of these libraries. Like them, it accepts
- * an output of 0 bytes, and an output that overlaps the password or the salt. */
-static int derive_key(const uint8_t *password, size_t password_len, const uint8_t *salt, size_t salt_len,
-                      uint8_t log_n, uint32_t r, uint32_t p, uint8_t *output, size_t output_len) {
-  uint8_t one_byte;
-  int status;
-  if (overlap(password, password_len, output, output_len) || overlap(salt, salt_len, output, output_len)) {
-    uint8_t *apart = malloc(output_len);
-    if (apart == NULL) return SCRYPT_E_OUT_OF_MEMORY;
-    status = derive_in_one(password, password_len, salt, salt_len, log_n, r, p, apart, output_len);
-    if (status == SCRYPT_OK) memcpy(output, apart, output_len);
-    explicit_bzero(apart, output_len);
-    free(apart);
-    return status;
-  }
-  if (output_len == 0) return derive_in_one(password, password_len, salt, salt_len, log_n, r, p, &one_byte, 1);
-  return derive_in_one(password, password_len, salt, salt_len, log_n, r, p, output, output_len);
 }
 
 static int derive(const uint8_t *password, size_t password_len, const uint8_t *salt, size_t salt_len, uint64_t n,

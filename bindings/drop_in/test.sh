@@ -23,16 +23,6 @@ binds() {
 }
 scheme=crypto_pwhash_scryptsalsa208sha256
 
-# PyNaCl, which uses the system's libsodium, verifies hashes that it made with either library.
-if $python -c 'import nacl' 2> /dev/null; then
-  client="$python -B bindings/drop_in/pynacl.py"
-  $client make > "$room/theirs"
-  binds ${scheme}_str $client make > "$room/ours"
-  $client check < "$room/ours"
-  binds ${scheme}_str_verify $client check < "$room/theirs"
-  echo "ok called by PyNaCl, with hashes of libsodium and of this library"
-else tools/lacks PyNaCl python3-nacl; fi
-
 # minisign makes a key with a password with libsodium, signs with this library, and rejects another
 # password.
 if has minisign minisign; then
