@@ -200,17 +200,15 @@ static void in_threads(void) {
   for (i = 0; i < 2; i++) (void)pthread_join(all[i], NULL);
 }
 
-/* ---- Several errors apply: the first in the comment of the call is returned ---- */
+/* ---- Several errors apply: the first in the comment of the call is returned. The contracts in crates/scrypt_c
+ * pin this for the proved calls; here is what the C around them decides ---- */
 
 static uint8_t key[20], chunks[768];
 static uint32_t table[1024], scratch[192];
 static char text[SCRYPT_PHC_CAPACITY];
-static const scrypt_buffers no_buffers = {chunks, 0, table, 0, scratch, 0};
 
 #define TEXT text, sizeof text
 #define NO_ROOM text, 1
-#define NO_SALT "pw", 2, "", 0
-#define NO_BUFFERS &no_buffers
 #define NO_LIMITS SIZE_MAX, UINT64_MAX
 
 /* The log_n of a table of 2^63 bytes. */
@@ -220,18 +218,6 @@ enum { HUGE = 56 };
 static void meets(const char *faults, int status, int wanted) {
   check(status == wanted, faults);
   check(key[0] == 7 && text[0] == '!' && chunks[0] == 7 && table[0] == 7 && scratch[0] == 7, faults);
-}
-
-static void keys(void) {
-  meets("key: r, output", scrypt_key(SECRETS, 4, 0, 1, key, 0), SCRYPT_E_INVALID_PARAMS);
-  meets("key: output, memory", scrypt_key(SECRETS, HUGE, 1, 1, key, 0), SCRYPT_E_INVALID_OUTPUT_LEN);
-  meets("key: memory", scrypt_key(SECRETS, HUGE, 1, 1, key, 20), SCRYPT_E_OUT_OF_MEMORY);
-  meets("key_with_buffers: r, output, buffers", scrypt_key_with_buffers(SECRETS, 4, 0, 1, key, 0, NO_BUFFERS),
-        SCRYPT_E_INVALID_PARAMS);
-  meets("key_with_buffers: output, buffers", scrypt_key_with_buffers(SECRETS, PARAMS, key, 0, NO_BUFFERS),
-        SCRYPT_E_INVALID_OUTPUT_LEN);
-  meets("key_thin: s, output, buffers", scrypt_key_thin(SECRETS, PARAMS, 5, key, 0, NO_BUFFERS), SCRYPT_E_INVALID_PARAMS);
-  meets("key_thin: output, buffers", scrypt_key_thin(SECRETS, PARAMS, 1, key, 0, NO_BUFFERS), SCRYPT_E_INVALID_OUTPUT_LEN);
 }
 
 static void derivations(void) {
@@ -253,40 +239,30 @@ static void derivations(void) {
   scrypt_derivation_free(&it);
 }
 
-static void hashes(void) {
-  meets("phc: p, salt", scrypt_hash_with_salt(NO_SALT, 4, 8, 0, 20, 0, NO_ROOM), SCRYPT_E_INVALID_PARAMS);
-  meets("phc: salt, memory", scrypt_hash_with_salt(NO_SALT, HUGE, 1, 1, 20, 0, NO_ROOM), SCRYPT_E_SALT_INVALID);
-  meets("phc: memory, text", scrypt_hash_with_salt(SECRETS, HUGE, 1, 1, 20, 0, NO_ROOM), SCRYPT_E_OUT_OF_MEMORY);
-  meets("mcf: key, memory", scrypt_hash_with_salt(SECRETS, HUGE, 1, 1, 65, 1, NO_ROOM), SCRYPT_E_INVALID_PARAMS);
-  meets("mcf: memory, text", scrypt_hash_with_salt(SECRETS, HUGE, 1, 1, 20, 1, NO_ROOM), SCRYPT_E_OUT_OF_MEMORY);
-  meets("phc, in buffers: key, salt, buffers, text",
-        scrypt_hash_with_buffers(NO_SALT, PARAMS, 9, 0, NO_ROOM, NO_BUFFERS), SCRYPT_E_INVALID_PARAMS);
-  meets("phc, in buffers: salt, buffers, text", scrypt_hash_with_buffers(NO_SALT, PARAMS, 20, 0, NO_ROOM, NO_BUFFERS),
-        SCRYPT_E_SALT_INVALID);
-  meets("mcf, in buffers: key, buffers, text", scrypt_hash_with_buffers(SECRETS, PARAMS, 9, 1, NO_ROOM, NO_BUFFERS),
-        SCRYPT_E_INVALID_PARAMS);
-  meets("mcf, in buffers: text, buffers", scrypt_hash_with_buffers(SECRETS, PARAMS, 20, 1, NO_ROOM, NO_BUFFERS),
-        SCRYPT_E_BUFFER_SIZE);
+/* Nothing in C comes before the first error of a proved call. */
+static void first_errors(void) {
+  static const scrypt_buffers none = {chunks, 0, table, 0, scratch, 0};
+  meets("key, in buffers", scrypt_key_with_buffers(SECRETS, 4, 0, 1, key, 0, &none), SCRYPT_E_INVALID_PARAMS);
+  meets("thin key", scrypt_key_thin(SECRETS, PARAMS, 5, key, 0, &none), SCRYPT_E_INVALID_PARAMS);
+  meets("hash", scrypt_hash_with_salt("pw", 2, "", 0, 4, 8, 0, 20, 0, NO_ROOM), SCRYPT_E_INVALID_PARAMS);
+  meets("hash, in buffers", scrypt_hash_with_buffers("pw", 2, "", 0, PARAMS, 9, 0, NO_ROOM, &none), SCRYPT_E_INVALID_PARAMS);
 }
 
+/* The contracts leave open which of these two is returned. */
+static void memory_or_room(void) {
+  meets("phc", scrypt_hash_with_salt(SECRETS, HUGE, 1, 1, 20, 0, NO_ROOM), SCRYPT_E_OUT_OF_MEMORY);
+  meets("mcf", scrypt_hash_with_salt(SECRETS, HUGE, 1, 1, 20, 1, NO_ROOM), SCRYPT_E_OUT_OF_MEMORY);
+}
+
+/* A PHC string if it can have this salt and this key, or a $7$ hash. */
 static void stored_texts(void) {
   static const char SALTS[] = "saltsaltsaltsaltsaltsaltsaltsaltsaltsaltsaltsaltsaltsaltsaltsalt$";
 #define STORED(...) scrypt_stored_text(__VA_ARGS__)
 #define EITHER SCRYPT_PHC_OR_MCF
-  meets("stored phc: p, salt, key, text", STORED("", 0, "", 0, 4, 2, 0, 0, NO_ROOM), SCRYPT_E_INVALID_PARAMS);
-  meets("stored phc: no salt, key, text", STORED("", 0, "", 0, PARAMS, 0, NO_ROOM), SCRYPT_E_SALT_INVALID);
-  meets("stored phc: a salt of 65 bytes", STORED(SALTS, 65, KEY, 20, PARAMS, 0, TEXT), SCRYPT_E_SALT_INVALID);
-  meets("stored phc: key, text", STORED(SALTS, 64, KEY, 9, PARAMS, 0, NO_ROOM), SCRYPT_E_INVALID_OUTPUT_LEN);
-  meets("stored phc: text", STORED("saltsalt", 8, KEY, 20, PARAMS, 0, text, sizeof PHC - 1), SCRYPT_E_BUFFER_SIZE);
-  meets("stored mcf: p, salt, key, text", STORED("$", 1, "", 0, 4, 2, 0, 1, NO_ROOM), SCRYPT_E_INVALID_PARAMS);
-  meets("stored mcf: a $, key, text", STORED(SALTS, 65, "", 0, PARAMS, 1, NO_ROOM), SCRYPT_E_SALT_INVALID);
-  meets("stored mcf: half a letter", STORED("s\xc3lt", 4, KEY, 20, PARAMS, 1, TEXT), SCRYPT_E_SALT_INVALID);
-  meets("stored mcf: no key, text", STORED("", 0, "", 0, PARAMS, 1, NO_ROOM), SCRYPT_E_INVALID_OUTPUT_LEN);
   meets("stored either: p, salt, key, text", STORED("$", 1, "", 0, 4, 2, 0, EITHER, NO_ROOM), SCRYPT_E_INVALID_PARAMS);
   meets("stored either: a long $, key", STORED(SALTS, 65, KEY, 20, PARAMS, EITHER, TEXT), SCRYPT_E_SALT_INVALID);
   meets("stored either: no key, text", STORED("", 0, "", 0, PARAMS, EITHER, NO_ROOM), SCRYPT_E_INVALID_OUTPUT_LEN);
   meets("stored either: text", STORED("saltsalt", 8, KEY, 20, PARAMS, EITHER, text, 9), SCRYPT_E_BUFFER_SIZE);
-  meets("stored mcf: text", STORED("n34PoBLMgF5", 11, KEY, 20, PARAMS, 1, text, sizeof MCF - 1), SCRYPT_E_BUFFER_SIZE);
 }
 
 /* Each buffer is too short by one, before a wrong password. */
@@ -305,34 +281,11 @@ static void buffers(void) {
   }
 }
 
-/* A text that cannot be read, one without a key, and one that needs 2^63 bytes. A wrong password is
- * detected last. tools/tests/hostile.py compares the order in which a text is read. */
-static void texts(void) {
-  static const struct {
-    const char *text;
-    int status;
-  } TEXTS[] = {{"$scrypt$ln=57", SCRYPT_E_HASH_PARAMS_INVALID},
-               {"$scrypt$ln=56,r=1,p=1", SCRYPT_MISMATCH},
-               {"$scrypt$ln=56,r=1,p=1$c2FsdHNhbHQ$AAAAAAAAAAAAAAAAAAAA", SCRYPT_E_OUT_OF_MEMORY}};
-  size_t i;
-  for (i = 0; i < sizeof TEXTS / sizeof *TEXTS; i++) {
-    const int status = TEXTS[i].status;
-#define OF_TEXT "pw", 2, TEXTS[i].text, strlen(TEXTS[i].text)
-#define IF_READ(other) (status == SCRYPT_E_OUT_OF_MEMORY ? other : status)
-    meets("verify", scrypt_verify(OF_TEXT), IF_READ(SCRYPT_E_TOO_COSTLY));
-    meets("verify_unlimited", scrypt_verify_unlimited(OF_TEXT), status);
-    meets("verify_limited", scrypt_verify_limited(OF_TEXT, NO_LIMITS, 15), status);
-    meets("key", scrypt_verify_limited(OF_TEXT, NO_LIMITS, 16), IF_READ(SCRYPT_E_KEY_TOO_SHORT));
-    meets("bytes, key", scrypt_verify_limited(OF_TEXT, 5375, UINT64_MAX, 16), IF_READ(SCRYPT_E_TOO_COSTLY));
-    meets("work, key", scrypt_verify_limited(OF_TEXT, SIZE_MAX, 1151, 16), IF_READ(SCRYPT_E_TOO_COSTLY));
-    meets("buffers", scrypt_verify_limited_with_buffers(OF_TEXT, NO_LIMITS, 15, NO_BUFFERS), IF_READ(SCRYPT_E_BUFFER_SIZE));
-    meets("key, buffers", scrypt_verify_limited_with_buffers(OF_TEXT, NO_LIMITS, 16, NO_BUFFERS),
-          IF_READ(SCRYPT_E_KEY_TOO_SHORT));
-    meets("work, key, buffers", scrypt_verify_limited_with_buffers(OF_TEXT, SIZE_MAX, 1151, 16, NO_BUFFERS),
-          IF_READ(SCRYPT_E_TOO_COSTLY));
-    meets("wanted log_n", scrypt_needs_rehash(TEXTS[i].text, strlen(TEXTS[i].text), 57, 1, 1, 20), SCRYPT_E_INVALID_PARAMS);
-    meets("wanted key", scrypt_needs_rehash(TEXTS[i].text, strlen(TEXTS[i].text), 4, 1, 1, 0), SCRYPT_E_INVALID_PARAMS);
-  }
+/* A text that needs 2^63 bytes, with the limits that a call has. */
+static void limits_of_calls(void) {
+  static const char COSTLY[] = "$scrypt$ln=56,r=1,p=1$c2FsdHNhbHQ$AAAAAAAAAAAAAAAAAAAA";
+  meets("verify", scrypt_verify("pw", 2, OF(COSTLY)), SCRYPT_E_TOO_COSTLY);
+  meets("verify_unlimited", scrypt_verify_unlimited("pw", 2, OF(COSTLY)), SCRYPT_E_OUT_OF_MEMORY);
 }
 
 int main(void) {
@@ -340,11 +293,11 @@ int main(void) {
   memset(key, 7, sizeof key);
   memset(text, '!', sizeof text);
   chunks[0] = 7, table[0] = 7, scratch[0] = 7;
-  keys();
   derivations();
-  hashes();
+  first_errors();
+  memory_or_room();
   stored_texts();
   buffers();
-  texts();
+  limits_of_calls();
   return failed;
 }
