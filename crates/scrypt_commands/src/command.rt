@@ -1,8 +1,7 @@
 // Commands, read from their words.
 
-ghost use Rattle.std.specs.Prelude.{◌≡◌, ◌^◌};
+ghost use Rattle.std.specs.Prelude.{◌≡◌};
 ghost use Rattle.std.specs.Option.{option_copied};
-ghost use Rattle.password_hash.specs.Decimal.{decimal_below};
 ghost use Rattle.scrypt_commands.specs.CliError.{Gives};
 ghost use Rattle.scrypt_commands.specs.Command.{before_words, checked_params, end_of, first_word, format_word, hash_word, hash_words, key_words, len_word, making_of, making_view, optional_len, params_words, rehash_words, request_of, request_view, salt_of, salt_word, verify_words};
 ghost use Rattle.scrypt_commands.specs.Invocation.{command_line_view};
@@ -11,8 +10,7 @@ ghost use Rattle.scrypt_commands.specs.Options.{texts_of};
 use crate::command_line::{CommandLine, Name};
 use crate::error::{CliError, Result};
 use hex::FromHexError;
-use password_hash::decimal::read_decimal;
-use password_hash::laws::decimals_are_read;
+use password_hash::decimal::{read_u8, read_u32, read_usize};
 use scrypt::{Params, StoredHash, output_len_ok};
 use std::alloc::Global;
 
@@ -181,9 +179,9 @@ fn params_words<'a>(is_recommended: bool, words: &'a [String]) -> Read<'a, Unche
     let (r, words) = first_word(words)?;
     let (p, words) = first_word(words)?;
     let params = UncheckedParams {
-        log_n: parse_byte(log_n).ok_or(CliError::Usage)?,
-        r: parse_word(r).ok_or(CliError::Usage)?,
-        p: parse_word(p).ok_or(CliError::Usage)?,
+        log_n: read_u8(log_n).ok_or(CliError::Usage)?,
+        r: read_u32(r).ok_or(CliError::Usage)?,
+        p: read_u32(p).ok_or(CliError::Usage)?,
     };
     Ok((params, words))
 }
@@ -230,7 +228,7 @@ fn len_word<'a>(words: &'a [String]) -> Read<'a, usize>
     ensures { Gives (before_words (λ len. len)) (len_word (texts_of words.now)) result }
 {
     let (len, words) = first_word(words)?;
-    Ok((parse_len(len).ok_or(CliError::Usage)?, words))
+    Ok((read_usize(len).ok_or(CliError::Usage)?, words))
 }
 
 // Reads LEN if it is given. It must be the last word.
@@ -312,28 +310,4 @@ fn read_salt(alloc: Global, salt: Salt<'_>) -> Result<Vec<u8>>
         },
         Salt::Drawn(salt) => Ok(salt.to_vec(alloc)?),
     }
-}
-
-/// Parses LEN, or the value of an option.
-pub fn parse_len(word: &str) -> Option<usize>
-    ensures value { result ≡ decimal_below (2 ^ 64) word.now }
-{
-    decimals_are_read();
-    read_decimal(word)
-}
-
-// Parses R or P.
-fn parse_word(word: &str) -> Option<u32>
-    ensures value { result ≡ decimal_below (2 ^ 32) word.now }
-{
-    decimals_are_read();
-    read_decimal(word)
-}
-
-// Parses LOG_N.
-fn parse_byte(word: &str) -> Option<u8>
-    ensures value { result ≡ decimal_below (2 ^ 8) word.now }
-{
-    decimals_are_read();
-    read_decimal(word)
 }

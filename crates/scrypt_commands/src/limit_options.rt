@@ -3,7 +3,7 @@
 ghost use Rattle.std.specs.Prelude.{◌≡◌};
 ghost use Rattle.scrypt_commands.specs.Options.{limits_of, with_number};
 
-use crate::command::parse_len;
+use password_hash::decimal::read_usize;
 use scrypt::{Limits, Params};
 
 /// Limits on a stored hash.
@@ -28,7 +28,7 @@ impl LimitOptions {
     pub fn with_number(self, name: &str, value: &str) -> Option<LimitOptions>
         ensures value { result ≡ with_number self name.now value.now }
     {
-        let number = parse_len(value)?;
+        let number = read_usize(value)?;
         let mut options = self;
         match name {
             "--max-mem" => options.limits.max_mem = number,
