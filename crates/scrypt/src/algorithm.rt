@@ -1,11 +1,21 @@
-// scrypt as a value with parameters: it derives keys, makes hashes and verifies passwords.
+// scrypt as a value with parameters: it derives keys, makes hashes, verifies passwords, and finds
+// hashes that are weaker than wanted.
 
-ghost use Rattle.std.specs.Prelude.{◌≡◌, length, IsTrue};
+ghost use Rattle.std.specs.Prelude.{◌≡◌, length, IsOk, IsTrue};
+ghost use Rattle.password_hash.specs.McfViews.{borrowed_text};
 ghost use Rattle.scrypt.specs.Accepted.{is_output_len, Parameters, recommended_parameters};
 ghost use Rattle.scrypt.specs.KeyOfParams.{KeyIsRefused, key_by};
+ghost use Rattle.scrypt.specs.McfHash.{read_mcf};
+ghost use Rattle.scrypt.specs.PhcHash.{read_phc};
+ghost use Rattle.scrypt.specs.Reading.{verdict as verdict_of, weaker as weaker_than};
 
-use crate::{DeriveError, Params, scrypt};
+use crate::mcf::reading::parts_of_mcf;
+use crate::phc::reading::{parts_of_phc, read_params};
+use crate::verifying::verify_allocating;
+use crate::{CoreCount, DeriveError, Params, Simd, scrypt};
 use password_hash::kdf::{self, Kdf, Pbkdf};
+use password_hash::phc::PasswordHash;
+use password_hash::{PasswordVerifier, RehashCheck, Result, mcf};
 use std::alloc::Global;
 use std::marker::Model;
 
@@ -85,3 +95,105 @@ impl Kdf for Scrypt {
 }
 
 impl Pbkdf for Scrypt {}
+
+impl PasswordVerifier<PasswordHash> for Scrypt {
+    ghost verdict = { λ password hash. verdict_of password (read_phc hash) };
+
+    ghost needs_memory = { λ hash. IsOk (read_phc hash) };
+
+    /// Verifies the password with the parameters, the salt and the length of the key of the hash,
+    /// and never with this value's parameters. Every byte of the two keys is compared, also after a
+    /// difference.
+    ///
+    /// Returns the first of these errors: `Algorithm` if the algorithm is not `scrypt`, `Version`
+    /// if there is a version, the errors of reading the parameters, `PasswordInvalid` if the salt
+    /// or the key is missing, `OutOfMemory` if an allocation fails, and `PasswordInvalid` if the
+    /// keys differ.
+    fn verify_password(&self, alloc: Global, password: &[u8], hash: &PasswordHash) -> Result<()> {
+        match parts_of_phc(hash, &read_params(hash)) {
+            Ok(parts) => verify_allocating::<Simd>(alloc, password, &parts, &mut CoreCount::new()),
+            Err(unread) => Err(unread),
+        }
+    }
+}
+
+impl<'a> PasswordVerifier<mcf::PasswordHashRef<'a>> for Scrypt {
+    ghost verdict = { λ password hash. verdict_of password (read_mcf (borrowed_text hash)) };
+
+    ghost needs_memory = { λ hash. IsOk (read_mcf (borrowed_text hash)) };
+
+    /// Verifies the password with the parameters, the salt and the length of the key of the hash,
+    /// and never with this value's parameters. The salt is passed to the derivation as the bytes of
+    /// the text, not decoded, and the key is compared with its letters in the text.
+    ///
+    /// Returns the first of these errors: `Algorithm` if the id is not `7`; `EncodingInvalid` if
+    /// the first field is missing; the errors of `decode_params_and_salt` for the first field;
+    /// `EncodingInvalid` if the second field is missing, if it is not crypt Base64, or if a third
+    /// field follows; `OutputSize` if the key is empty or has more than 137438953440 bytes;
+    /// `OutOfMemory` if an allocation fails; and `PasswordInvalid` if the keys differ.
+    fn verify_password(
+        &self,
+        alloc: Global,
+        password: &[u8],
+        hash: &mcf::PasswordHashRef<'a>,
+    ) -> Result<()> {
+        match parts_of_mcf(hash) {
+            Ok(found) => verify_allocating::<Simd>(alloc, password, &found, &mut CoreCount::new()),
+            Err(refused) => Err(refused),
+        }
+    }
+}
+
+impl PasswordVerifier<mcf::PasswordHash> for Scrypt {
+    ghost verdict = { λ password hash. verdict_of password (read_mcf hash) };
+
+    ghost needs_memory = { λ hash. IsOk (read_mcf hash) };
+
+    /// Verifies the password as for the borrowed text.
+    fn verify_password(
+        &self,
+        alloc: Global,
+        password: &[u8],
+        hash: &mcf::PasswordHash,
+    ) -> Result<()> {
+        self.verify_password(alloc, password, &hash.as_password_hash_ref())
+    }
+}
+
+impl RehashCheck<PasswordHash> for Scrypt {
+    ghost weaker = { λ scrypt hash. weaker_than scrypt (read_phc hash) };
+
+    /// Returns whether `log_n`, `r`, `p` or the length of the key is below this value's parameters,
+    /// which ask for a key of 32 bytes if they have no length. One of the four suffices.
+    ///
+    /// Returns the same errors as verifying does before it allocates, in the same order.
+    fn needs_rehash(&self, hash: &PasswordHash) -> Result<bool> {
+        match parts_of_phc(hash, &read_params(hash)) {
+            Ok(parts) => Ok(parts.params.is_below(&self.params(), parts.key_len)),
+            Err(error) => Err(error),
+        }
+    }
+}
+
+impl<'a> RehashCheck<mcf::PasswordHashRef<'a>> for Scrypt {
+    ghost weaker = { λ scrypt hash. weaker_than scrypt (read_mcf (borrowed_text hash)) };
+
+    /// Returns whether the hash is weaker than this value's parameters ask for, as for a PHC hash.
+    ///
+    /// Returns the same errors as verifying does before it allocates, in the same order.
+    fn needs_rehash(&self, hash: &mcf::PasswordHashRef<'a>) -> Result<bool> {
+        match parts_of_mcf(hash) {
+            Ok(stored) => Ok(stored.params.is_below(&self.params(), stored.key_len)),
+            Err(error) => Err(error),
+        }
+    }
+}
+
+impl RehashCheck<mcf::PasswordHash> for Scrypt {
+    ghost weaker = { λ scrypt hash. weaker_than scrypt (read_mcf hash) };
+
+    /// Returns the same as for the borrowed text.
+    fn needs_rehash(&self, hash: &mcf::PasswordHash) -> Result<bool> {
+        self.needs_rehash(&hash.as_password_hash_ref())
+    }
+}

@@ -30,7 +30,6 @@ mod logins;
 pub mod mcf;
 mod params;
 pub mod phc;
-mod rehashing;
 mod stepping;
 pub mod steps;
 mod stored_hash;

@@ -4,7 +4,6 @@ mod five_letters;
 mod hashing;
 mod params;
 pub(crate) mod reading;
-mod verifying;
 
 pub use five_letters::{decode64_uint32, encode64_uint32};
 pub use hashing::{hash, hash_len, hash_with_buffers, write_hash_of_key};

@@ -3,7 +3,6 @@
 mod hashing;
 mod params;
 pub(crate) mod reading;
-mod verifying;
 
 pub use hashing::{hash, hash_of_key, hash_with_buffers};
 pub use password_hash::phc::{Ident, Output, PasswordHash, Salt};
