@@ -102,7 +102,7 @@ lacking_no_version parts h = λ k d below rest e.
 
 -- the tests decide
 
-leb_decided : (m n : ℕ) → Decides (nat_le m n) (m ≤ n)
+pub leb_decided : (m n : ℕ) → Decides (nat_le m n) (m ≤ n)
 leb_decided m n = grind (arith, nat_tests)
 
 differ_decided : (xs ys : List ℕ) → Decides (not (bytes_eq xs ys)) (xs ≢ ys)

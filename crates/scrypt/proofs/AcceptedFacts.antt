@@ -1,12 +1,13 @@
 use Rattle.scrypt.specs.Accepted.{are_accepted, is_output_len, is_stored_len, Parameters, parameters_eq}
+pub use Rattle.password_hash.proofs.PhcReadingFacts.{leb_decided}
 use Rattle.password_hash.specs.Refusal.{ParamsInvalid}
 use Rattle.scrypt.specs.PhcHash.{is_salt_len}
 use Rattle.scrypt.specs.Reading.{checked}
 use Rattle.scrypt_kernel.specs.Pbkdf2.{max_output_len}
 use Rattle.std.specs.Option.{option_eq}
 use Rattle.std.proofs.lemmas.Bool.{false_from_ne_true}
-use Rattle.std.proofs.lemmas.Bool.Decides.{Decides-and, Decides-eqb, Decides-like, Decides-ltb, nat_tests}
-use Rattle.std.proofs.Common.{refl, ap, ◌≡◌, ℕ, ◌-◌, ◌*◌, ◌^◌, ◌<◌, ◌≤◌, arith, lit≤, true, false, Bool, Option, Some, None, Result, Ok, Err, if◌then◌else◌, nat_eq, nat_le, unwrap_or, IsTrue, Decides, lt_of_not-le, mul-le-mul_right, mul_assoc, pow_mono}
+use Rattle.std.proofs.lemmas.Bool.Decides.{Decides-and, Decides-eqb, Decides-like, Decides-ltb}
+use Rattle.std.proofs.Common.{refl, ap, ◌≡◌, ℕ, ◌-◌, ◌*◌, ◌^◌, ◌<◌, ◌≤◌, arith, lit≤, true, false, Bool, Option, Some, None, Result, Ok, Err, if◌then◌else◌, nat_eq, unwrap_or, IsTrue, Decides, lt_of_not-le, mul-le-mul_right, mul_assoc, pow_mono}
 use Rattle.std.proofs.lemmas.Nat.{mul-le}
 
 -- no accepted log_n is above 56
@@ -35,9 +36,6 @@ accepted_decided log_n r p =
 
 pub bounds : (log_n r p : ℕ) → IsTrue (are_accepted log_n r p) → (0 < r) × (0 < p) × (128 * r * 2 ^ log_n < 2 ^ 64) × (r * p < 2 ^ 30)
 bounds log_n r p accepted = (accepted_decided log_n r p).0 accepted
-
-pub leb_decided : (m n : ℕ) → Decides (nat_le m n) (m ≤ n)
-leb_decided m n = grind (arith, nat_tests)
 
 pub output_len_decided : (n : ℕ) → Decides (is_output_len n) ((1 ≤ n) × (n ≤ max_output_len))
 unfolding is_output_len

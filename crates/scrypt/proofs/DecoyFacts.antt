@@ -1,18 +1,15 @@
-use Rattle.std.proofs.Common.{◌≡◌, ◌≢◌, ◌⊎◌, inl, inr, ◌∙◌, ℕ, ◌<◌, ◌≤◌, ◌+◌, ◌-◌, suc, List, [], ◌∷◌, length, take, drop, slice_index, Ok, Err, refl, sym, ap, arith, IsTrue, true, false}
-use Rattle.std.specs.Prelude.{◌&&◌, Bool, Result, IsErrOf, if◌then◌else◌, replicate, ⊤}
-use Rattle.std.proofs.lemmas.Bool.{false_from_ne_true}
+use Rattle.std.proofs.Common.{◌≡◌, ◌≢◌, ◌⊎◌, inl, inr, ◌∙◌, ℕ, ◌<◌, ◌≤◌, ◌+◌, ◌-◌, suc, List, [], ◌∷◌, length, take, drop, slice_index, Ok, Err, refl, sym, ap, arith, IsTrue, false}
+use Rattle.std.specs.Prelude.{◌&&◌, Result, replicate, ⊤}
+use Rattle.std.proofs.lemmas.Bool.{and_parts, false_from_ne_true}
 use Rattle.std.proofs.lemmas.List.{drop-replicate, get_or-replicate, length-replicate}
 use Rattle.password_hash.specs.Refusal.{Refusal, OutOfMemory, ParamsInvalid, PasswordInvalid}
 use Rattle.password_hash.specs.declared.error.Error.{Error}
-use Rattle.password_hash.specs.declared.error.Error.TheVariants as error
 use Rattle.scrypt.specs.Accepted.{Parameters, are_accepted, is_stored_len, without_len}
 use Rattle.scrypt.specs.Decoy.{decoy_reading, no_key}
 use Rattle.scrypt.specs.Hashing.{key_len_or_default}
-use Rattle.scrypt.specs.InBuffers.{are_enough}
 use Rattle.scrypt.specs.KeyOfParams.{key_by}
 use Rattle.scrypt.specs.PublicPart.{public_hash}
 use Rattle.scrypt.specs.Reading.{IsVerdict, Stored, is_right, verdict, with_refusal}
-use Rattle.scrypt.specs.Workspace.{Workspace, verdict_in}
 use Rattle.scrypt.proofs.AcceptedFacts.{bounds, key_len_stored, ok_if}
 use Rattle.scrypt.proofs.KeyFacts.{key_by-are_bytes, length-key_by}
 use Rattle.scrypt.proofs.ReadingFacts.{made_stored, right_decided}
@@ -25,15 +22,11 @@ pub accepted_decoy : (c : Parameters) (salt : List ℕ) → IsTrue (are_accepted
     → decoy_reading c salt ≡ Ok (decoy_of c salt)
 accepted_decoy c salt fits len = rw (fits, len) refl
 
-first_true : (a b : Bool) → a && b ≡ true → a ≡ true
-first_true true b both = refl
-first_true false b both = both
-
 pub some_decoy : (c : Parameters) (salt : List ℕ) (s : Stored) → decoy_reading c salt ≡ Ok s → 0 < s.params.p
 some_decoy c salt s is =
     let told = ok_if (are_accepted c.log_n c.r c.p && is_stored_len c.output_len) (Ok (decoy_of c salt)) ParamsInvalid is in
     let same : decoy_of c salt ≡ s = cc in
-    rw (← same) (bounds c.log_n c.r c.p (first_true _ _ told.0)).1
+    rw (← same) (bounds c.log_n c.r c.p (and_parts _ _ told.0).0).1
 
 differs : (bytes : List ℕ) (n : ℕ) → 0 < n → slice_index bytes 0 < 256 → no_key n ≢ bytes
 differs bytes n some byte = λ is.
@@ -51,43 +44,12 @@ pub decoy_rejects : (c : Parameters) (password salt : List ℕ) → IsTrue (are_
     → verdict password (decoy_reading c salt) ≡ Err PasswordInvalid
 decoy_rejects c password salt fits len = rw (accepted_decoy c salt fits len, refused c password salt len) refl
 
-wrong : (out : Result ⊤ Error) → with_refusal out ≡ Err PasswordInvalid → IsErrOf out error.PasswordInvalid
-wrong (Ok x) is = absurd cc
-wrong (Err error.Algorithm) is = absurd cc
-wrong (Err error.EncodingInvalid) is = absurd cc
-wrong (Err error.OutputSize) is = absurd cc
-wrong (Err (error.ParamInvalid name)) is = absurd cc
-wrong (Err error.ParamsInvalid) is = absurd cc
-wrong (Err error.PasswordInvalid) is = refl
-wrong (Err error.SaltInvalid) is = absurd cc
-wrong (Err error.Version) is = absurd cc
-wrong (Err error.OutOfMemory) is = absurd cc
-
-no_memory : (out : Result ⊤ Error) → with_refusal out ≡ Err OutOfMemory → IsErrOf out error.OutOfMemory
-no_memory (Ok x) is = absurd cc
-no_memory (Err error.Algorithm) is = absurd cc
-no_memory (Err error.EncodingInvalid) is = absurd cc
-no_memory (Err error.OutputSize) is = absurd cc
-no_memory (Err (error.ParamInvalid name)) is = absurd cc
-no_memory (Err error.ParamsInvalid) is = absurd cc
-no_memory (Err error.PasswordInvalid) is = absurd cc
-no_memory (Err error.SaltInvalid) is = absurd cc
-no_memory (Err error.Version) is = absurd cc
-no_memory (Err error.OutOfMemory) is = refl
-
 -- so verifying against it is refused
 pub rejects : (c : Parameters) (password salt : List ℕ) (s : Stored) (out : Result ⊤ Error) → IsTrue (are_accepted c.log_n c.r c.p)
     → IsTrue (is_stored_len c.output_len) → ◌≡◌ {A = Result Stored Refusal} (Ok s) (decoy_reading c salt) → IsVerdict password (Ok s) (with_refusal out)
-    → IsErrOf out error.PasswordInvalid ⊎ IsErrOf out error.OutOfMemory
-rejects c password salt s out fits len is (inl same) = inl (wrong out (same ∙ ap (verdict password) is ∙ decoy_rejects c password salt fits len))
-rejects c password salt s out fits len is (inr none) = inr (no_memory out none.1)
-
--- and in the caller's buffers, unless they are too short
-pub rejects_in : (c : Parameters) (password salt : List ℕ) (w : Workspace) → IsTrue (are_accepted c.log_n c.r c.p)
-    → IsTrue (is_stored_len c.output_len) → verdict_in w password (decoy_reading c salt)
-    ≡ (if are_enough c w.chunks w.table w.scratch then Err PasswordInvalid else Err OutOfMemory)
-unfolding are_enough
-rejects_in c password salt w fits len = rw (accepted_decoy c salt fits len, refused c password salt len) refl
+    → (with_refusal out ≡ Err PasswordInvalid) ⊎ (with_refusal out ≡ Err OutOfMemory)
+rejects c password salt s out fits len is (inl same) = inl (same ∙ ap (verdict password) is ∙ decoy_rejects c password salt fits len)
+rejects c password salt s out fits len is (inr none) = inr none.1
 
 -- a hash that is made with its parameters and with a salt of the same length
 pub made_public : (c : Parameters) (password salt any : List ℕ) → IsTrue (are_accepted c.log_n c.r c.p) → IsTrue (is_stored_len c.output_len)

@@ -1,20 +1,17 @@
 // Decoys, for names without a stored hash.
 
-ghost use Rattle.std.specs.Prelude.{◌≡◌, ◌⊎◌, if◌then◌else◌, length, Err, IsErrOf, IsTrue, Ok};
+ghost use Rattle.std.specs.Prelude.{◌≡◌, ◌⊎◌, length, Err, IsErrOf, Ok};
 ghost use Rattle.password_hash.specs.Refusal.{OutOfMemory as NoMemory, PasswordInvalid as WrongPassword};
 ghost use Rattle.password_hash.specs.declared.error.Error.TheVariants.{OutOfMemory, PasswordInvalid};
-ghost use Rattle.scrypt.specs.Accepted.{are_accepted, is_stored_len};
 ghost use Rattle.scrypt.specs.Cost.{AreCounted, hash_cost};
 ghost use Rattle.scrypt.specs.Decoy.{decoy_reading};
 ghost use Rattle.scrypt.specs.Hashing.{key_len_or_default};
-ghost use Rattle.scrypt.specs.InBuffers.{are_enough};
 ghost use Rattle.scrypt.specs.KeyOfParams.{cost_by};
 ghost use Rattle.scrypt.specs.Reading.{with_refusal};
 ghost use Rattle.scrypt.specs.StoredParts.{stored};
-ghost use Rattle.scrypt.specs.Workspace.{IsLeft, cores_in, hashed_in, workspace_of};
 
 use crate::stored_parts::{Key, Salt, StoredParts};
-use crate::verifying::{verify_allocating, verify_in_buffers};
+use crate::verifying::verify_allocating;
 use crate::{Backend, CoreCount, Params, Simd};
 use password_hash::Result;
 use std::alloc::Global;
@@ -83,7 +80,7 @@ impl<'a> Decoy<'a> {
     ///
     /// Returns `PasswordInvalid`, or `OutOfMemory` if an allocation fails.
     pub fn verify(&self, alloc: Global, password: &[u8]) -> Result<()>
-        ensures refused { IsErrOf result PasswordInvalid ⊎ IsErrOf result OutOfMemory }
+        ensures refused { (with_refusal result ≡ Err WrongPassword) ⊎ (with_refusal result ≡ Err NoMemory) }
     {
         self.verify_counted::<Simd>(alloc, password, &mut CoreCount::new())
     }
@@ -98,48 +95,14 @@ impl<'a> Decoy<'a> {
         password: &[u8],
         cores: &mut CoreCount,
     ) -> Result<()>
-        ensures refused { IsErrOf result PasswordInvalid ⊎ IsErrOf result OutOfMemory }
+        ensures refused { (with_refusal result ≡ Err WrongPassword) ⊎ (with_refusal result ≡ Err NoMemory) }
         ensures memory { IsErrOf result OutOfMemory → cores.new ≡ cores.old }
         ensures counted { IsErrOf result PasswordInvalid → AreCounted (cost_by self.now.0)
             (hash_cost (length password.now) (length self.now.1) self.now.0.r self.now.0.p
             (key_len_or_default self.now.0)) cores.old cores.new }
     {
-        self.expose_params();
-        verify_allocating::<W>(alloc, password, self.parts(), cores)
-    }
-
-    /// Verifies as [`StoredHash::verify_with_buffers`](crate::StoredHash::verify_with_buffers)
-    /// does, in the caller's buffers, and rejects `password`. Does not allocate.
-    ///
-    /// Returns `OutOfMemory` exactly if a buffer is too short, and then the buffers and the count
-    /// are unchanged; and otherwise `PasswordInvalid`.
-    pub fn verify_with_buffers<W: Backend>(
-        &self,
-        password: &[u8],
-        chunks: &mut [u8],
-        table: &mut [u32],
-        scratch: &mut [u32],
-        cores: &mut CoreCount,
-    ) -> Result<()>
-        ensures verdict { with_refusal result
-            ≡ (if are_enough self.now.0 chunks.old table.old scratch.old then Err WrongPassword else Err NoMemory) }
-        ensures left { IsLeft (decoy_reading self.now.0 self.now.1)
-            (workspace_of chunks.old table.old scratch.old) (workspace_of chunks.new table.new scratch.new) }
-        ensures counted { AreCounted
-            (cores_in (workspace_of chunks.old table.old scratch.old) (decoy_reading self.now.0 self.now.1))
-            (hashed_in (workspace_of chunks.old table.old scratch.old) password.now
-            (decoy_reading self.now.0 self.now.1)) cores.old cores.new }
-    {
-        self.expose_params();
-        verify_in_buffers::<W>(password, self.parts(), chunks, table, scratch, cores)
-    }
-
-    // Proof hint: exposes that the parameters are accepted.
-    fn expose_params(&self)
-        ensures accepted { IsTrue (are_accepted self.now.0.log_n self.now.0.r self.now.0.p) }
-        ensures stored { IsTrue (is_stored_len self.now.0.output_len) }
-    {
         self.params.expose_invariant();
+        verify_allocating::<W>(alloc, password, &self.parts, cores)
     }
 
     /// Returns the parts of a hash with a key that no password has.

@@ -151,10 +151,9 @@ impl<'p, 't> Login<'p, 't> {
 }
 
 /// Verifies each password as [`StoredHash::verify_with_buffers`] verifies it in these buffers, so
-/// each verdict is independent of the other logins. A decoy is verified as
-/// [`Decoy::verify_with_buffers`] verifies it. If a login has an error instead of a hash, its
-/// verdict is this error, without any work. `verdicts` has the length of `logins`, and gets the
-/// verdict of each login at the same index. Does not allocate.
+/// each verdict is independent of the other logins. A decoy is verified in the same way. If a login
+/// has an error instead of a hash, its verdict is this error, without any work. `verdicts` has the
+/// length of `logins`, and gets the verdict of each login at the same index. Does not allocate.
 ///
 /// If all hashes that are not errors have the `N` and the `r` of the first, and each buffer is long
 /// enough for one derivation with the chunks of all, their keys are derived in one batch: up to

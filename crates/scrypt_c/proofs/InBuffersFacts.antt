@@ -1,13 +1,12 @@
 -- What verifying leaves in the caller's buffers.
 use Rattle.std.proofs.Common.{◌≡◌, ◌∙◌, ◌-◌, ◌≤◌, ℕ, List, ap, arith, length, refl, true, false, w32, SFits, of_z, to_z}
 use Rattle.std.proofs.lemmas.Int.{to_z-of_z}
-use Rattle.std.proofs.lemmas.Bool.{false_from_ne_true}
-use Rattle.std.proofs.lemmas.Bool.Decides.{Decides-and, nat_tests}
-use Rattle.std.specs.Bool.{Decides}
-use Rattle.std.specs.Prelude.{◌&&◌, Bool, Err, IsTrue, Result, ℤ, nat_le, ⊤}
+use Rattle.std.proofs.lemmas.Bool.{and_parts, false_from_ne_true}
+use Rattle.std.specs.Prelude.{◌&&◌, Err, IsTrue, Result, ℤ, ⊤}
 use Rattle.password_hash.specs.Refusal.{Refusal, ParamsInvalid}
 use Rattle.scrypt.specs.Accepted.{Parameters, are_accepted, is_stored_len}
-use Rattle.scrypt.specs.Cost.{chunks_bytes, scratch_words, table_words}
+use Rattle.scrypt.proofs.ReadingFacts.{enough_decided}
+use Rattle.scrypt.specs.Cost.{scratch_words, table_words}
 use Rattle.scrypt.specs.Decoy.{decoy_reading}
 use Rattle.scrypt.specs.InBuffers.{are_enough}
 use Rattle.scrypt.specs.Logins.{Attempt, verdict_on}
@@ -23,22 +22,9 @@ kept_status {out} status w a b same fits is verdict = to_z-of_z w32 status fits 
 
 -- parameters that no new hash can have make no decoy
 
-both : (a b : Bool) → a && b ≡ true → (a ≡ true) × (b ≡ true)
-both true b is = (refl, is)
-both false b is = absurd cc
-
 pub none_decoy : (c : Parameters) (salt : List ℕ) → ¬ (IsTrue (are_accepted c.log_n c.r c.p) × IsTrue (is_stored_len c.output_len))
     → decoy_reading c salt ≡ Err ParamsInvalid
-none_decoy c salt refused = rw (false_from_ne_true (are_accepted c.log_n c.r c.p && is_stored_len c.output_len) (λ is. refused (both _ _ is))) refl
-
-fits : (m n : ℕ) → Decides (nat_le m n) (m ≤ n)
-fits m n = grind (arith, nat_tests)
-
-enough_decided : (log_n r p : ℕ) (chunks table scratch : List ℕ) → Decides (are_enough (params_of log_n r p) chunks table scratch)
-    ((chunks_bytes r p ≤ length chunks) × ((table_words log_n r ≤ length table) × (scratch_words r ≤ length scratch)))
-unfolding are_enough
-enough_decided log_n r p chunks table scratch =
-    Decides-and _ _ (fits _ _) (Decides-and _ _ (fits _ _) (fits _ _))
+none_decoy c salt refused = rw (false_from_ne_true (are_accepted c.log_n c.r c.p && is_stored_len c.output_len) (λ is. refused (and_parts _ _ is))) refl
 
 -- buffers of the lengths for a whole table are long enough
 pub enough_at_zero : (log_n r p s : ℕ) (chunks table scratch : List ℕ) → AreBuffers log_n r p s (length chunks) (length table) (length scratch)
@@ -47,7 +33,7 @@ enough_at_zero log_n r p s chunks table scratch are none =
     let same : log_n - s ≡ log_n = omega (arith, none) in
     let table_is : length table ≡ table_words log_n r = rw same at are.table_is in
     let scratch_is : length scratch ≡ scratch_words r = rw none at are.scratch_is in
-    (enough_decided log_n r p chunks table scratch).1
+    (enough_decided (params_of log_n r p) chunks table scratch).1
     (omega (arith, are.chunks_are), (omega (arith, table_is), omega (arith, scratch_is)))
 
 -- the status of a call in such buffers, as another call returns it

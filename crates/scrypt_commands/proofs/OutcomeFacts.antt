@@ -1,5 +1,5 @@
 -- Making hashes, carrying out a command, and the outcome and the plan of a run.
-use Rattle.std.proofs.Common.{◌≡◌, ◌⊎◌, ℕ, false, true, List, [], ◌∷◌, Option, Some, None, Ok, Err, inl, inr, length, ◌∙◌, ap, refl, sym, append-nil, arith}
+use Rattle.std.proofs.Common.{◌≡◌, ◌⊎◌, ℕ, false, true, List, [], ◌∷◌, Option, Some, None, Ok, Err, inl, inr, length, ◌∙◌, ap, refl, sym, append-nil}
 use Rattle.std.specs.Prelude.{Bool, IfSome, Result, if◌then◌else◌}
 use Rattle.std.specs.Io.KnownBytes.{Appends, Keeps}
 use Rattle.std.specs.Option.{option_map_or}
