@@ -27,7 +27,7 @@ SUFFIXES = (".rt", ".antt", ".c", ".h", ".py", ".go", ".rs", ".js", "Makefile")
 
 # Names of other programs and libraries.
 OTHERS = {"check_password", "crypt_data", "crypt_r", "find_package", "maxmem_bytes", "must_use", "needs_update", "rattle_env",
-          "rattle_env_at", "run_in_executor"}
+          "rattle_env_at", "run_in_executor", "sodium_init"}
 
 
 def files():
