@@ -23,7 +23,7 @@ import statistics
 from tools.bench import ours, picture
 from tools.bench.libraries import FOUR, OURS, TWO, verifications
 
-DRAWN = {OURS: "one at a time", TWO: "batches of two", FOUR: "this library, batches of four"}
+DRAWN = {OURS: "this library", TWO: "its batches of two", FOUR: "its batches of four"}
 PATIENCE = 60  # seconds that a process waits for the others
 
 

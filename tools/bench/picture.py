@@ -46,7 +46,7 @@ def draw(path, title, lines, levels):
     for x in xs:
         parts.append(text(place(x, levels[0])[0], HEIGHT - BOTTOM + 18, f"{x:g}", ' text-anchor="middle"'))
     for at, (name, line) in enumerate(lines.items()):
-        x, y = LEFT + 160 * (at % 4), 42 + 18 * (at // 4)
+        x, y = LEFT + 160 * (at % 4), 38 + 16 * (at // 4)
         parts.append(f'<rect class="d{at}" x="{x}" y="{y - 9}" width="10" height="10"/>' + text(x + 16, y, name))
         places, width = [place(x, y) for x, y, _ in line], 3 if at == 0 else 1.5
         joined = " ".join(f"{x:.1f},{y:.1f}" for x, y in places)
