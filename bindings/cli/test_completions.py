@@ -4,7 +4,7 @@ import re
 import sys
 from pathlib import Path
 
-HELP = Path("tools/tests/help.txt").read_text("utf-8")
+HELP = Path("crates/scrypt_commands/src/usage.rt").read_text("utf-8").replace("\\x20", " ")
 named = set(re.findall(r"^  ([a-z]+) [a-zA-Z]", HELP, re.M)) | set(re.findall(r"(?<= )--[a-z-]+=?", HELP))
 offered = re.search('choices="(key.*?)"', Path("bindings/cli/scrypt_tool.bash").read_text("utf-8"), re.S)
 if other := named ^ set(offered[1].split()):

@@ -303,14 +303,17 @@ def salts(program):
             yield f"whether {line!r} draws a salt, and needs it", ("drawn\n" in printed, status == 3), (is_drawn, is_drawn)
 
 
-with open(f"{prompt.TOP}/tools/tests/help.txt", encoding="ascii") as file:
-    HELP = file.read().format(**header.NUMBERS)
+# As the source has it, where a line ends in `\n\` and may begin with `\x20`.
+SOURCE = pathlib.Path(prompt.TOP, "crates/scrypt_commands/src/usage.rt").read_text("utf-8")
+HELP = re.search(r'HELP: &str = "\\\n(.*?)"', SOURCE, re.S)[1].replace("\\n\\\n", "\n").replace("\\x20", " ")
+HELP_NUMBERS = [f"LOG_N R P are {LOG_N} {R} {P} and", f"in bytes ({MIN_KEY_LEN} for verify", f"{LOG_N} {R} {P}), or for rehash"]
 
 
 def information(program):
     yield "--version", run([program, "--version"]), (0, f"{prompt.VERSION}\n", "")
     yield "--help", run([program, "--help"]), (0, HELP, "")
     yield "-h", run([program, "-h"]), (0, HELP, "")
+    yield "the numbers of the header in the help", [it for it in HELP_NUMBERS if it not in HELP], []
     named = USAGE.removeprefix("usage: ").split(" | ")
     yield "the usage line has each command as the help", set(named) - {it.strip() for it in HELP.splitlines()}, set()
 
