@@ -14,7 +14,8 @@ TOKEN = re.compile(r"""
   | [\s\S]
 """, re.X)
 CODE = re.compile(r"\[?`([^`]+)`\]?(?:\([^)]*\))?")
-RFC = re.compile(r"RFC (\d+)(?:, sections? (\d[\d.]*\d|\d))?")
+TERM = re.compile(r"(?<!\w)\*([a-z][a-z ]*)\*(?!\w)")
+RFC = re.compile(r"RFC (\d+)(?:, sections? (\d[\d.]*\d|\d)(?: to \d+)?)?")
 # A step of a standard in a definition's comment ends before another one, or before a sentence.
 STEP = re.compile(r"^(steps? \d.*)\n(?=[A-Z]|step)", re.M)
 
@@ -43,8 +44,8 @@ def code(text, meaning=lambda head, word: None, own=None):
 
 
 def plain(text):
-    """HTML of a line with code in it."""
-    return CODE.sub(r"<code>\1</code>", escape(text, quote=False))
+    """HTML of a line with code and *terms* in it."""
+    return TERM.sub(r"<em>\1</em>", CODE.sub(r"<code>\1</code>", escape(text, quote=False)))
 
 
 def words(text):
