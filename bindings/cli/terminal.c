@@ -2,7 +2,6 @@
  * program call read_or_ask in place of read. This file is tested, not proved. */
 #include <bsd/readpassphrase.h>
 #include <errno.h>
-#include <poll.h>
 #include <string.h>
 #include <unistd.h>
 
@@ -19,16 +18,6 @@ __attribute__((constructor)) static void find_command(int argc, char **argv) {
   char **word = argv + (argc > 0);
   while (*word && strncmp(*word, "--", 2) == 0) word++;
   is_hash = *word && strcmp(*word, "hash") == 0;
-}
-
-/* Like read(2), but waits for input if another program has set the pipe to non-blocking. */
-static ssize_t read_blocking(int fd, void *buffer, size_t len) {
-  struct pollfd input = {fd, POLLIN, 0};
-  for (;;) {
-    ssize_t got = read(fd, buffer, len);
-    if (got >= 0 || (errno != EAGAIN && errno != EWOULDBLOCK)) return got;
-    if (poll(&input, 1, -1) < 0 && errno != EINTR) return -1;
-  }
 }
 
 static void say(const char *text) {
@@ -69,7 +58,7 @@ static ssize_t ask(char line[LINE]) {
 ssize_t read_or_ask(int fd, void *buffer, size_t len) {
   static char line[LINE];
   static ssize_t at, rest = -2; /* rest of the line; -2 before asking for it, -1 if that failed */
-  if (fd != STDIN_FILENO || (rest == -2 && !isatty(fd))) return read_blocking(fd, buffer, len);
+  if (fd != STDIN_FILENO || (rest == -2 && !isatty(fd))) return read(fd, buffer, len);
   if (rest == -2) rest = ask(line);
   if (rest < 0) return -1;
   if (len > (size_t)rest) len = (size_t)rest;

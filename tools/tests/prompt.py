@@ -4,11 +4,10 @@ import os
 import re
 import signal
 import subprocess
-import sys
 import tempfile
 
 from tools.tests.known import HASHLIB
-from tools.tests.runs import OK, redirected, run
+from tools.tests.runs import run
 from tools.tests.terminal import session
 
 TOP = os.path.join(os.path.dirname(os.path.abspath(__file__)), "../..")
@@ -46,9 +45,6 @@ ROWS = [
 ]
 
 
-# A program whose standard input does not block.
-NON_BLOCKING = [sys.executable, "-c", "import os, sys; os.set_blocking(0, False); os.execv(sys.argv[1], sys.argv[1:])"]
-
 # The bar of --progress until it is removed, or until Ctrl-C is typed.
 BAR = re.compile(rb"(?:\r\[[# ]{40}\] {1,3}\d+ %)+(?:\r {48,}\r|\^C)")
 TYPED, PIPED = '"$@"', 'printf pass | "$@"'
@@ -67,10 +63,6 @@ BARS = [
 
 def prompts(program):
     """Each row. The echo is off at each prompt, and then on again."""
-    words = [*NON_BLOCKING, program, *VERIFY.split(" ")]
-    slow = redirected('for part in pass word; do sleep 0.1; printf $part; done | "$@"', words)
-    yield "a pipe that does not block", slow, OK
-    yield "a terminal that does not block", session(words, [b"password\n"]), (0, b"Password: \r\nok\r\n", [False, True])
     for words, typed, status, lines, reason in ROWS:
         answers = [it if isinstance(it, int) else it.encode() for it in typed]
         ended, shown, echo = session([program, *words.split(" ")], answers)
