@@ -13,9 +13,6 @@
 #include <stdlib.h>
 #include <string.h>
 
-#define READ(it) __atomic_load_n(&(it), __ATOMIC_ACQUIRE)
-#define WRITE(it, value) __atomic_store_n(&(it), value, __ATOMIC_RELEASE)
-
 enum { THREADS = 4, ROUNDS = 20000, LEN = 1 << 20 };
 
 static const int64_t MS = 1000000, SECOND = 1000000000;
