@@ -4,7 +4,6 @@
 # usage: install.sh PREFIX      installs
 #        install.sh --remove    removes the files of the last installation, and the empty folders with our name
 set -eu
-unset CDPATH
 cd "$(dirname "$0")/.."
 folder=build/${PRESET:=native} list=build/installed program=build/bin/scrypt_tool
 if [ "$PRESET" != native ]; then program=$folder/bin/scrypt_tool; fi

@@ -5,7 +5,6 @@
 # usage: setup.sh run|lib|js|test [PREFIX]    with PRESET, DESTDIR and NO_INSTALL as make has them. With a prefix,
 #                                             `make install` follows
 set -u
-unset CDPATH
 cd "$(dirname "$0")/.."
 end() { # WHY
   echo "make $name $1" >&2

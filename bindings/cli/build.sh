@@ -5,7 +5,6 @@
 #                                   machine, into its folder
 #        build.sh PROGRAM OUTPUT    PROGRAM is crates/scrypt_tool/out/scrypt_tool, with its object next to it
 set -eu
-unset CDPATH
 cd "$(dirname "$0")/../.."
 if [ "${PRESET:-native}" = native ]; then
   build=build proved=out CC=${CC:-cc} objcopy=objcopy

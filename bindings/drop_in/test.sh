@@ -2,7 +2,6 @@
 # Tests the drop-in symbols of build/lib against the original libraries, and with programs that are
 # made for these.
 set -eu
-unset CDPATH
 cd "$(dirname "$0")/../.."
 . bindings/preset.sh
 begin_test

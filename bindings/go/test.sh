@@ -1,7 +1,6 @@
 #!/bin/sh
 # Tests the Go module with the library of build/lib; with PRESET=windows only its tests, in Wine.
 set -eu
-unset CDPATH
 cd "$(dirname "$0")/../.."
 . bindings/preset.sh
 begin_test

@@ -2,7 +2,6 @@
 # Tests the Python package with the library of build/lib, with Debian's Django and passlib, and as
 # pip installs it. For Windows it only builds the wheel, because Debian has no Python for Windows.
 set -eu
-unset CDPATH
 cd "$(dirname "$0")/../.."
 . bindings/preset.sh
 begin_test

@@ -2,7 +2,6 @@
 # Tests the Rust crate with the library of build/lib, and its package in a separate folder. With
 # PRESET=windows, tests it in Wine, by Debian's compiler, which has Rust's own library for Windows.
 set -eu
-unset CDPATH
 cd "$(dirname "$0")/../.."
 . bindings/preset.sh
 begin_test

@@ -1,7 +1,6 @@
 #!/bin/sh
 # Tests the page in Chromium over the module that `make js` built, against the program scrypt.
 set -eu
-unset CDPATH
 cd "$(dirname "$0")"
 export PATH="/usr/bin:$PATH"
 if ! { command -v scrypt && command -v chromedriver && python3 -c 'import selenium'; } > /dev/null 2>&1; then

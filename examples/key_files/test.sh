@@ -1,7 +1,6 @@
 #!/bin/sh
 # Opens key files over build/lib, also some that the programs age and scrypt make now.
 set -eu
-unset CDPATH
 cd "$(dirname "$0")"
 export PATH="/usr/bin:$PATH" PYTHONPATH=../../bindings/python SCRYPT_C_LIBRARY=../../build/lib
 if ! python3 -c 'import Cryptodome' 2> /dev/null; then

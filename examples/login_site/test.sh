@@ -2,7 +2,6 @@
 # Tests the site over build/lib: with SQLite behind waitress, and with PostgreSQL, in a temporary
 # cluster, behind gunicorn.
 set -eu
-unset CDPATH
 cd "$(dirname "$0")"
 export PATH="/usr/bin:$PATH" PYTHONPATH=../../bindings/python SCRYPT_C_LIBRARY=../../build/lib
 if ! { command -v chromedriver && python3 -c 'import django, waitress, gunicorn, selenium'; } > /dev/null 2>&1; then

@@ -3,7 +3,6 @@
 # by-rattle, the kit's own compiler first builds the crate.
 # usage: c_tests.sh PRESET
 set -eu
-unset CDPATH
 cd "$(dirname "$0")/../.."
 targets=all
 if [ "$1" = by-rattle ]; then python3 -B -m bindings.build by-rattle scrypt_c; fi

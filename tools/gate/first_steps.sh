@@ -2,7 +2,6 @@
 # Checks the first step of make where packages are missing, what the gate prints, and the end of make run with its
 # installation. Nothing is proved: the prover, the packages and what is built are stubs.
 set -eu
-unset CDPATH
 cd "$(dirname "$0")/../.."
 room=$(mktemp -d)
 trap 'rm -rf "$room"' EXIT

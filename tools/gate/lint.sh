@@ -23,9 +23,6 @@ lint '*.rs' rustfmt rustfmt --check --edition 2021 --config-path bindings/rust
 rattle=$(dirname "$(rt doc 2> /dev/null)")/bin/rattle
 lint '*.rt' the-Rattle-kit "$rattle" fmt --check
 lint '*.antt' the-Rattle-kit "$rattle" fmt --check
-# A user's CDPATH would make cd go elsewhere.
-without=$(grep -lE '^[^#]*\bcd ' .ci/run $(find bindings examples tools -name '*.sh') | xargs grep -Lx 'unset CDPATH' || true)
-test -z "$without" || { echo "no unset CDPATH: $without"; failed=1; }
 # A name beside a file of mktemp is free to every user of the machine, a name in a folder of mktemp is not.
 without=$(find bindings examples tools -name '*.sh' -exec grep -nE '\$\(mktemp\)' {} + || true)
 test -z "$without" || { echo "mktemp without -d: $without"; failed=1; }

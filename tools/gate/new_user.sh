@@ -3,7 +3,6 @@
 # proves the crate that they make, as `rt check` does, over the libraries that the gate has proved:
 # `rt check` itself takes only libraries that `make run` has built, and would prove them again.
 set -eu
-unset CDPATH
 top=$(cd "$(dirname "$0")/../.." && pwd)
 room=$(mktemp -d)
 trap 'rm -rf "$room"' EXIT

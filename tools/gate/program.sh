@@ -3,7 +3,6 @@
 # emulator. If `rt ci` left only the program, because it proved the same files earlier on this machine,
 # the object is made over the proved libraries.
 set -eu
-unset CDPATH
 cd "$(dirname "$0")/../.."
 if [ "${PRESET:-native}" != native ]; then
   . bindings/preset.sh

@@ -5,7 +5,6 @@
 # usage: run.sh            the gate: every task, from nothing; `rt ci` proves every crate
 #        run.sh TARGET..   these tasks, or `documents`, `suites`, `examples`, with the files that are built
 set -u
-unset CDPATH
 cd "$(dirname "$0")/../.."
 results=build/log/results
 jobs=${JOBS:-$(($(nproc) + 2))} # with the proofs and what waits for them

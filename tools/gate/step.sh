@@ -11,7 +11,6 @@
 #           is shown. Without it there is only the last line
 #   LIMIT   the time after which the command and its children are ended, as timeout(1) takes it; without it there is none
 set -u
-unset CDPATH
 name=$1 log=build/log/$1.log title=$1 missing='' before='' steps=(${STEPS:-})
 shift
 for at in "${!steps[@]}"; do

@@ -4,7 +4,6 @@
 # sources and the hashes of all. The build is reproducible, byte for byte, if root makes it.
 # usage: dist.sh [PRESET..]       the machines, or all; UNPROVED=1 packs what no gate proved
 set -eu
-unset CDPATH
 umask 022
 cd "$(dirname "$0")/../.."
 SOURCE_DATE_EPOCH=$(git log -1 --format=%ct)

@@ -7,7 +7,6 @@
 # root is kept.
 # usage: fresh.sh [setup]    with `setup`, without what is proved: it ends with the installation, and `make documents`
 set -euo pipefail
-unset CDPATH
 cd "$(dirname "$0")/../.."
 room=$(mktemp -d)
 root=$room/root log=$PWD/build/fresh.log kit=$(dirname "$(rt doc)") failed=0

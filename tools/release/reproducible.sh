@@ -3,7 +3,6 @@
 # clone in another folder, with another umask, time zone and language, and compares all files byte by byte.
 # usage: reproducible.sh [PRESET..]    as dist.sh was called
 set -eu
-unset CDPATH
 cd "$(dirname "$0")/../.."
 room=$(mktemp -d)
 trap 'rm -rf "$room"' EXIT

@@ -5,7 +5,6 @@
 # machines the packages that `python3 -m tools.presets needs PRESET` prints.
 # usage: test.sh [PRESET..]    as dist.sh was called
 set -euo pipefail
-unset CDPATH
 cd "$(dirname "$0")/../.."
 dist=$PWD/build/dist presets=${*:-native $(python3 -m tools.presets names)}
 key=$(cat crates/scrypt_tool/stdout) # the first of RFC 7914, section 12

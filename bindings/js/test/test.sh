@@ -2,7 +2,6 @@
 # Tests the package in Node and in Chromium, against node:crypto; its types; and the bundles of
 # README. Prints the packages that are not installed.
 set -eu
-unset CDPATH
 cd "$(dirname "$0")/../../.."
 room=$(mktemp -d)
 app=$room/app package=$room/app/node_modules/scrypt-proved here=bindings/js/test

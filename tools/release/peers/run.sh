@@ -5,7 +5,6 @@
 # named and left out. Needs `make lib`, gcc, Debian's python3 and a network.
 # usage: run.sh LIBRARY    build/lib/libscrypt_c.so; the other libraries and the header are beside it
 set -euo pipefail
-unset CDPATH
 lib=$(dirname "$(realpath "${1:?the path of libscrypt_c.so}")")
 cd "$(dirname "$0")/../../.."
 top=$PWD here=$PWD/tools/release/peers failed=0 ran=0
