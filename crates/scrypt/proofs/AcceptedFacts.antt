@@ -116,6 +116,11 @@ pub key_len_stored : (len : Option ℕ) → IsTrue (is_stored_len len) → (10 �
 key_len_stored None fits = (lit≤ tt, lit≤ tt)
 key_len_stored (Some n) fits = (stored_len_decided n).0 fits
 
+pub stored_is_output : (len : Option ℕ) → IsTrue (is_stored_len len) → IsTrue (is_output_len (unwrap_or len 32))
+stored_is_output len fits =
+    let stored = key_len_stored len fits in
+    (output_len_decided (unwrap_or len 32)).1 (omega (arith, stored.0), omega (arith, stored.1))
+
 pub output_len_bound : (n : ℕ) → IsTrue (is_output_len n) → n ≤ max_output_len
 output_len_bound n fits = ((output_len_decided n).0 fits).1
 

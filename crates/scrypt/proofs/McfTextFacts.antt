@@ -10,13 +10,13 @@ use Rattle.password_hash.specs.Refusal.{Refusal}
 use Rattle.password_hash.proofs.Crypt64Facts.{letter-ascii, letter_value-letter, IsPlain, crypt64_of-plain, length-letters_of, letters_of-plain}
 use Rattle.password_hash.proofs.GroupFacts.{length-crypt64_of}
 use Rattle.password_hash.proofs.McfFacts.{IsField-crypt64_of}
-use Rattle.scrypt.specs.Accepted.{Parameters, are_accepted, is_stored_len, without_len}
+use Rattle.scrypt.specs.Accepted.{Parameters, are_accepted, is_output_len, without_len}
 use Rattle.scrypt.proofs.KeyFacts.{key_by-are_bytes, length-key_by}
 use Rattle.scrypt.specs.McfParams.{five_letter_number, params_letters, params_text, field_params}
 use Rattle.scrypt.specs.McfHash.{IsMcfHashText, made_hash, made_key, made_mcf, made_text_len, mcf_id, mcf_text, read_mcf}
 use Rattle.scrypt.specs.Hashing.{key_len_or_default}
 use Rattle.scrypt.specs.Reading.{Stored}
-use Rattle.scrypt.proofs.AcceptedFacts.{checked_is, key_len_stored, numbers, output_len_decided, small_params}
+use Rattle.scrypt.proofs.AcceptedFacts.{checked_is, numbers, small_params}
 use Rattle.scrypt.proofs.McfParamsFacts.{five_letter_number_letters_of, of_numbers}
 use Rattle.scrypt.proofs.McfHashFacts.{fields_read, is_mcf, key_read, read_seven, text_of, text_of_fields}
 
@@ -106,11 +106,10 @@ read_is_text text s is =
     }
 
 -- the text that hashing makes
-pub made_text : (c : Parameters) (password salt : List ℕ) → IsTrue (are_accepted c.log_n c.r c.p) → IsTrue (is_stored_len c.output_len)
-    → read_mcf (made_mcf c password salt) ≡ Ok (made_hash c password salt)
+pub made_text : (c : Parameters) (password salt : List ℕ) → IsTrue (are_accepted c.log_n c.r c.p)
+    → IsTrue (is_output_len (key_len_or_default c)) → read_mcf (made_mcf c password salt) ≡ Ok (made_hash c password salt)
 unfolding made_mcf
 made_text c password salt good fits =
-    let stored = key_len_stored c.output_len fits in
     let letters = crypt64_of salt in
     let key = made_key c password salt in
     let long = length-key_by c password letters (key_len_or_default c) in
@@ -120,7 +119,7 @@ made_text c password salt good fits =
       no_len = refl;
       salt = IsField-crypt64_of salt;
       key = All-from_get_or (λ byte. byte < 256) key 0 (λ i below. key_by-are_bytes c password letters (key_len_or_default c) i);
-      key_len = (output_len_decided (length key)).1 (omega (arith, long, stored.0), omega (arith, long, stored.1));
+      key_len = rw long fits;
     })
 
 pub made_mcf_len : (c : Parameters) (password salt : List ℕ) → length (made_mcf c password salt) ≡ made_text_len c (length salt)

@@ -11,7 +11,7 @@ use Rattle.password_hash.specs.Refusal.{Refusal, EncodingInvalid, PasswordInvali
 use Rattle.password_hash.specs.declared.phc.hash.PasswordHash.{PasswordHash}
 use Rattle.scrypt.specs.McfHash.{made_hash, made_mcf, mcf_id, read_fields, read_mcf}
 use Rattle.scrypt.specs.PhcHash.{made_phc, phc_params}
-use Rattle.scrypt.specs.Accepted.{are_accepted, is_stored_len, Parameters}
+use Rattle.scrypt.specs.Accepted.{are_accepted, is_output_len, is_stored_len, Parameters}
 use Rattle.scrypt.specs.Reading.{◌and_then◌, IsOfText, NamesNoPassword, Stored, mapped}
 use Rattle.scrypt.specs.StoredHash.{Formatted, McfText, PhcHash, formatted, is_mcf_text, is_stored_text, key_len_or_zero, params_and_len, params_reading, reading, whole}
 use Rattle.scrypt.proofs.McfHashFacts.{is_mcf, mcf_fault, mcf_none, read_seven}
@@ -19,6 +19,7 @@ use Rattle.scrypt.specs.InBuffers.{are_enough}
 use Rattle.scrypt.specs.Limits.{SufficeFor}
 use Rattle.scrypt.specs.WithinLimits.{within}
 use Rattle.scrypt.specs.declared.limits.Limits.{Limits}
+use Rattle.scrypt.specs.Hashing.{key_len_or_default}
 use Rattle.scrypt.proofs.AcceptedFacts.{bounds}
 use Rattle.scrypt.proofs.McfTextFacts.{made_text, read_is_text}
 use Rattle.scrypt.proofs.PhcFacts.{made_is_text, made_read, params_fault, params_good, params_none}
@@ -168,8 +169,8 @@ pub read_as_mcf : (text : List ℕ) {s : Stored} → read_mcf text ≡ Ok s → 
 unfolding reading formatted
 read_as_mcf text is = rw (mcf_is_seven (is_mcf is).1) is
 
-pub mcf_reading : (c : Parameters) (password salt : List ℕ) → IsTrue (are_accepted c.log_n c.r c.p) → IsTrue (is_stored_len c.output_len)
-    → reading (made_mcf c password salt) ≡ Ok (made_hash c password salt)
+pub mcf_reading : (c : Parameters) (password salt : List ℕ) → IsTrue (are_accepted c.log_n c.r c.p)
+    → IsTrue (is_output_len (key_len_or_default c)) → reading (made_mcf c password salt) ≡ Ok (made_hash c password salt)
 mcf_reading c password salt fits len = read_as_mcf _ (made_text c password salt fits len)
 
 pub phc_reading : (c : Parameters) (password salt : List ℕ) → IsTrue (are_accepted c.log_n c.r c.p) → IsTrue (is_stored_len c.output_len)

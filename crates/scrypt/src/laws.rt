@@ -111,9 +111,9 @@ pub fn made_hashes_are_accepted()
         → IsTrue (are_accepted c.log_n c.r c.p) → IsTrue (is_stored_len c.output_len) → IsSalt salt
         → IsHashText (hash_text (made_phc c password salt)) again → verdict password (read_phc again) ≡ Ok tt }
     ensures mcf { (c : Parameters) (password salt : List ℕ) → IsTrue (are_accepted c.log_n c.r c.p)
-        → IsTrue (is_stored_len c.output_len) → verdict password (read_mcf (made_mcf c password salt)) ≡ Ok tt }
+        → IsTrue (is_output_len (key_len_or_default c)) → verdict password (read_mcf (made_mcf c password salt)) ≡ Ok tt }
     ensures mcf_read { (c : Parameters) (password salt : List ℕ) → IsTrue (are_accepted c.log_n c.r c.p)
-        → IsTrue (is_stored_len c.output_len)
+        → IsTrue (is_output_len (key_len_or_default c))
         → read_mcf (made_mcf c password salt) ≡ Ok (made_hash c password salt) }
 {}
 
@@ -163,7 +163,7 @@ pub fn made_texts_are_accepted()
         ≡ reading (hash_text (made_phc c password salt)) }
     ensures key_len { (c : Parameters) (password salt : List ℕ) (n : ℕ) → length (key_by c password salt n) ≡ n }
     ensures mcf { (c : Parameters) (password salt : List ℕ) → IsTrue (are_accepted c.log_n c.r c.p)
-        → IsTrue (is_stored_len c.output_len) → (verdict password (reading (made_mcf c password salt)) ≡ Ok tt)
+        → IsTrue (is_output_len (key_len_or_default c)) → (verdict password (reading (made_mcf c password salt)) ≡ Ok tt)
         × (weaker c (reading (made_mcf c password salt)) ≡ Ok false) }
 {}
 
@@ -197,7 +197,7 @@ pub fn rehashing_converges()
     ensures phc { (c : Parameters) (password salt : List ℕ) → IsTrue (are_accepted c.log_n c.r c.p)
         → weaker c (read_phc (made_phc c password salt)) ≡ Ok false }
     ensures mcf { (c : Parameters) (password salt : List ℕ) → IsTrue (are_accepted c.log_n c.r c.p)
-        → IsTrue (is_stored_len c.output_len) → weaker c (read_mcf (made_mcf c password salt)) ≡ Ok false }
+        → IsTrue (is_output_len (key_len_or_default c)) → weaker c (read_mcf (made_mcf c password salt)) ≡ Ok false }
 {}
 
 /// Numbers below 2^30 and their five letters determine each other, any five letters encode a
@@ -311,10 +311,13 @@ pub fn block_mix_in_diagonal_order()
         → IsBlockMixBy f b other → out ≡ other }
 {}
 
-/// The parameters of a hasher are accepted, and so is their length of a stored key.
+/// The parameters of a hasher are accepted, and so is their length of a stored key, and the length
+/// of the key that hashing makes.
+#[tactic(auto, using(crate::proofs::AcceptedFacts::stored_is_output))]
 pub fn hashers_are_accepted(hasher: &crate::Scrypt)
     ensures accepted { IsTrue (are_accepted hasher.now.log_n hasher.now.r hasher.now.p) }
     ensures stored { IsTrue (is_stored_len hasher.now.output_len) }
+    ensures made { IsTrue (is_output_len (key_len_or_default hasher.now)) }
 {
     let params = hasher.params();
     params.expose_invariant();

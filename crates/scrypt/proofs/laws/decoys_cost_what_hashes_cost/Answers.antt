@@ -1,5 +1,6 @@
 use Rattle.std.proofs.Common.{◌∙◌, sym}
 use Rattle.password_hash.proofs.GroupFacts.{length-crypt64_of}
+use Rattle.scrypt.proofs.AcceptedFacts.{stored_is_output}
 use Rattle.scrypt.proofs.DecoyFacts.{decoy_rejects, made_public}
 use Rattle.scrypt.proofs.StoredHashFacts.{mcf_reading, phc_reading}
 use Rattle.scrypt.proofs.laws.decoys_cost_what_hashes_cost.Goals as goal
@@ -10,5 +11,5 @@ returns c = record {
   phc = λ c password salt any fits len salted long.
       made_public c password salt any fits len long (phc_reading c password salt fits len salted);
   mcf = λ c password salt any fits len long.
-      made_public c password _ any fits len (long ∙ sym (length-crypt64_of salt)) (mcf_reading c password salt fits len);
+      made_public c password _ any fits len (long ∙ sym (length-crypt64_of salt)) (mcf_reading c password salt fits (stored_is_output c.output_len len));
 }
