@@ -20,10 +20,6 @@ struct head {
 };
 static struct head *head_of(void *block) { return (struct head *)block - 1; }
 
-void clearing_free(void *block);
-void *clearing_malloc(size_t len);
-void *clearing_realloc(void *block, size_t len);
-
 void clearing_free(void *block) {
   struct head head;
   if (block == NULL) return;

@@ -15,10 +15,6 @@ static struct tried tried(void *p) {
   return it;
 }
 
-struct tried rattle_alloc(size_t n, size_t align);
-struct tried rattle_realloc(void *p, size_t kept, size_t n, size_t align);
-void rattle_dealloc(void *p);
-
 /* The address of an empty value is a multiple of its alignment, which divides 16, like malloc's
  * addresses. */
 struct tried rattle_alloc(size_t n, size_t align) { return tried(clearing_malloc(n != 0 ? n : align)); }

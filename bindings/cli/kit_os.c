@@ -17,7 +17,6 @@ __attribute__((constructor)) static void keep(int argc, char **argv) {
 
 /* Writes the bytes of argument i, and returns their number, -1 if there is no such argument, or -2
  * if they do not fit. */
-ssize_t rattle_arg(size_t i, char *room, size_t len);
 ssize_t rattle_arg(size_t i, char *room, size_t len) {
   size_t needed;
   if (i >= count || words[i] == NULL) return -1;
@@ -26,8 +25,6 @@ ssize_t rattle_arg(size_t i, char *room, size_t len) {
   return needed <= len ? (ssize_t)needed : -2;
 }
 
-int rattle_errno(void);
 int rattle_errno(void) { return errno; }
 
-void rattle_set_errno(int error);
 void rattle_set_errno(int error) { errno = error; }

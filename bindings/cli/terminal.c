@@ -5,8 +5,6 @@
 #include <string.h>
 #include <unistd.h>
 
-ssize_t read_or_ask(int fd, void *buffer, size_t len);
-
 /* Linux truncates a line from a terminal to LINE bytes; INPUT_FAILED is the exit status. */
 enum { LINE = 4096, INPUT_FAILED = 4 };
 
