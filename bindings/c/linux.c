@@ -65,13 +65,7 @@ int wipe_on_fork(void *at, size_t size) {
 
 int drop_on_fork(void *at, size_t size) { return madvise(at, size, MADV_DONTFORK) == 0; }
 
-void advise_huge_pages(void *at, size_t size) {
-#ifdef MADV_HUGEPAGE
-  (void)madvise(at, size, MADV_HUGEPAGE);
-#else
-  (void)at, (void)size;
-#endif
-}
+void advise_huge_pages(void *at, size_t size) { (void)madvise(at, size, MADV_HUGEPAGE); }
 
 int is_resident(void *page) {
   unsigned char is_there = 0;
