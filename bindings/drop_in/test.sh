@@ -10,27 +10,17 @@ python=/usr/bin/python3 # which has Debian's packages
 nm -D --defined-only "$ours" | awk '{ print $3 }' | sort | diff bindings/drop_in/symbols -
 $python -B -m bindings.drop_in.test_drop_in "$ours"
 
-# Fails unless the command calls this symbol in the drop-in library.
-binds() {
-  name=$1
-  shift
-  rm -f "$room"/bindings.*
-  LD_DEBUG=bindings LD_DEBUG_OUTPUT=$room/bindings LD_PRELOAD=$ours "$@" || return
-  cat "$room"/bindings.* | grep -q "to $ours .*normal symbol .$name'" && return
-  echo "$name is another's" >&2
-  exit 1
-}
-scheme=crypto_pwhash_scryptsalsa208sha256
-
 # minisign makes a key with a password with libsodium, signs with this library, and rejects another
 # password.
 if has minisign minisign; then
   echo letter > "$room/letter"
   printf 'secret\nsecret\n' | minisign -G -f -p "$room/key.pub" -s "$room/key" > /dev/null 2>&1
   sign() {
-    printf '%s\n' "$1" | binds $scheme minisign -S -s "$room/key" -m "$room/letter" > /dev/null 2>&1
+    printf '%s\n' "$1" | LD_DEBUG=bindings LD_DEBUG_OUTPUT=$room/bindings LD_PRELOAD=$ours \
+      minisign -S -s "$room/key" -m "$room/letter" > /dev/null 2>&1
   }
   sign secret
+  cat "$room"/bindings.* | grep -q "to $ours .*normal symbol .crypto_pwhash_scryptsalsa208sha256'"
   minisign -V -q -p "$room/key.pub" -m "$room/letter"
   if sign wrong; then echo "minisign took a wrong password" >&2; exit 1; fi
   echo "ok called by minisign, with a key of libsodium"
