@@ -2,11 +2,6 @@
  * rejected before anything else, and a text ends with a NUL. Not proved. */
 #include "groups.h"
 
-/* The proved calls, with clearing.c. */
-#define PROVED_CALL(name, parameters, arguments) int cleared_##name parameters;
-#define PROVED_PROCEDURE(name, parameters, arguments) void cleared_##name parameters;
-#include "proved_calls.h"
-
 static int have_null(const scrypt_buffers *it) {
   return it == NULL || it->chunks == NULL || it->table == NULL || it->scratch == NULL;
 }

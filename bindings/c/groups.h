@@ -29,6 +29,11 @@ typedef struct scrypt_progress {
   size_t mixes;       /* the number of block mixes that are done for each of these */
 } scrypt_progress;
 
+/* The proved calls, with clearing.c. */
+#define PROVED_CALL(name, parameters, arguments) int cleared_##name parameters;
+#define PROVED_PROCEDURE(name, parameters, arguments) void cleared_##name parameters;
+#include "proved_calls.h"
+
 /* The number of interleaved chunks that is fastest on this processor, up to SCRYPT_MAX_LOGINS. */
 size_t max_interleave(void);
 

@@ -2,11 +2,6 @@
 #include "groups.h"
 #include "system.h"
 
-/* From clearing.c. */
-#define PROVED_CALL(name, parameters, arguments) int cleared_##name parameters;
-#define PROVED_PROCEDURE(name, parameters, arguments) void cleared_##name parameters;
-#include "proved_calls.h"
-
 /* From blocks.c: freed memory is wiped, or unmapped. */
 void *clearing_malloc(size_t len);
 void clearing_free(void *block);
