@@ -8,12 +8,6 @@
 #include <stdlib.h>
 #include <string.h>
 
-static int is_all(uint8_t byte, const void *room, size_t len) {
-  const uint8_t *bytes = (const uint8_t *)room;
-  while (len > 0 && bytes[len - 1] == byte) len--;
-  return len == 0;
-}
-
 enum { FILL = 7 };
 static void *filled(size_t len) {
   void *room = malloc(len);

@@ -14,4 +14,10 @@ static void check(int holds, const char *what) {
   }
 }
 
+static int is_all(uint8_t byte, const void *room, size_t len) {
+  const uint8_t *bytes = (const uint8_t *)room;
+  while (len > 0 && bytes[len - 1] == byte) len--;
+  return len == 0;
+}
+
 #endif

@@ -12,9 +12,7 @@ static const uint8_t *to_free;
 static size_t to_free_len;
 
 static void free_wiped(void *start) {
-  size_t i, left = 0;
-  for (i = 0; i < to_free_len; i++) left += to_free[i] != 0;
-  check(left == 0, "freed memory is not wiped");
+  check(is_all(0, to_free, to_free_len), "freed memory is not wiped");
   free(start);
 }
 

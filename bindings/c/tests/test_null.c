@@ -81,17 +81,14 @@ static void others(void) {
 static void wipe(void) {
   const scrypt_buffers all = *given.buffers;
   scrypt_buffers rest = {NULL, all.chunks_len, all.table, all.table_len, NULL, all.scratch_len};
-  size_t i, left = 0;
   memset(all.chunks, 7, all.chunks_len);
   memset(all.table, 7, 4 * all.table_len);
   scrypt_wipe(NULL);
   scrypt_wipe(&rest);
-  for (i = 0; i < all.table_len; i++) left += all.table[i] != 0;
-  check(left == 0 && all.chunks[0] == 7, "what is not NULL is wiped");
+  check(is_all(0, all.table, 4 * all.table_len) && all.chunks[0] == 7, "what is not NULL is wiped");
   rest = (scrypt_buffers){all.chunks, all.chunks_len, NULL, 1, NULL, 1};
   scrypt_wipe(&rest);
-  for (i = 0; i < all.chunks_len; i++) left += all.chunks[i] != 0;
-  check(left == 0, "chunks alone");
+  check(is_all(0, all.chunks, all.chunks_len), "chunks alone");
 }
 
 int main(void) {

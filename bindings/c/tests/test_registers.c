@@ -35,8 +35,6 @@ int main(void) {
   for (tables = 1; tables <= 4; tables++) {
     char name[60];
     take_arguments("password", 8, "salt", 4, 6, 8, (uint32_t)tables, 64, tables);
-    /* Where chunks are mixed one after the other a table stays as it was: zeros would be found. */
-    memset(given.buffers->table, 0xa5, given.buffers->table_len * sizeof(uint32_t));
     check(scrypt_key_with_buffers(given.password, given.password_len, given.salt, given.salt_len, given.log_n, given.r,
                                   given.p, made.output, given.output_len, given.buffers) == SCRYPT_OK, "a key");
     bind_next(tables);

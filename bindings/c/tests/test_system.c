@@ -88,13 +88,6 @@ static void sleeps(void) {
 
 /* ---- Memory ---- */
 
-static int are_all(const uint8_t *bytes, size_t len, int byte) {
-  size_t i;
-  for (i = 0; i < len; i++)
-    if (bytes[i] != byte) return 0;
-  return 1;
-}
-
 static uint8_t *mapped[4];
 
 #ifdef _WIN32
@@ -112,14 +105,14 @@ static void memory(void) {
   check(wipe_on_fork(mapped[1], LEN) == HAS_FORKS && wipe_on_fork(mapped[2] + LEN / 2, LEN / 2) == HAS_FORKS &&
             drop_on_fork(mapped[3], LEN) == HAS_FORKS, "a system with forks does what they need");
   for (i = 0; i < 4; i++) {
-    check(mapped[i] != NULL && are_all(mapped[i], LEN, 0), "zeros are mapped");
+    check(mapped[i] != NULL && is_all(0, mapped[i], LEN), "zeros are mapped");
     if (mapped[i] == NULL) return;
     advise_huge_pages(mapped[i], LEN);
     prefault(mapped[i], LEN);
     memset(mapped[i], 7, LEN);
   }
   while_mapped();
-  for (i = 0; i < 4; i++) check(are_all(mapped[i], LEN, 7), "written bytes");
+  for (i = 0; i < 4; i++) check(is_all(7, mapped[i], LEN), "written bytes");
   for (i = 0; i < 4; i++) check(unmap(mapped[i], LEN), "unmapped");
   check(!unmap(mapped[0] + 1, LEN), "an address that is no mapping");
   check(map_zeros(SIZE_MAX / 2) == NULL, "more than the address space");

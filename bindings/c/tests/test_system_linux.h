@@ -11,9 +11,9 @@ enum { HAS_FORKS = 1 };
 
 /* In a child, which the first thread has forked. */
 static int child_finds_zeros(void) {
-  check(are_all(mapped[0], LEN, 7), "a child has a copy");
-  check(are_all(mapped[1], LEN, 0), "a child finds zeros");
-  check(are_all(mapped[2], LEN / 2, 7) && are_all(mapped[2] + LEN / 2, LEN / 2, 0), "also in a part");
+  check(is_all(7, mapped[0], LEN), "a child has a copy");
+  check(is_all(0, mapped[1], LEN), "a child finds zeros");
+  check(is_all(7, mapped[2], LEN / 2) && is_all(0, mapped[2] + LEN / 2, LEN / 2), "also in a part");
   check(madvise(mapped[3], LEN, MADV_NORMAL) != 0 && errno == ENOMEM, "or nothing at all");
   return failed;
 }
