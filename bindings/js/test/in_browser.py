@@ -1,6 +1,7 @@
 #!/usr/bin/env python3
 """Runs checks.js with the cases that node.test.js wrote, in a headless Chromium, or in the browser
-that a command opens, as `in_browser.py firefox-esr --headless --profile FOLDER`.
+that a command opens, as `in_browser.py firefox-esr --headless --profile FOLDER`. With `file:PATH` in
+place of a command it opens this page, and prints what the page posts.
 """
 
 import functools
@@ -34,12 +35,14 @@ class Handler(http.server.SimpleHTTPRequestHandler):
 
 
 def posted(page, command):
-    """Opens a page of the repository by the command, or in Chromium, and returns what it posts."""
+    """Opens a page of the repository by the command, or in Chromium, and returns what it posts. The page of a file posts to
+    the port that is its hash.
+    """
     server = http.server.ThreadingHTTPServer(("127.0.0.1", 0), functools.partial(Handler, directory=TOP))
     threading.Thread(target=server.serve_forever, daemon=True).start()
     with tempfile.TemporaryDirectory(ignore_cleanup_errors=True) as profile:
         words = command or ["chromium", "--headless=new", "--no-sandbox", f"--user-data-dir={profile}"]
-        address = f"http://127.0.0.1:{server.server_port}/{page}"
+        address = f"{page}#{server.server_port}" if page.startswith("file:") else f"http://127.0.0.1:{server.server_port}/{page}"
         ran = subprocess.Popen([*words, address], stdout=subprocess.DEVNULL, stderr=subprocess.DEVNULL)
         try:
             return Handler.said.get(timeout=900)
@@ -49,6 +52,7 @@ def posted(page, command):
 
 
 if __name__ == "__main__":
-    said = posted("bindings/js/test/page.html", sys.argv[1:])
+    is_file = sys.argv[1:] and sys.argv[1].startswith("file:")
+    said = posted(sys.argv[1], []) if is_file else posted("bindings/js/test/page.html", sys.argv[1:])
     print(said, end="")
-    sys.exit(not said.endswith("all passed\n"))
+    sys.exit(not is_file and not said.endswith("all passed\n"))

@@ -22,7 +22,10 @@ by_esbuild() {
   (cd bindings/js && cp package.json $files "$package")
   sed -n '/^```sh$/,/^```$/{/^```/d; p}' bindings/js/README.md > "$app/lines"
   sed -n '/^```javascript$/,/^```$/{/^```/d; p}' bindings/js/README.md > "$app/page.js"
-  echo '<!doctype html><script src="dist/page.js"></script>' > "$app/page.html"
+  echo '<!doctype html><script src="dist/page.js"></script><script>
+    const post = () => document.title && fetch(`http://127.0.0.1:${location.hash.slice(1)}`, { method: "POST", mode: "no-cors", body: document.title });
+    new MutationObserver(post).observe(document, { childList: true, subtree: true });
+  </script>' > "$app/page.html"
   echo '{ "type": "module" }' > "$app/package.json"
   echo "import { hash, verify } from 'scrypt-proved';
     console.log(await verify('a', await hash('a', { N: 2 })));" > "$app/login.js"
@@ -73,6 +76,5 @@ fi
 has chromium chromium chromium --version || exit 0
 python3 -B $here/in_browser.py
 if [ -e "$app" ]; then # a page that is opened from the disk makes a hash its title
-  chromium --headless=new --no-sandbox --user-data-dir="$room/profile" --virtual-time-budget=20000 \
-    --dump-dom "file://$app/page.html" 2> /dev/null | grep -o '<title>$scrypt$ln=17,r=8,p=1'
+  python3 -B $here/in_browser.py "file://$app/page.html" | grep '^$scrypt$ln=17,r=8,p=1'
 fi
