@@ -140,6 +140,10 @@ def decided():
     rattle, definitions, proofs = (round(sum(read(it).count("\n") for it in part if "_tests/" not in it), -2) for part in parts)
     yield "docs/EVIDENCE.md", f"(without test crates) | about {rattle:,} |"
     yield "docs/EVIDENCE.md", f"| about {definitions:,} | | lines of proofs | about {proofs:,} |"
+    axioms = re.findall(r"axioms=(\d+)", read("docs/EVIDENCE.md"))  # of its verdicts: the C library, the program
+    yield "docs/EVIDENCE.md", f"C library, program, JavaScript | {', '.join(axioms)}, 0 |"
+    yield from (("docs/TRUST.md", f"`axioms={it}`:") for it in axioms)
+    yield "docs/EVIDENCE.md", f"use of the stack ({numbers['STACK_BYTES'] / 1024:g} KiB at most)"
     lines = len(re.findall("^[^;\n]", read("bindings/c/kit_heap.ll"), re.M))
     yield "docs/TRUST.md", f"`bindings/c/kit_heap.ll`, {lines} lines of LLVM IR"
     worker = number("bindings/js/machine.js", "OF_WORKER = ", ";") // mib
