@@ -60,10 +60,10 @@ type Options struct {
 // tables for them, which takes less time on some CPUs. An error or a context of one call does
 // not affect the others.
 //
-// A call whose context is done returns the context's error immediately. If it is in C by then,
-// where up to eight calls for each slot derive or wait, its derivation takes place with a copy of
-// the password, which is wiped. After the deadline of the context no derivation begins, and the
-// error is context.DeadlineExceeded, which the Err of the context can return a moment later.
+// A call whose context is done returns the context's error immediately. If it has entered C, as up
+// to eight calls for each slot have, its derivation may still run, on a copy of the password that is
+// wiped afterwards. None starts after the deadline of the context, and the error is then
+// context.DeadlineExceeded, which the Err of the context can return a moment later.
 //
 // A Hasher holds at most MaxTables tables, whatever P is, and keeps their memory for later calls
 // until Close. Create a Hasher with NewHasher: all methods of the zero value that return an error

@@ -28,7 +28,7 @@ pub enum DeriveError {
 #[derive(Clone, Copy, Debug, PartialEq, Eq)]
 #[non_exhaustive]
 pub enum Error {
-    /// The password does not match the hash; from `Scrypt`, also: the hash has no key.
+    /// The password does not match the hash.
     PasswordInvalid,
     /// The parameters, or the length of the key, are not accepted.
     InvalidParams,
