@@ -1,5 +1,7 @@
-/** A string is encoded as UTF-8. One with a lone surrogate is rejected; but for `verify` it is a
- * wrong password, and no hash. */
+/**
+ * A string is encoded as UTF-8. One with a lone surrogate is rejected, except by `verify`, for which
+ * it is a wrong password, or a text that is not a hash.
+ */
 export type Bytes = string | ArrayBuffer | ArrayBufferView;
 
 export interface Params {
@@ -27,8 +29,8 @@ export type ReadParams = Params & { dkLen: number };
 
 export interface KeyOptions extends Params {
   /**
-   * The maximum bytes of memory. Default: 2 ** 30 + 2 ** 20, or 7/8 of the memory of the container
-   * if that is less.
+   * The maximum bytes of memory. Default: 2 ** 30 + 2 ** 20, or 7/8 of the memory of the machine or
+   * the container if that is less.
    */
   maxmem?: number | undefined;
   /** The maximum work, 4 * (N + 32) * r * p. Default: no limit. */
@@ -103,9 +105,7 @@ export type ErrorCode =
   | 'INVALID_OUTPUT_LEN'
   /** A limit is negative, not a whole number, or above 2 ** 53 - 1, but is not `Infinity`. */
   | 'INVALID_LIMIT'
-  /**
-   * An argument has a wrong type, or is missing, or an option is unknown.
-   */
+  /** An argument has a wrong type, or is missing, or an option is unknown. */
   | 'INVALID_TYPE'
   | 'LONE_SURROGATE'
   /** Also on a stack overflow: `cause` is the engine's exception. */
