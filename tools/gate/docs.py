@@ -157,6 +157,12 @@ def decided():
     yield "bindings/README.md", f"with CMake {text_of('bindings/c/CMakeLists.txt', r'cmake_minimum_required.VERSION ', r'[)]')}"
 
 
+def spread(numbers):
+    """The least and the greatest of some numbers."""
+    numbers = sorted(map(float, numbers))
+    return f"{numbers[0]:.1f} to {numbers[-1]:.1f}"
+
+
 def measured():
     """The sentences that repeat a measurement: from the table that compares libraries, and the minutes of README."""
     table = [it[2:-2].split(" | ") for it in re.findall(r"^\| \(\d.*\|$", read("docs/BENCHMARKS.md"), re.M) if it.count("|") == 8]
@@ -166,13 +172,23 @@ def measured():
     yield "bindings/c/scrypt_c.h", f"batch of two takes {two} of the time of two calls, and a batch of four {four} of the time of four"
     yield "crates/scrypt/src/buffers.rt", f"two take {two} of the time, and four {four}"
     yield "docs/PARAMETERS.md", f"four guesses in four tables take {four} of the time of four"
+    yield "docs/PARAMETERS.md", f"so divide the last column by {1 / float(four):.1f}"
+    yield "docs/PARAMETERS.md", f"three tables takes {table['(15, 8, 3), in three tables'][0] / 1000:.2f} for (15, 8, 3)"
+    core = int(text_of("docs/BENCHMARKS.md", r"1 \| \d+, \d+, ", r" \| \d+, "))
+    yield "docs/BENCHMARKS.md", f"65,536 cores, which take {65536e-6 * core:.1f} ms at [{core} ns each]"
+    node, *plain = zip(*(it.split(" | ") for it in re.findall(r", \d\d \| (0.*)  ?\|", read("docs/BENCHMARKS.md"))))
+    node, plain = (spread(it for row in rows for it in row if it) for rows in ([node], plain))
+    yield "bindings/js/README.md", f"{node} times the time of `node:crypto`, {plain} times the time of plain JavaScript"
     milliseconds, (rust, libxcrypt, libsodium, _, openssl) = table["(17, 8, 1)"]
     yield "README.md", f"takes 128 MiB and {milliseconds / 1000:.2f} seconds"
     yield "README.md", f"{rust} of the time of the Rust crate scrypt, {libxcrypt} of libxcrypt's, {libsodium} of libsodium's and {openssl} of"
     yield "docs/PARAMETERS.md", f"| logins | 17, 8, 1 | 128 MiB | {milliseconds / 1000:.2f} |"
-    logins = dict(re.findall(r"^\| (\d+) \| 2 \| [\d,]+ \| ([\d.]+) \|", read("docs/PARAMETERS.md"), re.M))
-    yield "docs/PARAMETERS.md", f"{logins['17']} a second at log_n = 17, {logins['16']} at 16, {logins['15']} at 15, on four CPUs"
-    yield "docs/PARAMETERS.md", f"**{float(logins['17']):.0f} wrong passwords a second take all of the capacity**"
+    page = read("docs/PARAMETERS.md")
+    one, two, four = (dict(re.findall(rf"^\| (\d+) \| {it} \| [\d,]+ \| ([\d.]+) \|", page, re.M)) for it in (1, 2, 4))
+    yield "docs/PARAMETERS.md", f"{two['17']} a second at log_n = 17, {two['16']} at 16, {two['15']} at 15, on four CPUs"
+    yield "docs/PARAMETERS.md", f"**{float(two['17']):.0f} wrong passwords a second take all of the capacity**"
+    more = [spread(float(many[it]) / float(few[it]) for it in few) for few, many in ((one, two), (two, four))]
+    yield "docs/PARAMETERS.md", f"is {more[0]} times that with one, and with four {more[1]} times that with two"
     run, test = (text_of("README.md", f"{it}: (?:about )?", " minutes") for it in ("proves and builds it", "tests everything"))
     yield "Makefile", f"builds the program, in about {run} minutes on four"
     yield "Makefile", f"builds the C libraries, in about {run} minutes on four"
