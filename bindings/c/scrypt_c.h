@@ -280,13 +280,13 @@ int scrypt_hash_with_buffers(const void *password, size_t password_len, const vo
 #define SCRYPT_PHC_OR_MCF 2
 
 /* Writes the hash of a salt and a key that another program has derived with these parameters,
- * NUL-terminated, to text: a PHC string if mcf is 0; if it is SCRYPT_PHC_OR_MCF, a PHC string with
- * the first 64 bytes of the key if the lengths allow it, and otherwise a $7$ hash; for any other
- * value a $7$ hash. The text is read as exactly these parts. For a PHC string the salt has 1 to 64
- * bytes and the key 10 to 64; a shorter key is a prefix of a longer one. The salt of a $7$ hash is
- * UTF-8 without a $; it is copied unchanged to offset 14 of the text. If it contains a zero byte,
- * strlen(text) is too short: the length is 14 + salt_len + strlen(text + 14 + salt_len). A capacity
- * of SCRYPT_PHC_CAPACITY + 2 * (salt_len + key_len) is enough. Nothing is allocated.
+ * NUL-terminated, to text: a PHC string if mcf is 0, and otherwise a $7$ hash. SCRYPT_PHC_OR_MCF
+ * chooses a PHC string, with the first 64 bytes of the key, if the lengths allow it. The text is
+ * read as exactly these parts. For a PHC string the salt has 1 to 64 bytes and the key 10 to 64; a
+ * shorter key is a prefix of a longer one. The salt of a $7$ hash is UTF-8 without a $; it is copied
+ * unchanged to offset 14 of the text. If it contains a zero byte, strlen(text) is too short: the
+ * length is 14 + salt_len + strlen(text + 14 + salt_len). A capacity of
+ * SCRYPT_PHC_CAPACITY + 2 * (salt_len + key_len) is enough. Nothing is allocated.
  * SCRYPT_E_NULL_POINTER, SCRYPT_E_INVALID_PARAMS, SCRYPT_E_SALT_INVALID, SCRYPT_E_INVALID_OUTPUT_LEN for the
  * length of the key, SCRYPT_E_BUFFER_SIZE. */
 SCRYPT_NODISCARD
@@ -376,16 +376,17 @@ int scrypt_needs_rehash(const char *text, size_t text_len, uint32_t log_n, uint3
 SCRYPT_NODISCARD
 int scrypt_hash_params(const char *text, size_t text_len, uint32_t *log_n, uint32_t *r, uint32_t *p, size_t *key_len);
 
-/* The cost of a derivation: its parameters; the length of the key of a hash; the number of tables
- * that it can use within the limit on bytes (1 to 4, and no more than p; 1 also if the limit is too
- * low for one); the lengths of the buffers with one table, of chunks in bytes, of table and scratch
- * in words (with w tables, table and scratch are w times as long); the bytes of all buffers with
- * one table; and the work, 4 * (2^log_n + 32) * r * p. The last two saturate: UINT64_MAX means this
- * number or more. */
+/* The cost of a derivation. bytes and work saturate: UINT64_MAX means this number or more. */
 typedef struct scrypt_cost {
   uint32_t log_n, r, p;
-  size_t key_len, tables, chunks_len, table_len, scratch_len;
-  uint64_t bytes, work;
+  size_t key_len;     /* of a hash */
+  size_t tables;      /* the number of tables within the limit on bytes: 1 to 4, and no more than */
+                      /* p; 1 also if the limit is too low for one */
+  size_t chunks_len;  /* the length of the chunks in bytes */
+  size_t table_len;   /* of the table in words, and */
+  size_t scratch_len; /* of the scratch in words: w times as long for w tables */
+  uint64_t bytes;     /* of all buffers with one table */
+  uint64_t work;      /* 4 * (2^log_n + 32) * r * p */
 } scrypt_cost;
 
 /* Checks a hash against limits, and writes what it costs to verify it. Nothing is allocated. The
@@ -403,10 +404,10 @@ int scrypt_hash_cost(const char *text, size_t text_len, size_t max_mem, uint64_t
 SCRYPT_NODISCARD
 int scrypt_params_cost(uint32_t log_n, uint32_t r, uint32_t p, size_t max_mem, uint64_t max_work, scrypt_cost *cost);
 
-/* Writes the default limits of a hasher that makes such hashes: on bytes, a little more than a table
- * of 256 MiB; on work, four times the work of the recommended parameters; and on the length of a
- * key, at least 16 bytes; changed as far as necessary to admit these hashes. (On a machine with
- * little memory, a hasher's default of max_mem is lower.)
+/* Writes the default limits of a hasher that makes such hashes: a little more than a table of
+ * 256 MiB, four times the work of the recommended parameters, and keys of 16 bytes or more. They are
+ * changed as far as necessary to admit these hashes. (On a machine with little memory, a hasher's
+ * default of max_mem is lower.)
  * SCRYPT_E_INVALID_PARAMS; then nothing is written. */
 SCRYPT_NODISCARD
 int scrypt_default_limits(uint32_t log_n, uint32_t r, uint32_t p, size_t key_len, size_t *max_mem, uint64_t *max_work,
@@ -585,11 +586,11 @@ int scrypt_status_is_invalid_hash(int status);
 /* Enough for any text of scrypt_explain, including its NUL. */
 #define SCRYPT_EXPLANATION_CAPACITY 256
 
-/* Writes the numbers of a status in English, NUL-terminated, as a log has them after the words of
- * scrypt_strerror: of SCRYPT_E_TOO_COSTLY the cost, as of scrypt_hash_cost, and the limits, except
- * SIZE_MAX and UINT64_MAX, which are none; of SCRYPT_E_OUT_OF_MEMORY the cost; of
- * SCRYPT_E_KEY_TOO_SHORT the length of the key and the minimum; of any other status "". A longer
- * text than the capacity is cut. Does nothing without a cost or a capacity. */
+/* Writes the numbers of a status in English, NUL-terminated, for a log that has them after the text
+ * of scrypt_strerror. For SCRYPT_E_TOO_COSTLY they are the cost, as scrypt_hash_cost writes it, and
+ * the limits, except SIZE_MAX and UINT64_MAX, which mean no limit; for SCRYPT_E_OUT_OF_MEMORY the
+ * cost; for SCRYPT_E_KEY_TOO_SHORT the length of the key and the minimum; for any other status "".
+ * A longer text than the capacity is cut. Does nothing without a cost or a capacity. */
 void scrypt_explain(int status, const scrypt_cost *cost, size_t max_mem, uint64_t max_work, size_t min_key_len,
                     char *text, size_t capacity);
 
