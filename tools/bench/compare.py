@@ -5,8 +5,9 @@ usage: python3 -m tools.bench.compare LIBRARY [NAME=WORKER..] [--params 14,8,1:1
 
 It prints *Compared with other libraries* of docs/BENCHMARKS.md in Markdown, with, for p from 1 to 4, the nanoseconds of a core;
 or it draws speed.svg, the verifications a second of as many processes as there are CPUs. LIBRARY is libscrypt_c.so, and a WORKER
-is a program that tools/tests/worker.py describes. The environment variable RUNS (7) is the number of runs; of them the minimum
-counts, or for the picture the median.
+is a program that tools/tests/worker.py describes. The environment variable RUNS (7) is the number of runs in a process. For the
+table the minimum of the runs of three processes counts, since one whose tables lie badly in memory is slow in each run; for the
+picture the median of one.
 
 All verify one hash, in each run in a new random order; if p is 1, this library verifies it also in batches of two and four.
 The processes of the picture run concurrently, each on its own CPU, and all with the same implementation. This library
@@ -25,6 +26,7 @@ from tools.bench.libraries import FOUR, OURS, TWO, verifications
 
 DRAWN = {OURS: "this library", TWO: "its batches of two", FOUR: "its batches of four"}
 PATIENCE = 60  # seconds that a process waits for the others
+AGAIN = 3  # processes, one after another
 
 
 def measured(args, params, seed, cpu):
@@ -55,7 +57,8 @@ def in_all(args, params, processes):
 def table(args):
     others = None
     for log_n, r, p in (map(int, it.split(",")) for it in args.params.split(":")):
-        least = {name: min(its) for name, its in in_all(args, (log_n, r, p), 1).items()}
+        taken = [in_all(args, (log_n, r, p), 1) for _ in range(AGAIN)]
+        least = {name: min(time for it in taken for time in it[name]) for name in taken[0]}
         if others is None:
             others = [name for name in least if name not in DRAWN]
             print(ours.line("(log_n, r, p)", "milliseconds", "nanoseconds for a core", *others, head=True))

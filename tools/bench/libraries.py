@@ -94,7 +94,9 @@ def verifications(path, workers, params):
     if found := ctypes.util.find_library("crypt"):
         made["libxcrypt"] = timed(libxcrypt(ctypes.CDLL(found), text))
     if found := ctypes.util.find_library("sodium"):
-        made["libsodium"] = timed(deriving(ctypes.CDLL(found).crypto_pwhash_scryptsalsa208sha256_ll, params, key))
+        sodium = ctypes.CDLL(found)
+        sodium.sodium_init()  # before it, libsodium does not use SSE2
+        made["libsodium"] = timed(deriving(sodium.crypto_pwhash_scryptsalsa208sha256_ll, params, key))
     if found := ctypes.util.find_library("scrypt-kdf"):
         made["libscrypt-kdf"] = timed(deriving(ctypes.CDLL(found).crypto_scrypt, params, key))
     return made | {"OpenSSL": timed(lambda: openssl(*params) == key)}
