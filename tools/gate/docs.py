@@ -25,6 +25,9 @@ from tools.generate.sources import read
 SOURCES = ("crates/", "examples/", "bindings/", "Makefile")
 SUFFIXES = (".rt", ".antt", ".c", ".h", ".py", ".go", ".rs", ".js", "Makefile")
 
+NUMBERS, MIB = header.NUMBERS, 1 << 20
+WORDS = "no one two three four five six seven eight".split()
+
 # Names of other programs and libraries.
 OTHERS = {"check_password", "crypt_data", "crypt_r", "find_package", "maxmem_bytes", "must_use", "needs_update", "rattle_env",
           "rattle_env_at", "run_in_executor", "sodium_init"}
@@ -101,40 +104,85 @@ def unlisted_calls():
             yield f"bindings/c/scrypt_c.h: the table doesn't name {name}"
 
 
+def each(words, *paths):
+    """The same sentence in several files."""
+    return ((path, words) for path in paths)
+
+
 def text_of(path, before, after):
-    """What stands between two regular expressions, once in a file."""
-    [found] = re.findall(f"{before}(.*?){after}", read(path))
+    """What stands between two regular expressions, once in a file, whose words are separated by single blanks."""
+    [found] = re.findall(f"{before}(.*?){after}", " ".join(read(path).split()))
     return found
 
 
 def number(path, before, after):
     """The same as a number, from an expression that C, Rattle and JavaScript write as Python does."""
-    return eval(text_of(path, before, after), {"DEFAULT_MAX_MEM": header.LIMITS["DEFAULT_MAX_MEM"]})
+    return eval(text_of(path, before, after), {"DEFAULT_MAX_MEM": NUMBERS["DEFAULT_MAX_MEM"]})
+
+
+def limits():
+    """The sentences on the default limits, and on the part of the memory that calls may use, each with its file."""
+    most, key_len = NUMBERS["DEFAULT_MAX_MEM"] // MIB, NUMBERS["DEFAULT_MIN_KEY_LEN"]
+    log_n, r, p = (NUMBERS[f"RECOMMENDED_{it}"] for it in ("LOG_N", "R", "P"))
+    times = WORDS[NUMBERS["DEFAULT_MAX_WORK"] // (4 * (2**log_n + 32) * r * p)]
+    shown = ["bindings/c/scrypt_c.h", "bindings/go/scrypt.go", "bindings/cli/scrypt_tool.1", "crates/scrypt/src/limits.rt"]
+    yield "docs/HASHER.md", f"limits are {most} MiB, {times} times the work of the recommended parameters, and keys of {key_len} bytes"
+    yield "docs/DECISIONS.md", f"The default limit on memory is {most} MiB"
+    yield "crates/scrypt/src/buffers/owned.rt", f"16 MiB of chunks, {most} MiB of table"
+    yield from each(f"table of {most - 1} MiB", *shown, "docs/DECISIONS.md", "crates/scrypt_commands/src/usage.rt")
+    yield from each(f"{times} times the work of the recommended parameters", *shown, "bindings/rust/src/limits.rs")
+    yield "bindings/c/scrypt_c.h", f"keys of {key_len} bytes or more"
+    yield "bindings/go/scrypt.go", f"the minimum length of its key, {key_len} bytes"
+    yield "crates/scrypt/src/limits.rt", f"a key of {key_len} bytes"
+    yield "crates/scrypt_commands/src/usage.rt", f"({key_len} for verify, 0 for rehash)"
+    left = number("bindings/c/options.c", "define LEFT_FREE ", " ")
+    yield from each(f"{left - 1}/{left} of the memory", "bindings/c/scrypt_c.h", "bindings/go/hasher.go", "bindings/python/scrypt_c/hasher.py",
+                    "bindings/rust/src/hasher.rs", "bindings/js/README.md", "bindings/js/index.d.ts", "docs/HASHER.md", "docs/PARAMETERS.md")
+    default, less = ((left - 1) * (1 << 30) // left // it for it in (NUMBERS["DEFAULT_MAX_MEM"], 129 * MIB))
+    yield "docs/PARAMETERS.md", f"In a container of 1 GiB that is {default} tables. If no stored hash needs a table above 128 MiB, " \
+        f"set `max_mem` to 129 MiB, and it is {less}."
+    worker = number("bindings/js/machine.js", "OF_WORKER = ", ";") // MIB
+    yield "bindings/js/README.md", f"with {worker} MiB each, of which {most} MiB are the default limit"
+    memory = " | ".join(f"{math.ceil(it * worker * left / (left - 1))} MiB" for it in (2, 3, 4))
+    yield "bindings/js/README.md", f"| less | {memory} |"
 
 
 def decided():
-    """The sentences with a number that the code decides, each with its file. PROMISES' are in promises.py."""
-    mib, limits, numbers = 1 << 20, header.LIMITS, header.NUMBERS
-    limit, key_len = limits["DEFAULT_MAX_MEM"] // mib, limits["DEFAULT_MIN_KEY_LEN"]
-    yield "docs/HASHER.md", f"limits are {limit} MiB, four times the work of the recommended parameters, and keys of {key_len} bytes"
-    yield "docs/DECISIONS.md", f"The default limit on memory is {limit} MiB"
-    yield "crates/scrypt/src/buffers/owned.rt", f"16 MiB of chunks, {limit} MiB of table"
-    together = number("crates/scrypt/src/buffers.rt", "MAX_INTERLEAVED_MEM: usize = ", ";") // mib
+    """The sentences with another number that the code decides. PROMISES' are in promises.py."""
+    together = number("crates/scrypt/src/buffers.rt", "MAX_INTERLEAVED_MEM: usize = ", ";") // MIB
     yield "docs/RATTLE.md", f"the `max_mem` of C's `scrypt_key`, {together} MiB"
     yield "docs/BENCHMARKS.md", f"up to four tables, if all buffers fit into {together} MiB together"
     yield "docs/DECISIONS.md", f"mappings up to {together} MiB are populated"
     yield "bindings/c/scrypt_c.h", f"as all buffers fit into {together} MiB"
     yield "bindings/python/scrypt_c/key.py", f"or in {together} MiB without a limit"
-    large = number("bindings/c/blocks.c", r"define LARGE \(\(size_t\)", r"\)") // mib
+    large = number("bindings/c/blocks.c", r"define LARGE \(\(size_t\)", r"\)") // MIB
     yield "SECURITY.md", f"Blocks of {large} MiB or more"
     yield "docs/DECISIONS.md", f"a block of {large} MiB or more"
     yield "SECURITY.md", f"{number('bindings/c/clearing.c', 'BELOW = ', ',') / 1024:g} KiB of the stack"
-    yield "SECURITY.md", f"`SCRYPT_STACK_BYTES`, {numbers['STACK_BYTES'] / 1024:g} KiB"
+    yield "SECURITY.md", f"`SCRYPT_STACK_BYTES`, {NUMBERS['STACK_BYTES'] / 1024:g} KiB"
+    yield "docs/EVIDENCE.md", f"use of the stack ({NUMBERS['STACK_BYTES'] / 1024:g} KiB at most)"
+    system = number("bindings/c/tests/test_clearing.c", "OF_SYSTEM = ", " ") // 1024
+    yield from each(f"{system} KiB", "SECURITY.md", "bindings/c/scrypt_c.h")
     slots = number("bindings/c/options.c", "define MAX_SLOTS ", " ")
     yield "bindings/c/scrypt_c.h", f"More than {slots} CPUs count as {slots}"
     yield "bindings/c/scrypt_c.h", f"among the first {number('bindings/c/hasher.c', 'define MAX_SCANNED ', ' ')} that wait"
-    new, longest = numbers["HASH_CAPACITY"] - 1, numbers["PHC_CAPACITY"] - 1
+    window = number("bindings/c/hasher.c", "define MAX_LINGER_NS ", " ") // 10**6
+    yield "docs/HASHER.md", f"at most {window} ms (the batching window)"
+    yield from each(f"up to {window} ms", "docs/DECISIONS.md", "bindings/c/scrypt_c.h")
+    yield from each(f"steps of about {NUMBERS['STEP_MS']} ms", "bindings/go/key.go", "bindings/python/README.md", "bindings/js/README.md",
+                    "bindings/python/scrypt_c/key.py", "bindings/rust/src/steps.rs", "bindings/js/index.d.ts", "bindings/js/steps.js",
+                    "examples/file_page/README.md")
+    new, longest = NUMBERS["HASH_CAPACITY"] - 1, NUMBERS["PHC_CAPACITY"] - 1
     yield "bindings/c/README.md", f"{new} ASCII characters by default, and never more than {longest}"
+    yield "docs/PARAMETERS.md", f"The salt length is {NUMBERS['SALT_LEN']} bytes by default, the key length {NUMBERS['KEY_LEN']};"
+    yield from each(f"up to {WORDS[2 * NUMBERS['MAX_LOGINS']]} calls for each", "bindings/go/hasher.go", "bindings/go/README.md")
+    queue = number("bindings/js/workers.js", r"\[MAX_WORKERS, ", r"\]")
+    yield "bindings/js/README.md", f"(by default {queue})"
+    yield "bindings/js/index.d.ts", f"and {queue} calls."
+
+
+def written():
+    """The sentences with a number of the repository itself: of its files, its versions, its tests and examples."""
     yield "docs/EVIDENCE.md", f"each `make test` must see rejected | {len(glob.glob('crates/*/must-fail/*.edit'))} |"
     parts = (glob.glob(f"crates/*/{it}/**/*.*t", recursive=True) for it in ("src", "specs", "proofs"))
     rattle, definitions, proofs = (round(sum(read(it).count("\n") for it in part if "_tests/" not in it), -2) for part in parts)
@@ -143,17 +191,18 @@ def decided():
     axioms = re.findall(r"axioms=(\d+)", read("docs/EVIDENCE.md"))  # of its verdicts: the C library, the program
     yield "docs/EVIDENCE.md", f"C library, program, JavaScript | {', '.join(axioms)}, 0 |"
     yield from (("docs/TRUST.md", f"`axioms={it}`:") for it in axioms)
-    yield "docs/EVIDENCE.md", f"use of the stack ({numbers['STACK_BYTES'] / 1024:g} KiB at most)"
+    yield "README.md", f"of definitions, and {text_of('docs/TRUST.md', 'about [0-9]+ lines for the key, ', ' for a')} of the kit's"
     lines = len(re.findall("^[^;\n]", read("bindings/c/kit_heap.ll"), re.M))
     yield "docs/TRUST.md", f"`bindings/c/kit_heap.ll`, {lines} lines of LLVM IR"
-    worker = number("bindings/js/machine.js", "OF_WORKER = ", ";") // mib
-    yield "bindings/js/README.md", f"with {worker} MiB each, of which {limit} MiB are the default limit"
-    yield "bindings/js/README.md", f"| less | {' | '.join(f'{math.ceil(it * worker * 8 / 7)} MiB' for it in (2, 3, 4))} |"
+    yield "CONTRIBUTING.md", f"the gate: {number('bindings/c/tests/test_hasher_load.c', 'size_t rounds = ', ';')} rounds"
+    yield "CONTRIBUTING.md", f"runs for {WORDS[number('tools/gate/gate.mk', r'LIMIT=[^,]*,', 'h. ')]} hours is ended"
+    log_ins = number("examples/login_site/accounts/hashers.py", "MAX_LOG_INS = ", " ")
+    yield "examples/login_site/README.md", f"if {log_ins} logins are in progress"
     yield "bindings/js/README.md", f"It needs Node {text_of('bindings/js/package.json', 'node.: .>=', chr(34))}"
     yield "bindings/python/README.md", f"It needs Python {text_of('bindings/python/pyproject.toml', 'requires-python = .>=', chr(34))}"
     yield "bindings/rust/README.md", f"It needs Rust {text_of('bindings/rust/Cargo.toml', 'rust-version = .', chr(34))}"
     for level, tables in presets.levels("native").items():
-        yield "bindings/README.md", f"with {level} up to {['three', 'four'][int(tables) - 3]}"
+        yield "bindings/README.md", f"with {level} up to {WORDS[int(tables)]}"
     yield "bindings/README.md", f"with CMake {text_of('bindings/c/CMakeLists.txt', r'cmake_minimum_required.VERSION ', r'[)]')}"
 
 
@@ -163,8 +212,8 @@ def spread(numbers):
     return f"{numbers[0]:.1f} to {numbers[-1]:.1f}"
 
 
-def measured():
-    """The sentences that repeat a measurement: from the table that compares libraries, and the minutes of README."""
+def compared():
+    """The sentences that repeat a measurement of docs/BENCHMARKS.md."""
     table = [it[2:-2].split(" | ") for it in re.findall(r"^\| \(\d.*\|$", read("docs/BENCHMARKS.md"), re.M) if it.count("|") == 8]
     table = {first: (float(time), ratios) for first, time, *ratios in table}
     two, four = (f"{table[f'(14, 8, 1), each of a batch of {it}'][0] / table['(14, 8, 1)'][0]:.2f}" for it in ("two", "four"))
@@ -174,21 +223,33 @@ def measured():
     yield "docs/PARAMETERS.md", f"four guesses in four tables take {four} of the time of four"
     yield "docs/PARAMETERS.md", f"so divide the last column by {1 / float(four):.1f}"
     yield "docs/PARAMETERS.md", f"three tables takes {table['(15, 8, 3), in three tables'][0] / 1000:.2f} for (15, 8, 3)"
-    core = int(text_of("docs/BENCHMARKS.md", r"1 \| \d+, \d+, ", r" \| \d+, "))
+    milliseconds, (rust, libxcrypt, libsodium, _, openssl) = table["(17, 8, 1)"]
+    yield "README.md", f"takes 128 MiB and {milliseconds / 1000:.2f} seconds"
+    yield "README.md", f"{rust} of the time of the Rust crate scrypt, {libxcrypt} of libxcrypt's, {libsodium} of libsodium's and {openssl} of"
+    days, hours = milliseconds / 86.4, milliseconds * float(four) / 3.6  # of a million
+    yield "docs/PARAMETERS.md", f"takes one CPU {days:.0f} days, or {hours:.0f} hours in batches"
+    core = int(text_of("docs/BENCHMARKS.md", r"v2 \| \|---\|---\|---\| \| 1 \| \d+, \d+, ", " "))
     yield "docs/BENCHMARKS.md", f"65,536 cores, which take {65536e-6 * core:.1f} ms at [{core} ns each]"
     node, *plain = zip(*(it.split(" | ") for it in re.findall(r", \d\d \| (0.*)  ?\|", read("docs/BENCHMARKS.md"))))
     node, plain = (spread(it for row in rows for it in row if it) for rows in ([node], plain))
     yield "bindings/js/README.md", f"{node} times the time of `node:crypto`, {plain} times the time of plain JavaScript"
-    milliseconds, (rust, libxcrypt, libsodium, _, openssl) = table["(17, 8, 1)"]
-    yield "README.md", f"takes 128 MiB and {milliseconds / 1000:.2f} seconds"
-    yield "README.md", f"{rust} of the time of the Rust crate scrypt, {libxcrypt} of libxcrypt's, {libsodium} of libsodium's and {openssl} of"
-    yield "docs/PARAMETERS.md", f"| logins | 17, 8, 1 | 128 MiB | {milliseconds / 1000:.2f} |"
-    page = read("docs/PARAMETERS.md")
+
+
+def measured():
+    """The sentences that repeat a measurement of docs/PARAMETERS.md, or the minutes of README."""
+    name, smaller = "docs/PARAMETERS.md", text_of("docs/BENCHMARKS.md", r"\| 3 \| 16 \| ", " ")
+    page = read(name)
+    seconds = {int(log_n): float(it) for log_n, it in re.findall(r"^\| (\d+) \| [\d,]+ \| ([\d.]+) \| [\d.]+ \|$", page, re.M)}
+    for row, taken in [("logins | 17, 8, 1 | 128 MiB", seconds[17]), ("less memory | 16, 8, 2 | 64 MiB", 2 * seconds[16]),
+                       ("concurrently | 15, 8, 3 | 32 MiB", 3 * seconds[15]), ("often | 18, 8, 1 | 256 MiB", seconds[18]),
+                       ("rarely | 20, 8, 1 | 1 GiB", seconds[20]), ("devices | 17, 8, 1, s = 3 | 16 MiB", float(smaller))]:
+        yield name, f"{row} | {taken:.2g} |"
+    yield name, f"({seconds[17]:.2f} seconds, or {2 * seconds[17]:.2f} with p of 2)"
     one, two, four = (dict(re.findall(rf"^\| (\d+) \| {it} \| [\d,]+ \| ([\d.]+) \|", page, re.M)) for it in (1, 2, 4))
-    yield "docs/PARAMETERS.md", f"{two['17']} a second at log_n = 17, {two['16']} at 16, {two['15']} at 15, on four CPUs"
-    yield "docs/PARAMETERS.md", f"**{float(two['17']):.0f} wrong passwords a second take all of the capacity**"
+    yield name, f"{two['17']} a second at log_n = 17, {two['16']} at 16, {two['15']} at 15, on four CPUs"
+    yield name, f"**{float(two['17']):.0f} wrong passwords a second take all of the capacity**"
     more = [spread(float(many[it]) / float(few[it]) for it in few) for few, many in ((one, two), (two, four))]
-    yield "docs/PARAMETERS.md", f"is {more[0]} times that with one, and with four {more[1]} times that with two"
+    yield name, f"is {more[0]} times that with one, and with four {more[1]} times that with two"
     run, test = (text_of("README.md", f"{it}: (?:about )?", " minutes") for it in ("proves and builds it", "tests everything"))
     yield "Makefile", f"builds the program, in about {run} minutes on four"
     yield "Makefile", f"builds the C libraries, in about {run} minutes on four"
@@ -196,8 +257,8 @@ def measured():
 
 
 def wrong_numbers():
-    """The sentences of those two that their files don't have. The marks of comments are not compared."""
-    for path, words in (*decided(), *measured()):
+    """The sentences of all these that their files don't have. The marks of comments are not compared."""
+    for path, words in (*limits(), *decided(), *written(), *compared(), *measured()):
         if words not in " ".join(re.sub(r"^ *(?:\*|//+!?) ", "", read(path), flags=re.M).split()):
             yield f"{path} should state: {words}"
 
