@@ -186,7 +186,7 @@ static void await(struct queue *queue, struct call *call, int64_t timeout_ms) {
   }
 }
 
-/* The batching window of a leader: 1/256 of a derivation, if a core takes 50 ns. */
+/* The batching window of a leader: 1/250 of a derivation, if a core takes 50 ns. */
 static int64_t linger_ns(const scrypt_cost *cost) {
   int64_t ns = (int64_t)(cost->table_len / 8 * cost->p / 5); /* 4 * N * r * p cores */
   if (ns < MIN_LINGER_NS || !can_sleep_briefly()) return 0;

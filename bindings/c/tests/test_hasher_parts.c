@@ -257,7 +257,7 @@ static void generations(void) {
 }
 #endif
 
-/* 1/256 of the derivation, and no more than 1 ms; no window if it is below 50 microseconds. */
+/* 1/250 of the derivation, and no more than 1 ms; no window if it is below 50 microseconds. */
 static void windows(void) {
   static const struct {
     uint8_t log_n;
