@@ -49,8 +49,8 @@ static int failed;
     }                                                 \
   } while (0)
 #define IS(call, wanted) expect((call) == (wanted), #call)
-/* Waits until the condition holds, or for ten seconds. */
-#define until(holds) for (int tries_ = 0; !(holds) && tries_ < 50000; tries_++) usleep(200)
+/* Waits until the condition holds, or for a minute. */
+#define until(holds) for (int tries_ = 0; !(holds) && tries_ < 300000; tries_++) usleep(200)
 
 /* ---- Memory ---- */
 

@@ -9,7 +9,7 @@
 #include <string.h>
 
 /* A key by runs of this time; each run does more, and the last all. A step is bounded by a chunk,
- * however many chunks there are, and a run ends at its time, even if no step takes as long. */
+ * however many chunks there are. test_step_times.c tests how long runs take. */
 static void by_time(void) {
   static const struct {
     const char *why;
@@ -29,7 +29,7 @@ static void by_time(void) {
   size_t i;
   for (i = 0; i < sizeof ROWS / sizeof *ROWS; i++) {
     const uint32_t log_n = ROWS[i].log_n, r = ROWS[i].r, p = ROWS[i].p;
-    const size_t max_runs = ROWS[i].milliseconds == 0 ? (size_t)p << (log_n + 1) : ROWS[i].milliseconds > 10 ? 1 : 1000;
+    const size_t max_runs = ROWS[i].milliseconds > 10 ? 1 : (size_t)p << (log_n + 1);
     scrypt_derivation *it = NULL;
     double done = 0, last = 0;
     size_t runs = 0;

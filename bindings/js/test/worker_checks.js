@@ -26,7 +26,7 @@ const withWorkers = (check, starts = () => true) => async () => {
     terminate() { this.isEnded = true; }
   }
   const busy = async (at = 0) => {
-    for (let i = 0; i < 500 && !made[at]?.isBusy; i++) await later(1);
+    for (let i = 0; i < 60000 && !made[at]?.isBusy; i++) await later(1);
     return made[at];
   };
   const answer = async (value, at) => (await busy(at)).says({ value });

@@ -157,13 +157,14 @@ class Hashes(unittest.TestCase):
         self.assertRaises(scrypt_c.RefusedHashError, hasher.verify_and_update, "$7$", "pw")
 
     def test_user_without_hash(self):
-        """For a user who does not exist: the time and the error of a wrong password."""
+        """For a user who does not exist: the time and the error of a wrong password. Each time is the
+        least of five, because other programs run too."""
         hasher, times = PasswordHasher(log_n=14), {}
         text = hasher.hash("pw")
-        for stored in (text, None, text, None):
+        for stored in 5 * (text, None):
             begun = time.thread_time()
             self.assertRaises(VerifyMismatchError, hasher.verify, stored, "PW")
-            times[stored] = time.thread_time() - begun
+            times[stored] = min(times.get(stored, math.inf), time.thread_time() - begun)
         self.assertTrue(0.5 < times[None] / times[text] < 2, times)
 
     def test_pickle_and_copy(self):

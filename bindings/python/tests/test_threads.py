@@ -28,6 +28,11 @@ def busy(hasher):
         assert isinstance(running.exception(), VerifyMismatchError)
 
 
+def until_waiting(hasher, count):
+    while hasher.stats().waiting < count and hasher.stats().deriving:
+        time.sleep(0.001)
+
+
 # A program forks, and ends, while daemon threads derive and wait.
 DAEMONS = """
 import os, scrypt_c, threading, time
@@ -70,21 +75,28 @@ class Threads(unittest.TestCase):
     def test_timeouts_signals_and_stats(self):
         """A call that waits returns at its timeout; an exception of a signal handler replaces its
         result. stats counts calls that wait, that derive, and that have failed."""
-        hasher = PasswordHasher(log_n=4, max_tables=1, timeout=0.1)
+        hasher = PasswordHasher(log_n=4, max_tables=1)
         before = signal.signal(signal.SIGALRM, signal.default_int_handler)
         self.addCleanup(signal.signal, signal.SIGALRM, before)
-        with busy(hasher), ThreadPoolExecutor(1) as threads:
+
+        def interrupt(waiting):
+            until_waiting(hasher, waiting)
+            signal.raise_signal(signal.SIGALRM)
+
+        with busy(hasher), ThreadPoolExecutor(2) as threads:
             other = threads.submit(hasher.verify, TEXT, "pw")
-            while hasher.stats().waiting == 0 and not other.done():
-                time.sleep(0.001)
+            until_waiting(hasher, 1)
             self.assertEqual(hasher.stats(), (1, 1, 0))
-            self.assertIs(type(other.exception()), TimeoutError)
-            self.assertEqual(hasher.stats(), (0, 1, 1))
-            signal.setitimer(signal.ITIMER_REAL, 0.03)
-            begun = time.monotonic()
+            hasher._timeout = 0.1
+            with self.assertRaises(TimeoutError) as caught:
+                hasher.verify(TEXT, "pw")
+            self.assertIs(type(caught.exception), TimeoutError)
+            self.assertEqual(hasher.stats(), (1, 1, 1))
+            hasher._timeout = None
+            threads.submit(interrupt, 2)
             self.assertRaises(KeyboardInterrupt, hasher.verify, TEXT, "pw")
-            self.assertTrue(time.monotonic() - begun > 0.09 and hasher.stats().deriving == 1)
-        self.assertEqual(hasher.stats(), (0, 0, 2))
+            self.assertIs(type(other.exception()), VerifyMismatchError)
+            self.assertEqual(hasher.stats(), (0, 0, 1))
 
     def test_timeout_in_milliseconds(self):
         """A timeout is rounded up to milliseconds, and limited to the maximum of threading."""
