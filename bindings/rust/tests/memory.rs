@@ -27,13 +27,14 @@ fn memory() {
     }
     let held = resident().saturating_sub(before);
     drop(hashers);
-    let (params, mut used) = (Params::new(17, 8, 2).unwrap(), 0);
+    let (params, mut used, mut steps) = (Params::new(17, 8, 2).unwrap(), 0, 0);
     let progress = |_| {
-        used = used.max(resident().saturating_sub(before));
+        (used, steps) = (used.max(resident().saturating_sub(before)), steps + 1);
         ControlFlow::Continue(())
     };
     scrypt_in_steps(b"", b"", &params, &mut [0], progress).unwrap();
     assert!((100 << 10..160 << 10).contains(&used), "{used} KiB");
+    assert!(steps > 10, "{steps} steps, of about 10 ms each");
     let left = resident().saturating_sub(before);
     let (most, few) = (260 << 10, 4 << 10);
     assert!(held < most && held > most - 2 * few && left < few, "{held} KiB, then {left}");
