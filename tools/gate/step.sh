@@ -76,6 +76,7 @@ count=$(awk '/^logic=proved functions=/ { sub(/.*functions=/, ""); proved = "pro
   /^# (pass|fail) [0-9]+$/ { all += $3; right += $2 == "pass" ? $3 : 0 }
   /: [0-9]+ of [0-9]+ as they should be$/ { sub(/.*: /, ""); right += $1; all += $3 }
   /^Ran [0-9]+ tests? in / { right += $2; all += $2 }
+  /^OK \(skipped=[0-9]+\)$/ { gsub(/[^0-9]/, ""); right -= $0; all -= $0 }
   /^ok / { right++; all++ }
   /^test result: ok\. [0-9]+ passed/ { right += $4; all += $4 + $6 }
   /tests failed out of [0-9]+$/ { right += $NF - $4; all += $NF }
