@@ -11,51 +11,29 @@ fn target_has(name: &str) -> String {
     std::env::var(format!("CARGO_CFG_TARGET_{name}")).unwrap_or_default()
 }
 
-/// Links the library in a folder, or a file. If a folder has both, links the static library.
+/// Links the library in a file, or in a folder: the static one, if the folder has both.
 fn link(place: &Path) -> Result<(), String> {
-    let folder = if place.is_dir() { place } else { place.parent().unwrap_or(Path::new(".")) };
-    let is_static = if place.is_dir() {
-        folder.join("libscrypt_c.a").exists()
-    } else {
-        let name = place.to_string_lossy();
-        name.ends_with(".a") && !name.ends_with(".dll.a") // a .dll.a is MinGW's import library
-    };
-    let name = match (is_static, target_has("OS").as_str()) {
-        (true, _) => "libscrypt_c.a",
-        (false, "windows") => "libscrypt_c.dll.a",
-        (false, _) => "libscrypt_c.so",
-    };
-    if !place.exists() {
-        return Err(format!("there is no {}", place.display()));
+    let is_windows = target_has("OS") == "windows";
+    let shared = if is_windows { "libscrypt_c.dll.a" } else { "libscrypt_c.so" };
+    let mut file = place.to_path_buf();
+    if place.is_dir() {
+        let inside = ["libscrypt_c.a", shared].map(|name| place.join(name));
+        file = inside.iter().find(|it| it.exists()).unwrap_or(&inside[1]).clone();
     }
-    link_named(folder, name)
-}
-
-/// Links the library of this name in this folder.
-fn link_named(folder: &Path, name: &str) -> Result<(), String> {
-    let file = folder.join(name);
     if !file.exists() {
         return Err(format!("there is no {}", file.display()));
     }
     println!("cargo:rerun-if-changed={}", file.display());
-    println!("cargo:rustc-link-search=native={}", folder.display());
-    let (short, ending) =
-        name.strip_prefix("lib").and_then(|it| it.split_once('.')).expect("lib..");
-    if ending == "a" {
-        println!("cargo:rustc-link-lib=static={short}");
-        let is_windows = target_has("OS") == "windows";
-        for needed in if is_windows { &["bcrypt"][..] } else { &["pthread"] } {
-            println!("cargo:rustc-link-lib={needed}");
+    println!("cargo:rustc-link-search=native={}", file.parent().unwrap_or(place).display());
+    let name = file.file_name().unwrap_or_default().to_string_lossy();
+    match name.strip_suffix(".a") {
+        Some(name) if !name.ends_with(".dll") => {
+            println!("cargo:rustc-link-lib=static={}", name.trim_start_matches("lib"));
+            println!("cargo:rustc-link-lib={}", if is_windows { "bcrypt" } else { "pthread" });
         }
-    } else {
-        println!("cargo:rustc-link-lib=dylib={short}");
+        _ => println!("cargo:rustc-link-lib=dylib=scrypt_c"),
     }
     Ok(())
-}
-
-/// The name of the crate's library for the target's system and processor.
-fn bundled() -> String {
-    format!("libscrypt_c_{}_{}.a", target_has("OS"), target_has("ARCH"))
 }
 
 /// Links the library that pkg-config finds. For a target other than the machine's own, the caller
@@ -85,12 +63,12 @@ fn main() {
         println!("cargo:rerun-if-env-changed={name}");
     }
     let crate_folder = std::env::var_os("CARGO_MANIFEST_DIR").expect("cargo runs this");
-    let crate_folder = Path::new(&crate_folder);
-    let name = bundled();
+    let bundled = format!("libscrypt_c_{}_{}.a", target_has("OS"), target_has("ARCH"));
+    let bundled = Path::new(&crate_folder).join(bundled);
     let linked = match std::env::var_os("SCRYPT_C_LIBRARY") {
         _ if target_has("ENV") == "msvc" => Err("for Windows it is for the GNU tools".to_string()),
         Some(place) => link(Path::new(&place)),
-        None if crate_folder.join(&name).exists() => link_named(crate_folder, &name),
+        None if bundled.exists() => link(&bundled),
         None => link_by_pkg_config(),
     };
     if let Err(why) = linked {
