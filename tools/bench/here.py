@@ -16,6 +16,7 @@ import sys
 import time
 
 from tools.bench import ours, picture
+from tools.library import buffers, loaded
 
 SECONDS, SMALL = float(os.environ.get("SECONDS", 10)), "SMALL" in os.environ
 PASSWORD, SALT = b"pleaseletmein", b"SodiumChloride"
@@ -60,8 +61,8 @@ def thin_seconds(library, log_n, s):
     during the measurement."""
     lens = ours.buffer_lens(library, (log_n, 8, 1), s)
     kinds = ctypes.c_uint8, ctypes.c_uint32, ctypes.c_uint32
-    buffers = ours.buffers([(kind * length)() for kind, length in zip(kinds, lens)], lens)
-    return seconds(library.scrypt_key_thin, *SECRETS, log_n, 8, 1, s, ctypes.create_string_buffer(64), 64, buffers)
+    room = buffers([(kind * length)() for kind, length in zip(kinds, lens)], lens)
+    return seconds(library.scrypt_key_thin, *SECRETS, log_n, 8, 1, s, ctypes.create_string_buffer(64), 64, room)
 
 
 def thin(library):
@@ -106,4 +107,4 @@ def logins(library, clients=16):
 
 if __name__ == "__main__":
     print(ours.machine())
-    {"parameters": parameters, "thin": thin, "logins": logins}[sys.argv[2]](ours.loaded(sys.argv[1]), *sys.argv[3:])
+    {"parameters": parameters, "thin": thin, "logins": logins}[sys.argv[2]](loaded(sys.argv[1]), *sys.argv[3:])

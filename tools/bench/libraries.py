@@ -12,14 +12,13 @@ import mmap
 import time
 
 from tools.bench import ours
-from tools.generate.header import structure
+from tools.library import buffers, declared, loaded
 from tools.tests import crypt64
 from tools.tests.worker import Worker
 
 OURS, TWO, FOUR = "this library", "each of a batch of two", "each of a batch of four"
 PASSWORD, SALT = b"pleaseletmein", b"SodiumChloride"
 CRYPT_DATA = 32768  # the size of the structure crypt_data of crypt(3)
-Login = structure("scrypt_login")
 
 
 def timed(verify, count=1):
@@ -40,15 +39,15 @@ def in_hasher(library, params, text):
 
 
 def in_batch(library, params, text, count):
-    logins = (Login * count)(*[(PASSWORD, len(PASSWORD), text, len(text))] * count)
+    logins = (declared.Login * count)(*[(PASSWORD, len(PASSWORD), text, len(text))] * count)
     statuses, rooms = (ctypes.c_int * count)(*[-1] * count), []
     lens = [length * count for length in ours.buffer_lens(library, params)]
     for length, width in zip(lens, (1, 4, 4)):
         room = mmap.mmap(-1, length * width)
         room.madvise(mmap.MADV_HUGEPAGE)
         rooms.append((ctypes.c_char * len(room)).from_buffer(room))
-    buffers = ours.buffers(rooms, lens)
-    return lambda: library.scrypt_verify_batch_with_buffers(logins, count, 0, 0, 0, 0, 0, statuses, buffers) == 0 and not any(statuses)
+    given = buffers(rooms, lens)
+    return lambda: library.scrypt_verify_batch_with_buffers(logins, count, 0, 0, 0, 0, 0, statuses, given) == 0 and not any(statuses)
 
 
 def libxcrypt(library, text):
@@ -84,7 +83,7 @@ def by_worker(worker, params, key):
 def verifications(path, workers, params):
     """Each verification of a hash with these parameters, by its name: by this library at this path, by these workers (as
     NAME=WORKER), and by the libraries that are installed."""
-    library, key = ours.loaded(path), openssl(*params)
+    library, key = loaded(path), openssl(*params)
     text = crypt64.text(SALT.decode(), key, *params).encode()
     made = {OURS: timed(in_hasher(library, params, text))}
     if params[2] == 1:

@@ -5,17 +5,15 @@ import datetime
 import os
 import sys
 
-from tools.generate.header import buffers, loaded, structure
+from tools.library import declared
 
 RUNS = int(os.environ.get("RUNS", 7))
-Options = structure("scrypt_options")
-__all__ = ["RUNS", "buffer_lens", "buffers", "hasher", "line", "loaded", "machine"]
 
 
 def hasher(library, params, **options):
     """A hasher for hashes with these parameters."""
     log_n, r, p = params
-    with_all = Options()
+    with_all = declared.Options()
     library.scrypt_options_init(with_all)
     for name, value in {"log_n": log_n, "r": r, "p": p, **options}.items():
         setattr(with_all, name, value)
@@ -25,7 +23,7 @@ def hasher(library, params, **options):
 
 def buffer_lens(library, params, s=0):
     """The bytes of the chunks, and the words of the table and of the scratch."""
-    it = structure("scrypt_buffers")()
+    it = declared.Buffers()
     if library.scrypt_buffer_lens(*params, s, it):
         sys.exit(f"no lengths for {params}")
     return [it.chunks_len, it.table_len, it.scratch_len]

@@ -21,18 +21,14 @@ import resource
 import sys
 
 from tools.generate import header
+from tools.library import buffers, declared, loaded
 from tools.tests import crypt64, known, phc, reference, runs
 
-def numbered(names):
-    """The status of each error of the Rust crate, by the name of the status in the header."""
-    return {error: header.STATUSES[name] for error, name in names.items()}
-
-
-# the statuses of the verdicts on the empty password, and within limits
-STATUSES = numbered({"Ok": "OK", "PasswordInvalid": "MISMATCH", "OutOfMemory": "OUT_OF_MEMORY", "Algorithm": "ALGORITHM",
-                     "EncodingInvalid": "ENCODING_INVALID", "OutputSize": "OUTPUT_SIZE", "Version": "VERSION",
-                     "ParamInvalid": "HASH_PARAM_INVALID", "ParamsInvalid": "HASH_PARAMS_INVALID"})
-WITHIN = numbered({"BufferSize": "BUFFER_SIZE", "TooCostly": "TOO_COSTLY", "KeyTooShort": "KEY_TOO_SHORT"})
+# the verdicts on the empty password, and within limits, in buffers: nothing is allocated there
+VERDICTS = ["OK", "MISMATCH", "OUT_OF_MEMORY", "ALGORITHM", "ENCODING_INVALID", "OUTPUT_SIZE", "VERSION", "HASH_PARAM_INVALID",
+            "HASH_PARAMS_INVALID"]
+WITHIN = [*VERDICTS, "BUFFER_SIZE", "TOO_COSTLY", "KEY_TOO_SHORT"]
+WITHIN.remove("OUT_OF_MEMORY")
 
 # the maximum cost of a text
 MEMORY = 4 << 30
@@ -77,10 +73,10 @@ def compared(salt, log_n, r, p, key):
     if r * p > 16:
         raise Costly
     if log_n >= GREAT:
-        return "OutOfMemory"
+        return "OUT_OF_MEMORY"
     if log_n > 4 or log_n == 0 and r * p > 2:
         raise Costly
-    return "Ok" if derived_key(salt, log_n, r, p, len(key)) == key else "PasswordInvalid"
+    return "OK" if derived_key(salt, log_n, r, p, len(key)) == key else "MISMATCH"
 
 
 def compared_within(salt, log_n, r, p, key):
@@ -88,11 +84,11 @@ def compared_within(salt, log_n, r, p, key):
     chunks, table, scratch = 128 * r * p, 32 * r << log_n, 64 * r
     size, work = chunks + 4 * table + 4 * scratch, 4 * ((1 << log_n) + 32) * r * p
     if size > MAX_MEM or work > MAX_WORK:
-        return "TooCostly"
+        return "TOO_COSTLY"
     if len(key) < MIN_KEY_LEN:
-        return "KeyTooShort"
+        return "KEY_TOO_SHORT"
     if chunks > CHUNKS or table > TABLE or scratch > SCRATCH:
-        return "BufferSize"
+        return "BUFFER_SIZE"
     return compared(salt, log_n, r, p, key)
 
 
@@ -102,12 +98,12 @@ def phc_params(pairs):
     for pair in pairs.split(",") if pairs else []:
         name, value = pair.split("=", 1)
         if name not in params:
-            return "ParamsInvalid"
+            return "HASH_PARAMS_INVALID"
         if not re.fullmatch(phc.DECIMAL, value, re.VERBOSE) or int(value) >= (256 if name == "ln" else 1 << 32):
-            return "ParamInvalid"
+            return "HASH_PARAM_INVALID"
         params[name] = int(value)
     if not reference.accepted(*params.values()):
-        return "ParamsInvalid"
+        return "HASH_PARAMS_INVALID"
     return tuple(params.values())
 
 
@@ -115,17 +111,17 @@ def phc_verdict(text, by):
     """The verdict on a PHC string, by what compares its key."""
     parts = phc.parts(text)
     if parts is None:
-        return "EncodingInvalid"
+        return "ENCODING_INVALID"
     name, version, pairs, salt, key = parts
     if name != "scrypt":
-        return "Algorithm"
+        return "ALGORITHM"
     if version is not None:
-        return "Version"
+        return "VERSION"
     params = phc_params(pairs)
     if isinstance(params, str):
         return params
     if key is None:
-        return "PasswordInvalid"
+        return "MISMATCH"
     return by(salt, *params, key)
 
 
@@ -134,19 +130,19 @@ def mcf_verdict(text, by):
     fields = text.split("$")[2:]
     params = fields[0].encode() if fields else b""
     if not params or params[0] > 127:
-        return "EncodingInvalid"
+        return "ENCODING_INVALID"
     five = [params[at : at + 5].decode("latin-1") for at in (1, 6)]
     r, p = (crypt64.number(it) if len(it) == 5 else None for it in five)
     if r is None or p is None:
-        return "EncodingInvalid"
+        return "ENCODING_INVALID"
     log_n = crypt64.number(chr(params[0]))
     if log_n is None or not reference.accepted(log_n, r, p):
-        return "ParamsInvalid"
+        return "HASH_PARAMS_INVALID"
     key = crypt64.read(fields[1]) if len(fields) == 2 else None
     if key is None:
-        return "EncodingInvalid"
+        return "ENCODING_INVALID"
     if not key:
-        return "OutputSize"
+        return "OUTPUT_SIZE"
     return by(params[11:], log_n, r, p, key)
 
 
@@ -158,14 +154,13 @@ def verdict(text, by):
 def calls(path):
     """The calls that verify a text with the empty password: one allocates, one has limits and uses the buffers.
     The cost of a text has the error of its verification."""
-    library = header.loaded(path)
-    cost, buffers = header.structure("scrypt_cost")(), header.buffers([(ctypes.c_uint32 * it)() for it in LENS], LENS)
+    library, cost, room = loaded(path), declared.Cost(), buffers([(ctypes.c_uint32 * it)() for it in LENS], LENS)
 
     def within(*text):
         status = library.scrypt_hash_cost(*text, *BOUNDS, cost)
-        verified = library.scrypt_verify_limited_with_buffers(b"", 0, *text, *BOUNDS, buffers)
+        verified = library.scrypt_verify_limited_with_buffers(b"", 0, *text, *BOUNDS, room)
         # No password matches a hash without a key, and its cost cannot be read.
-        is_keyless = (status, verified) == (STATUSES["OutputSize"], STATUSES["PasswordInvalid"])
+        is_keyless = (status, verified) == (header.STATUSES["OUTPUT_SIZE"], header.STATUSES["MISMATCH"])
         return verified if status in (0, verified) or is_keyless else status
 
     return functools.partial(library.scrypt_verify_unlimited, b"", 0), within
@@ -243,12 +238,12 @@ def judged(texts, by=compared):
             pass
 
 
-def agree(title, pairs, call, statuses):
+def agree(title, pairs, call, verdicts):
     """Whether the library has the same verdict on each text, and each verdict has a text."""
     encoded = ((text, text.encode(), wanted) for text, wanted in pairs)
-    is_same = runs.report(title, ((repr(text[:100]), call(data, len(data)), statuses[wanted]) for text, data, wanted in encoded))
+    is_same = runs.report(title, ((repr(text[:100]), call(data, len(data)), header.STATUSES[wanted]) for text, data, wanted in encoded))
     fell = collections.Counter(wanted for _, wanted in pairs)
-    missing = [it for it in statuses if not fell[it]]
+    missing = [it for it in verdicts if not fell[it]]
     print(f"{dict(fell)}; verdicts without a text: {missing or 'none'}")
     return is_same and not missing
 
@@ -263,12 +258,10 @@ def main(path, count, seed=None):
     rng = random.Random(seed)
     good = good_texts(rng)
     pairs += itertools.islice(judged(hostile(rng, good) for _ in itertools.count()), count)
-    is_well = agree("hostile texts", pairs, verified, STATUSES)
+    is_well = agree("hostile texts", pairs, verified, VERDICTS)
     params = ALLOWED + list(itertools.islice(random_params(random.Random(seed)), count // 10))
     texts = itertools.chain((text for text, _ in pairs), known.costly(), *(known.texts_of(*it) for it in params))
-    # In buffers nothing is allocated.
-    bounded = {name: status for name, status in (STATUSES | WITHIN).items() if name != "OutOfMemory"}
-    sys.exit(not (agree("within limits", list(judged(texts, compared_within)), within, bounded) and is_well))
+    sys.exit(not (agree("within limits", list(judged(texts, compared_within)), within, WITHIN) and is_well))
 
 
 if __name__ == "__main__":
