@@ -77,16 +77,6 @@ class Texts(unittest.TestCase):
         _, error = outcome(PasswordHasher().verify, "pw", "other")
         self.assertNotIn("first", str(error))
 
-    def test_no_key(self):
-        """A damaged hash, whether its salt is there or not: for the log, and to be replaced."""
-        hasher = PasswordHasher()
-        for text in ("$scrypt$ln=17,r=8,p=1", "$scrypt$ln=17,r=8,p=1$c2FsdHNhbHQ"):
-            for verify in (hasher.verify, hasher.verify_and_update):
-                name, error = outcome(verify, text, "")
-                self.assertEqual((name, type(error)), ("OUTPUT_SIZE", scrypt_c.InvalidHashError))
-            self.assertTrue(hasher.check_needs_rehash(text))
-            self.assertEqual(params_of(text), (17, 8, 1, 0))
-
     def test_converted_hashes(self):
         for convert, password, costs, key in HASHES:
             self.assertTrue(PasswordHasher(log_n=4).verify(convert(costs + key), password), costs)

@@ -109,18 +109,12 @@ fn limits() {
     let params = Params::new(19, 8, 1).unwrap();
     assert!(hasher(params, None).is_ok(), "new hashes above the default limits");
     for (min_key_len, wanted) in [
-        (Some(15), Ok(())),
         (Some(0), Ok(())),
         (Some(17), Err(Error::KeyTooShort { len: 15, min: 17 })),
         (None, Err(Error::KeyTooShort { len: 15, min: 16 })),
     ] {
         let hasher = Hasher::new(Options { min_key_len, ..small() }).unwrap();
         assert_eq!(hasher.verify(b"pw", &text), wanted, "{min_key_len:?}");
-    }
-    for damaged in [PHC.split_at(20).0, PHC.rsplit_once('$').unwrap().0] {
-        let verdict = Hasher::default().verify(b"", damaged);
-        assert_eq!(verdict, Err(Error::OutputSize), "{damaged} has no key");
-        assert!(verdict.unwrap_err().is_refused());
     }
 }
 
