@@ -27,12 +27,6 @@ func Key(password, salt []byte, N, r, p, keyLen int) ([]byte, error) {
 // and at the end, of 128 * r * p bytes, is one step each.
 func KeyContext(ctx context.Context, password, salt []byte, N, r, p, keyLen int,
 	progress func(done float64)) ([]byte, error) {
-	return keyInSteps(ctx, password, salt, N, r, p, keyLen, progress, C.SCRYPT_STEP_MS)
-}
-
-// keyInSteps takes the time of a step in milliseconds.
-func keyInSteps(ctx context.Context, password, salt []byte, N, r, p, keyLen int,
-	progress func(done float64), milliseconds uint32) ([]byte, error) {
 	if err := ctx.Err(); err != nil {
 		return nil, err
 	}
@@ -45,7 +39,7 @@ func keyInSteps(ctx context.Context, password, salt []byte, N, r, p, keyLen int,
 			if err := ctx.Err(); err != nil {
 				return err
 			}
-			status = C.scrypt_derivation_run(derivation, C.uint32_t(milliseconds), &done)
+			status = C.scrypt_derivation_run(derivation, C.SCRYPT_STEP_MS, &done)
 			if progress != nil && status == C.SCRYPT_OK {
 				progress(float64(done))
 			}

@@ -5,11 +5,9 @@ import (
 	"errors"
 	"fmt"
 	"math"
-	"math/rand"
 	"os"
 	"reflect"
 	"runtime"
-	"strconv"
 	"strings"
 	"testing"
 	"time"
@@ -185,24 +183,24 @@ func TestRejectedArguments(t *testing.T) {
 	}
 }
 
-// Keys in the shortest steps, 100 or as many as STEPS says, for ../compare_keys.py.
-func TestKeysInSteps(t *testing.T) {
-	count, _ := strconv.Atoi(os.Getenv("STEPS"))
-	rand.Seed(time.Now().UnixNano())
-	for i := 0; i < 100 || i < count; i++ {
-		password, salt := make([]byte, rand.Intn(80)), make([]byte, rand.Intn(40))
-		rand.Read(password)
-		rand.Read(salt)
-		n, r, p, keyLen := 2<<rand.Intn(8), 1+rand.Intn(9), 1+rand.Intn(4), 1+rand.Intn(99)
+// Keys are hashlib's, in one call and in steps.
+func TestKeys(t *testing.T) {
+	for _, it := range []struct {
+		password, salt string
+		n, r, p        int
+		want           string
+	}{
+		{"", "", 16, 1, 1, "77d6576238657b20"},
+		{"pass\x00word", "saltsalt", 32, 3, 2, "24a79dcb7fe93c46"},
+		{"pleaseletmein", "SodiumChloride", 1 << 14, 8, 1, "7023bdcb3afd7348"},
+	} {
 		last := 0.0
-		progress := func(done float64) {
+		key, err := Key([]byte(it.password), []byte(it.salt), it.n, it.r, it.p, 8)
+		inSteps, late := KeyContext(ctx, []byte(it.password), []byte(it.salt), it.n, it.r, it.p, 8, func(done float64) {
 			check(t, done > last && done <= 1, done, last)
 			last = done
-		}
-		key, err := keyInSteps(ctx, password, salt, n, r, p, keyLen, progress, 0)
-		want, _ := Key(password, salt, n, r, p, keyLen)
-		check(t, err == nil && string(key) == string(want) && last == 1, password, salt, n, r, p, key, err)
-		fmt.Printf("KEY .%x .%x .%x %d %d %d\n", password, salt, key, n, r, p)
+		})
+		check(t, fmt.Sprintf("%x", key) == it.want && string(inSteps) == string(key) && last == 1, it, key, err, inSteps, late, last)
 	}
 }
 

@@ -17,7 +17,6 @@ if [ "$system" = windows ]; then
 fi
 quiet go test -count=1 -timeout 1h -vet=all -race -v .
 echo "$(grep -c '^--- PASS' "$room/log") passed, 0 failed"
-python3 ../compare_keys.py < "$room/log"
 
 # Linked statically, as for an empty image; and without cgo.
 quiet go test -c -tags netgo,osusergo -ldflags '-extldflags -static' -o "$room/program" .

@@ -26,8 +26,6 @@ if [ "$system" = windows ]; then
   exit
 fi
 crate cargo test --quiet --all-features
-crate cargo test --quiet --all-features --lib in_steps -- --nocapture
-python3 bindings/compare_keys.py < "$room/log"
 crate cargo test --quiet --no-default-features --tests --no-run
 crate cargo doc --quiet --all-features --no-deps
 if has rustfmt rustfmt; then crate cargo fmt --check; fi

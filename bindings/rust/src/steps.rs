@@ -31,19 +31,7 @@ pub fn scrypt_in_steps(
     salt: &[u8],
     params: &Params,
     output: &mut [u8],
-    progress: impl FnMut(f64) -> ControlFlow<()>,
-) -> Result<(), DeriveError> {
-    by_steps(password, salt, params, output, progress, STEP_MS as u32)
-}
-
-// `milliseconds` is the duration of a step.
-fn by_steps(
-    password: &[u8],
-    salt: &[u8],
-    params: &Params,
-    output: &mut [u8],
     mut progress: impl FnMut(f64) -> ControlFlow<()>,
-    milliseconds: u32,
 ) -> Result<(), DeriveError> {
     let (mut derivation, mut done) = (Derivation(null_mut()), 0.0);
     let Params { log_n, r, p, .. } = *params;
@@ -58,7 +46,7 @@ fn by_steps(
     })?;
     while done < 1.0 {
         // SAFETY: as above; only this thread has the derivation.
-        let status = unsafe { scrypt_derivation_run(derivation.0, milliseconds, &mut done) };
+        let status = unsafe { scrypt_derivation_run(derivation.0, STEP_MS as u32, &mut done) };
         DeriveError::check(status)?;
         if progress(done).is_break() {
             return Err(DeriveError::Cancelled);
@@ -77,53 +65,5 @@ impl Drop for Derivation {
     fn drop(&mut self) {
         // SAFETY: it is NULL, or a derivation of the library's that is not freed yet.
         unsafe { scrypt_derivation_free(&mut self.0) };
-    }
-}
-
-#[cfg(test)]
-mod tests {
-    use super::*;
-
-    // Not for secrets.
-    fn random(state: &mut u64, most: usize) -> usize {
-        *state = state.wrapping_mul(6364136223846793005).wrapping_add(1442695040888963407);
-        (*state >> 33) as usize % most
-    }
-
-    fn drawn(len: usize) -> Vec<u8> {
-        let mut bytes = vec![0; len];
-        crate::generate_salt(&mut bytes).unwrap();
-        bytes
-    }
-
-    fn hex(bytes: &[u8]) -> String {
-        bytes.iter().map(|it| format!("{it:02x}")).collect()
-    }
-
-    /// Keys derived in the shortest steps equal the keys of one call. STEPS is the number of
-    /// keys, which are printed for ../compare_keys.py.
-    #[test]
-    fn keys_in_steps() {
-        let count = std::env::var("STEPS").map_or(100, |it| it.parse().unwrap());
-        let mut state = u64::from_le_bytes(drawn(8).try_into().unwrap());
-        for _ in 0..count {
-            let mut at_most = |most| random(&mut state, most);
-            let (password, salt) = (drawn(at_most(80)), drawn(at_most(40)));
-            let (log_n, r, p) =
-                (1 + at_most(8) as u8, 1 + at_most(9) as u32, 1 + at_most(4) as u32);
-            let params = Params::new(log_n, r, p).unwrap();
-            let (mut key, mut last) = (vec![0; 1 + at_most(99)], 0.0);
-            let mut wanted = key.clone();
-            let progress = |done| {
-                assert!(done > last && done <= 1.0, "{done} after {last}");
-                last = done;
-                ControlFlow::Continue(())
-            };
-            by_steps(&password, &salt, &params, &mut key, progress, 0).unwrap();
-            crate::scrypt(&password, &salt, &params, &mut wanted).unwrap();
-            assert_eq!((&key, last), (&wanted, 1.0), "{password:x?} {salt:x?} {params:?}");
-            let [password, salt, key] = [&password, &salt, &key].map(|it| hex(it));
-            println!("KEY .{password} .{salt} .{key} {} {r} {p}", params.n());
-        }
     }
 }

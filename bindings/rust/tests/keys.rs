@@ -1,8 +1,31 @@
-//! Derives keys, also in steps, and tests each error. src/steps.rs compares keys with hashlib's.
+//! Derives keys, also in steps, and tests each error.
 
 use scrypt_c::*;
 use std::ops::ControlFlow;
 use std::time::{Duration, Instant};
+
+/// Keys are hashlib's, in one call and in steps.
+#[test]
+fn keys() {
+    for (password, salt, log_n, r, p, wanted) in [
+        ("", "", 4, 1, 1, 0x77d6_5762_3865_7b20),
+        ("pass\0word", "saltsalt", 5, 3, 2, 0x24a7_9dcb_7fe9_3c46),
+        ("pleaseletmein", "SodiumChloride", 14, 8, 1, 0x7023_bdcb_3afd_7348),
+    ] {
+        let (password, salt, params) =
+            (password.as_bytes(), salt.as_bytes(), Params::new(log_n, r, p).unwrap());
+        let (mut key, mut in_steps, mut last) = ([0; 8], [0; 8], 0.0);
+        scrypt(password, salt, &params, &mut key).unwrap();
+        let progress = |done| {
+            assert!(done > last && done <= 1.0, "{done} after {last}");
+            last = done;
+            ControlFlow::Continue(())
+        };
+        scrypt_in_steps(password, salt, &params, &mut in_steps, progress).unwrap();
+        assert_eq!([key, in_steps].map(u64::from_be_bytes), [wanted; 2], "{params:?}");
+        assert_eq!(last, 1.0);
+    }
+}
 
 /// An error leaves the output unchanged.
 #[test]
