@@ -1,22 +1,15 @@
-"""scrypt: keys equal to hashlib's, memory, interrupts; and calibrate.
-
-STEPS is the number of random keys."""
+"""scrypt: keys equal to hashlib's, memory, interrupts; and calibrate."""
 
 import hashlib
-import os
 import pathlib
-import random
 import re
 import signal
 import threading
 import time
 import unittest
-from concurrent.futures import ThreadPoolExecutor
-from unittest import mock
 
 import scrypt_c
 from scrypt_c import Params, calibrate
-from scrypt_c.library import lib
 from test_hasher import B64, key
 
 
@@ -30,54 +23,36 @@ def growth(call):
     return peaks[1] - peaks[0], peaks[2] - peaks[0]
 
 
-def growth_of_logins(*calls):
-    """The same for 24 threads, each of which makes one of these calls, whose results are False."""
-
-    def log_in():
-        with ThreadPoolExecutor(24) as pool:
-            answers = [pool.submit(calls[place % len(calls)]) for place in range(24)]
-        assert not any(answer.result() for answer in answers)
-
-    return growth(log_in)[0]
-
-
 class Keys(unittest.TestCase):
     def test_keys_equal_hashlib(self):
-        """Also in the shortest steps. The minimum maxmem is the same as in hashlib."""
-        run = lib.scrypt_derivation_run
-        for _ in range(int(os.environ.get("STEPS", 100))):
-            costs = {"n": 2 << random.randrange(8), "salt": os.urandom(random.randrange(40))}
-            for name, most in [("r", 9), ("p", 4), ("dklen", 99)]:
-                costs[name] = random.randint(1, most)
-            password, seen = os.urandom(random.randrange(80)), []
-            of = Params(costs["n"].bit_length() - 1, costs["r"], costs["p"])
+        """In one call, and in steps. The minimum maxmem is the same as in hashlib."""
+        for password, salt, n, r, p, dklen in [
+            (b"", b"", 2, 1, 1, 1),
+            (b"pass\0word", b"salt\xff", 64, 3, 2, 99),
+            (b"pleaseletmein", b"SodiumChloride", 1 << 14, 8, 3, 64),
+        ]:
+            of, seen = Params(n.bit_length() - 1, r, p), []
+            costs = {"salt": salt, "n": n, "r": r, "p": p, "dklen": dklen}
+            limits = {"maxmem": of.memory, "max_work": of.work}
             wanted = hashlib.scrypt(password, **costs, maxmem=of.memory)
-            found = scrypt_c.scrypt(password, **costs, maxmem=of.memory, max_work=of.work)
-            self.assertEqual(found, wanted, costs)
+            self.assertEqual(scrypt_c.scrypt(password, **costs, **limits), wanted, costs)
+            self.assertEqual(scrypt_c.scrypt(password, **costs, progress=seen.append), wanted, costs)
+            self.assertEqual((seen, seen[-1]), (sorted(seen), 1), costs)
             for derive in (hashlib.scrypt, scrypt_c.scrypt):
                 self.assertRaises(ValueError, derive, password, **costs, maxmem=of.memory - 1)
-            with mock.patch.object(lib, "scrypt_derivation_run", lambda it, _, done: run(it, 0, done)):
-                found = scrypt_c.scrypt(password, **costs, progress=seen.append)
-            self.assertEqual((found, seen, seen[-1]), (wanted, sorted(seen), 1), costs)
         most = {"maxmem": B64 + 1, "max_work": B64 + 1}
         self.assertEqual(key(password=bytearray(b"pw"), salt=memoryview(b"salt"), **most), key())
 
-    def test_maxmem_is_not_exceeded(self):
-        """The tables that fit in maxmem are used, and all are freed."""
-        one = Params(15, 8, 4).memory
-        two = 2 * one - 128 * 8 * 4  # there is one buffer of chunks
-        for progress in (None, lambda _: None):
-            for limit, tables in [(one, 1), (two - 1, 1), (two, 2)]:
-                used, left = growth(lambda: key(n=1 << 15, p=4, maxmem=limit, progress=progress))
-                self.assertLess(used, (tables + 0.25) * one, (limit, progress))
-                self.assertLess(left, one // 4)
-
-    def test_without_maxmem(self):
-        """Tables have 129 MiB together, so this derivation has one. Its steps take about 10 ms."""
+    def test_memory(self):
+        """The tables fit in maxmem, or without it in 129 MiB, so that each of these derivations has
+        one, and all are freed. Steps take about 10 ms."""
         seen = []
-        for progress in (None, seen.append):
-            used, _ = growth(lambda: key(n=1 << 17, p=2, progress=progress))
-            self.assertLess(used, 160 << 20)
+        for log_n, p, options in [
+            (15, 4, {"maxmem": Params(15, 8, 4).memory}), (17, 2, {}), (17, 2, {"progress": seen.append}),
+        ]:
+            used, left = growth(lambda: key(n=1 << log_n, p=p, **options))
+            self.assertLess(used, 1.25 * (1024 << log_n), options)
+            self.assertLess(left, 256 << log_n, options)
         self.assertTrue(10 < len(seen) < 1000, len(seen))
 
     def test_interrupts(self):

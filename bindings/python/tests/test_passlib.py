@@ -13,7 +13,6 @@ import scrypt_c
 from scrypt_c.hasher import shared
 from scrypt_c.passlib import scrypt
 from test_hasher import refuse_a_lone_surrogate
-from test_keys import growth_of_logins
 
 SMALL = {"rounds": 6, "block_size": 8}
 TEXT = scrypt.using(**SMALL).hash("pw")
@@ -74,8 +73,10 @@ class Handler(unittest.TestCase):
             self.assertRaises(scrypt_c.TooCostlyError, less.from_string(TEXT)._calc_checksum, "pw")
 
     def test_one_hasher_verifies(self):
-        """Its max_tables is for all threads, in both idents, and it is the hasher of Django's
-        classes too. A salt that neither of its formats has leaves it."""
+        """It derives too, in both idents, and it is the hasher of Django's classes. A salt that
+        neither of its formats has leaves it."""
+        with mock.patch.object(scrypt_c.PasswordHasher, "_key_with", return_value=bytes(32)):
+            self.assertTrue(scrypt.using(**SMALL).hash("pw").endswith(43 * "A"))
         for ident in ("$scrypt$", "$7$"):
             text = scrypt.using(**SMALL, ident=ident).hash("pw")
             with mock.patch.object(scrypt, "_calc_checksum", None):
@@ -90,10 +91,3 @@ class Handler(unittest.TestCase):
             one = scrypt.using(**SMALL, salt=salt)
             self.assertTrue(passlib.hash.scrypt.verify("pw", one.hash("pw")) and one.verify("pw", one.hash("pw")))
             self.assertFalse(one.verify("PW", one.hash("pw")))
-
-    def test_memory_of_many_threads(self):
-        one = type("scrypt", (scrypt.using(rounds=15),), {"max_tables": 2, "timeout": 600})  # 32 MiB each
-        text = TEXT.replace("ln=6", "ln=15")
-        other = scrypt.using(rounds=6, block_size=7, salt=65 * b"\xff").hash("pw").replace("ln=6", "ln=15")
-        calls = [lambda: one.verify("pw", text), lambda: one.hash("pw") == text, lambda: one.verify("pw", other)]
-        self.assertLess(growth_of_logins(*calls), 4 << 25)

@@ -1,6 +1,7 @@
 """A hasher in threads: signals, statistics, and freeing it. The queue has tests in C."""
 
 import contextlib
+import functools
 import math
 import signal
 import subprocess
@@ -111,6 +112,14 @@ class Threads(unittest.TestCase):
             _, kept = growth(lambda: hashers[0].hash("pw"))
             _, freed = growth(end)
             self.assertTrue(60 << 20 < kept < (4 << 20) - freed, (kept, freed))
+
+    def test_keys_of_other_parameters(self):
+        """Threads derive them one at a time: each table has 32 MiB."""
+        hasher = PasswordHasher(log_n=4)
+        with ThreadPoolExecutor(24) as pool:
+            key = functools.partial(hasher._key_with, 15, 8, 1, b"pw", key_len=32)
+            used, _ = growth(lambda: list(pool.map(key, 24 * [b"salt"])))
+        self.assertLess(used, 3 << 25)
 
     def test_exit_and_garbage(self):
         """A program with daemon threads exits; in a cycle of garbage a hasher is freed last."""
