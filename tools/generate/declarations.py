@@ -1,7 +1,7 @@
 #!/usr/bin/env python3
 """Generates code from bindings/c/scrypt_c.h, the functions of crates/scrypt_c and numbers of crates: the
-declarations of the packages for Python, Rust and JavaScript, and three headers of the C code. `make lib`
-calls it; the repository has none of the generated files.
+declarations of the packages for Python, Rust and JavaScript, and three headers of the C code. It copies the
+licence into the packages too. `make lib` calls it; the repository has none of the generated files.
 
 usage: python3 -m tools.generate.declarations            writes the files of the packages
        python3 -m tools.generate.declarations FOLDER     and the headers into this folder
@@ -248,6 +248,7 @@ PACKAGES = {
     "bindings/python/scrypt_c/declared.py": python,
     "bindings/rust/src/calls.rs": rust,
     "bindings/js/declared.js": javascript,
+    **{f"bindings/{it}/LICENSE": lambda: read("LICENSE").splitlines() for it in ("go", "js", "rust")},
 }
 HEADERS = {"proved_calls.h": proved_calls, "each_call.h": each_call, "numbers.h": numbers}
 
