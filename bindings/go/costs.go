@@ -11,13 +11,9 @@ import (
 // cost describes the cost of a derivation, or says that the parameters are not accepted.
 func (params Params) cost() string {
 	cost, err := params.costs()
-	if err == nil {
-		return inWords(cost)
+	if err != nil {
+		return fmt.Sprintf("LogN %d, R %d and P %d are not accepted", params.LogN, params.R, params.P)
 	}
-	return fmt.Sprintf("LogN %d, R %d and P %d are not accepted", params.LogN, params.R, params.P)
-}
-
-func inWords(cost C.scrypt_cost) string {
 	return explained(C.SCRYPT_E_TOO_COSTLY, cost, math.MaxUint64, math.MaxUint64, 0)
 }
 

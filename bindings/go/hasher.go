@@ -195,7 +195,7 @@ func (h *Hasher) hash(ctx context.Context, password, salt []byte) (string, error
 	if salt != nil {
 		at = pointer(salt)
 	}
-	text := make([]byte, C.text_capacity(size(salt)))
+	text := make([]byte, C.SCRYPT_PHC_CAPACITY+2*len(salt)) // for either format
 	err := h.run(ctx, password, func(password []byte, ms milliseconds) status {
 		return C.scrypt_hasher_hash(h.shared.c, pointer(password), size(password), at, size(salt),
 			chars(text), size(text), ms)

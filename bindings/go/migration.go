@@ -9,6 +9,7 @@ import (
 	"encoding/hex"
 	"fmt"
 	"math/bits"
+	"regexp"
 	"strconv"
 	"strings"
 )
@@ -42,33 +43,24 @@ func storedText(salt, key []byte, N, r, p int) (string, error) {
 	return strings.TrimRight(string(text), "\x00"), nil
 }
 
+// simpleScrypt matches N, r, p, and in hexadecimal the salt and the key.
+var simpleScrypt = regexp.MustCompile(`^(\d+)\$(\d+)\$(\d+)\$((?:[\da-fA-F]{2})*)\$((?:[\da-fA-F]{2})*)$`)
+
 // FromSimpleScrypt converts a hash of github.com/elithrar/simple-scrypt, N$r$p$salt$key with the
 // last two in hexadecimal, to a hash that Verify reads. N may be below 64, but is above 1, as there.
 // It returns the errors of StoredText, and ErrEncodingInvalid if the text is not such a hash.
 func FromSimpleScrypt(stored string) (string, error) {
-	fault := fmt.Errorf("%w: this is not a hash of simple-scrypt", ErrEncodingInvalid)
-	parts := strings.Split(stored, "$")
-	if len(parts) != 5 {
-		return "", fault
+	parts, numbers, err := simpleScrypt.FindStringSubmatch(stored), [3]int{}, error(nil)
+	for i := 0; i < len(numbers) && parts != nil && err == nil; i++ {
+		numbers[i], err = strconv.Atoi(parts[i+1])
 	}
-	var numbers [3]int
-	for i := range numbers {
-		number, err := strconv.ParseUint(parts[i], 10, 63)
-		if err != nil {
-			return "", fault
-		}
-		numbers[i] = int(number)
+	if parts == nil || err != nil {
+		return "", fmt.Errorf("%w: this is not a hash of simple-scrypt", ErrEncodingInvalid)
 	}
 	if numbers[0] == 1 {
 		return "", fmt.Errorf("%w: N must be above 1", ErrInvalidParams)
 	}
-	salt, err := hex.DecodeString(parts[3])
-	if err != nil {
-		return "", fault
-	}
-	key, err := hex.DecodeString(parts[4])
-	if err != nil {
-		return "", fault
-	}
+	salt, _ := hex.DecodeString(parts[4])
+	key, _ := hex.DecodeString(parts[5])
 	return storedText(salt, key, numbers[0], numbers[1], numbers[2])
 }
