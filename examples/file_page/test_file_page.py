@@ -76,8 +76,6 @@ class FilePageTest(unittest.TestCase):
         self.browser.find_element("xpath", f"//output[.='{text}']")
         width = self.browser.execute_script("return document.documentElement.scrollWidth")
         self.assertEqual(width, 360)
-        if folder := os.environ.get("PICTURES"):
-            self.browser.save_screenshot(f"{folder}/file_page_{text[:6] or 'busy'}.png")
 
     def saved(self, name):
         self.find("output a").click()

@@ -28,13 +28,7 @@ class Definition:
     cites: list = field(default_factory=list)
     clauses: tuple = ()
 
-    @property
-    def shown(self):
-        return self.name
-
-    @property
-    def anchor(self):
-        return self.name
+    shown = anchor = property(lambda it: it.name)
 
     @property
     def href(self):

@@ -2,7 +2,7 @@
 """Differential test against other programs: converts hashes and keys that they make now, and
 verifies them by the program.
 
-usage: python3 -m tools.tests.migration PROGRAM [--seed N]
+usage: python3 -m tools.tests.migration PROGRAM [SEED]
 
 Each part draws passwords, lets another program hash them, converts the hashes with Python's
 scrypt_c.migration (Go with its package), and lets PROGRAM verify each with the right and a wrong
@@ -10,7 +10,6 @@ password. Hashes that only one of the two rejects are tried too. The library is 
 build/lib. Missing programs are named; the status is 1 if something differs.
 """
 
-import argparse
 import base64
 import ctypes
 import hashlib
@@ -329,12 +328,8 @@ def go(trial):
     yield f"x/crypto refuses N = 1 {errors}", (len(made), last), (len(cases) - 1, "scrypt: N must be > 1 and a power of 2")
 
 
-def main():
-    parser = argparse.ArgumentParser(usage=__doc__.split("usage: ")[1])
-    parser.add_argument("program")
-    parser.add_argument("--seed", type=int, default=7914)
-    args = parser.parse_args()
-    trial, is_well = Trial(os.path.abspath(args.program), random.Random(args.seed)), True
+def main(program, seed=7914):
+    trial, is_well = Trial(os.path.abspath(program), random.Random(int(seed))), True
     for part in (passlib, django, powerdns, libxcrypt, libsodium, libscrypt, of_hashlib, go):
         try:
             is_well = report(part.__name__, part(trial)) and is_well
@@ -344,4 +339,4 @@ def main():
 
 
 if __name__ == "__main__":
-    main()
+    main(*sys.argv[1:])

@@ -233,9 +233,7 @@ class PasswordHasher:
     def _run(self, call: Callable[..., int], *arguments: object) -> int:
         """Makes a call, which waits for at most `timeout` seconds, and returns its status. Python
         runs signal handlers after it has returned."""
-        timeout = threading.TIMEOUT_MAX
-        if self._timeout is not None:
-            timeout = min(self._timeout, timeout)
+        timeout = threading.TIMEOUT_MAX if self._timeout is None else self._timeout
         return call(self._c, *arguments, math.ceil(1000 * timeout))
 
     def _judge(self, hash: str) -> None:
