@@ -128,7 +128,7 @@ def limits():
     shown = ["bindings/c/scrypt_c.h", "bindings/go/scrypt.go", "bindings/cli/scrypt_tool.1", "crates/scrypt/src/limits.rt"]
     yield "docs/HASHER.md", f"limits are {most} MiB, {times} times the work of the recommended parameters, and keys of {key_len} bytes"
     yield "docs/DECISIONS.md", f"The default limit on memory is {most} MiB"
-    yield "crates/scrypt/src/buffers/owned.rt", f"16 MiB of chunks, {most} MiB of table"
+    yield "crates/scrypt/src/buffers.rt", f"16 MiB of chunks, {most} MiB of table"
     yield from each(f"table of {most - 1} MiB", *shown, "docs/DECISIONS.md", "crates/scrypt_commands/src/usage.rt")
     yield from each(f"{times} times the work of the recommended parameters", *shown, "bindings/rust/src/limits.rs")
     yield "bindings/c/scrypt_c.h", f"keys of {key_len} bytes or more"
@@ -149,7 +149,7 @@ def limits():
 
 def decided():
     """The sentences with another number that the code decides. PROMISES' are in promises.py."""
-    together = number("crates/scrypt/src/buffers.rt", "MAX_INTERLEAVED_MEM: usize = ", ";") // MIB
+    together = number("crates/scrypt/src/buffers/lens.rt", "MAX_INTERLEAVED_MEM: usize = ", ";") // MIB
     yield "docs/RATTLE.md", f"the `max_mem` of C's `scrypt_key`, {together} MiB"
     yield "docs/BENCHMARKS.md", f"up to four tables, if all buffers fit into {together} MiB together"
     yield "docs/DECISIONS.md", f"mappings up to {together} MiB are populated"
@@ -219,7 +219,7 @@ def compared():
     two, four = (f"{table[f'(14, 8, 1), each of a batch of {it}'][0] / table['(14, 8, 1)'][0]:.2f}" for it in ("two", "four"))
     yield "bindings/README.md", f"each of two takes {two} of the time of one, each of four {four};"
     yield "bindings/c/scrypt_c.h", f"batch of two takes {two} of the time of two calls, and a batch of four {four} of the time of four"
-    yield "crates/scrypt/src/buffers.rt", f"two take {two} of the time, and four {four}"
+    yield "crates/scrypt/src/buffers/lens.rt", f"two take {two} of the time, and four {four}"
     yield "docs/PARAMETERS.md", f"four guesses in four tables take {four} of the time of four"
     yield "docs/PARAMETERS.md", f"so divide the last column by {1 / float(four):.1f}"
     yield "docs/PARAMETERS.md", f"three tables takes {table['(15, 8, 3), in three tables'][0] / 1000:.2f} for (15, 8, 3)"

@@ -3,8 +3,8 @@
 # long a division takes depends on its operands, so these must not be secret, and memcheck does not look at it.
 # usage: divisions.sh OBJECT..    with the target's OBJDUMP
 set -eu
-# They have a copy of interleaved_chunks (crates/scrypt/src/buffers.rt), with two divisions of 64 bits, or of 32 if that
-# is enough: the lengths of buffers, by those of a table and a scratch.
+# They have a copy of interleaved_chunks (crates/scrypt/src/buffers/lens.rt), with two divisions of 64 bits, or of 32 if
+# that is enough: the lengths of buffers, by those of a table and a scratch.
 of_lengths='verify_in_buffers scrypt_verify_begin scrypt_verify_batch_with_buffers scrypt_kdf_with_buffers
   scrypt_hash_phc_with_buffers scrypt_hash_mcf_with_buffers scrypt_key_begin scrypt_key_step'
 # Of BufferLens::tables_within, there: the limit on memory, by the bytes of a table.

@@ -59,7 +59,7 @@ pub mod PublicPart
 -- a derivation in steps: the contents of its buffers between two steps
 pub mod Stepping
 -- buffers that a caller reuses from call to call
-pub mod OwnedBuffers
+pub mod Buffers
 -- private: the groups of chunks of B that are interleaved, and the memory for them
 pub mod Mixing
 -- private: the salt and the key of a hash

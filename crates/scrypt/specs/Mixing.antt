@@ -3,7 +3,7 @@ use Rattle.std.specs.Prelude.{◌≡◌, Bool, ℕ, ◌+◌, ◌-◌, ◌*◌, �
 use Rattle.scrypt.specs.Accepted.{Parameters}
 use Rattle.scrypt.specs.Cost.{chunks_bytes, scratch_words, table_words, thin_scratch_words}
 use Rattle.scrypt.specs.Workspace.{IsRestKept, Workspace, interleaved_chunks}
-use Rattle.scrypt.specs.declared.buffers.ActiveBuffers.{ActiveBuffers}
+use Rattle.scrypt.specs.declared.buffers.memory.ActiveBuffers.{ActiveBuffers}
 
 -- Memory, in words, for w tables and w scratches, so that w chunks can be interleaved. A table
 -- keeps one row in 2 ^ s, and w is 1 unless s is 0.

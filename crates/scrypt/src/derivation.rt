@@ -12,7 +12,8 @@ ghost use Rattle.scrypt.specs.declared.errors.DeriveError.TheVariants.{InvalidOu
 
 pub(crate) mod mixing;
 
-use crate::buffers::{ActiveBuffers, Allocation, interleaved_chunks, with_prefix};
+use crate::buffers::lens::interleaved_chunks;
+use crate::buffers::memory::{ActiveBuffers, Allocation, with_prefix};
 use crate::derivation::mixing::mix_all;
 use crate::{Backend, CoreCount, DeriveError, InvalidOutputLen, Params, Simd};
 use scrypt_kernel::memory::{Allocated, Buffer, TableMemory};

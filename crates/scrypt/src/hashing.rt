@@ -8,7 +8,7 @@ ghost use Rattle.scrypt.specs.KeyOfParams.{cost_by, key_by};
 ghost use Rattle.scrypt.specs.Mixing.{IsReady, IsSpent};
 ghost use Rattle.password_hash.specs.declared.error.Error.TheVariants.{OutOfMemory};
 
-use crate::buffers::{ActiveBuffers, Allocation};
+use crate::buffers::memory::{ActiveBuffers, Allocation};
 use crate::derivation::derive_in;
 use crate::{Backend, CoreCount, Params};
 use password_hash::phc::Output;

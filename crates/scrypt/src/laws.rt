@@ -25,7 +25,7 @@ ghost use Rattle.scrypt.specs.Limits.{SufficeFor, are_within, buffers_bytes, lim
 ghost use Rattle.scrypt.specs.Logins.{AreLeft, Attempt, cores_on, hashed_on};
 ghost use Rattle.scrypt.specs.McfParams.{params_letters, five_letter_number};
 ghost use Rattle.scrypt.specs.McfHash.{IsMcfHashText, made_hash, made_mcf, read_fields, read_mcf};
-ghost use Rattle.scrypt.specs.OwnedBuffers.{AreFor};
+ghost use Rattle.scrypt.specs.Buffers.{AreFor};
 ghost use Rattle.scrypt.specs.PhcParams.{params_of_pairs, written_pairs};
 ghost use Rattle.scrypt.specs.PhcHash.{is_salt_len, made_phc, phc_params, read_phc};
 ghost use Rattle.scrypt.specs.PublicPart.{AreSameAfter, public_hash, public_part};
@@ -33,7 +33,7 @@ ghost use Rattle.scrypt.specs.Reading.{IsOfText, NamesNoPassword, Stored, verdic
 ghost use Rattle.scrypt.specs.StoredHash.{is_mcf_text, is_stored_text, params_reading, reading};
 ghost use Rattle.scrypt.specs.WithinLimits.{within};
 ghost use Rattle.scrypt.specs.Workspace.{IsLeft, Workspace, hashed_in, tables_used};
-ghost use Rattle.scrypt.specs.declared.buffers.owned.Buffers.{Buffers};
+ghost use Rattle.scrypt.specs.declared.buffers.Buffers.{Buffers};
 ghost use Rattle.scrypt.specs.declared.limits.Limits.{Limits};
 
 /// A shorter key is the beginning of a longer one, for any two lengths.

@@ -39,8 +39,8 @@ mod verifying;
 
 pub use algorithm::Scrypt;
 pub use backends::{Backend, Scalar, Simd, SimdPairs};
-pub use buffers::owned::Buffers;
-pub use buffers::{BufferLens, wipe};
+pub use buffers::lens::BufferLens;
+pub use buffers::{Buffers, wipe};
 pub use decoy::Decoy;
 pub use derivation::{
     output_len_ok, scrypt, scrypt_counted, scrypt_in_prefix, scrypt_thin, scrypt_thin_with_backend,

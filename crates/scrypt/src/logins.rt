@@ -10,7 +10,7 @@ ghost use Rattle.scrypt.specs.Workspace.{IsLeft, workspace_of};
 ghost use Rattle.scrypt_kernel.specs.Count.{AreCounted, AreHashed};
 ghost use Rattle.scrypt_kernel.specs.Memory.{buffer_room};
 
-use crate::buffers::{ActiveBuffers, with_prefix};
+use crate::buffers::memory::{ActiveBuffers, with_prefix};
 use crate::comparing::is_derived_key;
 use crate::derivation::derive_chunks;
 use crate::derivation::mixing::mix_all;

@@ -14,7 +14,7 @@ ghost use Rattle.scrypt.specs.Stepping.{AreMixable, AreMixed, CanGoOn, IsStopped
 ghost use Rattle.scrypt.specs.Workspace.{interleaved_chunks, workspace_of};
 ghost use Rattle.scrypt.specs.declared.stepping.StepsError.TheVariants.{Cancelled, InvalidOutputLen as BadLength};
 
-use crate::buffers::interleaved_chunks;
+use crate::buffers::lens::interleaved_chunks;
 use crate::derivation::mixing::group_by;
 use crate::derivation::{derive_chunks, output_len_ok};
 use crate::{Backend, BufferLens, CoreCount, InvalidOutputLen, Params};

@@ -10,7 +10,7 @@ ghost use Rattle.scrypt.specs.Reading.{IsVerdict, is_right, verify_cost, with_re
 ghost use Rattle.scrypt.specs.StoredParts.{stored};
 ghost use Rattle.scrypt.specs.Workspace.{IsLeft, cores_in, hashed_in, verdict_in, workspace_of};
 
-use crate::buffers::{ActiveBuffers, Allocation, with_prefix};
+use crate::buffers::memory::{ActiveBuffers, Allocation, with_prefix};
 use crate::comparing::is_derived_key;
 use crate::derivation::derive_chunks;
 use crate::derivation::mixing::mix_all;

@@ -7,7 +7,7 @@ ghost use Rattle.scrypt.specs.Key.{mixed_chunks};
 ghost use Rattle.scrypt.specs.Stepping.{AreMixed};
 ghost use Rattle.scrypt.specs.Mixing.{HasTables, IsKept, IsReady, group_by, next_group};
 
-use crate::buffers::ActiveBuffers;
+use crate::buffers::memory::ActiveBuffers;
 use crate::{Backend, Params};
 use scrypt_kernel::memory::TableMemory;
 use scrypt_kernel::order::OrderedBlocks;

@@ -18,7 +18,7 @@ ghost use Rattle.scrypt.specs.Mixing.{IsReady, IsSpent};
 ghost use Rattle.scrypt.specs.Workspace.{IsDone, workspace_of};
 ghost use Rattle.scrypt_kernel.specs.Memory.{buffer_room};
 
-use crate::buffers::{ActiveBuffers, with_prefix};
+use crate::buffers::memory::{ActiveBuffers, with_prefix};
 use crate::hashing::{check_call, key_allocating, stored_key};
 use crate::mcf::five_letters::five_letters;
 use crate::mcf::reading::is_mcf;

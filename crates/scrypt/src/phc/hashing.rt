@@ -12,7 +12,7 @@ ghost use Rattle.password_hash.specs.Refusal.{OutOfMemory, SaltInvalid as BadSal
 ghost use Rattle.password_hash.specs.declared.error.Error.TheVariants.{OutputSize, SaltInvalid};
 ghost use Rattle.scrypt.specs.Workspace.{IsDone, are_enough, workspace_of};
 
-use crate::buffers::{ActiveBuffers, with_prefix};
+use crate::buffers::memory::{ActiveBuffers, with_prefix};
 use crate::hashing::{check_call, key_allocating, stored_key};
 use crate::phc::ALG_ID;
 use crate::phc::params::written;

@@ -1,8 +1,8 @@
 use Rattle.std.specs.Prelude.{IsTrue}
 use Rattle.scrypt.specs.Accepted.{Parameters}
 use Rattle.scrypt.specs.InBuffers.{are_enough}
-use Rattle.scrypt.specs.OwnedBuffers.{AreFor}
-use Rattle.scrypt.specs.declared.buffers.owned.Buffers.{Buffers}
+use Rattle.scrypt.specs.Buffers.{AreFor}
+use Rattle.scrypt.specs.declared.buffers.Buffers.{Buffers}
 use Rattle.scrypt.proofs.ReadingFacts.{enough_decided, enough_for}
 use Rattle.scrypt.proofs.StoredHashFacts.{enough_read, reading_accepted}
 use Rattle.scrypt.proofs.laws.buffers_for_limits_are_enough.Goals as goal

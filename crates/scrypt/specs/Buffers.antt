@@ -3,7 +3,7 @@ use Rattle.std.specs.Prelude.{◌≡◌, ◌≤◌, length}
 use Rattle.scrypt.specs.Accepted.{Parameters}
 use Rattle.scrypt.specs.Cost.{chunks_bytes, scratch_words, table_words}
 use Rattle.scrypt.specs.Workspace.{Workspace, workspace_of}
-use Rattle.scrypt.specs.declared.buffers.owned.Buffers.{Buffers}
+use Rattle.scrypt.specs.declared.buffers.Buffers.{Buffers}
 
 -- these buffers as a workspace
 abbrev pub workspace_in : Buffers → Workspace

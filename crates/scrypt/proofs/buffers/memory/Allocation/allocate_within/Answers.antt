@@ -1,6 +1,6 @@
 use Rattle.std.proofs.Common.{arith}
 use Rattle.scrypt.proofs.CostFacts.{width_is}
-use Rattle.scrypt.proofs.buffers.Allocation.allocate_within.Goals as goal
+use Rattle.scrypt.proofs.buffers.memory.Allocation.allocate_within.Goals as goal
 
 pub returns-2-clause-used : goal.returns-2-clause-used
 returns-2-clause-used c =

@@ -1,7 +1,7 @@
 use Rattle.std.proofs.Common.{◌≡◌, rules}
 use Rattle.scrypt.specs.Limits.{tables_within}
 use Rattle.scrypt.proofs.CostFacts.{most_tables}
-use Rattle.scrypt.proofs.buffers.BufferLens.tables_within.Goals as goal
+use Rattle.scrypt.proofs.buffers.lens.BufferLens.tables_within.Goals as goal
 
 pub returns-clause-most : goal.returns-clause-most
 unfolding tables_within

@@ -1,9 +1,9 @@
 use Rattle.std.proofs.Common.{◌≡◌, ◌∙◌, map, rules}
 use Rattle.scrypt.specs.Logins.{attempts, verdict_on}
-use Rattle.scrypt.specs.OwnedBuffers.{workspace_in}
+use Rattle.scrypt.specs.Buffers.{workspace_in}
 use Rattle.scrypt.specs.WithinLimits.{with_limited_refusal}
 use Rattle.scrypt.proofs.LoginFacts.{all_within}
-use Rattle.scrypt.proofs.buffers.owned.Buffers.verify_logins.Goals as goal
+use Rattle.scrypt.proofs.buffers.Buffers.verify_logins.Goals as goal
 
 pub returns-clause-within : goal.returns-clause-within
 returns-clause-within c = λ limits suffice fits.

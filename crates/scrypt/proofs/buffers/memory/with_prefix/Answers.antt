@@ -2,7 +2,7 @@ use Rattle.std.proofs.Common.{refl, rules, take_at}
 use Rattle.std.proofs.lemmas.Slice.{drop-append-drop}
 use Rattle.scrypt_kernel.specs.Memory.{buffer_room}
 use Rattle.scrypt.specs.Mixing.{IsReady}
-use Rattle.scrypt.proofs.buffers.with_prefix.Goals as goal
+use Rattle.scrypt.proofs.buffers.memory.with_prefix.Goals as goal
 
 pub returns-clause-made : goal.returns-clause-made
 returns-clause-made g c =

@@ -4,7 +4,7 @@ use Rattle.scrypt.specs.StoredHash.{reading}
 use Rattle.scrypt.specs.StoredParts.{stored}
 use Rattle.scrypt.specs.Workspace.{verdict_in, workspace_of}
 use Rattle.scrypt.proofs.ReadingFacts.{enough_within}
-use Rattle.scrypt.proofs.buffers.owned.Buffers.verify.Goals as goal
+use Rattle.scrypt.proofs.buffers.Buffers.verify.Goals as goal
 
 pub returns-in-Ok-clause-within : goal.returns-in-Ok-clause-within
 returns-in-Ok-clause-within c = λ limits suffice is.

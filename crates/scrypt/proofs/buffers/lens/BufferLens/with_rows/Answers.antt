@@ -1,7 +1,7 @@
 use Rattle.std.proofs.Common.{◌<◌, ◌*◌, ◌%◌, ◌^◌, arith, rules}
 use Rattle.std.proofs.lemmas.Nat.{one_shl}
 use Rattle.scrypt.proofs.AcceptedFacts.{small_log_n, small_rows}
-use Rattle.scrypt.proofs.buffers.BufferLens.with_rows.Goals as goal
+use Rattle.scrypt.proofs.buffers.lens.BufferLens.with_rows.Goals as goal
 
 pub overflow_mul-result-3 : goal.overflow_mul-result-3
 overflow_mul-result-3 c =

@@ -1,0 +1,135 @@
+// The lengths of the buffers of a derivation.
+
+ghost use Rattle.std.specs.Prelude.{◌≡◌, ◌↔◌, ◌+◌, ◌-◌, ◌*◌, ◌<◌, ◌≤◌, IfSome, IsSome};
+ghost use Rattle.scrypt.specs.Cost.{chunks_bytes, scratch_words, table_words, thin_scratch_words};
+ghost use Rattle.scrypt.specs.Limits.{AreMostTables, tables_within};
+ghost use Rattle.scrypt.specs.Mixing.{HasTables};
+ghost use Rattle.scrypt.specs.Workspace.{interleaved_chunks};
+
+use crate::Params;
+
+/// The lengths of the three buffers of a derivation.
+#[derive(Clone, Copy, Debug, PartialEq, Eq)]
+pub struct BufferLens {
+    /// The length of the chunks in bytes: `128 * r * p`.
+    pub chunks: usize,
+    /// The length of the table in words: `32 * r * N` for one whole table.
+    pub table: usize,
+    /// The length of the scratch in words: `64 * r` for one whole table.
+    pub scratch: usize,
+}
+
+impl BufferLens {
+    /// The maximum bytes of the three buffers together for several tables, where a caller sets no
+    /// limit ([`BufferLens::tables_within`]): four tables of 32 MiB fit, with scratch and chunks.
+    /// More could exceed the memory limit of a container that allows one table.
+    pub const MAX_INTERLEAVED_MEM: usize = 129 << 20;
+
+    /// Returns the lengths for [`scrypt_with_buffers`](crate::scrypt_with_buffers) with these
+    /// parameters, one chunk at a time.
+    pub fn of(params: &Params) -> BufferLens
+        ensures chunks { result.chunks ≡ chunks_bytes params.now.r params.now.p }
+        ensures table { result.table ≡ table_words params.now.log_n params.now.r }
+        ensures scratch { result.scratch ≡ scratch_words params.now.r }
+    {
+        BufferLens::with_rows(params, params.log_n(), 2)
+    }
+
+    /// Returns the lengths for interleaving `tables` chunks, at most four: the table and the
+    /// scratch are `tables` times as long as [`BufferLens::of`] returns. With a `p` of 2
+    /// or more, more tables take less time: on x86-64-v3 two take 0.56 of the time, and four 0.41.
+    pub fn for_tables(params: &Params, tables: usize) -> BufferLens
+        requires few { tables ≤ 4 }
+        ensures chunks { result.chunks ≡ chunks_bytes params.now.r params.now.p }
+        ensures table { result.table ≡ tables * table_words params.now.log_n params.now.r }
+        ensures scratch { result.scratch ≡ tables * scratch_words params.now.r }
+    {
+        let one = BufferLens::of(params);
+        params.expose_invariant();
+        BufferLens {
+            chunks: one.chunks,
+            table: tables * one.table,
+            scratch: tables * one.scratch,
+        }
+    }
+
+    /// Returns the number of tables for a derivation whose three buffers may have `max_mem`
+    /// bytes together: as many as fit, at most four and at most `p`, but one even if it does not
+    /// fit. [`BufferLens::for_tables`] returns the lengths.
+    #[tactic(auto, unfolding(crate::specs::Limits::tables_within))]
+    pub fn tables_within(params: &Params, max_mem: usize) -> usize
+        ensures exact { result ≡ tables_within max_mem params.now }
+        ensures some { 0 < result }
+        ensures few { result ≤ 4 }
+        ensures most { AreMostTables max_mem params.now result }
+    {
+        let one = BufferLens::of(params);
+        params.expose_invariant();
+        let each = 4 * one.table as u128 + 4 * one.scratch as u128;
+        let room = (max_mem as u128).saturating_sub(one.chunks as u128);
+        let most = u128::from(params.p().min(4));
+        (room / each).min(most).max(1) as usize
+    }
+
+    /// Returns the lengths for [`scrypt_thin`](crate::scrypt_thin) with a table that keeps one row
+    /// in `2^s`: the table has `32 * r * 2^(log_n - s)` words, and the scratch `96 * r`. Returns
+    /// `None` if `s` is above `log_n`.
+    pub fn thin(params: &Params, s: u8) -> Option<BufferLens>
+        ensures exact { IsSome result ↔ (s ≤ params.now.log_n) }
+        ensures chunks { IfSome result (λ lens. lens.chunks ≡ chunks_bytes params.now.r params.now.p) }
+        ensures table { IfSome result (λ lens. lens.table ≡ table_words (params.now.log_n - s) params.now.r) }
+        ensures scratch { IfSome result (λ lens. lens.scratch ≡ thin_scratch_words params.now.r) }
+    {
+        if s > params.log_n() {
+            return None;
+        }
+        Some(BufferLens::with_rows(params, params.log_n() - s, 3))
+    }
+
+    /// Returns the number of bytes of the three buffers together. A word has four bytes.
+    pub fn bytes(&self) -> u128
+        ensures value { result ≡ self.now.chunks + 4 * self.now.table + 4 * self.now.scratch }
+    {
+        self.chunks as u128 + 4 * self.table as u128 + 4 * self.scratch as u128
+    }
+
+    // The lengths with a table of `2^log_rows` rows, and with a scratch of `scratch_rows` rows.
+    #[tactic(auto, using(crate::proofs::AcceptedFacts::small_lens))]
+    fn with_rows(params: &Params, log_rows: u8, scratch_rows: usize) -> BufferLens
+        requires fewer { log_rows ≤ params.now.log_n }
+        requires few { scratch_rows ≤ 3 }
+        ensures chunks { result.chunks ≡ chunks_bytes params.now.r params.now.p }
+        ensures table { result.table ≡ table_words log_rows params.now.r }
+        ensures scratch { result.scratch ≡ scratch_rows * (32 * params.now.r) }
+    {
+        let row = 32 * params.r() as usize;
+        BufferLens {
+            chunks: params.p() as usize * (4 * row),
+            table: (1usize << log_rows) * row,
+            scratch: scratch_rows * row,
+        }
+    }
+}
+
+/// Returns how many of `count` chunks are interleaved with a table and a scratch of these lengths
+/// in words: at most four, each with its own table and scratch.
+#[tactic(auto, using(crate::proofs::CostFacts::rooms), unfolding(crate::specs::Workspace::interleaved_chunks))]
+pub(crate) fn interleaved_chunks(
+    params: &Params,
+    count: usize,
+    table: usize,
+    scratch: usize,
+) -> usize
+    ensures exact { result ≡ interleaved_chunks params.now.log_n params.now.r count table scratch }
+    ensures some { (0 < result)
+        ↔ ((0 < count) × (table_words params.now.log_n params.now.r ≤ table)
+        × (scratch_words params.now.r ≤ scratch)) }
+    ensures memory { 0 < result → HasTables params.now.log_n 0 params.now.r result table scratch }
+{
+    let one = BufferLens::of(params);
+    params.expose_invariant();
+    4usize
+        .min(count)
+        .min(table / one.table)
+        .min(scratch / one.scratch)
+}
