@@ -219,7 +219,6 @@ def compared():
     two, four = (f"{table[f'(14, 8, 1), each of a batch of {it}'][0] / table['(14, 8, 1)'][0]:.2f}" for it in ("two", "four"))
     yield "bindings/README.md", f"each of two takes {two} of the time of one, each of four {four};"
     yield "bindings/c/scrypt_c.h", f"batch of two takes {two} of the time of two calls, and a batch of four {four} of the time of four"
-    yield "crates/scrypt/src/buffers/lens.rt", f"two take {two} of the time, and four {four}"
     yield "docs/PARAMETERS.md", f"four guesses in four tables take {four} of the time of four"
     yield "docs/PARAMETERS.md", f"so divide the last column by {1 / float(four):.1f}"
     yield "docs/PARAMETERS.md", f"three tables takes {table['(15, 8, 3), in three tables'][0] / 1000:.2f} for (15, 8, 3)"

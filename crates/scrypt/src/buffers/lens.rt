@@ -37,7 +37,8 @@ impl BufferLens {
 
     /// Returns the lengths for interleaving `tables` chunks, at most four: the table and the
     /// scratch are `tables` times as long as [`BufferLens::of`] returns. With a `p` of 2
-    /// or more, more tables take less time: on x86-64-v3 two take 0.56 of the time, and four 0.41.
+    /// or more, more tables take less time: on x86-64-v3 two take a little more than half of the
+    /// time, and four less than half (docs/BENCHMARKS.md).
     pub fn for_tables(params: &Params, tables: usize) -> BufferLens
         requires few { tables ≤ 4 }
         ensures chunks { result.chunks ≡ chunks_bytes params.now.r params.now.p }
