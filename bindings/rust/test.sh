@@ -35,8 +35,7 @@ cp tools/release/NOTICES bindings/rust/
 crate cargo package --quiet --allow-dirty --no-verify
 tar -xzf "$room"/target/package/scrypt_c-*.crate -C "$room"
 crate=$(echo "$room"/scrypt_c-*/)
-crate cargo run --quiet --example hash
-grep -q '^\$scrypt\$ln=' "$room/log"
+crate cargo test --quiet --test keys
 rm "$crate"/libscrypt_c*.a
 if (cd "$crate" && PKG_CONFIG=false cargo build --quiet 2> "$room/log"); then exit 1; fi
 grep -q 'needs the library libscrypt_c: false does not find scrypt_c' "$room/log"
