@@ -7,7 +7,6 @@ tools/release/test.sh the example of JavaScript's page. Missing tools are named 
 if an example fails or is missing.
 """
 
-import glob
 import json
 import os
 import re
@@ -15,9 +14,10 @@ import shutil
 import subprocess
 import sys
 import tempfile
+from pathlib import Path
 
-TOP = os.path.dirname(os.path.dirname(os.path.abspath(__file__)))
-LIBRARY = os.path.join(TOP, "build", "lib")
+TOP = Path(__file__).resolve().parents[1]
+LIBRARY = TOP / "build/lib"
 GO_MODULE = "nilomafy.example/scrypt"
 QUICK = "examples/README.md"
 DEBIANS = "/usr/bin/python3"  # which has Debian's packages
@@ -125,8 +125,7 @@ fn main() {{
 
 def examples(language, page="README.md"):
     """The blocks of a page in this language."""
-    with open(os.path.join(TOP, page), encoding="utf-8") as file:
-        found = re.findall(rf"^```{language}\n(.*?)^```$", file.read(), re.M | re.S)
+    found = re.findall(rf"^```{language}\n(.*?)^```$", (TOP / page).read_text("utf-8"), re.M | re.S)
     if not found:
         sys.exit(f"{page} has no example in {language}")
     return found
@@ -134,10 +133,9 @@ def examples(language, page="README.md"):
 
 def written(room, name, text):
     """Writes a file with this text, and returns its path."""
-    path = os.path.join(room, name)
-    os.makedirs(os.path.dirname(path), exist_ok=True)
-    with open(path, "w", encoding="utf-8") as file:
-        file.write(text)
+    path = room / name
+    path.parent.mkdir(exist_ok=True, parents=True)
+    path.write_text(text, "utf-8")
     return path
 
 
@@ -146,11 +144,11 @@ def run(command, **more):
 
 
 def lacks(what, *packages):
-    run([os.path.join(TOP, "tools/lacks"), what, *packages])
+    run([TOP / "tools/lacks", what, *packages])
 
 
 def run_python(room):
-    env = os.environ | {"PYTHONPATH": os.path.join(TOP, "bindings", "python"), "SCRYPT_C_LIBRARY": LIBRARY}
+    env = os.environ | {"PYTHONPATH": str(TOP / "bindings/python"), "SCRYPT_C_LIBRARY": str(LIBRARY)}
     for page in ["README.md", "docs/HASHER.md", "bindings/python/README.md"]:
         for example in examples("python", page):
             if "passlib" in example:  # bindings/python/tests has it
@@ -165,32 +163,31 @@ def run_python(room):
 
 
 def run_go(room):
-    folder = os.path.join(room, "the module")  # as in a folder whose name has a blank
-    shutil.copytree(os.path.join(TOP, "bindings", "go"), folder)
+    folder = room / "the module"  # as in a folder whose name has a blank
+    shutil.copytree(TOP / "bindings/go", folder)
     for name in ["libscrypt_c.a", "scrypt_c.h"]:
-        shutil.copy(os.path.join(LIBRARY, name), folder)
-    written(room, "go/go.mod", f"module login\n\nrequire {GO_MODULE} v0.0.0\n\nreplace {GO_MODULE} => {json.dumps(folder)}\n")
+        shutil.copy(LIBRARY / name, folder)
+    written(room, "go/go.mod", f"module login\n\nrequire {GO_MODULE} v0.0.0\n\nreplace {GO_MODULE} => {json.dumps(str(folder))}\n")
     for around, page in ("{example}", "bindings/go/README.md"), (QUICK_GO, QUICK):
         written(room, "go/main.go", around.format(example=examples("go", page)[0]))
-        run(["go", "run", "-mod=mod", "."], cwd=os.path.join(room, "go"), env=os.environ | {"GOPROXY": "off"})
+        run(["go", "run", "-mod=mod", "."], cwd=room / "go", env=os.environ | {"GOPROXY": "off"})
 
 
 def run_c(room):
     around = [(LOGIN, "docs/HASHER.md"), (QUICK_C, QUICK)]
     for example in [*examples("c", "bindings/c/README.md"), *(it.format(example=examples("c", page)[0]) for it, page in around)]:
-        source, program = written(room, "login.c", example), os.path.join(room, "login")
+        source, program = written(room, "login.c", example), room / "login"
         run(["cc", "-std=c99", "-Wall", "-Wextra", "-Werror", f"-I{LIBRARY}", source, f"{LIBRARY}/libscrypt_c.a", "-o", program])
         run([program])
 
 
 def run_rust(room):
-    shutil.copytree(os.path.join(TOP, "bindings", "rust"), os.path.join(room, "scrypt_c"), ignore=shutil.ignore_patterns("target"))
+    shutil.copytree(TOP / "bindings/rust", room / "scrypt_c", ignore=shutil.ignore_patterns("target"))
     written(room, "login/Cargo.toml", '[package]\nname = "login"\nversion = "0.1.0"\nedition = "2021"\n'
             '[dependencies]\nscrypt_c = { path = "../scrypt_c" }\n')
     written(room, "login/src/main.rs", QUICK_RUST.format(example=examples("rust", QUICK)[0]))
-    config = os.path.join(TOP, "tools/release/cargo.toml")
-    run(["cargo", "--config", config, "run", "--quiet", "--offline"], cwd=os.path.join(room, "login"),
-        env=os.environ | {"SCRYPT_C_LIBRARY": LIBRARY, "LD_LIBRARY_PATH": LIBRARY})
+    run(["cargo", "--config", TOP / "tools/release/cargo.toml", "run", "--quiet", "--offline"], cwd=room / "login",
+        env=os.environ | {"SCRYPT_C_LIBRARY": str(LIBRARY), "LD_LIBRARY_PATH": str(LIBRARY)})
 
 
 def main():
@@ -200,11 +197,11 @@ def main():
         ("C", run_c, "cc", "gcc"),
         ("Rust", run_rust, "cargo", "cargo librust-password-hash-dev"),
     ]:
-        if not shutil.which(command) or command == "cargo" and not glob.glob("/usr/share/cargo/registry/password-hash-0.4*"):
+        if not shutil.which(command) or command == "cargo" and not [*Path("/usr/share/cargo/registry").glob("password-hash-0.4*")]:
             lacks(command, *package.split())
             continue
         with tempfile.TemporaryDirectory() as room:
-            runs(room)
+            runs(Path(room))
         print(f"ok the examples in {language} run")
 
 
