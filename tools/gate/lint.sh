@@ -26,4 +26,8 @@ lint '*.antt' the-Rattle-kit "$rattle" fmt --check
 # A name beside a file of mktemp is free to every user of the machine, a name in a folder of mktemp is not.
 without=$(find bindings examples tools -name '*.sh' -exec grep -nE '\$\(mktemp\)' {} + || true)
 test -z "$without" || { echo "mktemp without -d: $without"; failed=1; }
+# Go may free a hasher during the last call of a method that reads it, unless something after that needs the hasher.
+freed=$(awk '/^func / { method = $0; reads = keeps = 0 } /h\.shared\.c[,).]/ { reads = 1 }
+  /KeepAlive\(h\.shared\)|h\.run\(|h\.shared\.refused/ { keeps = 1 } /^}/ && reads && !keeps { print method }' bindings/go/*.go)
+test -z "$freed" || { echo "no KeepAlive in $freed"; failed=1; }
 exit $failed
