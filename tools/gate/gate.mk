@@ -23,7 +23,7 @@ BUILDS = library linked module program $(CROSS:%=program-%) $(MACHINES:%=library
 documents = lint first-steps links version promises cores
 examples = $(patsubst examples/%/test.sh,example-%,$(wildcard examples/*/test.sh))
 LANGUAGES = python go rust javascript drop-in $(examples) examples-of-pages
-suites = native asan tsan $(LANGUAGES) answers migration oracle hostile completions
+suites = native asan tsan $(LANGUAGES) answers migration oracle hostile
 gate = proofs $(BUILDS) $(MACHINES) $(CROSS:%=answers-%) must-not-compile new-user \
   $(documents) $(suites) by-rattle
 # Tasks give way to the proofs: not those that others wait for, and less those that take long alone.
@@ -110,5 +110,3 @@ oracle migration: private PROGRAM = build/bin/scrypt_tool # as it is installed, 
 oracle migration: private NEEDS = build/bin/scrypt_tool:libbsd-dev
 answers oracle migration: program
 	$(TASK) $(PY) tools.tests.$(@:answers=program) $(PROGRAM)
-completions:
-	$(TASK) python3 -B bindings/cli/test_completions.py

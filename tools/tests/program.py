@@ -316,6 +316,9 @@ def information(program):
     yield "the numbers of the header in the help", [it for it in HELP_NUMBERS if it not in HELP], []
     named = USAGE.removeprefix("usage: ").split(" | ")
     yield "the usage line has each command as the help", set(named) - {it.strip() for it in HELP.splitlines()}, set()
+    named = re.findall(r"^  ([a-z]+) [a-zA-Z]|(?<= )(--[a-z-]+=?)", HELP, re.M)
+    offered = re.search('choices="(key.*?)"', pathlib.Path(prompt.TOP, "bindings/cli/scrypt_tool.bash").read_text("utf-8"), re.S)
+    yield "bash completes the commands and options of the help", set(offered[1].split()), {"".join(it) for it in named}
 
 
 def raw_keys(program):
