@@ -6,11 +6,9 @@ set -eu
 cd "$(dirname "$0")/../.."
 if [ "${PRESET:-native}" != native ]; then
   . bindings/preset.sh
-  begin_test
   bindings/cli/build.sh
-  cc -O2 -static -DPROGRAM="\"$PWD/$build/bin/scrypt_tool\"" -DEMULATOR="\"${emulator%% *}\"" \
-    -DLIBRARIES="\"${emulator##* }\"" bindings/cli/emulated.c -o "$room/scrypt_tool"
-  CC=$CC python3 -B -m tools.tests.program "$room/scrypt_tool" emulated
+  # shellcheck disable=SC2086 # words without blanks
+  CC=$CC python3 -B -m tools.tests.program $emulator "$build/bin/scrypt_tool"
   exit
 fi
 if [ ! -e crates/scrypt_tool/out/scrypt_tool.o ]; then

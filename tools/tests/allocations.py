@@ -80,10 +80,10 @@ def run_with(library, words, password, **settings):
 def cases(program):
     with runs.failing_calls() as library:
         for words, password, status, allocations in RUNS:
-            run = functools.partial(run_with, library, [program, *words.split(" ")], password)
+            run = functools.partial(run_with, library, [*program, *words.split(" ")], password)
             wanted = run()
             yield words, (wanted[0], refused(run, wanted)), (status, allocations)
         for words, wanted in BUFFERS:
-            made = sizes(functools.partial(run_with, library, [program, *words.split(" ")], b"password"))
+            made = sizes(functools.partial(run_with, library, [*program, *words.split(" ")], b"password"))
             found = [it for it in (made[at : at + len(wanted)] for at in range(len(made))) if it == wanted]
             yield f"{words}, of which these are the sizes", found or made, [wanted]

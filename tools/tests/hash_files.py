@@ -45,8 +45,8 @@ def hash_files(program):
                 it.write(os.fsencode(text))
             lines = f"{printed.format(file)}\n", ""
             words = [word.format(file) for word in line.split(" ")]
-            yield f"{line!r} ({reason})", run([program, *words]), (status, *(lines if status < 2 else lines[::-1]))
+            yield f"{line!r} ({reason})", run([*program, *words]), (status, *(lines if status < 2 else lines[::-1]))
         for name, printed, reason in NAMES:
             fault = f"{room}/{printed}: No such file or directory (os error 2)\n"
-            yield f"the name {printed!r} ({reason})", run([program, f"--hash-file={room}/{name}", "verify"]), (4, "", fault)
-        yield "--help after --hash-file is a usage error, and reads no file", run([program, f"--hash-file={room}", "--help"])[0], 2
+            yield f"the name {printed!r} ({reason})", run([*program, f"--hash-file={room}/{name}", "verify"]), (4, "", fault)
+        yield "--help after --hash-file is a usage error, and reads no file", run([*program, f"--hash-file={room}", "--help"])[0], 2

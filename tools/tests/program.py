@@ -5,8 +5,8 @@ A run writes one line, to standard output for the statuses 0 and 1, and otherwis
 the other stream stays empty. The keys are from RFC 7914, section 12, and from Python's hashlib; the
 hashes are from tools/tests/known.py and bindings/cases.tsv.
 
-usage: python3 -m tools.tests.program PROGRAM             crates/scrypt_tool/out/scrypt_tool: the installed one is linked from it
-       python3 -m tools.tests.program PROGRAM emulated    without the longest password
+usage: python3 -m tools.tests.program PROGRAM    crates/scrypt_tool/out/scrypt_tool: the installed one is linked from it
+       python3 -m tools.tests.program EMULATOR.. PROGRAM    without the longest password
 """
 
 import hashlib
@@ -259,18 +259,18 @@ DRAWN += [(f"--generate-salt {line}", False) for line in ("key 4 1 1 16", f"veri
 def rows(program):
     for line, text, status, printed, reason in ANSWERS + FAULTS + REHASHES + LIMITS + OPTIONS:
         wanted = (status, f"{printed}\n", "") if status < 2 else (status, "", f"{printed}\n")
-        yield f"{line[:100]!r} ({reason})", run([program, *line.split(" ")], text.encode()), wanted
-    yield "no words", run([program]), (2, "", f"{USAGE}\n")
+        yield f"{line[:100]!r} ({reason})", run([*program, *line.split(" ")], text.encode()), wanted
+    yield "no words", run(program), (2, "", f"{USAGE}\n")
     # Python passes this character as the byte ff.
     for words in ("\udcff", "verify \udcff", "key 4 1 1 \udcff"):
-        yield f"{words!r} (an argument is not UTF-8)", run([program, *words.split(" ")]), (3, "", "the arguments can't be read\n")
+        yield f"{words!r} (an argument is not UTF-8)", run([*program, *words.split(" ")]), (3, "", "the arguments can't be read\n")
 
 
 def long_passwords(program):
     """The input is read whole, however long it is."""
-    for length in (1_000_001, (1 << 28) + 1)[: 1 if "emulated" in sys.argv else None]:
+    for length in (1_000_001, (1 << 28) + 1)[: 1 if len(program) > 1 else None]:
         wanted = key_of(bytes(length), b"", 16).hex()
-        yield f"a password of {length} bytes", run([program, *"key 4 1 1 16 ".split(" ")], bytes(length)), (0, f"{wanted}\n", "")
+        yield f"a password of {length} bytes", run([*program, *"key 4 1 1 16 ".split(" ")], bytes(length)), (0, f"{wanted}\n", "")
 
 
 def verdicts(program):
@@ -278,7 +278,7 @@ def verdicts(program):
     for line in pathlib.Path(prompt.TOP, "bindings/cases.tsv").read_text("utf-8").splitlines()[1:]:
         status, password, text = line.split("\t")[:3]
         if "\\0" not in text:
-            *ended, error = run([program, "--default-limits", "verify", text], password.encode())
+            *ended, error = run([*program, "--default-limits", "verify", text], password.encode())
             refused = 2, "", "hash refused: " + status.removeprefix("HASH_").title().replace("_", "")
             found = *ended, re.match(r"(hash refused: \w+)?", error)[0]
             yield f"{text} (cases.tsv)", found, {"OK": runs.OK, "MISMATCH": runs.NO}.get(status, refused)
@@ -289,17 +289,17 @@ def salts(program):
     is made."""
     drawn = set()
     for line, start in SALTED:
-        status, text, _ = run([program, *line.split()], b"password")
+        status, text, _ = run([*program, *line.split()], b"password")
         salt = text.removeprefix(start).split("$")[0]
         drawn.add(salt)
-        verified = run([program, "verify", text.strip()], b"password")
+        verified = run([*program, "verify", text.strip()], b"password")
         yield f"the hash and the salt of {line}", (status, len(salt), verified), (0, 22, runs.OK)
     yield "drawn salts differ", len(drawn), len(SALTED)
     with runs.failing_calls() as library:
-        hashed = run([program, "--generate-salt", "hash", "phc", "4", "1", "1"], env={"LD_PRELOAD": library})
+        hashed = run([*program, "--generate-salt", "hash", "phc", "4", "1", "1"], env={"LD_PRELOAD": library})
         yield "no salt can be drawn", hashed, (3, "", "no salt can be drawn\n")
         for line, is_drawn in DRAWN:
-            status, _, printed = run([program, *line.split(" ")], env={"LD_PRELOAD": library, "SIZES": "1"})
+            status, _, printed = run([*program, *line.split(" ")], env={"LD_PRELOAD": library, "SIZES": "1"})
             yield f"whether {line!r} draws a salt, and needs it", ("drawn\n" in printed, status == 3), (is_drawn, is_drawn)
 
 
@@ -310,9 +310,9 @@ HELP_NUMBERS = [f"LOG_N R P are {LOG_N} {R} {P} and", f"in bytes ({MIN_KEY_LEN} 
 
 
 def information(program):
-    yield "--version", run([program, "--version"]), (0, f"{prompt.VERSION}\n", "")
-    yield "--help", run([program, "--help"]), (0, HELP, "")
-    yield "-h", run([program, "-h"]), (0, HELP, "")
+    yield "--version", run([*program, "--version"]), (0, f"{prompt.VERSION}\n", "")
+    yield "--help", run([*program, "--help"]), (0, HELP, "")
+    yield "-h", run([*program, "-h"]), (0, HELP, "")
     yield "the numbers of the header in the help", [it for it in HELP_NUMBERS if it not in HELP], []
     named = USAGE.removeprefix("usage: ").split(" | ")
     yield "the usage line has each command as the help", set(named) - {it.strip() for it in HELP.splitlines()}, set()
@@ -325,20 +325,20 @@ def raw_keys(program):
     """Keys as bytes, of each length, with no newline."""
     for length in (1, 64, 100):
         key = key_of(b"password", b"\0", length).decode(errors="surrogateescape")
-        yield f"a raw key of {length} bytes", run([program, "--raw", *f"key 4 1 1 {length} 00".split()], b"password"), (0, key, "")
+        yield f"a raw key of {length} bytes", run([*program, "--raw", *f"key 4 1 1 {length} 00".split()], b"password"), (0, key, "")
 
 
 def terminal(program):
     """Runs on a terminal, if the installed program can be linked here."""
-    if os.path.exists(f"{program}.o"):
-        yield from prompt.cases(program)
+    if os.path.exists(f"{program[-1]}.o"):
+        yield from prompt.cases(program[-1])
     else:
         print("there is no object of the program next to it: not tried on a terminal")
 
 
 def main():
     parts = [memory, rows, verdicts, long_passwords, raw_keys, salts, hash_files, information, streams, allocations.cases, terminal]
-    sys.exit(not runs.report("program", itertools.chain(*(part(sys.argv[1]) for part in parts))))
+    sys.exit(not runs.report("program", itertools.chain(*(part(sys.argv[1:]) for part in parts))))
 
 
 if __name__ == "__main__":

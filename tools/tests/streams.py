@@ -51,7 +51,7 @@ def writes_of(stream, words):
 def streams(program):
     """Every command on streams that fail: status 4, and nothing in the output but what it took."""
     for line in COMMANDS:
-        words = [program, *line.split(" ")]
+        words = [*program, *line.split(" ")]
         status, answer, _ = redirected('"$@"', words)
         yield f"{line!r} on streams that work", status, 0
         yield f"the writes of {line!r}", writes_of("stdout", words), [answer]
@@ -59,22 +59,22 @@ def streams(program):
             yield f"{line!r} ({reason})", redirected(shell, words), (4, "", fault)
         yield f"{line!r} (a file that takes one byte)", redirected(SHORT_FILE, words), (4, answer[:1], "output failed\n")
         yield f"{line!r} (a pipe without a reader)", without_reader(words), (4, "", "output failed\n")
-    costly = redirected('"$@" < /', [program, *"key 56 1 1 32 ".split(" ")])
+    costly = redirected('"$@" < /', [*program, *"key 56 1 1 32 ".split(" ")])
     yield "the input is read before memory is allocated", costly, (4, "", "input failed\n")
     for line in ("key 4 1 1 0 ", "verify $7$", "key 56 1 1 32 ", "\udcff"):
-        words = [program, *line.split(" ")]
+        words = [*program, *line.split(" ")]
         status, _, fault = run(words)
         yield f"the writes of the fault of {line!r}", writes_of("stderr", words), [fault]
         for shell in ('"$@" 2> /dev/full', '"$@" 2>&-'):
             yield f"{line!r} by {shell}", redirected(shell, words), (status, "", "")
-    yield "nothing to write there", redirected('"$@" 2>&-', [program, *"key 4 1 1 16 ".split(" ")])[0], 0
-    yield "--help that cannot be written", redirected('"$@" > /dev/full', [program, "--help"]), (4, "", "output failed\n")
+    yield "nothing to write there", redirected('"$@" 2>&-', [*program, *"key 4 1 1 16 ".split(" ")])[0], 0
+    yield "--help that cannot be written", redirected('"$@" > /dev/full', [*program, "--help"]), (4, "", "output failed\n")
 
 
 def memory(program):
     """Runs that cannot have their table. They have to be the first that the script waits for."""
     for addresses, reason in ADDRESSES:
-        ended = run(["prlimit", f"--as={addresses}", program, *REFUSED_TABLE.split(" ")])
+        ended = run(["prlimit", f"--as={addresses}", *program, *REFUSED_TABLE.split(" ")])
         touched = resource.getrusage(resource.RUSAGE_CHILDREN).ru_maxrss << 10
         about = f"{REFUSED_TABLE!r} ({reason}) in {touched} bytes"
         yield about, (*ended, touched > MAX_TOUCHED), (3, "", "out of memory\n", False)
