@@ -12,7 +12,6 @@ usage: python3 -m tools.tests.program PROGRAM    crates/scrypt_tool/out/scrypt_t
 import hashlib
 import itertools
 import os
-import pathlib
 import re
 import sys
 
@@ -275,7 +274,7 @@ def long_passwords(program):
 
 def verdicts(program):
     """The verifications of bindings/cases.tsv, except a text with a zero byte, which no argument has."""
-    for line in pathlib.Path(prompt.TOP, "bindings/cases.tsv").read_text("utf-8").splitlines()[1:]:
+    for line in (header.TOP / "bindings/cases.tsv").read_text("utf-8").splitlines()[1:]:
         status, password, text = line.split("\t")[:3]
         if "\\0" not in text:
             *ended, error = run([*program, "--default-limits", "verify", text], password.encode())
@@ -304,7 +303,7 @@ def salts(program):
 
 
 # As the source has it, where a line ends in `\n\` and may begin with `\x20`.
-SOURCE = pathlib.Path(prompt.TOP, "crates/scrypt_commands/src/usage.rt").read_text("utf-8")
+SOURCE = (header.TOP / "crates/scrypt_commands/src/usage.rt").read_text("utf-8")
 HELP = re.search(r'HELP: &str = "\\\n(.*?)"', SOURCE, re.S)[1].replace("\\n\\\n", "\n").replace("\\x20", " ")
 HELP_NUMBERS = [f"LOG_N R P are {LOG_N} {R} {P} and", f"in bytes ({MIN_KEY_LEN} for verify", f"{LOG_N} {R} {P}), or for rehash"]
 
@@ -317,7 +316,7 @@ def information(program):
     named = USAGE.removeprefix("usage: ").split(" | ")
     yield "the usage line has each command as the help", set(named) - {it.strip() for it in HELP.splitlines()}, set()
     named = re.findall(r"^  ([a-z]+) [a-zA-Z]|(?<= )(--[a-z-]+=?)", HELP, re.M)
-    offered = re.search('choices="(key.*?)"', pathlib.Path(prompt.TOP, "bindings/cli/scrypt_tool.bash").read_text("utf-8"), re.S)
+    offered = re.search('choices="(key.*?)"', (header.TOP / "bindings/cli/scrypt_tool.bash").read_text("utf-8"), re.S)
     yield "bash completes the commands and options of the help", set(offered[1].split()), {"".join(it) for it in named}
 
 

@@ -1,18 +1,16 @@
 """Runs the installed program on a terminal, where it asks for the password without echo and shows progress."""
 
-import os
 import re
 import signal
 import subprocess
 import tempfile
 
+from tools.generate import header
 from tools.tests.known import HASHLIB
 from tools.tests.runs import run
 from tools.tests.terminal import session
 
-TOP = os.path.join(os.path.dirname(os.path.abspath(__file__)), "../..")
-with open(f"{TOP}/VERSION", encoding="ascii") as file:
-    VERSION = f"scrypt_tool {file.read().strip()}"
+VERSION = f"scrypt_tool {header.VERSION}"
 KEY, HASH, VERIFY = "key 4 1 1 16 ", "hash phc 4 1 1 4e61436c", f"verify {HASHLIB}"
 ONCE, TWICE = ["Password: "], ["Password: ", "The same again: "]
 
@@ -95,7 +93,7 @@ def cases(program):
     """The cases of the program that is linked from the proved one."""
     with tempfile.TemporaryDirectory() as folder:
         linked = f"{folder}/scrypt_tool"
-        subprocess.run([f"{TOP}/bindings/cli/build.sh", program, linked], check=True)
-        subprocess.run([f"{TOP}/tools/release/hardened.sh", linked], check=True)
+        subprocess.run([header.TOP / "bindings/cli/build.sh", program, linked], check=True)
+        subprocess.run([header.TOP / "tools/release/hardened.sh", linked], check=True)
         yield from prompts(linked)
         yield from bars(linked)

@@ -95,15 +95,11 @@ fn calibrated() {
     }
 }
 
-/// Each error converts to an `Error` with the same message.
+/// Each error converts to the `Error` of its name, which has its message.
 #[test]
 fn errors() {
-    for (error, words) in [
-        (Error::from(InvalidParams), InvalidParams.to_string()),
-        (DeriveError::InvalidOutputLen.into(), DeriveError::InvalidOutputLen.to_string()),
-        (DeriveError::OutOfMemory.into(), "out of memory".to_string()),
-        (DeriveError::Cancelled.into(), "the derivation was cancelled".to_string()),
-    ] {
-        assert_eq!(error.to_string(), words);
-    }
+    assert_eq!(Error::from(InvalidParams), Error::InvalidParams);
+    assert_eq!(Error::from(DeriveError::InvalidOutputLen), Error::InvalidOutputLen);
+    assert_eq!(Error::from(DeriveError::OutOfMemory), Error::OutOfMemory);
+    assert_eq!(DeriveError::Cancelled.to_string(), "the derivation was cancelled");
 }
