@@ -9,10 +9,10 @@ use Rattle.scrypt.specs.Decoy.{decoy_reading, no_key}
 use Rattle.scrypt.specs.Hashing.{key_len_or_default}
 use Rattle.scrypt.specs.KeyOfParams.{key_by}
 use Rattle.scrypt.specs.PublicPart.{public_hash}
-use Rattle.scrypt.specs.Reading.{IsVerdict, Stored, is_right, verdict, with_refusal}
+use Rattle.scrypt.specs.Reading.{IsVerdict, Stored, is_right, made_stored, verdict, with_refusal}
 use Rattle.scrypt.proofs.AcceptedFacts.{bounds, key_len_stored, ok_if}
 use Rattle.scrypt.proofs.KeyFacts.{key_by-are_bytes, length-key_by}
-use Rattle.scrypt.proofs.ReadingFacts.{made_stored, right_decided}
+use Rattle.scrypt.proofs.ReadingFacts.{right_decided}
 
 -- the parts of a decoy
 abbrev pub decoy_of : Parameters → List ℕ → Stored

@@ -13,9 +13,9 @@ use Rattle.password_hash.proofs.McfFacts.{IsField-crypt64_of}
 use Rattle.scrypt.specs.Accepted.{Parameters, are_accepted, is_output_len, without_len}
 use Rattle.scrypt.proofs.KeyFacts.{key_by-are_bytes, length-key_by}
 use Rattle.scrypt.specs.McfParams.{five_letter_number, params_letters, params_text, field_params}
-use Rattle.scrypt.specs.McfHash.{IsMcfHashText, made_hash, made_key, made_mcf, made_text_len, mcf_id, mcf_text, read_mcf}
+use Rattle.scrypt.specs.McfHash.{IsMcfHashText, made_key, made_mcf, made_text_len, mcf_id, mcf_text, read_mcf}
 use Rattle.scrypt.specs.Hashing.{key_len_or_default}
-use Rattle.scrypt.specs.Reading.{Stored}
+use Rattle.scrypt.specs.Reading.{Stored, made_stored}
 use Rattle.scrypt.proofs.AcceptedFacts.{checked_is, numbers, small_params}
 use Rattle.scrypt.proofs.McfParamsFacts.{five_letter_number_letters_of, of_numbers}
 use Rattle.scrypt.proofs.McfHashFacts.{fields_read, is_mcf, key_read, read_seven, text_of, text_of_fields}
@@ -107,13 +107,13 @@ read_is_text text s is =
 
 -- the text that hashing makes
 pub made_text : (c : Parameters) (password salt : List ℕ) → IsTrue (are_accepted c.log_n c.r c.p)
-    → IsTrue (is_output_len (key_len_or_default c)) → read_mcf (made_mcf c password salt) ≡ Ok (made_hash c password salt)
+    → IsTrue (is_output_len (key_len_or_default c)) → read_mcf (made_mcf c password salt) ≡ Ok (made_stored c password (crypt64_of salt))
 unfolding made_mcf
 made_text c password salt good fits =
     let letters = crypt64_of salt in
     let key = made_key c password salt in
     let long = length-key_by c password letters (key_len_or_default c) in
-    text_read _ (made_hash c password salt) (record {
+    text_read _ (made_stored c password letters) (record {
       whole = refl;
       params = good;
       no_len = refl;

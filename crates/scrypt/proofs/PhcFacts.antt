@@ -4,7 +4,7 @@ use Rattle.password_hash.specs.Decimal.{decimal_below}
 use Rattle.password_hash.proofs.DecimalFacts.{decimal_exact, is_value-decimal}
 use Rattle.scrypt.specs.Accepted.{are_accepted, Parameters, without_len, is_stored_len}
 use Rattle.scrypt.proofs.AcceptedFacts.{checked_is, small_params, key_len_stored}
-use Rattle.scrypt.proofs.ReadingFacts.{AreGood, IsFault, checked_fault, checked_good, faults, if_good, made_right, made_stored, made_strong, no_password, then_good}
+use Rattle.scrypt.proofs.ReadingFacts.{AreGood, IsFault, checked_fault, checked_good, faults, if_good, no_password, then_good}
 use Rattle.scrypt.specs.PhcParams.{params_of_pairs, read_pairs, written_pairs}
 use Rattle.std.proofs.lemmas.Bool.{false≢true}
 use Rattle.std.proofs.lemmas.Fmt.{length-decimal-le}
@@ -20,7 +20,7 @@ use Rattle.password_hash.specs.Refusal.{OutOfMemory, refusal}
 use Rattle.password_hash.specs.declared.error.Error.{Error}
 use Rattle.password_hash.specs.declared.error.Error.TheVariants.{OutOfMemory as NoMemory}
 use Rattle.scrypt.specs.Hashing.{key_len_or_default}
-use Rattle.scrypt.specs.Reading.{NamesNoPassword}
+use Rattle.scrypt.specs.Reading.{NamesNoPassword, made_stored}
 use Rattle.scrypt.proofs.KeyFacts.{key_by-are_bytes, length-key_by}
 
 -- the number of a value
@@ -153,5 +153,3 @@ pub made_read : (c : Parameters) (password salt : List ℕ) → IsTrue (are_acce
     → read_phc (made_phc c password salt) ≡ Ok (made_stored c password salt)
 unfolding made_phc phc_params
 made_read c password salt fits = rw (written_read c fits) refl
-
-pub ruleset made_hashes = (made_is_text, made_read, made_right, made_strong)

@@ -11,7 +11,7 @@ use Rattle.scrypt.proofs.AcceptedFacts.{leb_decided, numbers, ok_if}
 use Rattle.scrypt.proofs.KeyFacts.{length-key_by}
 use Rattle.std.proofs.lemmas.Bool.{false_from_ne_true, le-ltb}
 use Rattle.std.proofs.lemmas.Nat.{mul-le}
-use Rattle.scrypt.specs.Reading.{◌and_then◌, NamesNoPassword, Stored, checked, is_below, is_right, mapped, verdict, weaker}
+use Rattle.scrypt.specs.Reading.{◌and_then◌, IsReadAsMade, NamesNoPassword, Stored, checked, is_below, is_right, made_stored, mapped, verdict}
 use Rattle.scrypt.specs.InBuffers.{are_enough}
 use Rattle.scrypt.specs.Limits.{SufficeFor, are_within, buffers_bytes, limits_for_new, work}
 use Rattle.scrypt.specs.declared.limits.Limits.{Limits}
@@ -117,25 +117,18 @@ verdict_wrong password (Ok s) is =
     right_is_told : s.key ≡ key_by s.params password s.salt (length s.key) → verdict password (Ok s) ≡ Ok tt
     right_is_told same = rw ((right_decided password s).1 same) refl
 
--- the hash that these parameters make of a password and a salt
-abbrev pub made_stored : Parameters → List ℕ → List ℕ → Stored
-made_stored c password salt = record { params = without_len c; salt = salt; key = key_by c password salt (key_len_or_default c) }
-
--- it accepts the password
-pub made_right : (c : Parameters) (password salt : List ℕ) (reading : Result Stored Refusal) → reading ≡ Ok (made_stored c password salt)
-    → verdict password reading ≡ Ok tt
-made_right c password salt reading is =
-    let long = length-key_by c password salt (key_len_or_default c) in
-    (verdict_right password reading).1 (_, is, ap (key_by c password salt) (sym long))
-
--- and is not weaker than its parameters ask for
-pub made_strong : (c : Parameters) (password salt : List ℕ) (reading : Result Stored Refusal) → reading ≡ Ok (made_stored c password salt)
-    → weaker c reading ≡ Ok false
+-- what is read as a made hash accepts the password, and is not weaker than its parameters ask for
+pub read_as_made : (c : Parameters) (password salt : List ℕ) {reading : Result Stored Refusal} → reading ≡ Ok (made_stored c password salt)
+    → IsReadAsMade c password salt reading
 unfolding is_below
-made_strong c password salt reading is =
+read_as_made c password salt {reading} is =
     let long = length-key_by c password salt (key_len_or_default c) in
     let same = λ (n : ℕ). le-ltb n n (omega arith) in
-    rw (is, long, same c.log_n, same c.r, same c.p, same (key_len_or_default c)) refl
+    record {
+      read = is;
+      accepts = (verdict_right password reading).1 (_, is, ap (key_by c password salt) (sym long));
+      strong = rw (is, long, same c.log_n, same c.r, same c.p, same (key_len_or_default c)) refl;
+    }
 
 pub enough_decided : (c : Parameters) (chunks table scratch : List ℕ) → Decides (are_enough c chunks table scratch)
     ((chunks_bytes c.r c.p ≤ length chunks) × ((table_words c.log_n c.r ≤ length table) × (scratch_words c.r ≤ length scratch)))

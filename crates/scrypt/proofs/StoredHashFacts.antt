@@ -4,15 +4,16 @@ use Rattle.std.proofs.lemmas.Bool.{false≢true}
 use Rattle.std.proofs.lemmas.Bool.Decides.{nat_tests}
 use Rattle.password_hash.proofs.McfFacts.{IsMcfText-from_parts}
 use Rattle.password_hash.proofs.PhcReadingFacts.{hash_is_read}
+use Rattle.password_hash.specs.Crypt64.{crypt64_of}
 use Rattle.password_hash.specs.Mcf.{IsMcfText, fields_of}
 use Rattle.password_hash.specs.Parts.{parts_of}
 use Rattle.password_hash.specs.Phc.{IsHashText, IsSalt, hash_text}
 use Rattle.password_hash.specs.Refusal.{Refusal, EncodingInvalid, PasswordInvalid}
 use Rattle.password_hash.specs.declared.phc.hash.PasswordHash.{PasswordHash}
-use Rattle.scrypt.specs.McfHash.{made_hash, made_mcf, mcf_id, read_fields, read_mcf}
+use Rattle.scrypt.specs.McfHash.{made_mcf, mcf_id, read_fields, read_mcf}
 use Rattle.scrypt.specs.PhcHash.{made_phc, phc_params}
 use Rattle.scrypt.specs.Accepted.{are_accepted, is_output_len, is_stored_len, Parameters}
-use Rattle.scrypt.specs.Reading.{◌and_then◌, IsOfText, NamesNoPassword, Stored, mapped}
+use Rattle.scrypt.specs.Reading.{◌and_then◌, IsOfText, NamesNoPassword, Stored, made_stored, mapped}
 use Rattle.scrypt.specs.StoredHash.{Formatted, McfText, PhcHash, formatted, is_mcf_text, is_stored_text, key_len_or_zero, params_and_len, params_reading, reading, whole}
 use Rattle.scrypt.proofs.McfHashFacts.{is_mcf, mcf_fault, mcf_none, read_seven}
 use Rattle.scrypt.specs.InBuffers.{are_enough}
@@ -23,7 +24,7 @@ use Rattle.scrypt.specs.Hashing.{key_len_or_default}
 use Rattle.scrypt.proofs.AcceptedFacts.{bounds}
 use Rattle.scrypt.proofs.McfTextFacts.{made_text, read_is_text}
 use Rattle.scrypt.proofs.PhcFacts.{made_is_text, made_read, params_fault, params_good, params_none}
-use Rattle.scrypt.proofs.ReadingFacts.{AreGood, IsFault, enough_within, made_stored, mapped_refused, no_password, part_fault, some_fault, then_fault}
+use Rattle.scrypt.proofs.ReadingFacts.{AreGood, IsFault, enough_within, mapped_refused, no_password, part_fault, some_fault, then_fault}
 
 or_true : (b : Bool) → (b || true) ≡ true
 or_true true = refl
@@ -170,7 +171,7 @@ unfolding reading formatted
 read_as_mcf text is = rw (mcf_is_seven (is_mcf is).1) is
 
 pub mcf_reading : (c : Parameters) (password salt : List ℕ) → IsTrue (are_accepted c.log_n c.r c.p)
-    → IsTrue (is_output_len (key_len_or_default c)) → reading (made_mcf c password salt) ≡ Ok (made_hash c password salt)
+    → IsTrue (is_output_len (key_len_or_default c)) → reading (made_mcf c password salt) ≡ Ok (made_stored c password (crypt64_of salt))
 mcf_reading c password salt fits len = read_as_mcf _ (made_text c password salt fits len)
 
 pub phc_reading : (c : Parameters) (password salt : List ℕ) → IsTrue (are_accepted c.log_n c.r c.p) → IsTrue (is_stored_len c.output_len)
@@ -179,7 +180,5 @@ unfolding reading formatted made_phc
 phc_reading c password salt fits len salted =
     let is = made_is_text c password salt fits len salted in
     rw (scrypt_is_phc is refl, hash_is_read _ _ is) (made_read c password salt fits)
-
-pub ruleset made_texts = (mcf_reading, phc_reading)
 
 pub ruleset errors_of_reading = (mcf_none, params_none, stored_none, whole_of_text)

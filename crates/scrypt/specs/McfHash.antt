@@ -4,11 +4,11 @@ use Rattle.password_hash.specs.Crypt64.{crypt64_of, decoded, encoded_len}
 use Rattle.password_hash.specs.Mcf.{IsField}
 use Rattle.password_hash.specs.Parts.{dollar, parts_of}
 use Rattle.password_hash.specs.Refusal.{Refusal, Algorithm, EncodingInvalid, OutputSize}
-use Rattle.scrypt.specs.Accepted.{Parameters, are_accepted, is_output_len, without_len}
+use Rattle.scrypt.specs.Accepted.{Parameters, are_accepted, is_output_len}
 use Rattle.scrypt.specs.KeyOfParams.{key_by}
 use Rattle.scrypt.specs.McfParams.{field_params, params_text}
 use Rattle.scrypt.specs.Hashing.{key_len_or_default}
-use Rattle.scrypt.specs.Reading.{◌and_then◌, Stored}
+use Rattle.scrypt.specs.Reading.{◌and_then◌, Stored, made_stored}
 
 -- the id of `$7$` hashes
 abbrev pub mcf_id : List ℕ
@@ -55,13 +55,9 @@ pub record IsMcfHashText (text : List ℕ) (s : Stored) : Type 0 where
 abbrev pub made_key : Parameters → List ℕ → List ℕ → List ℕ
 made_key c password salt = key_by c password (crypt64_of salt) (key_len_or_default c)
 
--- the parts of the hash that these parameters make of a password and a salt
-abbrev pub made_hash : Parameters → List ℕ → List ℕ → Stored
-made_hash c password salt = record { params = without_len c; salt = crypt64_of salt; key = made_key c password salt }
-
--- the text of that hash
+-- the text of the hash that these parameters make of a password and a salt
 unfoldable pub made_mcf : Parameters → List ℕ → List ℕ → List ℕ
-made_mcf c password salt = mcf_text (made_hash c password salt)
+made_mcf c password salt = mcf_text (made_stored c password (crypt64_of salt))
 
 -- the length of the text, for a salt of n bytes: the parameters, the letters of the salt, `$`, and
 -- the letters of the key

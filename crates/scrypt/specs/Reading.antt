@@ -3,10 +3,11 @@ use Rattle.std.specs.Prelude.{◌≡◌, ◌≢◌, ◌⊎◌, ℕ, Bool, true, 
 use Rattle.std.specs.Result.{result_map_both}
 use Rattle.password_hash.specs.Refusal.{Refusal, KeyTooShort, OutOfMemory, ParamsInvalid, PasswordInvalid, TooCostly}
 pub use Rattle.password_hash.specs.Refusal.{with_refusal}
-use Rattle.scrypt.specs.Accepted.{Parameters, are_accepted}
+use Rattle.scrypt.specs.Accepted.{Parameters, are_accepted, without_len}
 use Rattle.scrypt.specs.Cost.{chunks_bytes, hash_cost}
 use Rattle.scrypt.specs.Hashing.{key_len_or_default}
 use Rattle.scrypt.specs.Key.{derived_key, mixed_chunks}
+use Rattle.scrypt.specs.KeyOfParams.{key_by}
 use Rattle.scrypt_kernel.specs.Pbkdf2.{pbkdf2}
 
 -- the second step, if the first gave a value, as `Result::and_then`
@@ -72,6 +73,16 @@ is_below wanted c len =
 -- whether a hash is weaker than wanted, or the error of reading it
 abbrev pub weaker : Parameters → Result Stored Refusal → Result Bool Refusal
 weaker wanted reading = mapped (λ s. is_below wanted s.params (length s.key)) reading
+
+-- the parts of the hash that these parameters make of a password and a salt
+abbrev pub made_stored : Parameters → List ℕ → List ℕ → Stored
+made_stored c password salt = record { params = without_len c; salt = salt; key = key_by c password salt (key_len_or_default c) }
+
+-- the hash is read as it was made: it accepts the password, and is not weaker than the parameters
+pub record IsReadAsMade (c : Parameters) (password salt : List ℕ) (reading : Result Stored Refusal) : Type 0 where
+  pub read : reading ≡ Ok (made_stored c password salt)
+  pub accepts : verdict password reading ≡ Ok tt
+  pub strong : weaker c reading ≡ Ok false
 
 -- reading never gives an error that comes after it
 abbrev pub IsOfText : {A : Type 0} → Result A Refusal → Type 0

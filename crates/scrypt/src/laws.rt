@@ -2,7 +2,7 @@
 
 ghost use Rattle.std.specs.Prelude.{◌≡◌, ◌≢◌, ◌⊎◌, ◌↔◌, true, false, ℕ, ◌+◌, ◌-◌, ◌*◌, ◌%◌, ◌^◌, ◌<◌, ◌≤◌, List, [], ◌∷◌, ◌++◌, IsTrue, length, map, sum_by, take, Result, Ok, Err, IsOk, IsSome, Some, All};
 ghost use Rattle.sha2.specs.Sha256.{sha256};
-ghost use Rattle.password_hash.specs.Crypt64.{Crypt64, encoded_len, letter_value, letters_of};
+ghost use Rattle.password_hash.specs.Crypt64.{Crypt64, crypt64_of, encoded_len, letter_value, letters_of};
 ghost use Rattle.password_hash.specs.Mcf.{IsMcfText, fields_of};
 ghost use Rattle.password_hash.specs.Phc.{IsHashText, IsSalt, hash_text};
 ghost use Rattle.password_hash.specs.Refusal.{Refusal, EncodingInvalid, PasswordInvalid};
@@ -24,12 +24,12 @@ ghost use Rattle.scrypt.specs.InBuffers.{are_enough};
 ghost use Rattle.scrypt.specs.Limits.{SufficeFor, are_within, buffers_bytes, limits_for_new, work};
 ghost use Rattle.scrypt.specs.Logins.{AreLeft, Attempt, cores_on, hashed_on};
 ghost use Rattle.scrypt.specs.McfParams.{params_letters, five_letter_number};
-ghost use Rattle.scrypt.specs.McfHash.{IsMcfHashText, made_hash, made_mcf, read_fields, read_mcf};
+ghost use Rattle.scrypt.specs.McfHash.{IsMcfHashText, made_mcf, read_fields, read_mcf};
 ghost use Rattle.scrypt.specs.Buffers.{AreFor};
 ghost use Rattle.scrypt.specs.PhcParams.{params_of_pairs, written_pairs};
 ghost use Rattle.scrypt.specs.PhcHash.{is_salt_len, made_phc, phc_params, read_phc};
 ghost use Rattle.scrypt.specs.PublicPart.{AreSameAfter, public_hash, public_part};
-ghost use Rattle.scrypt.specs.Reading.{IsOfText, NamesNoPassword, Stored, verdict, verify_cost, weaker};
+ghost use Rattle.scrypt.specs.Reading.{IsOfText, IsReadAsMade, NamesNoPassword, Stored, verdict, verify_cost};
 ghost use Rattle.scrypt.specs.StoredHash.{is_mcf_text, is_stored_text, params_reading, reading};
 ghost use Rattle.scrypt.specs.WithinLimits.{within};
 ghost use Rattle.scrypt.specs.Workspace.{IsLeft, Workspace, hashed_in, tables_used};
@@ -97,26 +97,6 @@ pub fn mcf_texts_are_read()
     ensures exact { (text : List ℕ) (s : Stored) → (read_mcf text ≡ Ok s) ↔ IsMcfHashText text s }
 {}
 
-/// A hash made from a password with accepted parameters verifies against that password. A PHC hash
-/// does so also after it has been printed and parsed. A `$7$` hash consists of the letters of the
-/// parameters, of the salt and of the key.
-#[tactic(auto, using(crate::proofs::PhcFacts::made_hashes, crate::proofs::McfTextFacts::made_text, password_hash::proofs::PhcReadingFacts::one_reading))]
-pub fn made_hashes_are_accepted()
-    ensures phc { (c : Parameters) (password salt : List ℕ) → IsTrue (are_accepted c.log_n c.r c.p)
-        → verdict password (read_phc (made_phc c password salt)) ≡ Ok tt }
-    ensures phc_printed { (c : Parameters) (password salt : List ℕ) → IsTrue (are_accepted c.log_n c.r c.p)
-        → IsTrue (is_stored_len c.output_len) → IsSalt salt
-        → IsHashText (hash_text (made_phc c password salt)) (made_phc c password salt) }
-    ensures phc_read_back { (c : Parameters) (password salt : List ℕ) (again : PasswordHash)
-        → IsTrue (are_accepted c.log_n c.r c.p) → IsTrue (is_stored_len c.output_len) → IsSalt salt
-        → IsHashText (hash_text (made_phc c password salt)) again → verdict password (read_phc again) ≡ Ok tt }
-    ensures mcf { (c : Parameters) (password salt : List ℕ) → IsTrue (are_accepted c.log_n c.r c.p)
-        → IsTrue (is_output_len (key_len_or_default c)) → verdict password (read_mcf (made_mcf c password salt)) ≡ Ok tt }
-    ensures mcf_read { (c : Parameters) (password salt : List ℕ) → IsTrue (are_accepted c.log_n c.r c.p)
-        → IsTrue (is_output_len (key_len_or_default c))
-        → read_mcf (made_mcf c password salt) ≡ Ok (made_hash c password salt) }
-{}
-
 /// A text that is `$7` or begins with `$7$` is read by its fields, and the text of a PHC hash as
 /// this hash. The reading of any other text is `EncodingInvalid`.
 pub fn texts_are_read_in_their_format()
@@ -138,33 +118,32 @@ pub fn parameters_are_those_of_the_reading()
     ensures refused { (text : List ℕ) (why : Refusal) → params_reading text ≡ Err why → reading text ≡ Err why }
 {}
 
-/// The text of a hash made from a password with accepted parameters verifies against that password,
-/// and is not weaker than these parameters ask for. A PHC string is read as the parameters, the
-/// salt and the key that it was made of, and it is within
-/// [`Limits::for_new`](crate::Limits::for_new), if the bytes and the work of its derivation are
-/// below `2^64` each. A key has the requested length.
-#[tactic(auto, using(crate::proofs::PhcFacts::made_hashes, crate::proofs::StoredHashFacts::made_texts, crate::proofs::KeyFacts::lengths, crate::proofs::ReadingFacts::made_within))]
-pub fn made_texts_are_accepted()
+/// A hash that accepted parameters make of a password is read as it was made, and so is its text:
+/// it accepts the password, and is not weaker than the parameters ask for. The text of a PHC hash
+/// is the text of no other hash, and is within [`Limits::for_new`](crate::Limits::for_new), if the
+/// bytes and the work of its derivation are below `2^64` each. The salt of a `$7$` hash is its
+/// letters. A key has the requested length.
+pub fn made_hashes_are_accepted()
     ensures phc { (c : Parameters) (password salt : List ℕ) → IsTrue (are_accepted c.log_n c.r c.p)
+        → IsReadAsMade c password salt (read_phc (made_phc c password salt)) }
+    ensures phc_text { (c : Parameters) (password salt : List ℕ) → IsTrue (are_accepted c.log_n c.r c.p)
         → IsTrue (is_stored_len c.output_len) → IsSalt salt
-        → (verdict password (reading (hash_text (made_phc c password salt))) ≡ Ok tt)
-        × (weaker c (reading (hash_text (made_phc c password salt))) ≡ Ok false) }
-    ensures phc_read { (c : Parameters) (password salt : List ℕ) → IsTrue (are_accepted c.log_n c.r c.p)
-        → IsTrue (is_stored_len c.output_len) → IsSalt salt
-        → reading (hash_text (made_phc c password salt)) ≡ Ok (record {
-          params = without_len c;
-          salt = salt;
-          key = key_by c password salt (key_len_or_default c);
-        }) }
+        → IsReadAsMade c password salt (reading (hash_text (made_phc c password salt))) }
+    ensures phc_printed { (c : Parameters) (password salt : List ℕ) (hash : PasswordHash)
+        → IsTrue (are_accepted c.log_n c.r c.p) → IsTrue (is_stored_len c.output_len) → IsSalt salt
+        → IsHashText (hash_text (made_phc c password salt)) hash ↔ (hash ≡ made_phc c password salt) }
     ensures phc_within { (defaults : Limits) (c : Parameters) (password salt : List ℕ) (n : ℕ)
         → IsTrue (are_accepted c.log_n c.r c.p) → IsTrue (is_stored_len c.output_len) → IsSalt salt
         → n ≤ key_len_or_default c → buffers_bytes c.log_n c.r c.p < 2 ^ 64 → work c.log_n c.r c.p < 2 ^ 64
         → within (limits_for_new defaults c n) (reading (hash_text (made_phc c password salt)))
         ≡ reading (hash_text (made_phc c password salt)) }
-    ensures key_len { (c : Parameters) (password salt : List ℕ) (n : ℕ) → length (key_by c password salt n) ≡ n }
     ensures mcf { (c : Parameters) (password salt : List ℕ) → IsTrue (are_accepted c.log_n c.r c.p)
-        → IsTrue (is_output_len (key_len_or_default c)) → (verdict password (reading (made_mcf c password salt)) ≡ Ok tt)
-        × (weaker c (reading (made_mcf c password salt)) ≡ Ok false) }
+        → IsTrue (is_output_len (key_len_or_default c))
+        → IsReadAsMade c password (crypt64_of salt) (read_mcf (made_mcf c password salt)) }
+    ensures mcf_text { (c : Parameters) (password salt : List ℕ) → IsTrue (are_accepted c.log_n c.r c.p)
+        → IsTrue (is_output_len (key_len_or_default c))
+        → IsReadAsMade c password (crypt64_of salt) (reading (made_mcf c password salt)) }
+    ensures key_len { (c : Parameters) (password salt : List ℕ) (n : ℕ) → length (key_by c password salt n) ≡ n }
 {}
 
 /// A password is accepted if and only if the stored key is the key of its length that the
@@ -189,15 +168,6 @@ pub fn reading_names_no_password()
     ensures params { (hash : PasswordHash) → NamesNoPassword (phc_params hash) }
     ensures stored { (text : List ℕ) → NamesNoPassword (params_reading text) }
     ensures whole { (text : List ℕ) → IsOfText (reading text) }
-{}
-
-/// A hash that was made with the wanted parameters is not weaker than wanted.
-#[tactic(auto, using(crate::proofs::PhcFacts::made_hashes, crate::proofs::McfTextFacts::made_text))]
-pub fn rehashing_converges()
-    ensures phc { (c : Parameters) (password salt : List ℕ) → IsTrue (are_accepted c.log_n c.r c.p)
-        → weaker c (read_phc (made_phc c password salt)) ≡ Ok false }
-    ensures mcf { (c : Parameters) (password salt : List ℕ) → IsTrue (are_accepted c.log_n c.r c.p)
-        → IsTrue (is_output_len (key_len_or_default c)) → weaker c (read_mcf (made_mcf c password salt)) ≡ Ok false }
 {}
 
 /// Numbers below 2^30 and their five letters determine each other, any five letters encode a

@@ -13,7 +13,7 @@ ghost use Rattle.scrypt.specs.StoredHash.{reading};
 ghost use Rattle.scrypt.specs.WithinLimits.{within};
 ghost use Rattle.scrypt.specs.declared.limits.Limits.{Limits};
 
-use crate::laws::made_texts_are_accepted;
+use crate::laws::made_hashes_are_accepted;
 use crate::{Params, Scrypt};
 use password_hash::phc::PasswordHash;
 use password_hash::{PasswordHasher, Result};
@@ -43,7 +43,7 @@ pub fn hash_text(alloc: Global, password: &[u8], salt: [u8; 16], params: &Params
         ≡ reading (string_bytes text)) }
     ensures err { IfErr result (λ e. e ≡ OutOfMemory) }
 {
-    made_texts_are_accepted();
+    made_hashes_are_accepted();
     params.expose_invariant();
     let hash: PasswordHash = Scrypt::new_with_params(*params).hash_password(alloc, password, salt)?;
     Ok(hash.to_string(alloc)?)

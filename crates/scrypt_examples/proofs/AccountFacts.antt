@@ -7,13 +7,13 @@ use Rattle.scrypt.specs.Accepted.{Parameters, without_len}
 use Rattle.scrypt.specs.Hashing.{key_len_or_default}
 use Rattle.scrypt.specs.KeyOfParams.{key_by}
 use Rattle.scrypt.specs.Limits.{are_within, buffers_bytes, work}
-use Rattle.scrypt.specs.Reading.{Stored, is_below, verdict, weaker}
+use Rattle.scrypt.specs.Reading.{Stored, is_below, made_stored, verdict, weaker}
 use Rattle.scrypt.specs.StoredHash.{reading}
 use Rattle.scrypt.specs.WithinLimits.{within}
 use Rattle.scrypt.specs.declared.limits.Limits.{Limits}
-use Rattle.scrypt_examples.specs.Account.{Call, ChangePassword, IsOpen, IsRenewed, LogIn, Run, SetLimits, SetPolicy, Step, Stores, admits, current_password, made, password_after}
+use Rattle.scrypt_examples.specs.Account.{Call, ChangePassword, IsOpen, IsRenewed, LogIn, Run, SetLimits, SetPolicy, Step, Stores, admits, current_password, password_after}
 
--- what the law `made_texts_are_accepted` says of the length of a key
+-- what the law `made_hashes_are_accepted` says of the length of a key
 abbrev pub HaveLength : Type 0
 HaveLength = (c : Parameters) (password salt : List ℕ) (n : ℕ) → length (key_by c password salt n) ≡ n
 
@@ -54,7 +54,7 @@ accepted_within password (Err why) is = absurd cc
 
 -- a made text accepts its password, within limits that admit the policy
 made_within : (limits : Limits) (c : Parameters) (password salt : List ℕ) → HaveLength → admits limits c ≡ true
-    → within limits (Ok (made c password salt)) ≡ Ok (made c password salt)
+    → within limits (Ok (made_stored c password salt)) ≡ Ok (made_stored c password salt)
 unfolding are_within
 made_within limits c password salt lengths fits =
     let tests = both (are_within limits c) _ fits in
@@ -68,7 +68,7 @@ below : (c : Parameters) (n : ℕ) → n ≡ key_len_or_default c → is_below c
 unfolding is_below
 below c n is = grind (arith, nat_tests)
 
-made_strong : (c : Parameters) (password salt : List ℕ) → HaveLength → weaker c (Ok (made c password salt)) ≡ Ok false
+made_strong : (c : Parameters) (password salt : List ℕ) → HaveLength → weaker c (Ok (made_stored c password salt)) ≡ Ok false
 made_strong c password salt lengths = ap Ok (below c _ (lengths c password salt (key_len_or_default c)))
 
 -- a renewed text leaves the account open to its password
@@ -77,7 +77,7 @@ renewed_open : (old new : Stores) (current password salt : List ℕ) → HaveLen
 renewed_open old new current password salt lengths compare is_open renewed =
     record {
       accepts = rw (renewed.read, renewed.limits, made_within old.limits old.policy password salt lengths is_open.admitted)
-          (compare password (made old.policy password salt) (sym (ap (key_by old.policy password salt) (lengths old.policy password salt (key_len_or_default old.policy)))));
+          (compare password (made_stored old.policy password salt) (sym (ap (key_by old.policy password salt) (lengths old.policy password salt (key_len_or_default old.policy)))));
       admitted = rw (renewed.limits, renewed.policy) is_open.admitted;
     }
 

@@ -1,10 +1,9 @@
 -- An account, the calls on it, and the histories of these calls.
 use Rattle.std.specs.Prelude.{◌≡◌, ◌⊎◌, ℕ, Bool, true, false, ◌&&◌, nat_le, List, [], ◌∷◌, Ok, IsTrue, is_ok}
-use Rattle.scrypt.specs.Accepted.{Parameters, without_len}
+use Rattle.scrypt.specs.Accepted.{Parameters}
 use Rattle.scrypt.specs.Hashing.{key_len_or_default}
-use Rattle.scrypt.specs.KeyOfParams.{key_by}
 use Rattle.scrypt.specs.Limits.{are_within}
-use Rattle.scrypt.specs.Reading.{Stored, verdict, weaker}
+use Rattle.scrypt.specs.Reading.{made_stored, verdict, weaker}
 use Rattle.scrypt.specs.StoredHash.{reading}
 use Rattle.scrypt.specs.WithinLimits.{within}
 use Rattle.scrypt.specs.declared.limits.Limits.{Limits}
@@ -37,13 +36,9 @@ is_allowed a (ChangePassword password new_password salt) = lets_in a password
 is_allowed a (SetPolicy policy) = admits a.limits policy
 is_allowed a (SetLimits limits) = admits limits a.policy && is_ok (within limits (reading a.text))
 
--- the reading of a text that this policy makes of a password and a salt
-abbrev pub made : Parameters → List ℕ → List ℕ → Stored
-made c password salt = record { params = without_len c; salt = salt; key = key_by c password salt (key_len_or_default c) }
-
 -- only the text was replaced, by one that the policy makes of this password and salt
 pub record IsRenewed (old : Stores) (password salt : List ℕ) (new : Stores) : Type 0 where
-  pub read : reading new.text ≡ Ok (made old.policy password salt)
+  pub read : reading new.text ≡ Ok (made_stored old.policy password salt)
   pub policy : new.policy ≡ old.policy
   pub limits : new.limits ≡ old.limits
 

@@ -9,7 +9,7 @@ ghost use Rattle.scrypt_examples.specs.Account.{Call, ChangePassword, IsOpen, Is
 
 use crate::hash::verify;
 use password_hash::{Error, Result};
-use scrypt::laws::{made_texts_are_accepted, verdicts_compare_keys};
+use scrypt::laws::{made_hashes_are_accepted, verdicts_compare_keys};
 use scrypt::{LimitedError, Limits, Params, StoredHash, hash_text};
 use std::alloc::Global;
 use std::marker::Model;
@@ -57,7 +57,7 @@ impl Account {
             (account.policy ≡ policy) × (account.limits ≡ limits) × IsOpen password.now account)) }
         ensures err { IfErr result (λ e. e ≡ OutOfMemory) }
     {
-        made_texts_are_accepted();
+        made_hashes_are_accepted();
         if !are_admitted(&limits, &policy) {
             return Ok(None);
         }
@@ -163,7 +163,7 @@ impl Account {
         ensures err { IfErr result (λ e. e ≡ OutOfMemory) }
         ensures unchanged { OnErr result (self.new ≡ self.old) }
     {
-        made_texts_are_accepted();
+        made_hashes_are_accepted();
         self.text = hash_text(alloc, password, salt, &self.policy)?;
         Ok(())
     }
@@ -198,6 +198,6 @@ pub fn nobody_is_locked_out()
     ensures strong { (old new : Stores) (password salt : List ℕ) → Step old (LogIn password salt) true new
         → weaker new.policy (reading new.text) ≡ Ok false }
 {
-    made_texts_are_accepted();
+    made_hashes_are_accepted();
     verdicts_compare_keys();
 }

@@ -14,7 +14,7 @@ ghost use Rattle.scrypt.specs.StoredHash.{reading};
 ghost use Rattle.scrypt_examples.specs.Login.{IsEnrolled, lets_in, new_text};
 
 use password_hash::{Error, PasswordHasher, Result, mcf};
-use scrypt::laws::{hashers_are_accepted, made_texts_are_accepted};
+use scrypt::laws::{hashers_are_accepted, made_hashes_are_accepted};
 use scrypt::{CoreCount, Decoy, InvalidParams, Params, Scrypt, Simd, StoredHash, hash_text};
 use std::alloc::Global;
 
@@ -69,7 +69,7 @@ impl LoginPolicy {
         ensures strong { IfOk result (λ text. weaker self.now.wanted (reading (string_bytes text)) ≡ Ok false) }
         ensures err { IfErr result (λ e. e ≡ OutOfMemory) }
     {
-        made_texts_are_accepted();
+        made_hashes_are_accepted();
         let hasher = Scrypt::new_with_params(self.wanted);
         hashers_are_accepted(&hasher);
         let hash: mcf::PasswordHash = hasher.hash_password(alloc, password, salt)?;

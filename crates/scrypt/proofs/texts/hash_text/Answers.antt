@@ -11,14 +11,13 @@ returns c =
     let salt : IsSalt c.args.salt = record { are_bytes = λ i. search rules; enough = search rules; fits = search rules } in
     let accepted = c.expose_invariant.ensures.accepted in
     let stored = c.expose_invariant.ensures.stored in
-    let law = c.made_texts_are_accepted.ensures.phc params c.args.password.now c.args.salt accepted stored salt in
-    let read = c.made_texts_are_accepted.ensures.phc_read params c.args.password.now c.args.salt accepted stored salt in
+    let law = c.made_hashes_are_accepted.ensures.phc_text params c.args.password.now c.args.salt accepted stored salt in
     record {
       made = printed;
-      read = rw printed read;
-      accepts = rw printed law.0;
-      strong = rw printed law.1;
-      within = λ defaults n short bytes little. rw printed (c.made_texts_are_accepted.ensures.phc_within defaults params c.args.password.now
+      read = rw printed law.read;
+      accepts = rw printed law.accepts;
+      strong = rw printed law.strong;
+      within = λ defaults n short bytes little. rw printed (c.made_hashes_are_accepted.ensures.phc_within defaults params c.args.password.now
           c.args.salt n accepted stored salt short bytes little);
       err = tt;
     }
