@@ -108,14 +108,21 @@ verdict_right password reading = (there reading, λ h. ap (verdict password) h.1
     there (Ok s) is = (s, refl, (right_decided password s).0 (ok_if (is_right password s) (Ok tt) PasswordInvalid is).0)
     there (Err why) is = absurd cc
 
-pub verdict_wrong : (password : List ℕ) (reading : Result Stored Refusal) → verdict password reading ≡ Err PasswordInvalid
-    → ((s : Stored) × (reading ≡ Ok s) × (s.key ≢ key_by s.params password s.salt (length s.key))) ⊎ (reading ≡ Err PasswordInvalid)
-verdict_wrong password (Err why) is = let same : why ≡ PasswordInvalid = cc in inr (ap Err same)
-verdict_wrong password (Ok s) is =
-    inl (s, refl, λ same. let right : ◌≡◌ {A = Result ⊤ Refusal} (Ok tt) (Err PasswordInvalid) = sym (right_is_told same) ∙ is in absurd cc)
+-- the keys differ, or there are none
+abbrev IsWrong : List ℕ → Result Stored Refusal → Type 0
+IsWrong password reading =
+    ((s : Stored) × (reading ≡ Ok s) × (s.key ≢ key_by s.params password s.salt (length s.key))) ⊎ (reading ≡ Err PasswordInvalid)
+
+pub verdict_wrong : (password : List ℕ) (reading : Result Stored Refusal) → (verdict password reading ≡ Err PasswordInvalid) ↔ IsWrong password reading
+verdict_wrong password reading = (there reading, back)
   where
-    right_is_told : s.key ≡ key_by s.params password s.salt (length s.key) → verdict password (Ok s) ≡ Ok tt
-    right_is_told same = rw ((right_decided password s).1 same) refl
+    there : (reading : Result Stored Refusal) → verdict password reading ≡ Err PasswordInvalid → IsWrong password reading
+    there (Err why) is = let same : why ≡ PasswordInvalid = cc in inr (ap Err same)
+    there (Ok s) is = inl (s, refl, λ same. absurd (cc (is, (verdict_right password (Ok s)).1 (s, refl, same))))
+
+    back : IsWrong password reading → verdict password reading ≡ Err PasswordInvalid
+    back (inl (s, is, differ)) = ap (verdict password) is ∙ rw (false_from_ne_true _ (λ right. differ ((right_decided password s).0 right))) refl
+    back (inr is) = ap (verdict password) is
 
 -- what is read as a made hash accepts the password, and is not weaker than its parameters ask for
 pub read_as_made : (c : Parameters) (password salt : List ℕ) {reading : Result Stored Refusal} → reading ≡ Ok (made_stored c password salt)

@@ -147,16 +147,16 @@ pub fn made_hashes_are_accepted()
 {}
 
 /// A password is accepted if and only if the stored key is the key of its length that the
-/// parameters and the salt of the hash derive from the password. `PasswordInvalid` means that the
-/// keys differ, or that the hash has no key or no salt.
+/// parameters and the salt of the hash derive from the password. The verdict is `PasswordInvalid` if
+/// and only if the keys differ, or the hash has no key or no salt.
 #[tactic(auto, using(crate::proofs::ReadingFacts::verdict_right, crate::proofs::ReadingFacts::verdict_wrong))]
 pub fn verdicts_compare_keys()
     ensures right { (password : List ℕ) (reading : Result Stored Refusal) → (verdict password reading ≡ Ok tt)
         ↔ ((s : Stored) × (reading ≡ Ok s) × (s.key ≡ key_by s.params password s.salt (length s.key))) }
     ensures wrong { (password : List ℕ) (reading : Result Stored Refusal)
-        → verdict password reading ≡ Err PasswordInvalid
-        → ((s : Stored) × (reading ≡ Ok s) × (s.key ≢ key_by s.params password s.salt (length s.key)))
-        ⊎ (reading ≡ Err PasswordInvalid) }
+        → (verdict password reading ≡ Err PasswordInvalid)
+        ↔ (((s : Stored) × (reading ≡ Ok s) × (s.key ≢ key_by s.params password s.salt (length s.key)))
+        ⊎ (reading ≡ Err PasswordInvalid)) }
 {}
 
 /// Reading a `$7$` hash, or the parameters of a PHC hash or of a stored hash, never gives
