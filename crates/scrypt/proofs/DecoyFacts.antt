@@ -1,5 +1,5 @@
-use Rattle.std.proofs.Common.{◌≡◌, ◌≢◌, ◌⊎◌, inl, inr, ◌∙◌, ℕ, ◌<◌, ◌≤◌, ◌+◌, ◌-◌, suc, List, [], ◌∷◌, length, take, drop, slice_index, Ok, Err, refl, sym, ap, arith, IsTrue, false}
-use Rattle.std.specs.Prelude.{◌&&◌, Result, replicate, ⊤}
+use Rattle.std.proofs.Common.{◌≡◌, ◌≢◌, ◌⊎◌, inl, inr, ◌∙◌, ℕ, ◌<◌, ◌≤◌, ◌+◌, ◌-◌, suc, List, [], ◌∷◌, length, take, drop, slice_index, Ok, Err, refl, sym, ap, arith, IsTrue, true, false}
+use Rattle.std.specs.Prelude.{◌&&◌, Bool, Result, if◌then◌else◌, replicate, ⊤}
 use Rattle.std.proofs.lemmas.Bool.{and_parts, false_from_ne_true}
 use Rattle.std.proofs.lemmas.List.{drop-replicate, get_or-replicate, length-replicate}
 use Rattle.password_hash.specs.Refusal.{Refusal, OutOfMemory, ParamsInvalid, PasswordInvalid}
@@ -8,11 +8,14 @@ use Rattle.scrypt.specs.Accepted.{Parameters, are_accepted, is_stored_len, witho
 use Rattle.scrypt.specs.Decoy.{decoy_reading, no_key}
 use Rattle.scrypt.specs.Hashing.{key_len_or_default}
 use Rattle.scrypt.specs.KeyOfParams.{key_by}
+use Rattle.scrypt.specs.Limits.{are_within}
 use Rattle.scrypt.specs.PublicPart.{public_hash}
 use Rattle.scrypt.specs.Reading.{IsVerdict, Stored, is_right, made_stored, verdict, with_refusal}
+use Rattle.scrypt.specs.WithinLimits.{within}
+use Rattle.scrypt.specs.declared.limits.Limits.{Limits}
 use Rattle.scrypt.proofs.AcceptedFacts.{bounds, key_len_stored, ok_if}
 use Rattle.scrypt.proofs.KeyFacts.{key_by-are_bytes, length-key_by}
-use Rattle.scrypt.proofs.ReadingFacts.{right_decided}
+use Rattle.scrypt.proofs.ReadingFacts.{right_decided, within_decided, within_limits}
 
 -- the parts of a decoy
 abbrev pub decoy_of : Parameters → List ℕ → Stored
@@ -59,6 +62,18 @@ made_public c password salt any fits len long is =
     let key : length (no_key (key_len_or_default c)) ≡ length (key_by c password salt (key_len_or_default c)) =
     length-replicate _ _ ∙ sym (length-key_by c password salt _) in
     rw (is, accepted_decoy c any fits len, long, key) refl
+
+-- it is within the limits that its parameters are within
+pub decoy_within : (limits : Limits) (c : Parameters) (salt : List ℕ) → IsTrue (are_within limits c) → limits.min_key_len ≤ key_len_or_default c
+    → within limits (decoy_reading c salt) ≡ decoy_reading c salt
+decoy_within limits c salt fits long = at (are_accepted c.log_n c.r c.p && is_stored_len c.output_len) (Ok (decoy_of c salt))
+    (within_limits limits (decoy_of c salt) ((within_decided limits (without_len c)).1 ((within_decided limits c).0 fits))
+    (rw (length-replicate {A = ℕ} (key_len_or_default c) 256) long))
+  where
+    at : (test : Bool) (decoy : Result Stored Refusal) → within limits decoy ≡ decoy
+        → within limits (if test then decoy else Err ParamsInvalid) ≡ (if test then decoy else Err ParamsInvalid)
+    at true decoy is = is
+    at false decoy is = refl
 
 -- no part of it is equal to bytes
 pub no_match : (bytes : List ℕ) (at n : ℕ) → slice_index bytes 0 < 256 → at + length bytes ≤ n

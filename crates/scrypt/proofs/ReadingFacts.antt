@@ -169,6 +169,9 @@ enough_within limits s chunks table scratch suffice some within_is =
     allowed true first why is = refl
     allowed false first why is = absurd cc
 
+pub within_limits : (limits : Limits) (s : Stored) → IsTrue (are_within limits s.params) → limits.min_key_len ≤ length s.key → within limits (Ok s) ≡ Ok s
+within_limits limits s fits long = rw (fits, (leb_decided _ _).1 long) refl
+
 admitted : (defaults needed : ℕ) → needed < 2 ^ 64 → needed ≤ min (max defaults needed) (2 ^ 64 - 1)
 admitted defaults needed small = omega arith
 
@@ -180,8 +183,7 @@ pub made_within : (defaults : Limits) (c : Parameters) (password salt : List ℕ
 made_within defaults c password salt n reading is short bytes little =
     let long = length-key_by c password salt (key_len_or_default c) in
     let allowed = (within_decided (limits_for_new defaults c n) (without_len c)).1 (admitted _ _ bytes, admitted _ _ little) in
-    let enough = (leb_decided (min defaults.min_key_len n) (key_len_or_default c)).1 (omega arith) in
-    rw (is, allowed, long, enough) refl
+    rw is (within_limits (limits_for_new defaults c n) (made_stored c password salt) allowed (omega (arith, long)))
 
 pub not_enough : (c : Parameters) (chunks table scratch : List ℕ) → ¬ IsTrue (are_enough c chunks table scratch)
     → are_enough c chunks table scratch ≡ false

@@ -223,13 +223,15 @@ pub fn work_is_independent_of_secrets()
         → AreLeft these before after → AreLeft others before after }
 {}
 
-/// A decoy accepts no password. Its public part is that of a hash that is made with its parameters,
-/// if their salts have one length; the salt of a `$7$` hash is its letters. So by
-/// [`work_is_independent_of_secrets`] its verification has the work of one with the hash, and
-/// leaves the same buffers, alone and in batches.
+/// A decoy accepts no password, and is within the limits that its parameters are within. Its public
+/// part is that of a hash that is made with its parameters, if their salts have one length; the
+/// salt of a `$7$` hash is its letters. So by [`work_is_independent_of_secrets`] its verification
+/// has the work of one with the hash, and leaves the same buffers, alone and in batches.
 pub fn decoys_cost_what_hashes_cost()
     ensures rejected { (c : Parameters) (password salt : List ℕ) → IsTrue (are_accepted c.log_n c.r c.p)
         → IsTrue (is_stored_len c.output_len) → verdict password (decoy_reading c salt) ≡ Err PasswordInvalid }
+    ensures within { (limits : Limits) (c : Parameters) (salt : List ℕ) → IsTrue (are_within limits c)
+        → limits.min_key_len ≤ key_len_or_default c → within limits (decoy_reading c salt) ≡ decoy_reading c salt }
     ensures phc { (c : Parameters) (password salt any : List ℕ) → IsTrue (are_accepted c.log_n c.r c.p)
         → IsTrue (is_stored_len c.output_len) → IsSalt salt → length any ≡ length salt
         → public_hash (decoy_reading c any) ≡ public_hash (reading (hash_text (made_phc c password salt))) }
