@@ -283,15 +283,14 @@ pub fn block_mix_in_diagonal_order()
         → IsBlockMixBy f b other → out ≡ other }
 {}
 
-/// The parameters of a hasher are accepted, and so is their length of a stored key, and the length
-/// of the key that hashing makes.
+/// The parameters are accepted, and so is their length of a stored key, and the length of the key
+/// that hashing makes. For a hasher pass `&hasher.params()`.
 #[tactic(auto, using(crate::proofs::AcceptedFacts::stored_is_output))]
-pub fn hashers_are_accepted(hasher: &crate::Scrypt)
-    ensures accepted { IsTrue (are_accepted hasher.now.log_n hasher.now.r hasher.now.p) }
-    ensures stored { IsTrue (is_stored_len hasher.now.output_len) }
-    ensures made { IsTrue (is_output_len (key_len_or_default hasher.now)) }
+pub fn parameters_are_accepted(params: &crate::Params)
+    ensures accepted { IsTrue (are_accepted params.now.log_n params.now.r params.now.p) }
+    ensures stored { IsTrue (is_stored_len params.now.output_len) }
+    ensures made { IsTrue (is_output_len (key_len_or_default params.now)) }
 {
-    let params = hasher.params();
     params.expose_invariant();
 }
 

@@ -14,7 +14,7 @@ ghost use Rattle.scrypt.specs.StoredHash.{reading};
 ghost use Rattle.scrypt_examples.specs.Login.{IsEnrolled, lets_in, new_text};
 
 use password_hash::{Error, PasswordHasher, Result, mcf};
-use scrypt::laws::{hashers_are_accepted, made_hashes_are_accepted};
+use scrypt::laws::{made_hashes_are_accepted, parameters_are_accepted};
 use scrypt::{CoreCount, Decoy, InvalidParams, Params, Scrypt, Simd, StoredHash, hash_text};
 use std::alloc::Global;
 
@@ -70,8 +70,8 @@ impl LoginPolicy {
         ensures err { IfErr result (λ e. e ≡ OutOfMemory) }
     {
         made_hashes_are_accepted();
+        parameters_are_accepted(&self.wanted);
         let hasher = Scrypt::new_with_params(self.wanted);
-        hashers_are_accepted(&hasher);
         let hash: mcf::PasswordHash = hasher.hash_password(alloc, password, salt)?;
         Ok(hash.into_string())
     }
