@@ -25,6 +25,13 @@ func number(n int) C.uint32_t {
 	return C.uint32_t(n)
 }
 
+// explained returns the numbers of a status, in words.
+func explained(status C.int, cost C.scrypt_cost, maxMem C.size_t, maxWork C.uint64_t, minKeyLen C.size_t) string {
+	text := make([]byte, C.SCRYPT_EXPLANATION_CAPACITY)
+	C.scrypt_explain(status, &cost, maxMem, maxWork, minKeyLen, chars(text), size(text))
+	return C.GoString(chars(text))
+}
+
 var none [1]byte
 
 // bytes returns a pointer to the first byte. It is never NULL, which would mean a random salt.

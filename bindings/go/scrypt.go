@@ -19,6 +19,7 @@ package scrypt
 import "C"
 
 import (
+	"fmt"
 	"math"
 	"time"
 )
@@ -91,6 +92,15 @@ func (params Params) costs() (cost C.scrypt_cost, err error) {
 		err = ErrInvalidParams
 	}
 	return cost, err
+}
+
+// cost describes the cost of a derivation, or says that the parameters are not accepted.
+func (params Params) cost() string {
+	cost, err := params.costs()
+	if err != nil {
+		return fmt.Sprintf("LogN %d, R %d and P %d are not accepted", params.LogN, params.R, params.P)
+	}
+	return explained(C.SCRYPT_E_TOO_COSTLY, cost, math.MaxUint64, math.MaxUint64, 0)
 }
 
 // Work returns the work of a derivation, which Options.MaxWork limits: 4 * (N + 32) * R * P
