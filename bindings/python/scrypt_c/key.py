@@ -1,14 +1,20 @@
-"""Keys, with the signature of hashlib.scrypt."""
+"""Keys, with the signature of hashlib.scrypt, and derived in steps: between two steps Python runs
+signal handlers and reports the progress."""
 
 from __future__ import annotations
 
+import ctypes
 from typing import Callable, Optional
 
 from .arguments import Bytes, in_64_bits, number, raw_bytes
-from .declared import AUTO, MAX_OUTPUT_LEN, Status
+from .declared import AUTO, MAX_OUTPUT_LEN, STEP_MS, Status
 from .errors import InvalidParamsError, check
+from .library import Derivation, lib
 from .params import NO_LIMIT, Params, accepted, check_costs, cost_of
-from .steps import derived
+
+# A key of fewer Salsa20/8 cores, which take about 40 ms, is derived in one call, which is faster
+# than several.
+LONG = 3 << 18
 
 
 def scrypt(
@@ -55,3 +61,37 @@ def log_of(n: int) -> int:
         words = f"n must be a power of two above 1: {n}"
         raise InvalidParamsError(Status.INVALID_PARAMS, words)
     return n.bit_length() - 1
+
+
+def derived(
+    password: bytes,
+    salt: bytes,
+    params: Params,
+    max_mem: int,
+    dklen: int,
+    progress: Optional[Callable[[float], object]] = None,
+) -> bytes:
+    """Derives a key in tables of up to `max_mem` bytes, or as many as the library chooses if it is
+    AUTO. An exception of a signal handler or of `progress` ends the derivation, and its memory is
+    freed."""
+    key = ctypes.create_string_buffer(dklen)
+    arguments = password, len(password), salt, len(salt), *params[:3]
+    if progress is None and params.cores < LONG and (max_mem == AUTO or params.p == 1):
+        status = lib.scrypt_key(*arguments, key, dklen)
+    else:
+        derivation, done = Derivation(), ctypes.c_double()
+        try:
+            status = lib.scrypt_derivation_new(*arguments, max_mem, dklen, derivation)
+            while not status and done.value < 1:
+                status = lib.scrypt_derivation_run(derivation, STEP_MS, done)
+                if progress is not None:
+                    progress(done.value)
+            finish = lib.scrypt_derivation_finish
+            status = status or finish(derivation, password, len(password), key, dklen)
+        finally:
+            lib.scrypt_derivation_free(derivation)
+    if status:
+        check_costs(status, cost_of(params)[1], None, None)
+    made = key.raw
+    ctypes.memset(key, 0, dklen)
+    return made
