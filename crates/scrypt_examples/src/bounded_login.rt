@@ -1,8 +1,9 @@
 //! Logins with untrusted hashes: a hash that is too costly is rejected before any work.
 
-ghost use Rattle.std.specs.Prelude.{◌≡◌, ◌+◌, ◌*◌, ◌≤◌, IfOk, length};
+ghost use Rattle.std.specs.Prelude.{◌≡◌, ◌+◌, ◌*◌, ◌≤◌, [], ◌∷◌, IfOk, length, map};
 ghost use Rattle.scrypt.specs.Cost.{lengths_cost};
-ghost use Rattle.scrypt.specs.Reading.{let_in, verdict};
+ghost use Rattle.scrypt.specs.Logins.{reading_of, reading_of_hash};
+ghost use Rattle.scrypt.specs.Reading.{◌and_then◌, let_in, verdict};
 ghost use Rattle.scrypt.specs.StoredHash.{reading};
 ghost use Rattle.scrypt.specs.WithinLimits.{with_limited_refusal, within};
 ghost use Rattle.scrypt.specs.Workspace.{IsLeft, verdict_in, workspace_of};
@@ -10,7 +11,7 @@ ghost use Rattle.scrypt_examples.specs.Login.{CostsAtMost};
 
 use password_hash::Error;
 use scrypt::laws::work_bounds_both_counts;
-use scrypt::{Buffers, CoreCount, LimitedError, Limits, Simd, StoredHash};
+use scrypt::{Buffers, CoreCount, LimitedError, Limits, Login, LoginHash, Simd, StoredHash};
 use std::alloc::{AllocError, Global};
 use std::marker::Model;
 
@@ -63,6 +64,50 @@ impl BoundedLogins {
             Err(error) => Err(LimitedError::Hash(error)),
         }
     }
+
+    /// The verdicts of two logins, each a stored text and a password. Does not allocate.
+    ///
+    /// Both keys are derived at once, which takes less time, if the hashes have the same `N` and
+    /// `r` and both fit into the buffers. Neither verdict depends on the other login, and none is
+    /// `OutOfMemory`.
+    pub fn log_in_both(
+        &mut self,
+        first: (&str, &[u8]),
+        second: (&str, &[u8]),
+    ) -> [Result<(), LimitedError>; 2]
+        ensures limits { self.new ≡ self.old }
+        ensures verdicts { map with_limited_refusal result
+            ≡ verdict first.entry.1.now (within self.old (reading first.entry.0.now))
+            ∷ verdict second.entry.1.now (within self.old (reading second.entry.0.now)) ∷ [] }
+    {
+        let logins = [
+            login_within(first.0, first.1, &self.limits),
+            login_within(second.0, second.1, &self.limits),
+        ];
+        let mut verdicts = [Ok(()), Ok(())];
+        self.own.verify_logins(&logins, &mut verdicts);
+        verdicts
+    }
+}
+
+// A login with this text, or with the error of reading it within the limits.
+fn login_within<'a>(stored: &'a str, password: &'a [u8], limits: &Limits) -> Login<'a, 'a>
+    ensures password { result.password.now ≡ password.now }
+    ensures reading { reading_of result ≡ within limits.now (reading stored.now) }
+    ensures within { within limits.now (reading_of result) ≡ reading_of result }
+{
+    let hash = hash_within(stored, limits);
+    Login { password, hash }
+}
+
+fn hash_within<'a>(stored: &'a str, limits: &Limits) -> Result<LoginHash<'a>, LimitedError>
+    ensures reading { with_limited_refusal result and_then reading_of_hash ≡ within limits.now (reading stored.now) }
+    ensures within { within limits.now (with_limited_refusal result and_then reading_of_hash)
+        ≡ with_limited_refusal result and_then reading_of_hash }
+{
+    let hash = StoredHash::read(stored)?;
+    hash.within(limits)?;
+    Ok(LoginHash::Stored(hash))
 }
 
 /// Whether the password matches the stored text, in buffers that are kept from login to login.

