@@ -1,5 +1,5 @@
 -- What verifying leaves in the caller's buffers.
-use Rattle.std.proofs.Common.{◌≡◌, ◌∙◌, ◌-◌, ◌≤◌, ℕ, List, ap, arith, length, refl, true, false, w32, SFits, of_z, to_z}
+use Rattle.std.proofs.Common.{◌≡◌, ◌∙◌, ◌-◌, ℕ, List, ap, arith, length, refl, w32, SFits, of_z, to_z}
 use Rattle.std.proofs.lemmas.Int.{to_z-of_z}
 use Rattle.std.proofs.lemmas.Bool.{and_parts, false_from_ne_true}
 use Rattle.std.specs.Prelude.{◌&&◌, Err, IsTrue, Result, ℤ, ⊤}
@@ -21,7 +21,6 @@ pub kept_status : {out : Result ⊤ Refusal} (status : ℤ) (w : Workspace) (a b
 kept_status {out} status w a b same fits is verdict = to_z-of_z w32 status fits ∙ is ∙ ap buffers_status (rw (← same) verdict)
 
 -- parameters that no new hash can have make no decoy
-
 pub none_decoy : (c : Parameters) (salt : List ℕ) → ¬ (IsTrue (are_accepted c.log_n c.r c.p) × IsTrue (is_stored_len c.output_len))
     → decoy_reading c salt ≡ Err ParamsInvalid
 none_decoy c salt refused = rw (false_from_ne_true (are_accepted c.log_n c.r c.p && is_stored_len c.output_len) (λ is. refused (and_parts _ _ is))) refl

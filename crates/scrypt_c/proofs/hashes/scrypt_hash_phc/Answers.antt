@@ -1,6 +1,7 @@
-use Rattle.std.proofs.Common.{◌∙◌, ap, inl, inr, rules}
+use Rattle.std.proofs.Common.{◌∙◌, ap, inl, inr, length, rules}
+use Rattle.std.proofs.lemmas.Bool.{cases_Bool}
 use Rattle.password_hash.specs.Phc.{hash_text}
-use Rattle.scrypt_c.proofs.MadeFacts.{refused_why}
+use Rattle.scrypt.specs.PhcHash.{is_salt_len}
 use Rattle.scrypt_c.proofs.hashes.scrypt_hash_phc.Goals as goal
 
 pub returns-in-Ok-made-clause-made : goal.returns-in-Ok-made-clause-made
@@ -16,7 +17,7 @@ returns-in-Ok-made-clause-size c short =
     (rw printed at c.copy_to.ensures.len, search rules)
 
 pub returns-in-Err : goal.returns-in-Err
-returns-in-Err c = elim (refused_why c.args.salt.now c.in-Err.ensures.err) [
-  | inl salt ↦ search (rules, salt)
-  | inr memory ↦ search (rules, memory)
+returns-in-Err c = elim (cases_Bool (is_salt_len (length c.args.salt.now))) [
+  | inl is ↦ search (rules, is, rw is at c.in-Err.ensures.err)
+  | inr is ↦ search (rules, is, rw is at c.in-Err.ensures.err)
 ]
