@@ -10,12 +10,6 @@ returns-in-Ok-made-clause-made c done =
     let printed = c.as_str.ensures.value ∙ c.to_array_string.ensures.value ∙ ap hash_text made.1 in
     rw printed at c.copy_to.ensures.written (search rules)
 
-pub returns-in-Ok-made-clause-size : goal.returns-in-Ok-made-clause-size
-returns-in-Ok-made-clause-size c short =
-    let made = rw c.in-Ok.ensures.value at c.in-Ok-made.ensures.made in
-    let printed = c.as_str.ensures.value ∙ c.to_array_string.ensures.value ∙ ap hash_text made.1 in
-    (rw printed at c.copy_to.ensures.len, search rules)
-
 pub returns-in-Err : goal.returns-in-Err
 returns-in-Err c = elim (cases_Bool (is_salt_len (length c.args.salt.now))) [
   | inl is ↦ search (rules, is, rw is at c.in-Err.ensures.err)

@@ -3,17 +3,6 @@ use Rattle.scrypt_c.specs.Buffers.{AreBuffers}
 use Rattle.scrypt_c.proofs.InBuffersFacts.{enough_at_zero, kept_key_status}
 use Rattle.scrypt_c.proofs.keys.scrypt_kdf_thin.Goals as goal
 
-pub returns-then-chunks-lens-clause-status : goal.returns-then-chunks-lens-clause-status
-returns-then-chunks-lens-clause-status c = record {
-  params = (λ status. search rules, λ refused. search rules);
-  length = (λ status. (search rules, search rules), λ refused. search rules);
-  buffers = (λ status. search rules, λ refused. search rules);
-  one = search rules;
-}
-
-pub scrypt_thin_with_backend-derived-requires-clause-scratch : goal.scrypt_thin_with_backend-derived-requires-clause-scratch
-scrypt_thin_with_backend-derived-requires-clause-scratch c = search rules
-
 -- the buffers of a whole table are long enough for the call with buffers
 pub returns-then-s-eq0-clause-status : goal.returns-then-s-eq0-clause-status
 returns-then-s-eq0-clause-status c =

@@ -28,6 +28,3 @@ returns-in-Err-clause-size c short =
         left.fits (omega (arith, made, fits, same)),
       ),
     )
-
-pub returns-in-Ok-hashed-clause-used : goal.returns-in-Ok-hashed-clause-used
-returns-in-Ok-hashed-clause-used c done = rw c.in-Ok.ensures.value at c.in-Ok-hashed.ensures.done

@@ -9,9 +9,6 @@ returns-in-Ok-hash_with_buffers-clause-made c done =
     let printed = c.as_str.ensures.value ∙ c.to_array_string.ensures.value ∙ ap hash_text made in
     rw printed at c.copy_to.ensures.written (search rules)
 
-pub returns-in-Ok-hash_with_buffers-clause-used : goal.returns-in-Ok-hash_with_buffers-clause-used
-returns-in-Ok-hash_with_buffers-clause-used c done enough = rw c.in-Ok.ensures.value at c.in-Ok-hash_with_buffers.ensures.done
-
 pub returns-in-Err : goal.returns-in-Err
 returns-in-Err c = elim (refused_in _ _ _ (rw c.in-Ok.ensures.value at c.in-Err.ensures.made)) [
   | inl salt ↦ search (rules, salt)
