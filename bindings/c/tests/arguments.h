@@ -10,7 +10,8 @@ static __thread struct {
   const char *text;
   const scrypt_login *logins;
   scrypt_buffers buffers[1];
-  const scrypt_options *options;
+  const scrypt_options *options; /* for scrypt_hasher_new: the defaults, unless a test sets them */
+  scrypt_options of_hasher;
   scrypt_hasher *hasher;
   scrypt_derivation *derivation; /* its chunks are mixed by scrypt_derivation_run */
   size_t password_len, salt_len, text_len, key_len, output_len, capacity, len, count;
@@ -41,7 +42,8 @@ static __thread struct {
 /* A pointer that may not be NULL. */
 #define P(pointer) pointer
 
-/* Sets the buffers: for up to this number of tables, and no more than a derivation can use. */
+/* Sets all but the text and the hasher, whose options have no limits. The buffers are for up to this number of
+ * tables, and no more than a derivation can use. */
 static void take_arguments(const void *password, size_t password_len, const void *salt, size_t salt_len, uint32_t log_n,
                            uint32_t r, uint32_t p, size_t key_len, size_t max_tables) {
   scrypt_cost cost;
@@ -56,6 +58,10 @@ static void take_arguments(const void *password, size_t password_len, const void
   given.timeout_ms = -1;
   given.seconds = 1e-9; /* too short for any parameters */
   *given.buffers = new_buffers(log_n, r, p, 0, cost.tables < max_tables ? cost.tables : max_tables);
+  scrypt_options_init(&given.of_hasher);
+  given.of_hasher.log_n = log_n, given.of_hasher.r = r, given.of_hasher.p = p, given.of_hasher.key_len = key_len;
+  given.of_hasher.max_mem = SIZE_MAX, given.of_hasher.max_work = UINT64_MAX;
+  given.of_hasher.max_tables = max_tables, given.of_hasher.processors = 1;
   given.milliseconds = 60000, *made.derivation = NULL, *made.hasher = NULL;
   if (scrypt_derivation_new(password, password_len, salt, salt_len, log_n, r, p, SIZE_MAX, key_len,
                             &given.derivation) != SCRYPT_OK) exit(3);
@@ -67,7 +73,12 @@ static void take_text(const char *text, const scrypt_login *logins, size_t count
   given.logins = logins, given.count = count;
 }
 
+static void take_hasher(void) {
+  if (scrypt_hasher_new(&given.of_hasher, &given.hasher) != SCRYPT_OK) exit(3);
+}
+
 static void free_arguments(void) {
+  scrypt_hasher_free(&given.hasher);
   free_buffers(*given.buffers);
   scrypt_derivation_free(&given.derivation);
   scrypt_derivation_free(made.derivation);

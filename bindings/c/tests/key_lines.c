@@ -35,9 +35,8 @@ static int key_in_buffers(const struct line *of, size_t tables, uint8_t *key) {
 
 static void print_key(const struct line *of, size_t tables) {
   uint8_t key[MAX];
-  size_t i;
   printf("%d ", tables != 0 ? key_in_buffers(of, tables, key) : scrypt_key(GIVEN, key, of->len));
-  for (i = 0; i < of->len; i++) printf("%02x", key[i]);
+  for (size_t i = 0; i < of->len; i++) printf("%02x", key[i]);
   putchar('\n');
 }
 

@@ -1,8 +1,8 @@
 /* The memory that the calls allocate and free: in a program whose malloc, mmap and munmap record
  * it, and fail on request. PAYS is the number of tables that is fastest, by CMakePresets.json. */
 #define _GNU_SOURCE
-#include "child.h"
 #include "scrypt_c.h"
+#include "test.h"
 
 #include <errno.h>
 #include <string.h>
@@ -64,6 +64,22 @@ static size_t fewer(size_t one, size_t other) { return one < other ? one : other
     check(key[0] == 7 && text[0] == '!', why);                                             \
   } while (0)
 
+#ifndef IS_EMULATED
+static long touched_kib(void) {
+  struct rusage usage;
+  return getrusage(RUSAGE_SELF, &usage) == 0 ? usage.ru_maxrss : 0;
+}
+
+/* Chunks of 2 GiB, which are allocated, are not written if the allocation of the table fails. */
+TEST(little_is_touched) {
+  const long before = touched_kib();
+  min_refused = table_bytes(25);
+  check(scrypt_key(SECRETS, 25, R, 1 << 21, key, sizeof key) == SCRYPT_E_OUT_OF_MEMORY, "a table of 32 GiB");
+  min_refused = SIZE_MAX;
+  check(touched_kib() - before < 4096, "memory is written before all is allocated");
+}
+#endif
+
 /* The same key by a derivation in steps. */
 static int derive(uint32_t log_n, uint32_t p, size_t max_mem) {
   scrypt_derivation *it = NULL;
@@ -78,7 +94,7 @@ static int derive(uint32_t log_n, uint32_t p, size_t max_mem) {
 /* The most chunks for four tables of 32 MiB and their scratches, in the 129 MiB that the header states. */
 enum { MOST = ((129 << 20) - 4 * ((128 * R << 15) + 256 * R)) / (128 * R) };
 
-static void tables_of_keys(void) {
+TEST(tables_of_keys) {
   static const struct {
     const char *why;
     uint32_t log_n, p;
@@ -95,8 +111,7 @@ static void tables_of_keys(void) {
               {"one of 128 MiB", 17, 4, 1},
               {"one above the maximum", 18, 1, 1},
               {"no key with log_n of 60", 60, 4, 0}};
-  size_t i;
-  for (i = 0; i < sizeof KEYS / sizeof KEYS[0]; i++) {
+  for (size_t i = 0; i < sizeof KEYS / sizeof KEYS[0]; i++) {
     const uint32_t log_n = KEYS[i].log_n, p = KEYS[i].p;
     const int wanted = KEYS[i].tables > 0 ? SCRYPT_E_OUT_OF_MEMORY : SCRYPT_E_INVALID_PARAMS;
     const size_t tables = fewer(KEYS[i].tables, PAYS);
@@ -106,7 +121,7 @@ static void tables_of_keys(void) {
 }
 
 /* All buffers together are within the limit. */
-static void tables_of_limited_keys(void) {
+TEST(tables_of_limited_keys) {
   static const size_t EACH = 4 * (32 * R << 14) + 4 * 64 * R, CHUNKS = 4 * 128 * R;
   const struct {
     const char *why;
@@ -114,8 +129,7 @@ static void tables_of_limited_keys(void) {
   } BOUNDS[] = {{"no bytes", 0, 0}, {"one less than one table needs", CHUNKS + EACH - 1, 0}, {"one table", CHUNKS + EACH, 1},
                 {"one less than two need", CHUNKS + 2 * EACH - 1, 1},    {"two tables", CHUNKS + 2 * EACH, 2},
                 {"three tables", CHUNKS + 4 * EACH - 1, 3},              {"no limit", SIZE_MAX, 4}};
-  size_t i;
-  for (i = 0; i < sizeof BOUNDS / sizeof BOUNDS[0]; i++) {
+  for (size_t i = 0; i < sizeof BOUNDS / sizeof BOUNDS[0]; i++) {
     const int wanted = BOUNDS[i].tables > 0 ? SCRYPT_E_OUT_OF_MEMORY : SCRYPT_E_TOO_COSTLY;
     const size_t tables = fewer(BOUNDS[i].tables, PAYS);
     REFUSES(BOUNDS[i].why, 14, tables, wanted, derive(14, 4, BOUNDS[i].max_mem));
@@ -125,7 +139,7 @@ static void tables_of_limited_keys(void) {
 static const char PHC[] = "$scrypt$ln=14,r=8,p=4$c2FsdHNhbHQ$AAAAAAAAAAAAAAAAAAAAAA";
 #define OF_PHC "password", 8, PHC, sizeof PHC - 1
 
-static void one_table_of_hashes(void) {
+TEST(one_table_of_hashes) {
   REFUSES("phc", 14, 1, SCRYPT_E_OUT_OF_MEMORY, scrypt_hash_with_salt(SECRETS, 14, R, 4, 32, 0, text, sizeof text));
   REFUSES("mcf", 14, 1, SCRYPT_E_OUT_OF_MEMORY, scrypt_hash_with_salt(SECRETS, 14, R, 4, 32, 1, text, sizeof text));
   REFUSES("verify", 14, 1, SCRYPT_E_OUT_OF_MEMORY, scrypt_verify(OF_PHC));
@@ -134,7 +148,7 @@ static void one_table_of_hashes(void) {
 }
 
 /* A call that is rejected requests no table. */
-static void no_table(void) {
+TEST(no_table) {
   REFUSES("a key of no bytes", 14, 0, SCRYPT_E_INVALID_OUTPUT_LEN, scrypt_key(SECRETS, 14, R, 4, key, 0));
   REFUSES("too many bytes", 14, 0, SCRYPT_E_TOO_COSTLY, scrypt_verify_limited(OF_PHC, 1, UINT64_MAX, 0));
   REFUSES("too much work", 14, 0, SCRYPT_E_TOO_COSTLY, scrypt_verify_limited(OF_PHC, SIZE_MAX, 1, 0));
@@ -155,49 +169,23 @@ static int is_in_one_table(void) {
   memset(key, 7, sizeof key);
   return derive(15, 4, SCRYPT_AUTO) != SCRYPT_OK || memcmp(key, wanted_key, 32) != 0;
 }
-static void one_of_several(void) {
+TEST(one_of_several) {
   check(scrypt_key(SECRETS, 15, R, 4, wanted_key, 32) == SCRYPT_OK, "a key");
   in_a_child(is_in_one_table, "a key, and one in steps, in 80 MiB");
 }
 
-static long touched_kib(void) {
-  struct rusage usage;
-  return getrusage(RUSAGE_SELF, &usage) == 0 ? usage.ru_maxrss : 0;
-}
-
-/* Chunks of 2 GiB, which are allocated, are not written if the allocation of the table fails. */
-static void little_is_touched(void) {
-  const long before = touched_kib();
-  min_refused = table_bytes(25);
-  check(scrypt_key(SECRETS, 25, R, 1 << 21, key, sizeof key) == SCRYPT_E_OUT_OF_MEMORY, "a table of 32 GiB");
-  min_refused = SIZE_MAX;
-  check(touched_kib() - before < 4096, "memory is written before all is allocated");
-}
-
 /* A table that the system fails to unmap is overwritten: only the address and the length
  * before it are left. */
-static void not_unmapped(void) {
-  size_t at, left = 0;
+TEST(not_unmapped) {
+  size_t left = 0;
   keeps = 1, large = table_bytes(15), large_requests = 0;
   check(scrypt_key(SECRETS, 15, R, 1, key, sizeof key) == SCRYPT_OK, "a key of 32 MiB");
   check(large_requests == 1, "a table that is allocated once");
   keeps = 0;
   check(kept_len >= table_bytes(15) && kept_len <= table_bytes(15) + BESIDE, "the length of the mapping");
-  for (at = 0; at < kept_len; at++) left += kept[at] != 0;
+  for (size_t at = 0; at < kept_len; at++) left += kept[at] != 0;
   check(left <= 2 * sizeof(size_t), "bytes of a table that is not unmapped");
   check(munmap(kept, kept_len) == 0, "unmapped");
 }
 
-int main(void) {
-#ifndef IS_EMULATED
-  little_is_touched();
-#endif
-  tables_of_keys();
-  tables_of_limited_keys();
-  one_table_of_hashes();
-  no_table();
-  one_of_several();
-  not_unmapped();
-  check(mapped == 0, "what was mapped is unmapped");
-  return failed;
-}
+TEST(all_is_unmapped) { check(mapped == 0, "what was mapped is unmapped"); }

@@ -1,6 +1,7 @@
 /* Calls the library: RFC 7914's keys, each number of chunks in each number of tables, and what only
  * C does: the capacity of a text, its bytes, and the messages of statuses. */
 #include "buffers.h"
+#include "test.h"
 
 /* The start of the version, or the whole version if the test knows the processor that the library
  * is built for. */
@@ -49,16 +50,20 @@ static int is_key(size_t i, const uint8_t *key) {
   return *hex == '\0';
 }
 
-static void keys(size_t i) {
-  uint8_t key[64], s;
+static void key_of(size_t i) {
+  uint8_t key[64];
   check(scrypt_key(SECRETS_OF(i), PARAMS_OF(i), key, 64) == SCRYPT_OK && is_key(i, key), "a key of RFC 7914");
-  for (s = 0; s < (i == 0 ? 5 : 4); s++) { /* the first one with a single row too */
+  for (uint8_t s = 0; s < (i == 0 ? 5 : 4); s++) { /* the first one with a single row too */
     scrypt_buffers in = new_buffers(PARAMS_OF(i), s, 1);
     memset(key, 0, sizeof key);
     check(scrypt_key_thin(SECRETS_OF(i), PARAMS_OF(i), s, key, 64, &in) == SCRYPT_OK && is_key(i, key),
           "with a smaller table");
     free_buffers(in);
   }
+}
+
+TEST(keys) {
+  for (size_t i = 0; i < COUNT; i++) key_of(i);
 }
 
 /* ---- Chunks and tables: interleaved by two, three and four, up to twelve chunks leave each rest,
@@ -70,8 +75,7 @@ static void keys(size_t i) {
 
 /* A hash of each format, by itself and in buffers, which have zeros then. */
 static void hashes(uint32_t p, size_t tables, char texts[2][SCRYPT_PHC_CAPACITY]) {
-  int i;
-  for (i = 0; i < 2; i++) {
+  for (int i = 0; i < 2; i++) {
     scrypt_buffers in = new_buffers(6, 1, p, 0, tables);
     char same[SCRYPT_PHC_CAPACITY], *text = texts[i];
     check(scrypt_hash_with_salt(INPUTS, p, 32, i, text, SCRYPT_PHC_CAPACITY) == SCRYPT_OK, "a hash");
@@ -89,14 +93,13 @@ static void hashes(uint32_t p, size_t tables, char texts[2][SCRYPT_PHC_CAPACITY]
 static void batches(uint32_t p, size_t tables, char texts[2][SCRYPT_PHC_CAPACITY]) {
   static const char *const PASSWORDS[] = {"pw", "PW", "pw", "pw"};
   static const int STATUSES[] = {SCRYPT_OK, SCRYPT_MISMATCH, SCRYPT_E_ENCODING_INVALID, SCRYPT_MISMATCH};
-  size_t count, kinds, i;
-  for (count = 0; count <= SCRYPT_MAX_LOGINS; count++)
-    for (kinds = p; kinds < 256; kinds += 25) {
+  for (size_t count = 0; count <= SCRYPT_MAX_LOGINS; count++)
+    for (size_t kinds = p; kinds < 256; kinds += 25) {
       scrypt_buffers in = new_buffers(6, 1, p * (uint32_t)(count > 0 ? count : 1), 0, tables);
       scrypt_login logins[SCRYPT_MAX_LOGINS];
       int statuses[] = {-1, -1, -1, -1}, wanted[] = {-1, -1, -1, -1};
       size_t kind = kinds;
-      for (i = 0; i < count; i++, kind /= 4) {
+      for (size_t i = 0; i < count; i++, kind /= 4) {
         const char *text = kind % 4 == 3 ? NULL : kind % 4 == 2 ? (i % 2 ? "" : "$8$") : texts[i % 2];
         logins[i] = (scrypt_login){PASSWORDS[kind % 4], 2, text, text != NULL ? strlen(text) : 0};
         wanted[i] = STATUSES[kind % 4];
@@ -119,16 +122,25 @@ static void chunks_in_tables(uint32_t p, size_t tables) {
   batches(p, tables, texts);
 }
 
+TEST(each_number_of_chunks_in_each_number_of_tables) {
+  for (uint32_t p = 1; p <= 12; p++)
+    for (size_t tables = 1; tables <= 4; tables++) chunks_in_tables(p, tables);
+}
+
 /* Each row of each table changes, except in a second table on processors that use one table for two
  * chunks. Twelve chunks leave no rest, whatever the number of tables. */
-static void several_tables_are_used(size_t tables) {
+static void are_used(size_t tables) {
   scrypt_buffers in = new_buffers(6, 1, 12, 0, tables);
   uint8_t key[16];
-  size_t row, changed = 0;
+  size_t changed = 0;
   check(scrypt_key_with_buffers(INPUTS, 12, key, sizeof key, &in) == SCRYPT_OK, "a key in several tables");
-  for (row = 0; row < tables * 64; row++) changed += !is_all(FILL, in.table + 32 * row, 128);
+  for (size_t row = 0; row < tables * 64; row++) changed += !is_all(FILL, in.table + 32 * row, 128);
   check(changed == (tables == 2 ? USED_OF_TWO : tables) * 64, "the rows of all tables are used");
   free_buffers(in);
+}
+
+TEST(several_tables_are_used) {
+  for (size_t tables = 1; tables <= 4; tables++) are_used(tables);
 }
 
 /* ---- Texts ---- */
@@ -142,11 +154,10 @@ static int write_hash(int i, char *text, size_t capacity) {
   return scrypt_hash_with_buffers(INPUTS, 1, 32, i - 2, text, capacity, &in);
 }
 
-static void capacities(void) {
+TEST(capacities) {
   char text[SCRYPT_PHC_CAPACITY];
   size_t len;
-  int i;
-  for (i = 0; i < 6; i++) {
+  for (int i = 0; i < 6; i++) {
     check(write_hash(i, text, sizeof text) == SCRYPT_OK, "a hash");
     len = strlen(text);
     memset(text, '!', sizeof text);
@@ -164,7 +175,7 @@ static int is_of_long(const char *password, size_t len, const char *text) {
 }
 
 /* If there is memory, a call succeeds, however long a password, a salt, a key and a text are. */
-static void long_inputs(void) {
+TEST(long_inputs) {
   enum { LEN = 5000 };
   static char password[LEN], salt[LEN], text[SCRYPT_MCF_CAPACITY(LEN)];
   static uint8_t key[LEN];
@@ -180,14 +191,14 @@ static void long_inputs(void) {
 static int verify(const char *text) { return scrypt_verify("", 0, text, strlen(text)); }
 
 /* Texts that are not UTF-8, which bindings/cases.tsv can't have, and one that is. */
-static void texts_of_other_bytes(void) {
+TEST(texts_of_other_bytes) {
   check(verify("$scrypt$ln=4\xff") == SCRYPT_E_ENCODING_INVALID, "a byte of no letter");
   check(verify("$7$26..../....s\xc3lt$......................") == SCRYPT_E_ENCODING_INVALID, "half a letter");
   check(verify("$7$26..../....s\xc3\xa4lt$......................") == SCRYPT_MISMATCH, "a letter of two bytes");
 }
 
 /* A zero byte in the salt of a stored $7$ hash, with the length that the header gives for its text. */
-static void zero_in_a_salt(void) {
+TEST(zero_in_a_salt) {
   static const char SALT[] = {'a', 0, 'b'};
   enum { LEN = sizeof SALT };
   char text[SCRYPT_PHC_CAPACITY + 2 * (LEN + 32)];
@@ -203,7 +214,7 @@ static void zero_in_a_salt(void) {
 #define KEYLESS "$scrypt$ln=4,r=8,p=1$c2FsdHNhbHQ"
 #define PHC "$scrypt$ln=4,r=8,p=1$c2FsdHNhbHQ$AAAAAAAAAAAAAAAAAAAAAA"
 
-static void costs(void) {
+TEST(costs) {
   const scrypt_cost nines = {9, 9, 9, 9, 9, 9, 9, 9, 9, 9};
   scrypt_cost cost = nines;
   uint32_t log_n = 99, r = 99, p = 99;
@@ -260,12 +271,11 @@ enum { STATUSES = sizeof WORDS / sizeof *WORDS };
 static int has_words(int status) { return strcmp(scrypt_strerror(status), "unknown status") != 0; }
 
 /* Each status has its own message and name, and says whether a text is rejected. */
-static void words_of_statuses(void) {
-  int status, other;
-  for (status = 0; status < STATUSES; status++)
-    for (other = 0; other < STATUSES; other++)
+TEST(words_of_statuses) {
+  for (int status = 0; status < STATUSES; status++)
+    for (int other = 0; other < STATUSES; other++)
       check((strstr(scrypt_strerror(status), WORDS[other]) != NULL) == (status == other), WORDS[other]);
-  for (status = -1; status < 99; status++) {
+  for (int status = -1; status < 99; status++) {
     const int is_of_text = status >= SCRYPT_E_ALGORITHM && status <= SCRYPT_E_VERSION;
     check(has_words(status) == (status >= 0 && status < STATUSES), "a message for each status");
     check((scrypt_status_name(status) != NULL) == has_words(status), "a name for each status");
@@ -300,13 +310,12 @@ static const struct {
 };
 
 /* The numbers of each refusal, in each capacity. */
-static void explanations(void) {
+TEST(explanations) {
   char text[SCRYPT_EXPLANATION_CAPACITY];
-  size_t i, len;
-  for (i = 0; i < sizeof EXPLANATIONS / sizeof *EXPLANATIONS; i++) {
+  for (size_t i = 0; i < sizeof EXPLANATIONS / sizeof *EXPLANATIONS; i++) {
     const char *whole = EXPLANATIONS[i].text;
     check(strlen(whole) < sizeof text, "room for the whole text");
-    for (len = 1; len <= sizeof text; len++) {
+    for (size_t len = 1; len <= sizeof text; len++) {
       const size_t wanted = strlen(whole) < len ? strlen(whole) : len - 1;
       memset(text, '!', sizeof text);
       scrypt_explain(EXPLANATIONS[i].status, EXPLANATIONS[i].cost, EXPLANATIONS[i].max_mem, EXPLANATIONS[i].max_work, 16,
@@ -322,20 +331,4 @@ static void explanations(void) {
   check(text[0] == '!', "without a cost or a capacity");
 }
 
-int main(void) {
-  uint32_t p;
-  size_t i;
-  for (i = 0; i < COUNT; i++) keys(i);
-  for (p = 1; p <= 12; p++)
-    for (i = 1; i <= 4; i++) chunks_in_tables(p, i);
-  for (i = 1; i <= 4; i++) several_tables_are_used(i);
-  capacities();
-  long_inputs();
-  texts_of_other_bytes();
-  zero_in_a_salt();
-  costs();
-  words_of_statuses();
-  explanations();
-  check(strncmp(scrypt_version(), VERSION, sizeof VERSION - 1) == 0, "the version of the header");
-  return failed;
-}
+TEST(version) { check(strncmp(scrypt_version(), VERSION, sizeof VERSION - 1) == 0, "the version of the header"); }

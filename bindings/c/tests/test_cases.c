@@ -1,8 +1,8 @@
 /* The verifications of bindings/cases.tsv, and the numbers of their errors, which the packages read too.
  * usage: test_cases FILE */
-#include "check.h"
 #include "numbers.h"
 #include "scrypt_c.h"
+#include "test.h"
 
 #include <string.h>
 
@@ -19,10 +19,10 @@ static void explains(int status, const char *text, size_t len, const char *numbe
   check(strcmp(made, numbers) == 0, made);
 }
 
-int main(int argc, char **argv) {
+TEST(cases) {
   char line[4096];
   int count = 0;
-  FILE *file = argc > 1 ? fopen(argv[1], "rb") : NULL;
+  FILE *file = argument != NULL ? fopen(argument, "rb") : NULL;
   while (file != NULL && fgets(line, sizeof line, file) != NULL) {
     char *password = strchr(line, '\t'), *text, *zero, *numbers;
     const char *name;
@@ -44,5 +44,5 @@ int main(int argc, char **argv) {
     if (numbers != NULL) explains(status, text, len, numbers);
     count++;
   }
-  return failed || count == 0;
+  check(count > 0, "there are cases");
 }

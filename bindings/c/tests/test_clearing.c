@@ -4,7 +4,7 @@
  * each number of tables and of chunks, because the frames depend on these, and with random
  * texts. */
 #include "arguments.h"
-#include "check.h"
+#include "test.h"
 
 #include <limits.h>
 #include <pthread.h>
@@ -41,8 +41,8 @@ void *realloc(void *block, size_t len) {
 
 /* The library writes two words before each block. */
 static void check_blocks(const char *name, size_t from, size_t count) {
-  size_t left = 0, at;
-  for (at = from; at < used; at++) left += arena[at] != 0;
+  size_t left = 0;
+  for (size_t at = from; at < used; at++) left += arena[at] != 0;
   check(left <= count * HEAD, name);
 }
 #endif
@@ -51,8 +51,7 @@ static void check_blocks(const char *name, size_t from, size_t count) {
 
 __attribute__((noinline)) static void paint(void) {
   volatile uint8_t below[ROOM];
-  size_t i;
-  for (i = ROOM; i-- > 0;) below[i] = PAINT;
+  for (size_t i = ROOM; i-- > 0;) below[i] = PAINT;
   (void)below[0];
 }
 
@@ -147,25 +146,25 @@ static void check_call(const char *name, int (*call)(void), int wanted, int is_f
 static void all_calls(uint32_t p, size_t max_tables) {
   static char phc[SCRYPT_PHC_CAPACITY];
   static scrypt_login logins[2];
-  scrypt_options with;
   char name[100];
-  size_t i;
   if (scrypt_hash_with_salt(SECRETS, 4, 8, p, 64, 0, phc, sizeof phc) != SCRYPT_OK) exit(3);
   logins[0] = logins[1] = (scrypt_login){PASSWORD, sizeof PASSWORD - 1, phc, strlen(phc)};
   take_arguments(SECRETS, 4, 8, p, 64, max_tables);
   take_text(phc, logins, 2);
-  scrypt_options_init(&with);
-  with.log_n = 4, with.r = 8, with.p = p, with.key_len = 64, with.max_tables = 2, with.processors = 1;
-  with.max_mem = SIZE_MAX, with.max_work = UINT64_MAX;
-  if (scrypt_hasher_new(&with, &given.hasher) != SCRYPT_OK) exit(3);
-  for (i = 0; i < sizeof CALLS / sizeof *CALLS; i++) {
+  given.of_hasher.max_tables = 2;
+  take_hasher();
+  for (size_t i = 0; i < sizeof CALLS / sizeof *CALLS; i++) {
     snprintf(name, sizeof name, "%s of %u chunks in %zu tables", CALLS[i].name, p, max_tables);
     check_call(name, CALLS[i].call, wanted_of(CALLS[i].call), p == 1 && max_tables == 1);
   }
   check_call("a wrong password", verify_wrong, SCRYPT_MISMATCH, 0);
   check_call("a text that does not fit", no_room, SCRYPT_E_BUFFER_SIZE, 0);
-  scrypt_hasher_free(&given.hasher);
   free_arguments();
+}
+
+TEST(each_number_of_chunks_and_tables) {
+  for (uint32_t p = 1; p <= 12; p++)
+    for (size_t max_tables = 1; max_tables <= 4; max_tables++) all_calls(p, max_tables);
 }
 
 /* ---- Random texts: a hash with a part repeated and some bytes changed ---- */
@@ -193,14 +192,13 @@ static int verify_drawn(void) {
 }
 static int rehash_drawn(void) { return scrypt_needs_rehash(drawn, drawn_len, 1, 1, 1, 32); }
 
-static void drawn_texts(void) {
+TEST(drawn_texts) {
   static const char *const TEXTS[] = {
       "$scrypt$ln=4,r=8,p=1,data=0123456789012345678901234567890123456789$c2FsdHNhbHQ$AAAAAAAAAAA",
       "$scrypt$ln=4,r=8,p=1$c2FsdHNhbHQ$AAAAAAAAAAAAAAAAAAAAAA",
       "$7$2/..../....saltsalt$......................"};
-  int i;
   if (scrypt_hasher_new(NULL, &given.hasher) != SCRYPT_OK) exit(3);
-  for (i = 0; i < 2000; i++) {
+  for (int i = 0; i < 2000; i++) {
     draw_text(TEXTS[i % 3], strlen(TEXTS[i % 3]));
     check_stack("scrypt_hasher_verify of a drawn text", verify_drawn, -1);
     check_stack("scrypt_needs_rehash of a drawn text", rehash_drawn, -1);
@@ -208,15 +206,13 @@ static void drawn_texts(void) {
   scrypt_hasher_free(&given.hasher);
 }
 
-/* A thread whose stack has 8 KiB more, for the system's data. */
-#ifdef _WIN32
-static void on_a_small_thread(void) {} /* a stack has 64 KiB or more */
-#else
+#ifndef _WIN32 /* a stack has 64 KiB or more there */
 static void *on_thread(void *key) {
   return scrypt_key(SECRETS, 4, 8, 3, (uint8_t *)key, 64) == SCRYPT_OK ? key : NULL;
 }
 
-static void on_a_small_thread(void) {
+/* A thread whose stack has 8 KiB more, for the system's data. */
+TEST(on_a_small_thread) {
   size_t len = SCRYPT_STACK_BYTES + OF_SYSTEM, least = (size_t)PTHREAD_STACK_MIN;
   pthread_attr_t attributes;
   pthread_t thread;
@@ -228,14 +224,7 @@ static void on_a_small_thread(void) {
 }
 #endif
 
-int main(void) {
-  uint32_t p;
-  size_t max_tables;
-  for (p = 1; p <= 12; p++)
-    for (max_tables = 1; max_tables <= 4; max_tables++) all_calls(p, max_tables);
-  drawn_texts();
-  on_a_small_thread();
+TEST(the_deepest_frame) {
   check(deepest <= SCRYPT_STACK_BYTES, "more of the stack is used than the header says");
   printf("%zu bytes of the stack were used at most\n", deepest);
-  return failed;
 }

@@ -149,7 +149,7 @@ static void check_tables(size_t max_tables, const enum kind *calls) {
   }
 }
 
-static void in_batches(void) {
+TEST(in_batches) {
   for (size_t i = 0; i < sizeof BATCHES / sizeof *BATCHES; i++) {
     WRITE(interleave, BATCHES[i].interleave);
     begin(BATCHES[i].why, BATCHES[i].processors, BATCHES[i].max_tables);
@@ -161,7 +161,7 @@ static void in_batches(void) {
   WRITE(interleave, 4);
 }
 
-static void in_a_window(void) {
+TEST(in_a_window) {
   begin("compatible calls that arrive in the window of a leader join its batch", 1, 4);
   let_windows_last(1);
   start_all((enum kind[]){SLOW, SLOW, KEYS, A, SLOW, NONE});
@@ -196,7 +196,7 @@ static void in_a_window(void) {
 
 /* ---- Timeouts, failed allocations, signals ---- */
 
-static void timeouts(void) {
+TEST(timeouts) {
   begin("a call that timed out is in no batch", 1, 4);
   start(A);
   all[start_within(A, 200)].wanted = SCRYPT_E_TIMEOUT;
@@ -218,7 +218,7 @@ static void timeouts(void) {
   end("0 12");
 }
 
-static void memory_refused(void) {
+TEST(memory_refused) {
   scrypt_cost cost;
   begin("memory for one table: a batch is derived one after another", 1, 4);
   WRITE(max_mapped, hasher->cost.bytes + HUGE_PAGE);
@@ -253,7 +253,7 @@ static void memory_refused(void) {
 #ifndef _WIN32
 static void nothing(int number) { (void)number; }
 
-static void signals(void) {
+TEST(signals) {
   const struct sigaction action = {.sa_handler = nothing};
   sigaction(SIGUSR1, &action, NULL);
   begin("a signal doesn't end a wait", 1, 2);
@@ -266,14 +266,3 @@ static void signals(void) {
   end("0 12");
 }
 #endif
-
-int main(void) {
-  RUN(in_batches);
-  RUN(in_a_window);
-  RUN(timeouts);
-  RUN(memory_refused);
-#ifndef _WIN32
-  RUN(signals);
-#endif
-  return failed;
-}

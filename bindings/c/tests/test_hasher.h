@@ -28,6 +28,7 @@ static int test_advice(void *at, size_t size, int advice) {
 #define HAS_FORKS 1
 #endif
 
+#include "check.h"
 #include "groups.h"
 
 #include <errno.h>
@@ -38,7 +39,6 @@ static int test_advice(void *at, size_t size, int advice) {
 #define WRITE(it, value) __atomic_store_n(&(it), value, __ATOMIC_RELEASE)
 #define ADD(it, by) __atomic_add_fetch(&(it), by, __ATOMIC_ACQ_REL)
 
-static int failed;
 #define expect(holds, ...)                            \
   do {                                                \
     if (!(holds)) {                                   \
@@ -257,17 +257,5 @@ static struct look { int leading, is_idle; scrypt_stats stats; } look_at(scrypt_
   return at;
 }
 
-/* Calls that wait for each other never return: then the name of the test is the last output, which ctest
- * prints after its timeout. */
-#define RUN(test) run_test(test, #test)
-static void run_test(void (*test)(void), const char *name) {
-  int64_t begun_at = now_ns();
-  int failed_before = failed;
-  printf("%s: ", name);
-  (void)fflush(stdout);
-  failed = 0;
-  test();
-  expect(READ(mapped) == 0 && READ(allocated) == 0, "memory is left");
-  printf("%s, %d ms\n", failed ? "FAILED" : "ok", (int)((now_ns() - begun_at) / NS_OF_MS));
-  failed |= failed_before;
-}
+#define AFTER_EACH() expect(READ(mapped) == 0 && READ(allocated) == 0, "memory is left")
+#include "test.h"

@@ -38,6 +38,11 @@ static void fork_here(scrypt_hasher *hasher, const char *what) {
 #endif
 
 static char texts[3][SCRYPT_PHC_CAPACITY];
+TEST(the_texts) {
+  make_text(texts[0], "right", 4, 8, 1);
+  make_text(texts[1], "right", 6, 8, 1);
+  make_text(texts[2], "right", 4, 8, 3);
+}
 
 /* Each call returns the verdict of a separate call, or an error. */
 static int running;
@@ -61,8 +66,9 @@ static void *verify_until_closed(void *hasher) {
   return NULL;
 }
 
-static size_t rounds = 24;
-static void at_any_time(void) {
+TEST(at_any_time) {
+  size_t rounds = 24;
+  if (argument != NULL) rounds = (size_t)atoi(argument);
   static const size_t PROCESSORS[] = {1, 2, 64};
   pthread_t all[16];
   scrypt_stats stats;
@@ -93,7 +99,7 @@ static void *verify_one(void *hasher) {
 }
 
 /* A hasher can be freed after its calls have returned. TSan and ASan detect a later use. */
-static void freed_when_they_returned(void) {
+TEST(freed_when_they_returned) {
   pthread_t all[5];
   for (int round = 0; round < 200; round++) {
     scrypt_hasher *hasher = new_hasher(1, (size_t)(1 + round % 4), 4);
@@ -106,14 +112,4 @@ static void freed_when_they_returned(void) {
     for (int i = 0; i < 5; i++) pthread_join(all[i], NULL);
     scrypt_hasher_free(&hasher);
   }
-}
-
-int main(int argc, char **argv) {
-  if (argc > 1) rounds = (size_t)atoi(argv[1]);
-  make_text(texts[0], "right", 4, 8, 1);
-  make_text(texts[1], "right", 6, 8, 1);
-  make_text(texts[2], "right", 4, 8, 3);
-  RUN(at_any_time);
-  RUN(freed_when_they_returned);
-  return failed;
 }

@@ -32,7 +32,7 @@ static const struct {
     {"more slots than any machine has", OF(4, 8, 1, .max_tables = SIZE_MAX, .processors = SIZE_MAX), SCRYPT_OK}};
 
 /* Errors of the options are found before the hasher is allocated. */
-static void options(void) {
+TEST(options) {
   for (size_t i = 0; i < sizeof OPTIONS / sizeof OPTIONS[0]; i++) {
     for (is_malloc_refused = 0; is_malloc_refused < 2; is_malloc_refused++) {
       int wanted = OPTIONS[i].status, status;
@@ -49,7 +49,7 @@ static void options(void) {
 static const uint64_t LIMITS[] = {DEFAULT_LIMITS};
 
 /* What a field means that the caller leaves as it is. */
-static void initial_options(void) {
+TEST(initial_options) {
   static const scrypt_options WANTED = OF(SCRYPT_RECOMMENDED_LOG_N, SCRYPT_RECOMMENDED_R, SCRYPT_RECOMMENDED_P,
                                           .max_tables = SCRYPT_AUTO, .processors = SCRYPT_AUTO);
   scrypt_options options;
@@ -60,7 +60,7 @@ static void initial_options(void) {
   scrypt_options_init(NULL);
 }
 
-static void defaults(void) {
+TEST(defaults) {
   scrypt_hasher *hasher = made_of(NULL), *none = NULL;
   const scrypt_options *with = scrypt_hasher_options(hasher);
   IS(with->log_n, SCRYPT_RECOMMENDED_LOG_N);
@@ -82,7 +82,7 @@ static void defaults(void) {
 }
 
 /* The default max_tables and max_mem by the memory of the machine. */
-static void memory(void) {
+TEST(memory) {
   static const size_t GIB = (size_t)1 << 30;
   const struct {
     const char *why;
@@ -112,7 +112,7 @@ static void memory(void) {
 }
 
 /* The slots share all tables of the hasher: the last slots have one more. */
-static void shares(void) {
+TEST(shares) {
   static const struct {
     size_t tables, slots, widths[3];
   } SHARES[] = {{3, 3, {1, 1, 1}}, {7, 3, {2, 2, 3}}, {8, 3, {2, 3, 3}}, {20, 2, {4, 4}}};
@@ -121,13 +121,4 @@ static void shares(void) {
     for (size_t slot = 0; slot < SHARES[i].slots; slot++)
       IS(width_of_slot(&with, SHARES[i].slots, slot), SHARES[i].widths[slot]);
   }
-}
-
-int main(void) {
-  RUN(options);
-  RUN(initial_options);
-  RUN(defaults);
-  RUN(memory);
-  RUN(shares);
-  return failed;
 }

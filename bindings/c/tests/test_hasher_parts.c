@@ -4,7 +4,7 @@
 /* ---- Errors: these calls don't wait for the slot, which is taken ---- */
 
 #define TEXT_OF(params, more) "$scrypt$ln=" params "$c2FsdHNhbHQ$AAAAAAAAAAAAAAAAAAAA" more
-static void refused_verifications(void) {
+TEST(refused_verifications) {
   char good[SCRYPT_PHC_CAPACITY];
   scrypt_hasher *hasher = new_hasher(1, 1, 4);
   make_text(good, "right", 4, 8, 1);
@@ -26,7 +26,7 @@ static void refused_verifications(void) {
   scrypt_hasher_free(&hasher);
 }
 
-static void refused_hashes(void) {
+TEST(refused_hashes) {
   char text[SCRYPT_PHC_CAPACITY], mcf[SCRYPT_MCF_CAPACITY(3)], salt[65] = "";
   scrypt_options with = OF(4, 8, 2, .mcf = 1);
   scrypt_hasher *phc = new_hasher(1, 1, 4), *of_mcf = made_of(&with);
@@ -50,7 +50,7 @@ static void refused_hashes(void) {
   scrypt_hasher_free(&of_mcf);
 }
 
-static void refused_keys(void) {
+TEST(refused_keys) {
   static const size_t LONGEST = SCRYPT_MAX_OUTPUT_LEN;
   scrypt_hasher *hasher = new_hasher(1, 1, 4);
   uint8_t key[32];
@@ -65,7 +65,7 @@ static void refused_keys(void) {
   scrypt_hasher_free(&hasher);
 }
 
-static void calls(void) {
+TEST(calls) {
   char text[SCRYPT_PHC_CAPACITY], mcf[SCRYPT_MCF_CAPACITY(3)], good[SCRYPT_PHC_CAPACITY];
   scrypt_options with = OF(4, 8, 2, .mcf = 1);
   scrypt_hasher *phc = new_hasher(1, 1, 4), *of_mcf = made_of(&with);
@@ -94,7 +94,7 @@ static void calls(void) {
 }
 
 /* A verification says whether to rehash, if the password is right. */
-static void rehashes(void) {
+TEST(rehashes) {
   static const struct {
     const char *why, *password, *text;
     uint32_t log_n, r, p;
@@ -133,7 +133,7 @@ static void new_salts(scrypt_hasher *hasher) {
 }
 
 /* A login without a hash costs what a new hash costs, and is never accepted. */
-static void decoy(void) {
+TEST(decoy) {
   static const scrypt_options PARAMS[] = {
       OF(4, 8, 1, .mcf = 0), OF(0, 1, 1, .key_len = 10, .salt_len = 1),
       OF(1, 2, 3, .key_len = 64, .salt_len = 64), OF(5, 1, 1 << 12, .mcf = 1, .key_len = 11, .salt_len = 2),
@@ -155,7 +155,7 @@ static void decoy(void) {
 }
 
 /* A batch of one call maps only the tables of that call: a hasher keeps what it maps. */
-static void memory_of_one_call(void) {
+TEST(memory_of_one_call) {
   scrypt_hasher *hasher = new_hasher(1, 4, 4);
   struct arena *arena = &hasher->queue->slots[0].arena;
   scrypt_cost cost = hasher->cost;
@@ -174,7 +174,7 @@ static void memory_of_one_call(void) {
 }
 
 /* Tables are unmapped, or wiped if the system fails to unmap them. */
-static void memory_that_stays(void) {
+TEST(memory_that_stays) {
   scrypt_hasher *hasher = new_hasher(1, 1, 4);
   struct arena kept, *arena = &hasher->queue->slots[0].arena;
   char text[SCRYPT_PHC_CAPACITY];
@@ -196,7 +196,7 @@ static void memory_that_stays(void) {
 #if HAS_FORKS
 /* A system that doesn't do what a fork needs: there is no hasher, or it works in a child too. The
  * advice is refused once, as when memory is short for a moment. */
-static void forks_of_a_short_system(void) {
+TEST(forks_of_a_short_system) {
   static const struct {
     const char *why;
     int advice, error, new, call;
@@ -246,7 +246,7 @@ static int generation(scrypt_hasher *hasher, const char *text, int more) {
   _exit(failed);
 }
 
-static void generations(void) {
+TEST(generations) {
   scrypt_hasher *hasher = new_hasher(1, 1, 4);
   char text[SCRYPT_PHC_CAPACITY];
   make_text(text, "right", 4, 8, 1);
@@ -258,7 +258,7 @@ static void generations(void) {
 #endif
 
 /* 1/250 of the derivation, and no more than 1 ms; no window if it is below 50 microseconds. */
-static void windows(void) {
+TEST(windows) {
   static const struct {
     uint8_t log_n;
     uint32_t p;
@@ -273,7 +273,7 @@ static void windows(void) {
 }
 
 /* Waits that end in any order take linear time together. */
-static void many_waits(void) {
+TEST(many_waits) {
   enum { N = 80000 };
   static const int STATUSES[] = {SCRYPT_OK, SCRYPT_MISMATCH, SCRYPT_OK, SCRYPT_MISMATCH};
   scrypt_hasher *hasher = new_hasher(1, 1, 4);
@@ -307,30 +307,11 @@ static void many_waits(void) {
   free(all);
 }
 
-static void calibrated(void) {
+TEST(calibrated) {
   uint32_t log_n = 0, r = 0, p = 0;
   IS(scrypt_calibrate(1e-9, (size_t)64 << 20, &log_n, &r, &p), SCRYPT_E_TOO_COSTLY);
   IS(scrypt_calibrate(1, ((size_t)1 << 20) - 1, &log_n, &r, &p), SCRYPT_E_TOO_COSTLY);
   expect(log_n == 0 && r == 0 && p == 0, "unchanged");
   IS(scrypt_calibrate(9, (size_t)1 << 20, &log_n, &r, &p), SCRYPT_OK);
   expect(log_n == 10 && r == 8 && p > 1, "the largest table, then p: %u %u %u", log_n, r, p);
-}
-
-int main(void) {
-  RUN(refused_verifications);
-  RUN(refused_hashes);
-  RUN(refused_keys);
-  RUN(calls);
-  RUN(rehashes);
-  RUN(decoy);
-  RUN(memory_of_one_call);
-  RUN(memory_that_stays);
-#if HAS_FORKS
-  RUN(forks_of_a_short_system);
-  RUN(generations);
-#endif
-  RUN(windows);
-  RUN(many_waits);
-  RUN(calibrated);
-  return failed;
 }

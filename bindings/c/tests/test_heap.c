@@ -1,8 +1,8 @@
 /* The heap of the proved calls: what kit_heap.c, or kit_heap.ll (IS_BY_LL), is trusted to do, by the kit's
  * crate libc (src/heap.rt). No tested call of the library reaches rattle_realloc. */
 #define _GNU_SOURCE
-#include "check.h"
 #include "linux.c"
+#include "test.h"
 
 #include <stdbool.h>
 #include <stdlib.h>
@@ -65,10 +65,9 @@ static void resized(size_t from, size_t to) {
   rattle_dealloc(new.p);
 }
 
-int main(void) {
+TEST(each_size) {
   static const size_t SIZES[] = {0, 100, LARGE - 1, LARGE + 100};
   enum { COUNT = sizeof SIZES / sizeof *SIZES };
   for (size_t i = 0; i < COUNT * COUNT; i++) resized(SIZES[i / COUNT], SIZES[i % COUNT]);
   (void)checked(rattle_alloc(SIZE_MAX / 2, ALIGN), 0, "no memory");
-  return failed;
 }

@@ -1,7 +1,7 @@
 /* The registers that a call preserves on Windows: xmm6 to xmm15, rbx, rbp, rdi, rsi, r12 to r15.
  * And the number of tables that scrypt_key uses there; test_blocks.c has it on other systems. */
-#include "check.h"
 #include "scrypt_c.h"
+#include "test.h"
 
 #include <string.h>
 #include <windows.h>
@@ -82,15 +82,14 @@ static size_t most_touched(void) {
 }
 
 /* Tables of 32 MiB, of a key that may have four: the largest that this process derives. */
-static size_t tables(void) {
+TEST(tables) {
   const size_t before = most_touched();
   uint8_t of[64];
   check(scrypt_key("pw", 2, "salt", 4, 15, 8, 4, of, sizeof of) == SCRYPT_OK, "a key of four chunks");
-  return (most_touched() - before + (16 << 20)) / (32 << 20);
+  check((most_touched() - before + (16 << 20)) / (32 << 20) == PAYS, "the tables of scrypt_key");
 }
 
-int main(void) {
-  check(tables() == PAYS, "the tables of scrypt_key");
+TEST(registers) {
   check(scrypt_hasher_new(NULL, &hasher) == SCRYPT_OK, "a hasher");
   check(changed_by(changes_two) == 2, "a change is found");
   check(changed_by(key) == 0, "scrypt_key");
@@ -99,5 +98,4 @@ int main(void) {
   check(changed_by(verify) == 0, "scrypt_verify");
   check(changed_by(by_hasher) == 0, "scrypt_hasher_verify");
   scrypt_hasher_free(&hasher);
-  return failed;
 }

@@ -1,9 +1,21 @@
 /* NULL: for each pointer of each call it is an error before any other, or nothing with length 0.
  * Nothing is written. */
 #include "arguments.h"
-#include "check.h"
+#include "test.h"
 
 static uint8_t before[sizeof made];
+
+#define SECRETS "p", 1, "s", 1
+#define LOGIN {"p", 1, "$7$", 3}
+
+TEST(arguments) {
+  static const scrypt_login ONE = LOGIN;
+  memset(&made, 7, sizeof made);
+  take_arguments(SECRETS, 4, 1, 1, 32, 1);
+  take_text("$7$", &ONE, 1);
+  take_hasher();
+  memcpy(before, &made, sizeof made);
+}
 
 static void check_null(int status, int wanted, const char *why) {
   check(status == wanted, why);
@@ -22,7 +34,7 @@ static int is_null(const char *pointer) {
 }
 
 /* Each pointer that must not be NULL, one at a time. */
-static void each_pointer(void) {
+TEST(each_pointer) {
 #undef P
 #define P(pointer) (is_null(#pointer) ? NULL : pointer)
 #define CALL(name, arguments)                                                    \
@@ -35,11 +47,8 @@ static void each_pointer(void) {
 #include "each_call.h"
 }
 
-#define SECRETS "p", 1, "s", 1
-#define LOGIN {"p", 1, "$7$", 3}
-
 /* NULL that is nothing, or meets another error. */
-static void others(void) {
+TEST(others) {
   static const scrypt_login FOUR[] = {LOGIN, LOGIN, LOGIN, LOGIN}, NO_TEXT[] = {LOGIN, {"p", 1, NULL, 1}},
                             NO_NAME[] = {{"p", 1, NULL, 0}};
   const scrypt_buffers all = *given.buffers, NO_CHUNKS = {NULL, 0, all.table, 1, all.scratch, 1},
@@ -73,12 +82,11 @@ static void others(void) {
       {"a count that no memory has", scrypt_verify_batch_with_buffers(FOUR, SIZE_MAX, 4, 1, 1, 16, 32, made.statuses, given.buffers),
        SCRYPT_E_BUFFER_SIZE},
   };
-  size_t i;
-  for (i = 0; i < sizeof ROWS / sizeof *ROWS; i++) check_null(ROWS[i].status, ROWS[i].wanted, ROWS[i].why);
+  for (size_t i = 0; i < sizeof ROWS / sizeof *ROWS; i++) check_null(ROWS[i].status, ROWS[i].wanted, ROWS[i].why);
 }
 
 /* Wiping takes NULL for nothing. */
-static void wipe(void) {
+TEST(wipe) {
   const scrypt_buffers all = *given.buffers;
   scrypt_buffers rest = {NULL, all.chunks_len, all.table, all.table_len, NULL, all.scratch_len};
   memset(all.chunks, 7, all.chunks_len);
@@ -91,20 +99,9 @@ static void wipe(void) {
   check(is_all(0, all.chunks, all.chunks_len), "chunks alone");
 }
 
-int main(void) {
-  static const scrypt_login ONE = LOGIN;
-  memset(&made, 7, sizeof made);
-  take_arguments(SECRETS, 4, 1, 1, 32, 1);
-  take_text("$7$", &ONE, 1);
-  memcpy(before, &made, sizeof made);
-  if (scrypt_hasher_new(NULL, &given.hasher) != SCRYPT_OK) exit(3);
-  each_pointer();
-  others();
-  wipe();
-  scrypt_hasher_free(&given.hasher);
+TEST(nothing_is_freed) {
   scrypt_hasher_close(NULL);
   scrypt_hasher_free(NULL);
   scrypt_derivation_free(NULL);
   free_arguments();
-  return failed;
 }

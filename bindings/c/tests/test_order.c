@@ -3,8 +3,8 @@
  * apply, the first in the comment of the call is returned, and outputs are written as the comment
  * says. */
 #include "arguments.h"
-#include "check.h"
 #include "numbers.h"
+#include "test.h"
 
 #include <pthread.h>
 
@@ -131,8 +131,8 @@ static void forget(void) {
 
 /* A call without a row fails too. */
 static void check_call(const char *name, int status) {
-  size_t i, count = sizeof KNOWN / sizeof *KNOWN;
-  for (i = 0; i < count && strcmp(KNOWN[i].name, name) != 0; i++) continue;
+  size_t i = 0, count = sizeof KNOWN / sizeof *KNOWN;
+  for (; i < count && strcmp(KNOWN[i].name, name) != 0; i++) continue;
   check(i < count && status == KNOWN[i].wanted && KNOWN[i].is_right(), name);
   forget();
 }
@@ -157,17 +157,13 @@ static void *arguments(void *text) {
   static const uint32_t NUMBERS[] = {64, 256, 260, 16384, UINT32_MAX};
   uint32_t half[512], scratch[192];
   scrypt_buffers smaller;
-  size_t i;
-  /* The exact cost of (4, 2, 3). */
-  scrypt_options options;
   take_arguments(SECRETS, PARAMS, 20, 1);
   take_text((const char *)text, LOGINS, 4);
-  scrypt_options_init(&options);
-  options.log_n = 4, options.r = 2, options.p = 3, options.key_len = options.min_key_len = 20, options.salt_len = 8;
-  options.max_mem = 5376, options.max_work = 1152, options.max_tables = options.processors = 1;
-  given.options = &options;
-  if (scrypt_hasher_new(&options, &given.hasher) != SCRYPT_OK) exit(3);
-  given.max_mem = 5376, given.max_work = 1152, given.key = KEY;
+  /* The exact cost of (4, 2, 3). */
+  given.max_mem = given.of_hasher.max_mem = 5376, given.max_work = given.of_hasher.max_work = 1152;
+  given.of_hasher.min_key_len = 20, given.of_hasher.salt_len = 8;
+  take_hasher();
+  given.options = &given.of_hasher, given.key = KEY;
   forget();
 #define CALL(name, arguments) check_call(#name, name arguments);
 #include "each_call.h"
@@ -185,27 +181,25 @@ static void *arguments(void *text) {
   check_call("scrypt_params_cost, of two tables", scrypt_params_cost(PARAMS, 9984, 1152, made.cost));
   check_call("scrypt_default_limits, of short keys",
              scrypt_default_limits(PARAMS, 10, made.max_mem, made.max_work, made.min_key_len));
-  for (i = 0; i < sizeof NUMBERS / sizeof *NUMBERS; i++) rejected(NUMBERS[i], 2, 3);
+  for (size_t i = 0; i < sizeof NUMBERS / sizeof *NUMBERS; i++) rejected(NUMBERS[i], 2, 3);
   rejected(4, 1 << 15, 1 << 15);
-  scrypt_hasher_free(&given.hasher);
   free_arguments();
   return NULL;
 }
 
 /* No call has state that threads share. */
-static void in_threads(void) {
+TEST(in_threads) {
   pthread_t all[2];
-  int i;
-  for (i = 0; i < 2; i++) check(pthread_create(&all[i], NULL, arguments, i == 0 ? PHC : MCF) == 0, "a thread");
-  for (i = 0; i < 2; i++) (void)pthread_join(all[i], NULL);
+  for (int i = 0; i < 2; i++) check(pthread_create(&all[i], NULL, arguments, i == 0 ? PHC : MCF) == 0, "a thread");
+  for (int i = 0; i < 2; i++) (void)pthread_join(all[i], NULL);
 }
 
 /* ---- Several errors apply: the first in the comment of the call is returned. The contracts in crates/scrypt_c
  * pin this for the proved calls; here is what the C around them decides ---- */
 
-static uint8_t key[20], chunks[768];
-static uint32_t table[1024], scratch[192];
-static char text[SCRYPT_PHC_CAPACITY];
+static uint8_t key[20] = {7}, chunks[768] = {7};
+static uint32_t table[1024] = {7}, scratch[192] = {7};
+static char text[SCRYPT_PHC_CAPACITY] = "!";
 
 #define TEXT text, sizeof text
 #define NO_ROOM text, 1
@@ -220,7 +214,7 @@ static void meets(const char *faults, int status, int wanted) {
   check(key[0] == 7 && text[0] == '!' && chunks[0] == 7 && table[0] == 7 && scratch[0] == 7, faults);
 }
 
-static void derivations(void) {
+TEST(derivations) {
   scrypt_derivation *it = NULL;
   double done = 0;
 #define NEW(...) scrypt_derivation_new(__VA_ARGS__, &it)
@@ -240,7 +234,7 @@ static void derivations(void) {
 }
 
 /* Nothing in C comes before the first error of a proved call. */
-static void first_errors(void) {
+TEST(first_errors) {
   static const scrypt_buffers none = {chunks, 0, table, 0, scratch, 0};
   meets("key, in buffers", scrypt_key_with_buffers(SECRETS, 4, 0, 1, key, 0, &none), SCRYPT_E_INVALID_PARAMS);
   meets("thin key", scrypt_key_thin(SECRETS, PARAMS, 5, key, 0, &none), SCRYPT_E_INVALID_PARAMS);
@@ -249,13 +243,13 @@ static void first_errors(void) {
 }
 
 /* The contracts leave open which of these two is returned. */
-static void memory_or_room(void) {
+TEST(memory_or_room) {
   meets("phc", scrypt_hash_with_salt(SECRETS, HUGE, 1, 1, 20, 0, NO_ROOM), SCRYPT_E_OUT_OF_MEMORY);
   meets("mcf", scrypt_hash_with_salt(SECRETS, HUGE, 1, 1, 20, 1, NO_ROOM), SCRYPT_E_OUT_OF_MEMORY);
 }
 
 /* A PHC string if it can have this salt and this key, or a $7$ hash. */
-static void stored_texts(void) {
+TEST(stored_texts) {
   static const char SALTS[] = "saltsaltsaltsaltsaltsaltsaltsaltsaltsaltsaltsaltsaltsaltsaltsalt$";
 #define STORED(...) scrypt_stored_text(__VA_ARGS__)
 #define EITHER SCRYPT_PHC_OR_MCF
@@ -266,9 +260,8 @@ static void stored_texts(void) {
 }
 
 /* Each buffer is too short by one, before a wrong password. */
-static void buffers(void) {
-  int i;
-  for (i = 0; i < 3; i++) {
+TEST(buffers) {
+  for (int i = 0; i < 3; i++) {
     const scrypt_buffers in = {chunks, 768 - (i == 0), table, 1024 - (i == 1), scratch, 128 - (i == 2)};
 #define SHORT &in
     meets("key_with_buffers", scrypt_key_with_buffers(SECRETS, PARAMS, key, 20, SHORT), SCRYPT_E_BUFFER_SIZE);
@@ -282,22 +275,8 @@ static void buffers(void) {
 }
 
 /* A text that needs 2^63 bytes, with the limits that a call has. */
-static void limits_of_calls(void) {
+TEST(limits_of_calls) {
   static const char COSTLY[] = "$scrypt$ln=56,r=1,p=1$c2FsdHNhbHQ$AAAAAAAAAAAAAAAAAAAA";
   meets("verify", scrypt_verify("pw", 2, OF(COSTLY)), SCRYPT_E_TOO_COSTLY);
   meets("verify_unlimited", scrypt_verify_unlimited("pw", 2, OF(COSTLY)), SCRYPT_E_OUT_OF_MEMORY);
-}
-
-int main(void) {
-  in_threads();
-  memset(key, 7, sizeof key);
-  memset(text, '!', sizeof text);
-  chunks[0] = 7, table[0] = 7, scratch[0] = 7;
-  derivations();
-  first_errors();
-  memory_or_room();
-  stored_texts();
-  buffers();
-  limits_of_calls();
-  return failed;
 }

@@ -8,8 +8,8 @@
 #else
 #include "linux.c"
 #endif
-#include "check.h"
 #include "groups.h"
+#include "test.h"
 
 #include <stdlib.h>
 #include <string.h>
@@ -200,7 +200,7 @@ static void explore(void) {
   for (int i = 0; i < CALLS && !happened; i++) check(now.wanted[i] == DONE, "an endless call");
 }
 
-int main(void) {
+TEST(all_runs) {
   static const size_t TABLES[] = {2, 5, 8}; /* one in each slot; two and three; four */
   for (int i = 0; i < 3; i++) {
     memset(seen, 0, sizeof seen);
@@ -210,5 +210,4 @@ int main(void) {
   }
   printf("%zu states, %zu events, %zu ends\n", states, events, ends);
   check(ends > 0, "runs end");
-  return failed;
 }

@@ -1,7 +1,7 @@
 /* What a call leaves in registers: a dynamic linker that binds the next call of a program saves
  * them on the stack, where they stay. Each number of tables leaves others. Linked with -z lazy. */
 #include "arguments.h"
-#include "check.h"
+#include "test.h"
 
 #include <unistd.h>
 
@@ -21,18 +21,18 @@ __attribute__((noinline)) static long bind_next(size_t tables) {
 __attribute__((noinline)) static size_t words_of_table(void) {
   const volatile uint64_t *at, *top = __builtin_frame_address(0);
   const scrypt_buffers *in = given.buffers;
-  size_t found = 0, i;
+  size_t found = 0;
   for (at = top - OF_LINKER / sizeof *at; at < top; at++) {
     const uint64_t word = *at;
-    for (i = 0; i + WORD <= in->table_len && memcmp(in->table + i, &word, sizeof word) != 0; i++) continue;
+    size_t i = 0;
+    for (; i + WORD <= in->table_len && memcmp(in->table + i, &word, sizeof word) != 0; i++) continue;
     found += i + WORD <= in->table_len;
   }
   return found;
 }
 
-int main(void) {
-  size_t tables;
-  for (tables = 1; tables <= 4; tables++) {
+TEST(each_number_of_tables) {
+  for (size_t tables = 1; tables <= 4; tables++) {
     char name[60];
     take_arguments("password", 8, "salt", 4, 6, 8, (uint32_t)tables, 64, tables);
     check(scrypt_key_with_buffers(given.password, given.password_len, given.salt, given.salt_len, given.log_n, given.r,
@@ -42,5 +42,4 @@ int main(void) {
     check(words_of_table() == 0, name);
     free_arguments();
   }
-  return failed;
 }

@@ -1,13 +1,13 @@
 /* scrypt_generate_salt fills exactly the given bytes, with different ones each time, and
  * scrypt_hash_password takes such a salt. Both report a failing system call. */
 #define _DEFAULT_SOURCE
-#include "check.h"
 #include "scrypt_c.h"
+#include "test.h"
 
 #include <stddef.h>
 #include <string.h>
 
-static void drawn(void) {
+TEST(drawn) {
   uint8_t one[18] = {0}, other[18] = {0}, none = 7;
   check(scrypt_generate_salt(one + 1, 16) == SCRYPT_OK && scrypt_generate_salt(other + 1, 16) == SCRYPT_OK, "drawn");
   check(memcmp(one + 1, other + 1, 16) != 0, "two salts differ");
@@ -16,16 +16,16 @@ static void drawn(void) {
 }
 
 /* More than the system gives in one call that a signal may interrupt. */
-static void many(void) {
+TEST(many) {
   static uint8_t large[100000];
-  size_t i, zeros = 0;
+  size_t zeros = 0;
   check(scrypt_generate_salt(large, sizeof large) == SCRYPT_OK, "many bytes");
-  for (i = 0; i < sizeof large; i++) zeros += large[i] == 0;
+  for (size_t i = 0; i < sizeof large; i++) zeros += large[i] == 0;
   check(zeros > 200 && zeros < 600, "one byte in 256 is zero");
 }
 
 /* Hashes with a drawn salt and the recommended parameters. */
-static void new_hashes(void) {
+TEST(new_hashes) {
   char text[SCRYPT_HASH_CAPACITY + 1], other[SCRYPT_HASH_CAPACITY];
   memset(text, '!', sizeof text);
   check(scrypt_hash_password("pw", 2, text, SCRYPT_HASH_CAPACITY - 1) == SCRYPT_E_BUFFER_SIZE, "a byte too few");
@@ -38,13 +38,7 @@ static void new_hashes(void) {
   check(scrypt_verify("", 0, other, strlen(other)) == SCRYPT_OK, "its password");
 }
 
-#ifdef _WIN32
-
-static void refused_by_the_system(void) {} /* it cannot be made to fail there */
-
-#else
-
-#include "child.h"
+#ifndef _WIN32 /* it cannot be made to fail there */
 
 #include <errno.h>
 #include <linux/filter.h>
@@ -69,14 +63,6 @@ static int refused(void) {
   return scrypt_hash_password("pw", 2, text, sizeof text) == SCRYPT_E_NO_RANDOM_BYTES && text[0] == '!' ? 0 : 5;
 }
 
-static void refused_by_the_system(void) { in_a_child(refused, "a system without random bytes"); }
+TEST(refused_by_the_system) { in_a_child(refused, "a system without random bytes"); }
 
 #endif
-
-int main(void) {
-  drawn();
-  many();
-  new_hashes();
-  refused_by_the_system();
-  return failed;
-}

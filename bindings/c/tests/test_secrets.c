@@ -4,7 +4,6 @@
  * secrets.supp suppresses the addresses in the function that reads the row which scrypt requires.
  * usage: test_secrets LOG_N, by test_secrets.sh */
 #include "arguments.h"
-#include "check.h"
 
 #include <valgrind/memcheck.h>
 
@@ -70,7 +69,6 @@ static void all_calls(size_t len, uint32_t log_n, uint32_t r, uint32_t p, size_t
   static char text[SCRYPT_PHC_CAPACITY + 2 * (4 + sizeof key)];
   static scrypt_login logins[LOGINS];
   const size_t key_len = mcf ? sizeof key : KEY_LEN;
-  scrypt_options with;
   is_wrong = len > 0 && !is_wrong;
   SHOW(password);
   if (scrypt_key(password, len, "salt", 4, log_n, r, p, key, key_len) ||
@@ -80,11 +78,8 @@ static void all_calls(size_t len, uint32_t log_n, uint32_t r, uint32_t p, size_t
   take_arguments(password, len, "salt", 4, log_n, r, p, KEY_LEN, tables);
   logins[0] = logins[1] = (scrypt_login){password, len, text, strlen(text)};
   take_text(text, logins, LOGINS);
-  given.mcf = mcf;
-  scrypt_options_init(&with);
-  with.log_n = log_n, with.r = r, with.p = p, with.mcf = mcf, with.key_len = KEY_LEN;
-  with.max_mem = SIZE_MAX, with.max_work = UINT64_MAX, with.max_tables = tables, with.processors = 1;
-  if (scrypt_hasher_new(&with, &given.hasher) != SCRYPT_OK) exit(3);
+  given.mcf = given.of_hasher.mcf = mcf;
+  take_hasher();
 #define WATCH(name, is_mismatch, arguments)                                 \
   do {                                                                      \
     const unsigned before = VALGRIND_COUNT_ERRORS;                          \
@@ -96,20 +91,18 @@ static void all_calls(size_t len, uint32_t log_n, uint32_t r, uint32_t p, size_t
     WATCH(name, is_wrong, arguments);
 #include "each_call.h"
   WATCH(scrypt_hasher_verify, 1, (given.hasher, password, len, NULL, 0, NULL, -1));
-  scrypt_hasher_free(&given.hasher);
   free_arguments();
 }
 
 int main(int count, char **words) {
   static const size_t LENS[] = {0, 1, 63, 64, 65, 200};
   const uint32_t log_n = count > 1 ? (uint32_t)atoi(words[1]) : 0;
-  size_t i, tables;
-  uint32_t p;
+  size_t i = 0;
   if (!RUNNING_ON_VALGRIND) return 3;
   check(strcmp(scrypt_version(), SCRYPT_VERSION_STRING " " PROCESSOR) == 0, scrypt_version());
-  for (p = 1, i = 0; p <= 5; p++) {
+  for (uint32_t p = 1; p <= 5; p++) {
     const size_t most = p < 4 ? p : 4; /* a larger N takes longer, and has only these */
-    for (tables = log_n > 0 ? most : 1; tables <= most; tables++, i++) all_calls(8, log_n, 8, p, tables, i % 3 > 0);
+    for (size_t tables = log_n > 0 ? most : 1; tables <= most; tables++, i++) all_calls(8, log_n, 8, p, tables, i % 3 > 0);
   }
   if (log_n > 0) return failed;
   for (i = 0; i < 4 * sizeof LENS / sizeof *LENS; i++) all_calls(LENS[i / 4], 0, 1, 1, 1, i % 4 > 1);

@@ -2,7 +2,7 @@
  * with proved steps that only count them: nothing here depends on the machine or its load. */
 #include "steps.c"
 
-#include "check.h"
+#include "test.h"
 
 #include <stdlib.h>
 
@@ -21,8 +21,6 @@ static size_t fewer(size_t one, size_t other) { return one < other ? one : other
 int cleared_scrypt_key_begin(const uint8_t *password, size_t password_len, const uint8_t *salt, size_t salt_len,
                              uint8_t log_n, uint32_t r, uint32_t p, uint8_t *chunks, size_t chunks_len, uint32_t *table,
                              size_t table_len, uint32_t *scratch, size_t scratch_len, scrypt_progress *at) {
-  (void)password, (void)password_len, (void)salt, (void)salt_len, (void)chunks, (void)chunks_len;
-  (void)table, (void)scratch, (void)scratch_len;
   *at = (scrypt_progress){0, fewer(table_len / ((size_t)32 * r << log_n), p), 0};
   return SCRYPT_OK;
 }
@@ -33,7 +31,6 @@ int cleared_scrypt_key_step(uint8_t log_n, uint32_t r, uint32_t p, size_t count,
                             uint32_t *table, size_t table_len, uint32_t *scratch, size_t scratch_len,
                             scrypt_progress *at) {
   const size_t all = (size_t)2 << log_n, mixes = fewer(count, all - at->mixes);
-  (void)chunks, (void)chunks_len, (void)table, (void)table_len, (void)scratch, (void)scratch_len;
   check(most > 0 ? count <= 2 * most : count == 1 || count <= (1 << 14) / (2 * r), why);
   if (count > most) most = count;
   clock_ns += (int64_t)mixes * mix_ns;
@@ -47,8 +44,6 @@ int cleared_scrypt_key_step(uint8_t log_n, uint32_t r, uint32_t p, size_t count,
 int cleared_scrypt_key_finish(const uint8_t *password, size_t password_len, uint8_t log_n, uint32_t r, uint32_t p,
                               uint8_t *chunks, size_t chunks_len, const scrypt_progress *at, uint8_t *output,
                               size_t output_len) {
-  (void)password, (void)password_len, (void)log_n, (void)r, (void)p, (void)chunks, (void)chunks_len, (void)at;
-  (void)output, (void)output_len;
   return SCRYPT_OK;
 }
 
@@ -67,9 +62,8 @@ static const struct {
 };
 
 /* Each run takes its time, up to a mix more; only the last takes less. */
-int main(void) {
-  size_t i;
-  for (i = 0; i < sizeof ROWS / sizeof *ROWS; i++) {
+TEST(each_run) {
+  for (size_t i = 0; i < sizeof ROWS / sizeof *ROWS; i++) {
     const int64_t ns = INT64_C(1000000) * ROWS[i].milliseconds;
     const uint32_t log_n = ROWS[i].log_n, r = ROWS[i].r, p = ROWS[i].p;
     scrypt_derivation *it = NULL;
@@ -84,5 +78,4 @@ int main(void) {
     }
     scrypt_derivation_free(&it);
   }
-  return failed;
 }

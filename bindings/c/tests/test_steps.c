@@ -1,16 +1,13 @@
 /* Keys in steps: by runs of any time, also in a child. test_order.c has the errors. */
-#include "check.h"
 #include "scrypt_c.h"
-#ifndef _WIN32
-#include "child.h"
-#endif
+#include "test.h"
 
 #include <stdlib.h>
 #include <string.h>
 
 /* A key by runs of this time; each run does more, and the last all. A step is bounded by a chunk,
  * however many chunks there are. test_step_times.c tests how long runs take. */
-static void by_time(void) {
+TEST(by_time) {
   static const struct {
     const char *why;
     uint32_t log_n, r, p, milliseconds;
@@ -26,8 +23,7 @@ static void by_time(void) {
       {"4096 short chunks", 9, 1, 4096, 10},
   };
   uint8_t key[32], wanted[32];
-  size_t i;
-  for (i = 0; i < sizeof ROWS / sizeof *ROWS; i++) {
+  for (size_t i = 0; i < sizeof ROWS / sizeof *ROWS; i++) {
     const uint32_t log_n = ROWS[i].log_n, r = ROWS[i].r, p = ROWS[i].p;
     const size_t max_runs = ROWS[i].milliseconds > 10 ? 1 : (size_t)p << (log_n + 1);
     scrypt_derivation *it = NULL;
@@ -64,7 +60,7 @@ static int is_derived(void) {
 }
 
 /* A child and its parent derive the rest, each in its own copy. */
-static void across_a_fork(void) {
+TEST(across_a_fork) {
   double done = 0;
   check(scrypt_key("pw", 2, "salt", 4, 15, 8, 2, its_key, 32) == SCRYPT_OK, "a key");
   check(scrypt_derivation_new("pw", 2, "salt", 4, 15, 8, 2, SCRYPT_AUTO, 32, &shared) == SCRYPT_OK &&
@@ -73,11 +69,3 @@ static void across_a_fork(void) {
   check(is_derived() == 0, "the rest of a key in its parent");
 }
 #endif
-
-int main(void) {
-  by_time();
-#ifndef _WIN32
-  across_a_fork();
-#endif
-  return failed;
-}

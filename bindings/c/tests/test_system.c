@@ -3,11 +3,13 @@
 #define _GNU_SOURCE
 #ifdef _WIN32
 #include "windows.c"
+enum { HAS_FORKS = 0 };
 #else
 #include "linux.c"
+enum { HAS_FORKS = 1 };
 #endif
 
-#include "check.h"
+#include "test.h"
 
 #include <pthread.h>
 #include <stdlib.h>
@@ -25,8 +27,7 @@ static struct {
 } shared;
 
 static void *count_with_the_lock(void *unused) {
-  int i;
-  for (i = 0; i < ROUNDS; i++) {
+  for (int i = 0; i < ROUNDS; i++) {
     long before;
     mutex_lock(&shared.lock);
     before = shared.count;
@@ -36,11 +37,10 @@ static void *count_with_the_lock(void *unused) {
   return unused;
 }
 
-static void a_lock(void) {
+TEST(a_lock) {
   pthread_t all[THREADS];
-  int i;
-  for (i = 0; i < THREADS; i++) check(pthread_create(&all[i], NULL, count_with_the_lock, NULL) == 0, "a thread");
-  for (i = 0; i < THREADS; i++) (void)pthread_join(all[i], NULL);
+  for (int i = 0; i < THREADS; i++) check(pthread_create(&all[i], NULL, count_with_the_lock, NULL) == 0, "a thread");
+  for (int i = 0; i < THREADS; i++) (void)pthread_join(all[i], NULL);
   check(shared.count == (long)THREADS * ROUNDS, "no two threads have the lock");
 }
 
@@ -59,7 +59,7 @@ static void *sleep_for_long(void *unused) {
   return unused;
 }
 
-static void sleeps(void) {
+TEST(sleeps) {
   int64_t begun, end;
   pthread_t thread;
   int count, tries = 0;
@@ -89,22 +89,13 @@ static void sleeps(void) {
 /* ---- Memory ---- */
 
 static uint8_t *mapped[4];
+static void while_mapped(void);
 
-#ifdef _WIN32
-#include "test_system_windows.h"
-#else
-#include "test_system_linux.h"
-#endif
-
-static void memory(void) {
-  int i;
-  mapped[0] = (uint8_t *)map_zeros(LEN);
-  mapped[1] = (uint8_t *)map_zeros(LEN);
-  mapped[2] = (uint8_t *)map_zeros(LEN);
-  mapped[3] = (uint8_t *)map_zeros(LEN);
+TEST(memory) {
+  for (int i = 0; i < 4; i++) mapped[i] = (uint8_t *)map_zeros(LEN);
   check(wipe_on_fork(mapped[1], LEN) == HAS_FORKS && wipe_on_fork(mapped[2] + LEN / 2, LEN / 2) == HAS_FORKS &&
             drop_on_fork(mapped[3], LEN) == HAS_FORKS, "a system with forks does what they need");
-  for (i = 0; i < 4; i++) {
+  for (int i = 0; i < 4; i++) {
     check(mapped[i] != NULL && is_all(0, mapped[i], LEN), "zeros are mapped");
     if (mapped[i] == NULL) return;
     advise_huge_pages(mapped[i], LEN);
@@ -112,16 +103,14 @@ static void memory(void) {
     memset(mapped[i], 7, LEN);
   }
   while_mapped();
-  for (i = 0; i < 4; i++) check(is_all(7, mapped[i], LEN), "written bytes");
-  for (i = 0; i < 4; i++) check(unmap(mapped[i], LEN), "unmapped");
+  for (int i = 0; i < 4; i++) check(is_all(7, mapped[i], LEN), "written bytes");
+  for (int i = 0; i < 4; i++) check(unmap(mapped[i], LEN), "unmapped");
   check(!unmap(mapped[0] + 1, LEN), "an address that is no mapping");
   check(map_zeros(SIZE_MAX / 2) == NULL, "more than the address space");
 }
 
-int main(void) {
-  a_lock();
-  sleeps();
-  memory();
-  of_this_system();
-  return failed;
-}
+#ifdef _WIN32
+#include "test_system_windows.h"
+#else
+#include "test_system_linux.h"
+#endif

@@ -1,11 +1,7 @@
 /* For test_system.c: the promises of linux.c only. */
-#include "child.h"
-
 #ifndef ROOT
 #error "it needs ROOT, a folder of this test in which linux.c looks for files"
 #endif
-
-enum { HAS_FORKS = 1 };
 
 /* ---- Memory ---- */
 
@@ -19,8 +15,7 @@ static int child_finds_zeros(void) {
 }
 
 static void while_mapped(void) {
-  int i;
-  for (i = 0; i < 4; i++) check(is_resident(mapped[i]), "what was written is in memory");
+  for (int i = 0; i < 4; i++) check(is_resident(mapped[i]), "what was written is in memory");
   in_a_child(child_finds_zeros, "a child");
 }
 
@@ -37,7 +32,7 @@ static void set_group(const char *line, const char *folder, const char *file) {
   check(system(command) == 0, "a control group");
 }
 
-static void processors_of_groups(void) {
+TEST(processors_of_groups) {
   static const struct {
     const char *line, *folder, *quota;
     size_t count;
@@ -52,14 +47,14 @@ static void processors_of_groups(void) {
                 {"4:cpuacct,cpu:/a/b\n0::/x", "/cpu/a/b", "cpu.cfs_quota_us 150000", 2}, /* and outside of one */
                 {"4:cpuset:/a\n5:memory:/,cpu,", "/cpu/a", "cpu.cfs_quota_us 150000", 64}}; /* of other controllers */
   cpu_set_t set;
-  size_t all = sched_getaffinity(0, sizeof set, &set) == 0 ? (size_t)CPU_COUNT(&set) : 1, i;
-  for (i = 0; i < sizeof GROUPS / sizeof *GROUPS; i++) {
+  size_t all = sched_getaffinity(0, sizeof set, &set) == 0 ? (size_t)CPU_COUNT(&set) : 1;
+  for (size_t i = 0; i < sizeof GROUPS / sizeof *GROUPS; i++) {
     set_group(GROUPS[i].line, GROUPS[i].folder, GROUPS[i].quota);
     check(processors_of_process() == least(GROUPS[i].count, all), GROUPS[i].quota);
   }
 }
 
-static void memory_of_groups(void) {
+TEST(memory_of_groups) {
   static const struct {
     const char *line, *folder, *most;
     size_t bytes;
@@ -71,14 +66,9 @@ static void memory_of_groups(void) {
                 {"0::/x\n9:memory:/a/b", "/memory/a", "memory.limit_in_bytes 1000000", 1000000}, /* around it */
                 {"8:cpu:/a\n9:memory:/m", "/memory/a", "memory.limit_in_bytes 1000000", SIZE_MAX}, /* of others */
                 {"9:memory:/m", "/memory", "memory.limit_in_bytes 9223372036854771712", SIZE_MAX}};
-  size_t all = (size_t)sysconf(_SC_PHYS_PAGES) * (size_t)sysconf(_SC_PAGESIZE), i;
-  for (i = 0; i < sizeof GROUPS / sizeof *GROUPS; i++) {
+  size_t all = (size_t)sysconf(_SC_PHYS_PAGES) * (size_t)sysconf(_SC_PAGESIZE);
+  for (size_t i = 0; i < sizeof GROUPS / sizeof *GROUPS; i++) {
     set_group(GROUPS[i].line, GROUPS[i].folder, GROUPS[i].most);
     check(memory_of_process() == least(GROUPS[i].bytes, all), GROUPS[i].most);
   }
-}
-
-static void of_this_system(void) {
-  processors_of_groups();
-  memory_of_groups();
 }

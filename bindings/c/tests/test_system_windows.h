@@ -1,11 +1,9 @@
 /* For test_system.c: the promises of windows.c only. Once in a job a process stays in it, so the
  * jobs come last, each within the one before. */
 
-enum { HAS_FORKS = 0 };
-
 static void while_mapped(void) {}
 
-static void affinity(void) {
+TEST(affinity) {
   DWORD_PTR before, all, one;
   if (!GetProcessAffinityMask(GetCurrentProcess(), &before, &all)) return;
   one = before & -before;
@@ -24,7 +22,12 @@ static int enter(JOBOBJECTINFOCLASS which, void *limit, DWORD size, const char *
   return 0;
 }
 
-static void processors_of_a_job(void) {
+TEST(memory_of_the_machine) {
+  MEMORYSTATUSEX status = {.dwLength = sizeof status};
+  check(GlobalMemoryStatusEx(&status) && memory_of_process() <= status.ullTotalPhys && memory_of_process() > 0, "the memory there is");
+}
+
+TEST(processors_of_a_job) {
   JOBOBJECT_CPU_RATE_CONTROL_INFORMATION rate = {
       .ControlFlags = JOB_OBJECT_CPU_RATE_CONTROL_ENABLE | JOB_OBJECT_CPU_RATE_CONTROL_HARD_CAP};
   size_t all = GetActiveProcessorCount(ALL_PROCESSOR_GROUPS);
@@ -33,7 +36,7 @@ static void processors_of_a_job(void) {
     check(processors_of_process() == (all < 2 ? all : 2), "two processors of a job");
 }
 
-static void memory_of_a_job(void) {
+TEST(memory_of_a_job) {
   static const size_t BYTES = (size_t)64 << 20; /* less than any machine has */
   JOBOBJECT_EXTENDED_LIMIT_INFORMATION memory = {.JobMemoryLimit = BYTES};
   memory.BasicLimitInformation.LimitFlags = JOB_OBJECT_LIMIT_JOB_MEMORY;
@@ -42,10 +45,3 @@ static void memory_of_a_job(void) {
   else check(memory_of_process() == BYTES, "the memory of a job");
 }
 
-static void of_this_system(void) {
-  MEMORYSTATUSEX status = {.dwLength = sizeof status};
-  affinity();
-  check(GlobalMemoryStatusEx(&status) && memory_of_process() <= status.ullTotalPhys && memory_of_process() > 0, "the memory there is");
-  processors_of_a_job();
-  memory_of_a_job();
-}

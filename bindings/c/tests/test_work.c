@@ -12,13 +12,10 @@
 int main(int count, char **words) {
   const uint32_t p = count > 1 ? (uint32_t)atoi(words[1]) : 1;
   const char *phc = p == 1 ? PHC_OF_1 : PHC_OF_4;
-  scrypt_options options;
   const scrypt_login login = {"pw", 2, phc, strlen(phc)};
   take_arguments("pw", 2, "salt", 4, 8, 8, p, 32, 1);
   take_text(phc, &login, 1);
-  scrypt_options_init(&options);
-  options.log_n = 8, options.r = 8, options.p = p, options.max_tables = options.processors = 1;
-  if (scrypt_hasher_new(&options, &given.hasher) != SCRYPT_OK) exit(3);
+  take_hasher();
 #define CALL(name, arguments)                                                                        \
   if (strcmp(#name, "scrypt_hash_password") != 0 && strcmp(#name, "scrypt_calibrate") != 0) {        \
     CALLGRIND_ZERO_STATS;                                                                            \
@@ -29,7 +26,6 @@ int main(int count, char **words) {
   CALLGRIND_ZERO_STATS;
   (void)!scrypt_hasher_verify(given.hasher, "pw", 2, NULL, 0, NULL, -1);
   CALLGRIND_DUMP_STATS_AT("scrypt_hasher_verify_without_hash");
-  scrypt_hasher_free(&given.hasher);
   free_arguments();
   return 0;
 }
