@@ -61,18 +61,12 @@ TEST(initial_options) {
 }
 
 TEST(defaults) {
+  const size_t processors = processors_of_process();
+  const scrypt_options wanted = OF(SCRYPT_RECOMMENDED_LOG_N, SCRYPT_RECOMMENDED_R, SCRYPT_RECOMMENDED_P,
+                                   .max_mem = LIMITS[0], .max_work = LIMITS[1], .min_key_len = LIMITS[2],
+                                   .max_tables = 2 * processors, .processors = processors);
   scrypt_hasher *hasher = made_of(NULL), *none = NULL;
-  const scrypt_options *with = scrypt_hasher_options(hasher);
-  IS(with->log_n, SCRYPT_RECOMMENDED_LOG_N);
-  IS(with->r, SCRYPT_RECOMMENDED_R);
-  IS(with->p, SCRYPT_RECOMMENDED_P);
-  IS(with->key_len, SCRYPT_KEY_LEN);
-  IS(with->salt_len, SCRYPT_SALT_LEN);
-  IS(with->max_mem, LIMITS[0]);
-  IS(with->max_work, LIMITS[1]);
-  IS(with->min_key_len, LIMITS[2]);
-  IS(with->processors, processors_of_process());
-  IS(with->max_tables, 2 * with->processors);
+  expect(memcmp(scrypt_hasher_options(hasher), &wanted, sizeof wanted) == 0, "the completed defaults");
   IS(scrypt_hasher_options(NULL), NULL);
   scrypt_hasher_free(&hasher);
   WRITE(max_mapped, 10);

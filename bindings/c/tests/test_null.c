@@ -72,7 +72,6 @@ TEST(others) {
       {"phc, no capacity", scrypt_hash_with_salt(SECRETS, 4, 1, 1, 32, 0, NULL, 0), SCRYPT_E_BUFFER_SIZE},
       {"mcf, no salt and capacity", scrypt_hash_with_salt(NULL, 0, NULL, 0, 4, 1, 1, 32, 1, NULL, 0), SCRYPT_E_BUFFER_SIZE},
       {"verify, an empty text", scrypt_verify(NULL, 0, NULL, 0), SCRYPT_E_ENCODING_INVALID},
-      {"verify_limited, no bytes", scrypt_verify_limited("p", 1, NULL, 9, 0, 0, 0), SCRYPT_E_NULL_POINTER},
       {"needs_rehash, an empty text", scrypt_needs_rehash(NULL, 0, 4, 1, 1, 32), SCRYPT_E_ENCODING_INVALID},
       {"a batch of none", scrypt_verify_batch_with_buffers(NULL, 0, 4, 1, 1, 16, 32, NULL, given.buffers), SCRYPT_OK},
       {"a batch, a text", scrypt_verify_batch_with_buffers(NO_TEXT, 2, 4, 1, 1, 16, 32, made.statuses, given.buffers), SCRYPT_E_NULL_POINTER},

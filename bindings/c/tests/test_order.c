@@ -269,8 +269,6 @@ TEST(buffers) {
     meets("phc, in buffers", scrypt_hash_with_buffers(SECRETS, PARAMS, 20, 0, TEXT, SHORT), SCRYPT_E_BUFFER_SIZE);
     meets("mcf, in buffers", scrypt_hash_with_buffers(SECRETS, PARAMS, 20, 1, TEXT, SHORT), SCRYPT_E_BUFFER_SIZE);
     meets("verify, in buffers", scrypt_verify_limited_with_buffers("", 0, OF(PHC), NO_LIMITS, 0, SHORT), SCRYPT_E_BUFFER_SIZE);
-    meets("verify, in buffers", scrypt_verify_limited_with_buffers("", 0, OF(MCF), NO_LIMITS, 0, SHORT),
-          SCRYPT_E_BUFFER_SIZE);
   }
 }
 
