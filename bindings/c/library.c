@@ -7,7 +7,6 @@
 #include "status.c"
 #include "hasher.c"
 #include "options.c"
-#include "arena.c"
 #include "calibrate.c"
 #include "blocks.c"
 #include "steps.c"

@@ -1,4 +1,4 @@
-/* Mappings for tables, which arena.c keeps and blocks.c doesn't. A mapping that goes is unmapped, and
+/* Mappings for tables, which arena.h keeps and blocks.c doesn't. A mapping that goes is unmapped, and
  * wiped only if that fails: the system wipes unmapped memory, and takes far less time (SECURITY.md,
  * row "freed memory"). */
 #ifndef TABLES_H

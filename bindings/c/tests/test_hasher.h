@@ -189,7 +189,6 @@ static int watched_key(const void *password, size_t password_len, const void *sa
 #undef scrypt_verify_batch_with_buffers
 #undef scrypt_key_with_buffers
 #include "options.c"
-#include "arena.c"
 #define now now_seconds
 #include "calibrate.c"
 #undef now

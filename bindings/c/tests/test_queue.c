@@ -19,7 +19,6 @@ static void note_signal(condition *it);
 #define max_interleave() ((size_t)4)
 #include "hasher.c"
 #include "options.c"
-#include "arena.c"
 
 enum { CALLS = 5, SLOTS = 2, CLASSES = 3, ROUNDS = 2, ABSENT = DONE + 1, MAX_SEEN = 1 << 22 };
 
