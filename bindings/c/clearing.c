@@ -60,8 +60,7 @@ static void clear_registers(void) {
 /* Does not call memset, whose return address would be below. */
 CLEARS static void clear_stack(void) {
   volatile uint64_t below[(BELOW + APART) / sizeof(uint64_t)];
-  size_t i;
-  for (i = sizeof below / sizeof *below; i-- > 0;) below[i] = 0;
+  for (size_t i = sizeof below / sizeof *below; i-- > 0;) below[i] = 0;
 }
 
 #define DECLARED(name, parameters, type) type base_##name parameters; type newer_##name parameters;

@@ -166,10 +166,9 @@ static size_t extend_batch(scrypt_hasher *hasher, struct call **batch, size_t co
 
 static void finish(scrypt_hasher *hasher, struct call **batch, const int *statuses, size_t count) {
   struct slot *slot = batch[0]->slot;
-  size_t i;
   if (hasher->is_closed) arena_free(&slot->arena);
   hasher->queue->stats.deriving -= count;
-  for (i = 0; i < count; i++) end_call(batch[i], statuses[i]);
+  for (size_t i = 0; i < count; i++) end_call(batch[i], statuses[i]);
   release_slot(hasher->queue, slot);
 }
 
@@ -377,13 +376,12 @@ const scrypt_options *scrypt_hasher_options(const scrypt_hasher *it) { return it
 
 void scrypt_hasher_close(scrypt_hasher *hasher) {
   struct queue *queue;
-  size_t i;
   if (hasher == NULL) return;
   queue = hasher->queue;
   mutex_lock(&queue->lock);
   hasher->is_closed = 1;
   while (queue->first != NULL) leave(queue, queue->first, SCRYPT_E_CLOSED);
-  for (i = 0; i < hasher->slots; i++)
+  for (size_t i = 0; i < hasher->slots; i++)
     if (!queue->slots[i].is_taken) arena_free(&queue->slots[i].arena);
   mutex_unlock(&queue->lock);
 }
