@@ -9,25 +9,21 @@ void clearing_free(void *block);
 /* Half the number of cores of each chunk in the first proved step, which takes less than 1 ms. */
 enum { FIRST_CORES = 1 << 12 };
 
-/* The parameters, the progress and the buffers, whose lengths are those of `at.interleaved` tables. */
-struct steps {
+struct scrypt_derivation {
   uint8_t log_n;
   uint32_t r, p;
   scrypt_progress at;
-  scrypt_buffers buffers;
-};
-#define PARAMS_OF(steps) (steps)->log_n, (steps)->r, (steps)->p
-
-struct scrypt_derivation {
-  struct steps steps;
+  scrypt_buffers buffers; /* their lengths are those of `at.interleaved` tables */
   size_t output_len;
   size_t max_mixes; /* of the next proved step: twice as many as any before */
   double mix_ns;    /* the time of a block mix in the last proved step; 0 before the first */
 };
 
-static uint64_t mixes_of_chunk(const struct steps *steps) { return UINT64_C(2) << steps->log_n; }
+#define PARAMS_OF(it) (it)->log_n, (it)->r, (it)->p
 
-static int is_mixed(const struct steps *steps) { return steps->at.chunks >= steps->p; }
+static uint64_t mixes_of_chunk(const scrypt_derivation *it) { return UINT64_C(2) << it->log_n; }
+
+static int is_mixed(const scrypt_derivation *it) { return it->at.chunks >= it->p; }
 
 static void free_buffers(const scrypt_buffers *buffers) {
   clearing_free(buffers->chunks);
@@ -50,7 +46,7 @@ static int take_buffers(scrypt_buffers *it, const scrypt_cost *cost, size_t tabl
 
 void scrypt_derivation_free(scrypt_derivation **derivation) {
   if (derivation == NULL || *derivation == NULL) return;
-  free_buffers(&(*derivation)->steps.buffers);
+  free_buffers(&(*derivation)->buffers);
   clearing_free(*derivation);
   *derivation = NULL;
 }
@@ -60,7 +56,6 @@ int scrypt_derivation_new(const void *password, size_t password_len, const void 
                           scrypt_derivation **derivation) {
   const int is_auto = max_mem == SCRYPT_AUTO;
   scrypt_derivation *it;
-  scrypt_buffers *buffers;
   scrypt_cost cost;
   size_t tables;
   int status;
@@ -73,15 +68,14 @@ int scrypt_derivation_new(const void *password, size_t password_len, const void 
   if (cost.table_len < MIN_INTERLEAVED_WORDS) tables = 1;
   it = (scrypt_derivation *)clearing_malloc(sizeof *it);
   if (it == NULL) return SCRYPT_E_OUT_OF_MEMORY;
-  *it = (scrypt_derivation){.steps = {.log_n = (uint8_t)log_n, .r = r, .p = p}, .output_len = output_len,
+  *it = (scrypt_derivation){.log_n = (uint8_t)log_n, .r = r, .p = p, .output_len = output_len,
                             .max_mixes = FIRST_CORES / r + 1};
-  buffers = &it->steps.buffers;
-  if (!take_buffers(buffers, &cost, tables) && (tables == 1 || !take_buffers(buffers, &cost, 1))) {
+  if (!take_buffers(&it->buffers, &cost, tables) && (tables == 1 || !take_buffers(&it->buffers, &cost, 1))) {
     clearing_free(it);
     return SCRYPT_E_OUT_OF_MEMORY;
   }
-  status = cleared_scrypt_key_begin(bytes_of(password), password_len, bytes_of(salt), salt_len, PARAMS_OF(&it->steps),
-                                    PARTS_OF(buffers), &it->steps.at);
+  status = cleared_scrypt_key_begin(bytes_of(password), password_len, bytes_of(salt), salt_len, PARAMS_OF(it),
+                                    PARTS_OF(&it->buffers), &it->at);
   if (status != SCRYPT_OK) scrypt_derivation_free(&it);
   else *derivation = it;
   return status;
@@ -90,14 +84,14 @@ int scrypt_derivation_new(const void *password, size_t password_len, const void 
 /* One proved step, of about this time, or of the first one's cores if no time is known. It ends
  * with the chunks that are interleaved. */
 static int step(scrypt_derivation *it, int64_t ns) {
-  const uint64_t left = mixes_of_chunk(&it->steps) - it->steps.at.mixes;
+  const uint64_t left = mixes_of_chunk(it) - it->at.mixes;
   const double wanted = it->mix_ns > 0 ? (double)ns / it->mix_ns : (double)it->max_mixes;
   const size_t mixes = wanted >= (double)it->max_mixes ? it->max_mixes : wanted > 1 ? (size_t)wanted : 1;
   const int64_t begun = now_ns();
-  const int status = cleared_scrypt_key_step(PARAMS_OF(&it->steps), mixes, PARTS_OF(&it->steps.buffers), &it->steps.at);
+  const int status = cleared_scrypt_key_step(PARAMS_OF(it), mixes, PARTS_OF(&it->buffers), &it->at);
   const int64_t took = now_ns() - begun;
   it->mix_ns = (double)(took > 0 ? took : 1) / (double)(mixes < left ? mixes : left);
-  if (mixes == it->max_mixes && mixes < mixes_of_chunk(&it->steps)) it->max_mixes *= 2;
+  if (mixes == it->max_mixes && mixes < mixes_of_chunk(it)) it->max_mixes *= 2;
   return status;
 }
 
@@ -105,7 +99,7 @@ static int mix_for(scrypt_derivation *it, int64_t ns) {
   const int64_t end = now_ns() + ns;
   int64_t left = ns;
   int status = SCRYPT_OK;
-  while (status == SCRYPT_OK && !is_mixed(&it->steps)) {
+  while (status == SCRYPT_OK && !is_mixed(it)) {
     status = step(it, left);
     left = end - now_ns();
     if (left <= 0) break;
@@ -113,29 +107,24 @@ static int mix_for(scrypt_derivation *it, int64_t ns) {
   return status;
 }
 
-int scrypt_derivation_run(scrypt_derivation *derivation, uint32_t milliseconds, double *done) {
+int scrypt_derivation_run(scrypt_derivation *it, uint32_t milliseconds, double *done) {
   static const double BELOW_1 = 1 - 1.0 / (UINT64_C(1) << 53);
-  const struct steps *steps;
   double mixed;
   int status;
-  if (derivation == NULL || done == NULL) return SCRYPT_E_NULL_POINTER;
-  status = mix_for(derivation, INT64_C(1000000) * milliseconds);
+  if (it == NULL || done == NULL) return SCRYPT_E_NULL_POINTER;
+  status = mix_for(it, INT64_C(1000000) * milliseconds);
   if (status != SCRYPT_OK) return status;
-  steps = &derivation->steps;
-  mixed = (double)steps->at.interleaved * (double)steps->at.mixes / (double)mixes_of_chunk(steps);
-  mixed = ((double)steps->at.chunks + mixed) / steps->p;
-  *done = is_mixed(steps) ? 1 : mixed < BELOW_1 ? mixed : BELOW_1;
+  mixed = (double)it->at.interleaved * (double)it->at.mixes / (double)mixes_of_chunk(it);
+  mixed = ((double)it->at.chunks + mixed) / it->p;
+  *done = is_mixed(it) ? 1 : mixed < BELOW_1 ? mixed : BELOW_1;
   return SCRYPT_OK;
 }
 
-int scrypt_derivation_finish(const scrypt_derivation *derivation, const void *password, size_t password_len,
-                             uint8_t *output, size_t output_len) {
-  const struct steps *steps;
-  if (derivation == NULL || is_null(password, password_len) || is_null(output, output_len))
-    return SCRYPT_E_NULL_POINTER;
-  steps = &derivation->steps;
-  if (is_mixed(steps) && output_len != derivation->output_len) return SCRYPT_E_INVALID_OUTPUT_LEN;
-  return cleared_scrypt_key_finish(bytes_of(password), password_len, PARAMS_OF(steps), steps->buffers.chunks,
-                                   steps->buffers.chunks_len, &steps->at, output != NULL ? output : steps->buffers.chunks,
+int scrypt_derivation_finish(const scrypt_derivation *it, const void *password, size_t password_len, uint8_t *output,
+                             size_t output_len) {
+  if (it == NULL || is_null(password, password_len) || is_null(output, output_len)) return SCRYPT_E_NULL_POINTER;
+  if (is_mixed(it) && output_len != it->output_len) return SCRYPT_E_INVALID_OUTPUT_LEN;
+  return cleared_scrypt_key_finish(bytes_of(password), password_len, PARAMS_OF(it), it->buffers.chunks,
+                                   it->buffers.chunks_len, &it->at, output != NULL ? output : it->buffers.chunks,
                                    output_len);
 }
