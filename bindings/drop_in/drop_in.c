@@ -17,16 +17,6 @@ static int refused(int why) {
   return -1;
 }
 
-/* The logarithm of a power of two. */
-static uint8_t log_of(uint64_t n) {
-  uint8_t log_n = 0;
-  while (n > 1) {
-    n >>= 1;
-    log_n++;
-  }
-  return log_n;
-}
-
 /* Derives a key in one table, as these libraries do: memory for several might not be available. Like them, it accepts
  * an output of 0 bytes, and an output that overlaps the password. */
 static int derive_key(const uint8_t *password, size_t password_len, const uint8_t *salt, size_t salt_len, uint8_t log_n,
@@ -54,9 +44,8 @@ static int derive(const uint8_t *password, size_t password_len, const uint8_t *s
   if (r == 0 || p == 0) return refused(EINVAL);
   if (n > max_n) return refused(EFBIG);
   if (n < 2 || (n & (n - 1)) != 0) return refused(EINVAL);
-  /* The remaining error is a failed allocation. */
-  if (derive_key(password, password_len, salt, salt_len, log_of(n), r, p, output, output_len) != SCRYPT_OK)
-    return refused(ENOMEM);
+  if (derive_key(password, password_len, salt, salt_len, (uint8_t)__builtin_ctzll(n), r, p, output, output_len) != SCRYPT_OK)
+    return refused(ENOMEM); /* the remaining error */
   return 0;
 }
 
