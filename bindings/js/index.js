@@ -55,34 +55,28 @@ async function read() {
   return reader.scrypt;
 }
 
-// The text is copied before the module is loaded, because the caller may change it until then.
-async function reading(name, text, ...options) {
-  const [copy] = copiesOf({ text });
+// The bytes are copied before the module is loaded, because the caller may change them until then.
+async function reading(name, values, options) {
+  const copies = copiesOf(values);
   try {
-    return (await read())[name](copy, ...options);
+    return (await read())[name](...copies, options);
   } finally {
-    copy.fill(0);
+    for (const copy of copies) copy.fill(0);
     if (reader.scrypt?.memory > MAX_KEPT) reader = {};
   }
 }
 
 /** Makes a hash for `verify` from a salt and a key of another program. */
 export async function storedText(salt, key, given) {
-  const options = optionsOf(given, 'stored');
-  const copies = copiesOf({ salt, key });
-  try {
-    return (await read()).storedText(...copies, options);
-  } finally {
-    for (const copy of copies) copy.fill(0);
-  }
+  return reading('storedText', { salt, key }, optionsOf(given, 'stored'));
 }
 
 /** Whether a hash is weaker than a new hash with these options. */
 export async function needsRehash(text, options) {
-  return reading('needsRehash', text, optionsOf(options, 'needsRehash'));
+  return reading('needsRehash', { text }, optionsOf(options, 'needsRehash'));
 }
 
 /** The parameters of a hash, and the length of its key. */
 export async function params(text) {
-  return reading('params', text);
+  return reading('params', { text });
 }
