@@ -20,8 +20,6 @@ from tools.generate import declarations
 TARGET = presets.KIT["javascript"]["target"]
 MADE = Path("build/wasm/scrypt64.wasm")
 MODULE = Path("bindings/js/scrypt.wasm")
-INSTANCE = Path("bindings/js/instance.js")
-GLOBALS = 6  # the section of them
 
 # The calls that the package makes. Others are left out: those that allocate have no allocator on
 # this target.
@@ -39,27 +37,6 @@ def other_calls():
     return sorted({name for text in texts for name in re.findall(named, text)} - CALLS)
 
 
-def stack_of(module):
-    """The size of the stack in bytes: it begins at address 0, and ends where the linker has put the stack pointer,
-    the one global number that changes."""
-    it = lower.Reader(module[8:])  # after the version
-    while it.more():
-        kind, inside = it.byte(), lower.Reader(it.take(it.number()))
-        if kind == GLOBALS:
-            # Its type, whether it changes, i64.const, a number that is not negative, and end.
-            made = [(inside.take(3), inside.number(), inside.take(1)) for _ in range(inside.number())]
-            found = [number for head, number, _ in made if head == bytes([lower.I64, 1, 0x42])]
-            return found[0] if len(found) == 1 else None
-    return None
-
-
-def check_stack(module):
-    """Fails if the stack is not what instance.js wipes after a call."""
-    wiped = re.search(r"^export const STACK = 2 \*\* (\d+);$", INSTANCE.read_text("utf-8"), re.M)
-    if not wiped or stack_of(module) != 2 ** int(wiped[1]):
-        sys.exit(f"the stack of the module has {stack_of(module)} bytes, and {INSTANCE} wipes another number")
-
-
 def main():
     declarations.main()
     MADE.parent.mkdir(parents=True, exist_ok=True)
@@ -71,7 +48,6 @@ def main():
             sys.exit("not proved as wanted")
         own = prover_command.kit()
         copies.run(f"{own}/bin/rattle-link", "--target", TARGET, "--toolchain", f"{own}/toolchain", "-o", MADE, archive)
-    check_stack(MADE.read_bytes())
     # Binaryen's wasm-opt can do this too, but what is packed must not depend on which version of it
     # is installed, if any.
     lower.main(MADE, MODULE)

@@ -6,8 +6,8 @@ import {
 import { errorOf, outOfMemory } from './errors.js';
 
 const PAGE = 65536;
-/** The bytes of the module's stack, which is at the bottom of its memory: build.py compares it. */
-export const STACK = 2 ** 20;
+// The bytes of the module's stack, which is at the bottom of its memory, below its data.
+const STACK = 2 ** 20;
 const AT_ONCE = 2; // interleaved chunks
 
 /** An instance with an empty memory. Memory that is taken is zeros, and lasts until it is wiped. */

@@ -47,6 +47,8 @@ test('the type of codes has those of all statuses that a call can return', () =>
   const never = ['OK', 'MISMATCH', 'NEEDS_REHASH', 'BUFFER_SIZE', 'UNFINISHED', 'INVALID_PROGRESS'];
   const typed = [...read('bindings/js/index.d.ts').matchAll(/^  \| '(\w+)'/gm)].map(([, it]) => it);
   deepStrictEqual(codes.filter((it) => !typed.includes(it)), never);
+  const ofC = [...WORDS.values()].filter(([, message]) => message.includes('log_n'));
+  deepStrictEqual(ofC, [], 'messages speak of N');
 });
 
 // Programs on the command line, with a flag that a file must not have. They exit by themselves.

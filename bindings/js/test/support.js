@@ -1,7 +1,6 @@
 // Shared by the checks.
 import { Scrypt } from '../core.js';
 import { ScryptError } from '../errors.js';
-import { STACK } from '../instance.js';
 
 /** Parameters of minimum cost. */
 export const OF = { N: 2, r: 1, p: 1 };
@@ -42,7 +41,8 @@ export async function opened(module, others = {}) {
   const it = { most: Infinity };
   const limited = ({ exports }) => {
     const { memory } = exports;
-    Object.assign(it, { memory, base: Number(exports.__heap_base.value) });
+    const initial = new Uint32Array(memory.buffer.slice(0, Number(exports.__heap_base.value)));
+    Object.assign(it, { memory, initial });
     const grow = (pages) => {
       if (memory.buffer.byteLength + pages * 65536 > it.most) throw new RangeError('no memory');
       return memory.grow(pages);
@@ -51,11 +51,11 @@ export async function opened(module, others = {}) {
   };
   const first = { ...limited(await WebAssembly.instantiate(module)), ...others };
   it.own = new Scrypt(first, () => limited(new WebAssembly.Instance(module)));
-  // Tests that the memory is zeros, except for the module's data, which are above its stack.
+  // Tests that the memory is as it was: zeros, except for the module's data.
   it.isWiped = () => {
-    const [words, last] = [new Uint32Array(it.memory.buffer), it.base / 4];
+    const [words, { initial }] = [new Uint32Array(it.memory.buffer), it];
     for (let at = 0; at < words.length; at++) {
-      if (words[at] !== 0 && (at < STACK / 4 || at > last)) throw new Error(`not wiped at ${4 * at}`);
+      if (words[at] !== (at < initial.length ? initial[at] : 0)) throw new Error(`not wiped at ${4 * at}`);
     }
   };
   return it;

@@ -64,7 +64,6 @@ later='process.exit(Number(parseInt(process.versions.node) < 20))'
 if has "Node 20, for the module before lower.py," "nodejs>=20" node -e "$later"; then
   python3 -B -m bindings.js.test.test_lower
 fi
-python3 -B -m bindings.js.test.test_build
 says_what_makes_it
 node --test --test-reporter=tap $here/node.test.js > "$room/log" || { cat "$room/log"; exit 1; }
 grep -E '^# (pass|fail) ' "$room/log"
