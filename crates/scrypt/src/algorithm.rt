@@ -1,21 +1,25 @@
 // scrypt as a value with parameters: it derives keys, makes hashes, verifies passwords, and finds
 // hashes that are weaker than wanted.
 
-ghost use Rattle.std.specs.Prelude.{◌≡◌, length, IsOk, IsTrue};
+ghost use Rattle.std.specs.Prelude.{◌≡◌, codes, length, option_map, None, IfErr, IsOk, IsTrue, OnOk};
 ghost use Rattle.password_hash.specs.McfViews.{borrowed_text};
+ghost use Rattle.password_hash.specs.Refusal.{OutOfMemory as NoMemory, Refusal, refusal};
 ghost use Rattle.scrypt.specs.Accepted.{is_output_len, Parameters, recommended_parameters};
+ghost use Rattle.scrypt.specs.Hashing.{call_refusal, is_named_or_none};
 ghost use Rattle.scrypt.specs.KeyOfParams.{KeyIsRefused, key_by};
-ghost use Rattle.scrypt.specs.McfHash.{read_mcf};
-ghost use Rattle.scrypt.specs.PhcHash.{read_phc};
+ghost use Rattle.scrypt.specs.McfHash.{made_mcf, mcf_id, read_mcf};
+ghost use Rattle.scrypt.specs.PhcHash.{is_salt_len, made_phc, read_phc, salt_refusal};
 ghost use Rattle.scrypt.specs.Reading.{verdict as verdict_of, weaker as weaker_than};
 
 use crate::mcf::reading::parts_of_mcf;
 use crate::phc::reading::{parts_of_phc, read_params};
 use crate::verifying::verify_allocating;
-use crate::{CoreCount, DeriveError, Params, Simd, scrypt};
+use crate::{CoreCount, DeriveError, Params, Simd, mcf, phc, scrypt};
 use password_hash::kdf::{self, Kdf, Pbkdf};
 use password_hash::phc::PasswordHash;
-use password_hash::{PasswordVerifier, RehashCheck, Result, mcf};
+use password_hash::{
+    CustomizedPasswordHasher, Error, PasswordHasher, PasswordVerifier, RehashCheck, Result, Version,
+};
 use std::alloc::Global;
 use std::marker::Model;
 
@@ -95,6 +99,99 @@ impl Kdf for Scrypt {
 }
 
 impl Pbkdf for Scrypt {}
+
+impl PasswordHasher<PasswordHash> for Scrypt {
+    ghost hashes = { λ scrypt password salt hash. IsTrue (is_salt_len (length salt))
+        × (hash ≡ made_phc scrypt password salt) };
+
+    ghost refuses = { λ scrypt password salt why. why ≡ salt_refusal salt };
+
+    /// Hashes the password with this value's parameters.
+    fn hash_password_with_salt(
+        &self,
+        alloc: Global,
+        password: &[u8],
+        salt: &[u8],
+    ) -> Result<PasswordHash> {
+        self.hash_password_with_params(alloc, password, salt, self.params())
+    }
+}
+
+impl CustomizedPasswordHasher<PasswordHash> for Scrypt {
+    type Params = Params;
+
+    ghost customizes = { λ _ password salt id version params hash. IsTrue (is_named_or_none (codes "scrypt") id)
+        × (version ≡ None) × IsTrue (is_salt_len (length salt)) × (hash ≡ made_phc params password salt) };
+
+    ghost refuses = { λ _ password salt id version params why.
+        why ≡ call_refusal (codes "scrypt") id version (salt_refusal salt) };
+
+    /// Hashes the password with `params`. The key has the length in `params`, or 32 bytes if
+    /// `params` has no length.
+    ///
+    /// Returns the first of these errors: `Algorithm` if `alg_id` is given and not `scrypt`,
+    /// `Version` if `version` is given, `SaltInvalid` if `salt` does not have 1 to 64 bytes, and
+    /// `OutOfMemory` if an allocation fails.
+    fn hash_password_customized(
+        &self,
+        alloc: Global,
+        password: &[u8],
+        salt: &[u8],
+        alg_id: Option<&str>,
+        version: Option<Version>,
+        params: Params,
+    ) -> Result<PasswordHash> {
+        check_call(phc::ALG_ID.as_str(), alg_id, version)?;
+        phc::hash::<Simd>(alloc, password, salt, &params)
+    }
+}
+
+impl PasswordHasher<mcf::PasswordHash> for Scrypt {
+    ghost hashes = { λ scrypt password salt hash. hash ≡ made_mcf scrypt password salt };
+
+    ghost refuses = { λ scrypt password salt why. why ≡ NoMemory };
+
+    /// Hashes the password with this value's parameters.
+    fn hash_password_with_salt(
+        &self,
+        alloc: Global,
+        password: &[u8],
+        salt: &[u8],
+    ) -> Result<mcf::PasswordHash> {
+        self.hash_password_with_params(alloc, password, salt, self.params())
+    }
+}
+
+impl CustomizedPasswordHasher<mcf::PasswordHash> for Scrypt {
+    type Params = Params;
+
+    ghost customizes = { λ _ password salt id version params hash. IsTrue (is_named_or_none mcf_id id)
+        × (version ≡ None) × (hash ≡ made_mcf params password salt) };
+
+    ghost refuses = { λ _ password salt id version params why. why ≡ call_refusal mcf_id id version NoMemory };
+
+    /// Hashes the password with `params`. The key has the length in `params`, or 32 bytes if
+    /// `params` has no length. The salt of the derivation is the crypt Base64 of `salt`, as in the
+    /// text.
+    ///
+    /// Allocates the whole text first, then the three buffers of the derivation, and all of them
+    /// before the first core.
+    ///
+    /// Returns the first of these errors: `Algorithm` if `alg_id` is given and not `7`, `Version`
+    /// if `version` is given, and `OutOfMemory` if an allocation fails.
+    fn hash_password_customized(
+        &self,
+        alloc: Global,
+        password: &[u8],
+        salt: &[u8],
+        alg_id: Option<&str>,
+        version: Option<Version>,
+        params: Params,
+    ) -> Result<mcf::PasswordHash> {
+        check_call("7", alg_id, version)?;
+        mcf::hash::<Simd>(alloc, password, salt, &params)
+    }
+}
 
 impl PasswordVerifier<PasswordHash> for Scrypt {
     ghost verdict = { λ password hash. verdict_of password (read_phc hash) };
@@ -196,4 +293,23 @@ impl RehashCheck<mcf::PasswordHash> for Scrypt {
     fn needs_rehash(&self, hash: &mcf::PasswordHash) -> Result<bool> {
         self.needs_rehash(&hash.as_password_hash_ref())
     }
+}
+
+// Checks the algorithm and version arguments.
+//
+// Returns `Algorithm` if `alg_id` is given and not `name`, and otherwise `Version` if `version` is
+// given.
+fn check_call(name: &str, alg_id: Option<&str>, version: Option<Version>) -> Result<()>
+    ensures named { OnOk result (IsTrue (is_named_or_none name.now (option_map (λ s. s.now) alg_id.entry))) }
+    ensures none { OnOk result (version ≡ None) }
+    ensures err { IfErr result (λ e. (why : Refusal)
+        → refusal e ≡ call_refusal name.now (option_map (λ s. s.now) alg_id.entry) version why) }
+{
+    if alg_id.unwrap_or(name) != name {
+        return Err(Error::Algorithm);
+    }
+    if version.is_some() {
+        return Err(Error::Version);
+    }
+    Ok(())
 }

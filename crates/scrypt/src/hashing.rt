@@ -1,9 +1,8 @@
 // Hashing, in every format, with any source of memory.
 
-ghost use Rattle.std.specs.Prelude.{◌≡◌, None, length, IfErr, IfOk, IsTrue, OnOk, option_map};
+ghost use Rattle.std.specs.Prelude.{◌≡◌, length, IfErr, IfOk};
 ghost use Rattle.scrypt.specs.Cost.{AreCounted, hash_cost};
-ghost use Rattle.password_hash.specs.Refusal.{Refusal, refusal};
-ghost use Rattle.scrypt.specs.Hashing.{call_refusal, is_named_or_none, key_len_or_default};
+ghost use Rattle.scrypt.specs.Hashing.{key_len_or_default};
 ghost use Rattle.scrypt.specs.KeyOfParams.{cost_by, key_by};
 ghost use Rattle.scrypt.specs.Mixing.{IsReady, IsSpent};
 ghost use Rattle.password_hash.specs.declared.error.Error.TheVariants.{OutOfMemory};
@@ -11,29 +10,10 @@ ghost use Rattle.password_hash.specs.declared.error.Error.TheVariants.{OutOfMemo
 use crate::buffers::memory::{ActiveBuffers, Allocation};
 use crate::derivation::derive_in;
 use crate::{Backend, CoreCount, Params};
+use password_hash::Result;
 use password_hash::phc::Output;
-use password_hash::{Error, Result, Version};
 use scrypt_kernel::memory::{Allocated, TableMemory};
 use std::alloc::Global;
-
-/// Checks the algorithm and version arguments.
-///
-/// Returns `Algorithm` if `alg_id` is given and not `name`, and otherwise `Version` if `version` is
-/// given.
-pub(crate) fn check_call(name: &str, alg_id: Option<&str>, version: Option<Version>) -> Result<()>
-    ensures named { OnOk result (IsTrue (is_named_or_none name.now (option_map (λ s. s.now) alg_id.entry))) }
-    ensures none { OnOk result (version ≡ None) }
-    ensures err { IfErr result (λ e. (why : Refusal)
-        → refusal e ≡ call_refusal name.now (option_map (λ s. s.now) alg_id.entry) version why) }
-{
-    if alg_id.unwrap_or(name) != name {
-        return Err(Error::Algorithm);
-    }
-    if version.is_some() {
-        return Err(Error::Version);
-    }
-    Ok(())
-}
 
 /// Derives the key that hashing with these parameters stores, in three buffers that it allocates in
 /// this order and before the first core: the chunks, the table and the scratch.

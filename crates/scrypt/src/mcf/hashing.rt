@@ -1,6 +1,6 @@
 // Making `$7$` hashes.
 
-ghost use Rattle.std.specs.Prelude.{◌≡◌, ◌↔◌, ◌⊎◌, ◌+◌, ◌++◌, ◌<◌, ◌≤◌, ◌&&◌, true, nat_le, ℕ, List, if◌then◌else◌, None, Ok, Err, drop, length, IfOk, IfErr, take, IsErrOf, OnErr, OnOk, IsTrue, IsAscii};
+ghost use Rattle.std.specs.Prelude.{◌≡◌, ◌↔◌, ◌⊎◌, ◌+◌, ◌++◌, ◌<◌, ◌≤◌, ◌&&◌, true, nat_le, ℕ, List, if◌then◌else◌, Ok, Err, drop, length, IfOk, IfErr, take, IsErrOf, OnErr, OnOk, IsTrue, IsAscii};
 ghost use Rattle.std.specs.Str.{IsUtf8};
 ghost use Rattle.password_hash.specs.Crypt64.{crypt64_of, encoded_len};
 ghost use Rattle.password_hash.specs.Mcf.{IsField, IsMcf};
@@ -8,10 +8,10 @@ ghost use Rattle.password_hash.specs.declared.error.Error.TheVariants.{OutOfMemo
 ghost use Rattle.scrypt.specs.McfParams.{params_text};
 ghost use Rattle.scrypt.specs.Cost.{AreCounted, hash_cost};
 ghost use Rattle.scrypt.specs.KeyOfParams.{cost_by};
-ghost use Rattle.scrypt.specs.Hashing.{call_refusal, is_named_or_none, key_len_or_default};
+ghost use Rattle.scrypt.specs.Hashing.{key_len_or_default};
 ghost use Rattle.scrypt.specs.Accepted.{is_output_len};
 ghost use Rattle.scrypt.specs.TextOfKey.{IsTextOfKey, parts_of_key};
-ghost use Rattle.scrypt.specs.McfHash.{made_key, made_mcf, made_text_len, mcf_id, mcf_text};
+ghost use Rattle.scrypt.specs.McfHash.{made_key, made_mcf, made_text_len, mcf_text};
 ghost use Rattle.password_hash.specs.Refusal.{OutOfMemory as NoMemory, with_refusal};
 ghost use Rattle.scrypt.specs.InBuffers.{are_enough, IsCopiedTo};
 ghost use Rattle.scrypt.specs.Mixing.{IsReady, IsSpent};
@@ -19,68 +19,21 @@ ghost use Rattle.scrypt.specs.Workspace.{IsDone, workspace_of};
 ghost use Rattle.scrypt_kernel.specs.Memory.{buffer_room};
 
 use crate::buffers::memory::{ActiveBuffers, with_prefix};
-use crate::hashing::{check_call, key_allocating, stored_key};
+use crate::hashing::{key_allocating, stored_key};
 use crate::mcf::five_letters::five_letters;
 use crate::mcf::reading::is_mcf;
-use crate::{Backend, CoreCount, Params, Scrypt, Simd, output_len_ok};
+use crate::{Backend, CoreCount, Params, output_len_ok};
 use password_hash::mcf::alphabet::letter;
 use password_hash::mcf::{Base64, PasswordHash};
 use password_hash::phc::Output;
-use password_hash::{CustomizedPasswordHasher, Error, PasswordHasher, Result, Version};
+use password_hash::{Error, Result};
 use scrypt_kernel::memory::Buffer;
 use std::alloc::Global;
 
 // The number of bytes before the salt: `$7$` and the eleven letters of the parameters.
 const PARAMS_LEN: usize = 14;
 
-impl PasswordHasher<PasswordHash> for Scrypt {
-    ghost hashes = { λ scrypt password salt hash. hash ≡ made_mcf scrypt password salt };
-
-    ghost refuses = { λ scrypt password salt why. why ≡ NoMemory };
-
-    /// Hashes the password with this value's parameters.
-    fn hash_password_with_salt(
-        &self,
-        alloc: Global,
-        password: &[u8],
-        salt: &[u8],
-    ) -> Result<PasswordHash> {
-        self.hash_password_with_params(alloc, password, salt, self.params())
-    }
-}
-
-impl CustomizedPasswordHasher<PasswordHash> for Scrypt {
-    type Params = Params;
-
-    ghost customizes = { λ _ password salt id version params hash. IsTrue (is_named_or_none mcf_id id)
-        × (version ≡ None) × (hash ≡ made_mcf params password salt) };
-
-    ghost refuses = { λ _ password salt id version params why. why ≡ call_refusal mcf_id id version NoMemory };
-
-    /// Hashes the password with `params`. The key has the length in `params`, or 32 bytes if
-    /// `params` has no length. The salt of the derivation is the crypt Base64 of `salt`, as in the
-    /// text.
-    ///
-    /// Allocates the whole text first, then the three buffers of the derivation, and all of them
-    /// before the first core.
-    ///
-    /// Returns the first of these errors: `Algorithm` if `alg_id` is given and not `7`, `Version`
-    /// if `version` is given, and `OutOfMemory` if an allocation fails.
-    fn hash_password_customized(
-        &self,
-        alloc: Global,
-        password: &[u8],
-        salt: &[u8],
-        alg_id: Option<&str>,
-        version: Option<Version>,
-        params: Params,
-    ) -> Result<PasswordHash> {
-        check_call("7", alg_id, version)?;
-        hash::<Simd>(alloc, password, salt, &params)
-    }
-}
-
-/// Hashes `password` as [`Scrypt`] does with these parameters, by the backend `W`.
+/// Hashes `password` as [`Scrypt`](crate::Scrypt) does with these parameters, by the backend `W`.
 ///
 /// Returns `OutOfMemory` if an allocation fails.
 #[tactic(auto, using(crate::proofs::KeyFacts::lengths))]

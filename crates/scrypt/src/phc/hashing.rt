@@ -1,8 +1,8 @@
 // Making PHC hashes.
 
-ghost use Rattle.std.specs.Prelude.{◌≡◌, ◌↔◌, ◌⊎◌, length, codes, if◌then◌else◌, None, Some, Ok, Err, false, IfErr, IfOk, IsErrOf, OnErr, OnOk, IsTrue};
+ghost use Rattle.std.specs.Prelude.{◌≡◌, ◌↔◌, ◌⊎◌, length, if◌then◌else◌, Some, Ok, Err, false, IfErr, IfOk, IsErrOf, OnErr, OnOk, IsTrue};
 ghost use Rattle.scrypt.specs.Cost.{AreCounted, hash_cost};
-ghost use Rattle.scrypt.specs.Hashing.{call_refusal, is_named_or_none, key_len_or_default};
+ghost use Rattle.scrypt.specs.Hashing.{key_len_or_default};
 ghost use Rattle.scrypt.specs.KeyOfParams.{cost_by};
 ghost use Rattle.scrypt.specs.PhcHash.{is_salt_len, made_phc, phc_hash, salt_refusal};
 ghost use Rattle.scrypt.specs.Accepted.{is_stored_len};
@@ -13,62 +13,16 @@ ghost use Rattle.password_hash.specs.declared.error.Error.TheVariants.{OutputSiz
 ghost use Rattle.scrypt.specs.Workspace.{IsDone, are_enough, workspace_of};
 
 use crate::buffers::memory::{ActiveBuffers, with_prefix};
-use crate::hashing::{check_call, key_allocating, stored_key};
+use crate::hashing::{key_allocating, stored_key};
 use crate::phc::ALG_ID;
 use crate::phc::params::written;
-use crate::{Backend, CoreCount, Params, Scrypt, Simd};
+use crate::{Backend, CoreCount, Params};
 use password_hash::phc::{Output, PasswordHash, Salt};
-use password_hash::{CustomizedPasswordHasher, Error, PasswordHasher, Result, Version};
+use password_hash::{Error, Result};
 use scrypt_kernel::memory::Buffer;
 use std::alloc::Global;
 
-impl PasswordHasher<PasswordHash> for Scrypt {
-    ghost hashes = { λ scrypt password salt hash. IsTrue (is_salt_len (length salt))
-        × (hash ≡ made_phc scrypt password salt) };
-
-    ghost refuses = { λ scrypt password salt why. why ≡ salt_refusal salt };
-
-    /// Hashes the password with this value's parameters.
-    fn hash_password_with_salt(
-        &self,
-        alloc: Global,
-        password: &[u8],
-        salt: &[u8],
-    ) -> Result<PasswordHash> {
-        self.hash_password_with_params(alloc, password, salt, self.params())
-    }
-}
-
-impl CustomizedPasswordHasher<PasswordHash> for Scrypt {
-    type Params = Params;
-
-    ghost customizes = { λ _ password salt id version params hash. IsTrue (is_named_or_none (codes "scrypt") id)
-        × (version ≡ None) × IsTrue (is_salt_len (length salt)) × (hash ≡ made_phc params password salt) };
-
-    ghost refuses = { λ _ password salt id version params why.
-        why ≡ call_refusal (codes "scrypt") id version (salt_refusal salt) };
-
-    /// Hashes the password with `params`. The key has the length in `params`, or 32 bytes if
-    /// `params` has no length.
-    ///
-    /// Returns the first of these errors: `Algorithm` if `alg_id` is given and not `scrypt`,
-    /// `Version` if `version` is given, `SaltInvalid` if `salt` does not have 1 to 64 bytes, and
-    /// `OutOfMemory` if an allocation fails.
-    fn hash_password_customized(
-        &self,
-        alloc: Global,
-        password: &[u8],
-        salt: &[u8],
-        alg_id: Option<&str>,
-        version: Option<Version>,
-        params: Params,
-    ) -> Result<PasswordHash> {
-        check_call(ALG_ID.as_str(), alg_id, version)?;
-        hash::<Simd>(alloc, password, salt, &params)
-    }
-}
-
-/// Hashes `password` as [`Scrypt`] does with these parameters, by the backend `W`.
+/// Hashes `password` as [`Scrypt`](crate::Scrypt) does with these parameters, by the backend `W`.
 ///
 /// Returns `SaltInvalid` if `salt` does not have 1 to 64 bytes, and otherwise `OutOfMemory` if an
 /// allocation fails.
