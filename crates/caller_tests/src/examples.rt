@@ -1,11 +1,12 @@
 // A successful run of each example that allocates: the result is what its contract states.
 
 use crate::holds;
-use scrypt::{Limits, Params};
+use password_hash::Error;
+use scrypt::{LimitedError, Limits, Params};
 use scrypt_examples::account::Account;
 use scrypt_examples::bounded_login::BoundedLogins;
 use scrypt_examples::hash::stored_text;
-use scrypt_examples::key_file::{Header, age_wrap_key};
+use scrypt_examples::key_file::{Header, Subkeys, age_wrap_key};
 use scrypt_examples::login::LoginPolicy;
 use std::test::Fail;
 
@@ -20,13 +21,33 @@ const PHC: &str =
 // libxcrypt's, at (4, 1, 1).
 const MCF: &str = "$7$2/..../....saltsalt$jkmZo0SWQYHT33y104X81uA.YmckoO6LcD4HDzN9sJ2";
 
+// The keys of a file with the salt [7; 32], at (4, 8, 1): hashlib's.
+static ENCRYPTION: [u8; 32] = [
+    0x49, 0x2f, 0x6a, 0x80, 0xd3, 0xf0, 0x03, 0x22, 0x50, 0x38, 0xe0, 0x8a, 0x70, 0xcf, 0xc5, 0x73,
+    0xe6, 0xbb, 0xce, 0x12, 0xfc, 0x0c, 0x3c, 0xca, 0x6c, 0x32, 0x21, 0xf5, 0x3a, 0xe6, 0x26, 0x2e,
+];
+
+static AUTHENTICATION: [u8; 32] = [
+    0x58, 0xe6, 0x6f, 0x1d, 0x7a, 0x69, 0xc0, 0x40, 0xa9, 0x15, 0xc6, 0xa2, 0xa5, 0xfe, 0xa2, 0x83,
+    0x9f, 0xeb, 0x9a, 0x9c, 0xfc, 0x7c, 0xc3, 0xa0, 0xc0, 0x4e, 0x45, 0x5e, 0xba, 0xf6, 0x21, 0xd4,
+];
+
+fn are_right(keys: &Subkeys) -> bool {
+    keys.encryption == ENCRYPTION && keys.authentication == AUTHENTICATION
+}
+
 #[test]
 fn keys_of_files(rt: HostRuntime) -> Result<(), Fail> {
     let header = Header {
         params: Params::new(4, 8, 1)?,
         salt: [7; 32],
     };
-    header.subkeys(rt.alloc(), PASSWORD)?;
+    holds(are_right(&header.subkeys(rt.alloc(), PASSWORD)?), "at once")?;
+    let all = header.params.cores();
+    let keys = header.subkeys_in_steps(rt.alloc(), PASSWORD, |done| done <= all)?;
+    holds(keys.is_some_and(|keys| are_right(&keys)), "in steps")?;
+    let keys = header.subkeys_in_steps(rt.alloc(), PASSWORD, |done| done < all)?;
+    holds(keys.is_none(), "cancelled after the last step")?;
     age_wrap_key(rt.alloc(), PASSWORD, 4, SALT)?;
     Ok(())
 }
@@ -48,7 +69,10 @@ fn bounded_logins(rt: HostRuntime) -> Result<(), Fail> {
     };
     let mut logins = BoundedLogins::new(rt.alloc(), limits)?;
     holds(logins.log_in(PHC, PASSWORD)?, "by a PHC string")?;
-    holds(logins.log_in(MCF, PASSWORD)?, "by a `$7$` hash")
+    holds(logins.log_in(MCF, PASSWORD)?, "by a `$7$` hash")?;
+    let verdicts = logins.log_in_both((PHC, PASSWORD), (MCF, b"wrong"));
+    let wrong = Err(LimitedError::Hash(Error::PasswordInvalid));
+    holds(verdicts == [Ok(()), wrong], "both, the second wrong")
 }
 
 #[test]
