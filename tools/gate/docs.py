@@ -247,6 +247,8 @@ def measured():
     one, two, four = (dict(re.findall(rf"^\| (\d+) \| {it} \| [\d,]+ \| ([\d.]+) \|", page, re.M)) for it in (1, 2, 4))
     yield name, f"{two['17']} a second at log_n = 17, {two['16']} at 16, {two['15']} at 15, on four CPUs"
     yield name, f"**{float(two['17']):.0f} wrong passwords a second take all of the capacity**"
+    drawn = text_of("docs/speed.svg", ">17: ", "<")
+    yield "docs/BENCHMARKS.md", f"has {drawn} a second where the [table of logins](PARAMETERS.md#tables-for-each-cpu) has {four['17']}:"
     more = [spread(float(many[it]) / float(few[it]) for it in few) for few, many in ((one, two), (two, four))]
     yield name, f"is {more[0]} times that with one, and with four {more[1]} times that with two"
     run, test = (text_of("README.md", f"{it}: (?:about )?", " minutes") for it in ("proves and builds it", "tests everything"))
