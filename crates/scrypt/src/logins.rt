@@ -16,7 +16,7 @@ use crate::derivation::derive_chunks;
 use crate::derivation::mixing::mix_all;
 use crate::errors::LimitedError;
 use crate::stored_parts::StoredParts;
-use crate::verifying::{verdict, verify_in_buffers};
+use crate::verifying::{accept_if, verify_in_buffers};
 use crate::{Backend, BufferLens, CoreCount, Decoy, Params, StoredHash};
 use scrypt_kernel::memory::Buffer;
 
@@ -119,7 +119,7 @@ impl<'p, 't> Login<'p, 't> {
         match self.parts() {
             Ok(parts) => {
                 parts.params.expose_invariant();
-                limited(verdict(is_derived_key(self.password, mixed, parts, cores)))
+                limited(accept_if(is_derived_key(self.password, mixed, parts, cores)))
             }
             Err(error) => Err(error),
         }

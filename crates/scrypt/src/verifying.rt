@@ -20,8 +20,9 @@ use password_hash::{Error, Result};
 use scrypt_kernel::memory::{Allocated, Buffer, TableMemory};
 use std::alloc::Global;
 
-/// Returns the verdict, given whether the derived key is the stored one.
-pub(crate) fn verdict(same: bool) -> Result<()>
+/// Accepts the password if the derived key is the stored one, and otherwise returns
+/// `PasswordInvalid`.
+pub(crate) fn accept_if(same: bool) -> Result<()>
     ensures value { with_refusal result ≡ (if same then Ok tt else Err PasswordInvalid) }
     ensures of_keys { ¬ IsErrOf result OutOfMemory }
 {
@@ -76,7 +77,7 @@ pub(crate) fn verify_allocating<W: Backend>(
     // A limit of 0 bytes selects one table.
     let (w, mut own) = Allocation::allocate_within(alloc, &parts.params, 0)?;
     let mut used = ActiveBuffers::new(w, &mut own.chunks, &mut own.table, &mut own.scratch, cores);
-    verdict(is_key_of::<Allocated, W>(password, parts, &mut used))
+    accept_if(is_key_of::<Allocated, W>(password, parts, &mut used))
 }
 
 /// Verifies with the parts of a hash, in the caller's buffers. Does not allocate.
@@ -107,5 +108,5 @@ pub(crate) fn verify_in_buffers<W: Backend>(
     };
     let p = params.p();
     let same = with_prefix(params, p, chunks, table, scratch, cores, &mut [], test);
-    verdict(same.ok_or(Error::OutOfMemory)?)
+    accept_if(same.ok_or(Error::OutOfMemory)?)
 }

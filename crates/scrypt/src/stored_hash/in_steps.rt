@@ -8,7 +8,7 @@ ghost use Rattle.scrypt.specs.Stepping.{IsUnderWay};
 
 use super::StoredHash;
 use crate::comparing::is_derived_key;
-use crate::verifying::verdict;
+use crate::verifying::accept_if;
 use crate::{BufferLens, CoreCount, Progress};
 use password_hash::Result;
 
@@ -50,7 +50,7 @@ impl<'a> StoredHash<'a> {
         match self.parts() {
             Ok(parts) => {
                 let (mixed, _) = chunks.split_at_mut(BufferLens::of(&parts.params).chunks);
-                verdict(is_derived_key(password, mixed, parts, cores))
+                accept_if(is_derived_key(password, mixed, parts, cores))
             }
             Err(refused) => Err(refused),
         }
