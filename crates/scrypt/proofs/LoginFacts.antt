@@ -16,7 +16,7 @@ use Rattle.scrypt.specs.Accepted.{Parameters}
 use Rattle.scrypt.specs.Cost.{AreHashed, chunks_bytes, cost, ro_mix_cost}
 use Rattle.scrypt.specs.Key.{mixed_chunks}
 use Rattle.scrypt.specs.Limits.{SufficeFor}
-use Rattle.scrypt.specs.Logins.{Attempt, AreLeft, IsAlone, all_cost, all_of, attempt_of, attempts, chunks_cost, compare_cost, cores_on, count_of, hashed_on, own_cost, reading_of, reading_of_hash, shared, verdict_on, verify_cores, with_more}
+use Rattle.scrypt.specs.Logins.{Attempt, AreLeft, IsAlone, all_cost, all_of, attempt_of, attempts, chunks_cost, compare_cost, cores_on, cost_if_ok, count_of, hashed_on, reading_of, reading_of_hash, shared, verdict_on, verify_cores, with_more}
 use Rattle.scrypt.specs.Reading.{◌and_then◌, Stored, chunks_of, mixed_of, verdict, verify_cost}
 use Rattle.scrypt.specs.WithinLimits.{with_limited_refusal, within}
 use Rattle.scrypt.specs.declared.limits.Limits.{Limits}
@@ -71,10 +71,10 @@ pub mixed_is : (c : Parameters) (these : List Attempt) (n : ℕ) → count_of c 
 mixed_is c [] n counted some = let none : 0 ≡ n = cc in rw (← none) refl
 mixed_is c ((password, Ok s) ∷ rest) n counted some =
     let more = are_more c s.params (count_of c rest) n counted in
-    let own = ap₂ (λ log_n r. mixed_chunks (chunks_of password s) log_n r s.params.p) (sym more.log_n) (sym more.r) in
+    let first = ap₂ (λ log_n r. mixed_chunks (chunks_of password s) log_n r s.params.p) (sym more.log_n) (sym more.r) in
     ap (mixed_chunks (chunks_of password s ++ all_of chunks_of rest) c.log_n c.r) (sym more.sum)
     ∙ both_mixed (chunks_of password s) (all_of chunks_of rest) c.log_n c.r s.params.p more.count some (long_one c password s more.r)
-    ∙ ap₂ (λ x y. x ++ y) own (mixed_is c rest more.count more.counted some)
+    ∙ ap₂ (λ x y. x ++ y) first (mixed_is c rest more.count more.counted some)
 mixed_is c ((password, Err why) ∷ rest) n counted some = mixed_is c rest n counted some
 
 -- room for all is room for each
@@ -93,9 +93,9 @@ each_fits : {X : Type 0} (f g : Attempt → X) (c : Parameters) (these : List At
 each_fits f g c [] n w read unread counted room = refl
 each_fits f g c ((password, Ok s) ∷ rest) n w read unread counted room =
     let more = are_more c s.params (count_of c rest) n counted in
-    let own = fewer_fit c s.params n w more.log_n more.r (omega (arith, more.sum)) room in
+    let first = fewer_fit c s.params n w more.log_n more.r (omega (arith, more.sum)) room in
     let others = fewer_fit c (record c { p = more.count }) n w refl refl (omega (arith, more.sum)) room in
-    ap₂ (λ out outs. out ∷ outs) (read password s own) (each_fits f g c rest more.count w read unread more.counted others)
+    ap₂ (λ out outs. out ∷ outs) (read password s first) (each_fits f g c rest more.count w read unread more.counted others)
 each_fits f g c ((password, Err why) ∷ rest) n w read unread counted room =
     ap₂ (λ out outs. out ∷ outs) (unread password why) (each_fits f g c rest n w read unread counted room)
 
@@ -111,9 +111,9 @@ pub alone : (c : Parameters) (these : List Attempt) (n : ℕ) (w : Workspace) �
     → (map (λ (a : Attempt). verdict a.0 a.1) these ≡ map (verdict_on w) these)
     × (all_cost verify_cores these ≡ sum_by (cores_on w) these) × (all_cost verify_cost these ≡ sum_by (hashed_on w) these)
 alone c these n w counted room = (
-  each_fits _ _ c these n w (λ password s own. rw own refl) (λ password why. refl) counted room,
-  sums_alike _ _ these (each_fits _ _ c these n w (λ password s own. rw own refl) (λ password why. refl) counted room),
-  sums_alike _ _ these (each_fits _ _ c these n w (λ password s own. rw own refl) (λ password why. refl) counted room),
+  each_fits _ _ c these n w (λ password s fits. rw fits refl) (λ password why. refl) counted room,
+  sums_alike _ _ these (each_fits _ _ c these n w (λ password s fits. rw fits refl) (λ password why. refl) counted room),
+  sums_alike _ _ these (each_fits _ _ c these n w (λ password s fits. rw fits refl) (λ password why. refl) counted room),
 )
 
 -- the cores of one derivation of all chunks
@@ -121,12 +121,12 @@ pub cores_of_all : (c : Parameters) (these : List Attempt) (n : ℕ) → count_o
 cores_of_all c [] n counted = let none : 0 ≡ n = cc in rw (← none) (omega arith)
 cores_of_all c ((password, Ok s) ∷ rest) n counted =
     let more = are_more c s.params (count_of c rest) n counted in
-    let own : cost s.params.log_n s.params.r s.params.p ≡ cost c.log_n c.r s.params.p = rw (more.log_n, more.r) refl in
+    let first : cost s.params.log_n s.params.r s.params.p ≡ cost c.log_n c.r s.params.p = rw (more.log_n, more.r) refl in
     sym (sum_cost (ro_mix_cost c.log_n c.r) s.params.p more.count n more.sum)
-    ∙ ap₂ (λ x y. x + y) (sym own) (cores_of_all c rest more.count more.counted)
-    ∙ sym (sum_by-cons (own_cost verify_cores) (password, Ok s) rest)
+    ∙ ap₂ (λ x y. x + y) (sym first) (cores_of_all c rest more.count more.counted)
+    ∙ sym (sum_by-cons (cost_if_ok verify_cores) (password, Ok s) rest)
 cores_of_all c ((password, Err why) ∷ rest) n counted =
-    cores_of_all c rest n counted ∙ sym (sum_by-cons (own_cost verify_cores) (password, Err why) rest ∙ zero-add _)
+    cores_of_all c rest n counted ∙ sym (sum_by-cons (cost_if_ok verify_cores) (password, Err why) rest ∙ zero-add _)
 
 -- buffers of the same lengths
 pub record AreAsLong (w v : Workspace) : Type 0 where
@@ -201,14 +201,14 @@ both_costs [] = refl
 both_costs (a ∷ rest) =
     omega (
       arith,
-      sum_by-cons (own_cost chunks_cost) a rest,
-      sum_by-cons (own_cost compare_cost) a rest,
-      sum_by-cons (own_cost verify_cost) a rest,
+      sum_by-cons (cost_if_ok chunks_cost) a rest,
+      sum_by-cons (cost_if_ok compare_cost) a rest,
+      sum_by-cons (cost_if_ok verify_cost) a rest,
       each a,
       both_costs rest,
     )
   where
-    each : (a : Attempt) → own_cost chunks_cost a + own_cost compare_cost a ≡ own_cost verify_cost a
+    each : (a : Attempt) → cost_if_ok chunks_cost a + cost_if_ok compare_cost a ≡ cost_if_ok verify_cost a
     each (password, Ok s) = refl
     each (password, Err why) = refl
 
@@ -227,8 +227,8 @@ none_left logins i all = drop_all i (attempts logins) (rw (length-map logins att
 
 -- the blocks of one, and then those of the others
 pub hashed_more : (f : List ℕ → Stored → ℕ) {these others : List Attempt} {a : Attempt} {x y z : CoreCount} → these ≡ a ∷ others
-    → AreHashed (own_cost f a) x y → AreHashed (all_cost f others) y z → AreHashed (all_cost f these) x z
-hashed_more f {these} {others} {a} is one rest = hashed_both _ one rest (sym (ap (all_cost f) is ∙ sum_by-cons (own_cost f) a others))
+    → AreHashed (cost_if_ok f a) x y → AreHashed (all_cost f others) y z → AreHashed (all_cost f these) x z
+hashed_more f {these} {others} {a} is one rest = hashed_both _ one rest (sym (ap (all_cost f) is ∙ sum_by-cons (cost_if_ok f) a others))
 
 -- one more of a list that is written, before those that are not
 pub one_more : {X Y Z : Type 0} (f : X → Z) (g : Y → Z) (xs : List X) (i : ℕ) (x : X) (y : Y) (these others : List Y) → i < length xs

@@ -69,13 +69,13 @@ shared (a ∷ rest) = option_and_then (λ c. option_map (λ n. record c { p = n 
 
 -- f of a password and its hash, or nothing if the hash is an error: the chunks of its derivation
 -- (step 1), or these chunks after scryptROMix (step 2)
-abbrev pub own : (List ℕ → Stored → List ℕ) → Attempt → List ℕ
-own f (password, Ok s) = f password s
-own f (password, Err why) = []
+abbrev pub bytes_if_ok : (List ℕ → Stored → List ℕ) → Attempt → List ℕ
+bytes_if_ok f (password, Ok s) = f password s
+bytes_if_ok f (password, Err why) = []
 
 -- f of each attempt, concatenated
 abbrev pub all_of : (List ℕ → Stored → List ℕ) → List Attempt → List ℕ
-all_of f = flat_map (own f)
+all_of f = flat_map (bytes_if_ok f)
 
 -- the cores of the derivation
 abbrev pub verify_cores : List ℕ → Stored → ℕ
@@ -90,13 +90,13 @@ abbrev pub compare_cost : List ℕ → Stored → ℕ
 compare_cost password s = pbkdf2_cost (length password) (chunks_bytes s.params.r s.params.p) (length s.key)
 
 -- f of a password and its hash, or 0 if the hash is an error
-abbrev pub own_cost : (List ℕ → Stored → ℕ) → Attempt → ℕ
-own_cost f (password, Ok s) = f password s
-own_cost f (password, Err why) = 0
+abbrev pub cost_if_ok : (List ℕ → Stored → ℕ) → Attempt → ℕ
+cost_if_ok f (password, Ok s) = f password s
+cost_if_ok f (password, Err why) = 0
 
 -- the sum of f over all attempts
 abbrev pub all_cost : (List ℕ → Stored → ℕ) → List Attempt → ℕ
-all_cost f = sum_by (own_cost f)
+all_cost f = sum_by (cost_if_ok f)
 
 -- the keys of these attempts cannot be derived in one batch in this workspace
 abbrev pub IsAlone : List Attempt → Workspace → Type 0

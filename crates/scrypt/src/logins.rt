@@ -1,7 +1,7 @@
 // Verifying several passwords in one workspace, in one batch if possible.
 
 ghost use Rattle.std.specs.Prelude.{◌≡◌, ◌∷◌, List, ◌+◌, ◌*◌, ◌<◌, length, map, IfSome, IsTrue, None, Some, true, false, sum_by};
-ghost use Rattle.scrypt.specs.Logins.{AreLeft, Attempt, IsAlone, all_cost, all_of, attempt_of, attempts, chunks_cost, compare_cost, cores_on, count_of, hashed_on, own, own_cost, params_of, reading_of, shared, verdict_on, verify_cores};
+ghost use Rattle.scrypt.specs.Logins.{AreLeft, Attempt, IsAlone, all_cost, all_of, attempt_of, attempts, bytes_if_ok, chunks_cost, compare_cost, cores_on, cost_if_ok, count_of, hashed_on, params_of, reading_of, shared, verdict_on, verify_cores};
 ghost use Rattle.scrypt.specs.Mixing.{IsReady, IsSpent};
 ghost use Rattle.scrypt.specs.Reading.{chunks_of, mapped, mixed_of, verdict, verify_cost, with_refusal};
 ghost use Rattle.scrypt.specs.StoredParts.{stored};
@@ -72,20 +72,20 @@ impl<'p, 't> Login<'p, 't> {
         ensures { (others : List Attempt) → count_of params.now others ≡ Some count
             → result ≡ count_of params.now (attempt_of self.now ∷ others) }
     {
-        let Some(own) = self.params() else {
+        let Some(hash_params) = self.params() else {
             return Some(count);
         };
-        if own.log_n() != params.log_n() || own.r() != params.r() {
+        if hash_params.log_n() != params.log_n() || hash_params.r() != params.r() {
             return None;
         }
-        own.p().checked_add(count)
+        hash_params.p().checked_add(count)
     }
 
     // Returns the length of its chunks in bytes.
     #[tactic(auto, using(crate::proofs::LoginFacts::lens_of_chunks))]
     fn chunks_len(&self) -> usize
-        ensures value { result ≡ length (own chunks_of (attempt_of self.now)) }
-        ensures mixed { result ≡ length (own mixed_of (attempt_of self.now)) }
+        ensures value { result ≡ length (bytes_if_ok chunks_of (attempt_of self.now)) }
+        ensures mixed { result ≡ length (bytes_if_ok mixed_of (attempt_of self.now)) }
     {
         match self.params() {
             Some(params) => {
@@ -99,9 +99,9 @@ impl<'p, 't> Login<'p, 't> {
     // Step 1: `chunks` becomes its chunks.
     #[tactic(auto, using(crate::proofs::LoginFacts::lens_of_chunks))]
     fn derive_chunks(&self, chunks: &mut [u8], cores: &mut CoreCount)
-        requires len { length chunks.old ≡ length (own chunks_of (attempt_of self.now)) }
-        ensures value { chunks.new ≡ own chunks_of (attempt_of self.now) }
-        ensures counted { AreHashed (own_cost chunks_cost (attempt_of self.now)) cores.old cores.new }
+        requires len { length chunks.old ≡ length (bytes_if_ok chunks_of (attempt_of self.now)) }
+        ensures value { chunks.new ≡ bytes_if_ok chunks_of (attempt_of self.now) }
+        ensures counted { AreHashed (cost_if_ok chunks_cost (attempt_of self.now)) cores.old cores.new }
     {
         if let Ok(parts) = self.parts() {
             let salt = parts.salt.as_bytes();
@@ -112,8 +112,8 @@ impl<'p, 't> Login<'p, 't> {
     // Step 3: returns the verdict, given its mixed chunks.
     #[tactic(auto, using(crate::proofs::LoginFacts::lens_of_chunks))]
     fn compare(&self, mixed: &[u8], cores: &mut CoreCount) -> Result<(), LimitedError>
-        requires mixed { mixed.now ≡ own mixed_of (attempt_of self.now) }
-        ensures counted { AreHashed (own_cost compare_cost (attempt_of self.now)) cores.old cores.new }
+        requires mixed { mixed.now ≡ bytes_if_ok mixed_of (attempt_of self.now) }
+        ensures counted { AreHashed (cost_if_ok compare_cost (attempt_of self.now)) cores.old cores.new }
         ensures verdict { with_limited_refusal result ≡ verdict self.now.password.now (reading_of self.now) }
     {
         match self.parts() {
@@ -309,8 +309,8 @@ fn compare(
     let mut rest = mixed;
     for i in 0..logins.len() {
         let login = &logins[i];
-        let (own, others) = rest.split_at(login.chunks_len());
-        verdicts[i] = login.compare(own, cores);
+        let (chunks, others) = rest.split_at(login.chunks_len());
+        verdicts[i] = login.compare(chunks, cores);
         rest = others;
     }
 }

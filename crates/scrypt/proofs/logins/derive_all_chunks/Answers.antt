@@ -1,13 +1,13 @@
 use Rattle.std.proofs.Common.{◌≡◌, ◌∙◌, ◌∷◌, ◌≤◌, ◌+◌, ◌++◌, List, ap, append_assoc, append-nil, arith, drop, length, length-append, refl, rules, sym, take, take_all}
 use Rattle.std.proofs.lemmas.Slice.{take-put_mid}
 use Rattle.scrypt_kernel.proofs.CountFacts.{hashed_none}
-use Rattle.scrypt.specs.Logins.{Attempt, all_cost, all_of, attempts, chunks_cost, own}
+use Rattle.scrypt.specs.Logins.{Attempt, all_cost, all_of, attempts, bytes_if_ok, chunks_cost}
 use Rattle.scrypt.specs.Reading.{chunks_of}
 use Rattle.scrypt.proofs.LoginFacts.{from, hashed_more, none_left}
 use Rattle.scrypt.proofs.logins.derive_all_chunks.Goals as goal
 
 sizes : {these others : List Attempt} {a : Attempt} → these ≡ a ∷ others
-    → length (all_of chunks_of these) ≡ length (own chunks_of a) + length (all_of chunks_of others)
+    → length (all_of chunks_of these) ≡ length (bytes_if_ok chunks_of a) + length (all_of chunks_of others)
 sizes is = simp length-append at (ap (λ z. length (all_of chunks_of z)) is)
 
 pub loop-i-init : goal.loop-i-init

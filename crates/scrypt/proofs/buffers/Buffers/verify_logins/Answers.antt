@@ -7,7 +7,7 @@ use Rattle.scrypt.proofs.buffers.Buffers.verify_logins.Goals as goal
 
 pub returns-clause-within : goal.returns-clause-within
 returns-clause-within c = λ limits suffice fits.
-    let own = workspace_in c.args.self.now in
+    let before = workspace_in c.args.self.now in
     let logins = c.args.logins.now in
-    let verdicts : map with_limited_refusal c.verify_logins.new.verdicts ≡ map (verdict_on own) (attempts logins) = search rules in
-    verdicts ∙ all_within limits own logins suffice fits
+    let verdicts : map with_limited_refusal c.verify_logins.new.verdicts ≡ map (verdict_on before) (attempts logins) = search rules in
+    verdicts ∙ all_within limits before logins suffice fits
