@@ -18,11 +18,11 @@ record AreAlike (s d : Stored) : Type 0 where
 
 alike : (s d : Stored) → public_hash (Ok s) ≡ public_hash (Ok d) → AreAlike s d
 alike s d same =
-    let parts : ◌≡◌ {A = Parameters × ℕ × ℕ} (s.params, length s.salt, length s.key) (d.params, length d.salt, length d.key) = cc in
+    let each : ◌≡◌ {A = Parameters × ℕ × ℕ} (s.params, length s.salt, length s.key) (d.params, length d.salt, length d.key) = cc in
     record {
-      params = ap (λ (x : Parameters × ℕ × ℕ). x.0) parts;
-      salt = ap (λ (x : Parameters × ℕ × ℕ). x.1) parts;
-      key = ap (λ (x : Parameters × ℕ × ℕ). x.2) parts;
+      params = ap (λ (x : Parameters × ℕ × ℕ). x.0) each;
+      salt = ap (λ (x : Parameters × ℕ × ℕ). x.1) each;
+      key = ap (λ (x : Parameters × ℕ × ℕ). x.2) each;
     }
 
 abbrev Public : Type 0

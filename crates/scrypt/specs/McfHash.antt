@@ -27,7 +27,7 @@ read_fields (field ∷ after) = field_params field and_then λ c. read_key after
     Ok (record { params = c; salt = drop 11 field; key = key })
 read_fields [] = Err EncodingInvalid
 
--- a text whose parts are nothing, the id `7` and fields; any other id is another algorithm
+-- a text, split at each `$`: nothing, the id `7` and fields; any other id is another algorithm
 abbrev pub read_parts : List (List ℕ) → Result Stored Refusal
 read_parts ([] ∷ id ∷ fields) = if bytes_eq id mcf_id then read_fields fields else Err Algorithm
 read_parts _ = Err EncodingInvalid
