@@ -1,11 +1,11 @@
 // The derived key (RFC 7914, section 6).
 
-ghost use Rattle.std.specs.Prelude.{◌≡◌, ◌↔◌, ◌+◌, ◌-◌, ◌*◌, ◌<◌, ◌≤◌, length, take, IsOk, IsTrue, IsErrOf, OnOk, OnErr};
+ghost use Rattle.std.specs.Prelude.{◌≡◌, ◌↔◌, ◌-◌, ◌*◌, ◌<◌, ◌≤◌, length, take, IsOk, IsTrue, IsErrOf, OnOk, OnErr};
 ghost use Rattle.scrypt_kernel.specs.Pbkdf2.{max_output_len, pbkdf2};
 ghost use Rattle.scrypt.specs.Accepted.{is_output_len};
 ghost use Rattle.scrypt.specs.Cost.{AreCounted, AreHashed, chunks_bytes, cost, hash_cost, pbkdf2_cost, scratch_words, table_words, thin_cost, thin_scratch_words};
 ghost use Rattle.scrypt.specs.Key.{derived_key, mixed_b};
-ghost use Rattle.scrypt.specs.KeyOfParams.{IsDerived, cost_by, key_by};
+ghost use Rattle.scrypt.specs.KeyOfParams.{IsDerived, cost_by};
 ghost use Rattle.scrypt.specs.Mixing.{IsKept, IsReady};
 ghost use Rattle.scrypt.specs.Workspace.{IsRestKept, are_enough, workspace_of};
 ghost use Rattle.scrypt.specs.declared.errors.DeriveError.TheVariants.{InvalidOutputLen as BadLength, OutOfMemory};

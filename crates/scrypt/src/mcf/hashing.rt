@@ -21,7 +21,6 @@ ghost use Rattle.scrypt_kernel.specs.Memory.{buffer_room};
 use crate::buffers::memory::{ActiveBuffers, with_prefix};
 use crate::hashing::{key_allocating, stored_key};
 use crate::mcf::five_letters::five_letters;
-use crate::mcf::reading::is_mcf;
 use crate::{Backend, CoreCount, Params, output_len_ok};
 use password_hash::mcf::alphabet::letter;
 use password_hash::mcf::{Base64, PasswordHash};

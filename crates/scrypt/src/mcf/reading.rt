@@ -61,8 +61,8 @@ fn parts_of_fields<'a>(mut fields: Fields<'a>) -> Result<StoredParts<'a>>
     })
 }
 
-/// Returns whether `id` is the id of `$7$` hashes.
-pub(super) fn is_mcf(id: &str) -> bool
+// Returns whether `id` is the id of `$7$` hashes.
+fn is_mcf(id: &str) -> bool
     ensures { IsTrue result ↔ (id.now ≡ mcf_id) }
 {
     id == "7"
