@@ -219,13 +219,14 @@ def compared():
     two, four = (f"{table[f'(14, 8, 1), each of a batch of {it}'][0] / table['(14, 8, 1)'][0]:.2f}" for it in ("two", "four"))
     yield "bindings/README.md", f"each of two takes {two} of the time of one, each of four {four};"
     yield "bindings/c/scrypt_c.h", f"batch of two takes {two} of the time of two calls, and a batch of four {four} of the time of four"
-    yield "docs/PARAMETERS.md", f"four guesses in four tables take {four} of the time of four"
-    yield "docs/PARAMETERS.md", f"so divide the last column by {1 / float(four):.1f}"
     yield "docs/PARAMETERS.md", f"three tables takes {table['(15, 8, 3), in three tables'][0] / 1000:.2f} for (15, 8, 3)"
     milliseconds, (rust, libxcrypt, libsodium, _, openssl) = table["(17, 8, 1)"]
     yield "README.md", f"takes 128 MiB and {milliseconds / 1000:.2f} seconds"
     yield "README.md", f"{rust} of the time of the Rust crate scrypt, {libxcrypt} of libxcrypt's, {libsodium} of libsodium's and {openssl} of"
-    days, hours = milliseconds / 86.4, milliseconds * float(four) / 3.6  # of a million
+    guess = table["(17, 8, 1), each of a batch of four"][0]
+    yield "docs/PARAMETERS.md", f"keeps its tables, takes {milliseconds / 1000:.2f} at log_n = 17"
+    yield "docs/PARAMETERS.md", f"each of four guesses at log_n = 17 takes {guess} ms"
+    days, hours = milliseconds / 86.4, guess / 3.6  # of a million
     yield "docs/PARAMETERS.md", f"takes one CPU {days:.0f} days, or {hours:.0f} hours in batches"
     core = int(text_of("docs/BENCHMARKS.md", r"v2 \| \|---\|---\|---\| \| 1 \| \d+, \d+, ", " "))
     yield "docs/BENCHMARKS.md", f"65,536 cores, which take {65536e-6 * core:.1f} ms at [{core} ns each]"
@@ -244,6 +245,8 @@ def measured():
                        ("rarely | 20, 8, 1 | 1 GiB", seconds[20]), ("devices | 17, 8, 1, s = 3 | 16 MiB", float(smaller))]:
         yield name, f"{row} | {taken:.2g} |"
     yield name, f"({seconds[17]:.2f} seconds, or {2 * seconds[17]:.2f} with p of 2)"
+    guess = float(text_of(name, "guesses at log_n = 17 takes ", " ms"))
+    yield name, f"so divide the last column by {1000 * seconds[17] / guess:.1f}"
     one, two, four = (dict(re.findall(rf"^\| (\d+) \| {it} \| [\d,]+ \| ([\d.]+) \|", page, re.M)) for it in (1, 2, 4))
     yield name, f"{two['17']} a second at log_n = 17, {two['16']} at 16, {two['15']} at 15, on four CPUs"
     yield name, f"**{float(two['17']):.0f} wrong passwords a second take all of the capacity**"
