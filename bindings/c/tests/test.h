@@ -35,17 +35,19 @@ static const char *argument; /* of the program, or NULL */
 
 /* Prints the names, so that the last one is that of a test which fails or hangs. */
 int main(int count, char **words) {
-  int any_failed = 0;
+  int any_ran = 0, any_failed = 0;
   argument = count > 1 ? words[1] : NULL;
-  for (const struct test *it = tests; it->run != NULL; it++) {
-    puts(it->name);
+  for (size_t i = 0; i < sizeof tests / sizeof *tests; i++) {
+    if (tests[i].run == NULL) continue; /* a header may use __COUNTER__ too */
+    puts(tests[i].name);
     (void)fflush(stdout);
     failed = 0; /* also for the children of the next test */
-    it->run();
+    tests[i].run();
     AFTER_EACH();
+    any_ran = 1;
     any_failed |= failed;
   }
-  return any_failed;
+  return any_failed || !any_ran;
 }
 
 #endif

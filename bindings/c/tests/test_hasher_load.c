@@ -67,11 +67,11 @@ static void *verify_until_closed(void *hasher) {
 }
 
 TEST(at_any_time) {
-  size_t rounds = 24;
-  if (argument != NULL) rounds = (size_t)atoi(argument);
   static const size_t PROCESSORS[] = {1, 2, 64};
+  size_t rounds = 24;
   pthread_t all[16];
   scrypt_stats stats;
+  if (argument != NULL) rounds = (size_t)atoi(argument);
   for (size_t round = 0; round < rounds; round++) {
     size_t processors = PROCESSORS[round % 3];
     scrypt_hasher *hasher = new_hasher(processors, round % 4 * processors + 1, 4);

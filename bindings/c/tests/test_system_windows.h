@@ -44,4 +44,3 @@ TEST(memory_of_a_job) {
   if (memory.JobMemoryLimit != BYTES) printf("forgotten by this system, so not tested: a job's limit on memory\n");
   else check(memory_of_process() == BYTES, "the memory of a job");
 }
-
