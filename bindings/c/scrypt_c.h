@@ -380,11 +380,11 @@ int scrypt_hash_params(const char *text, size_t text_len, uint32_t *log_n, uint3
 typedef struct scrypt_cost {
   uint32_t log_n, r, p;
   size_t key_len;     /* of a hash */
-  size_t tables;      /* the number of tables within the limit on bytes: 1 to 4, and no more than */
-                      /* p; 1 also if the limit is too low for one */
+  /* the number of tables within the limit on bytes: 1 to 4, at most p, and 1 if not even one fits */
+  size_t tables;
   size_t chunks_len;  /* the length of the chunks in bytes */
-  size_t table_len;   /* of the table in words, and */
-  size_t scratch_len; /* of the scratch in words: w times as long for w tables */
+  size_t table_len;   /* the length of one table in words */
+  size_t scratch_len; /* the length of the scratch in words, for one table */
   uint64_t bytes;     /* of all buffers with one table */
   uint64_t work;      /* 4 * (2^log_n + 32) * r * p */
 } scrypt_cost;
