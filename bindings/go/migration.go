@@ -50,12 +50,18 @@ var simpleScrypt = regexp.MustCompile(`^(\d+)\$(\d+)\$(\d+)\$((?:[\da-fA-F]{2})*
 // last two in hexadecimal, to a hash that Verify reads. N may be below 64, but is above 1, as there.
 // It returns the errors of StoredText, and ErrEncodingInvalid if the text is not such a hash.
 func FromSimpleScrypt(stored string) (string, error) {
-	parts, numbers, err := simpleScrypt.FindStringSubmatch(stored), [3]int{}, error(nil)
-	for i := 0; i < len(numbers) && parts != nil && err == nil; i++ {
-		numbers[i], err = strconv.Atoi(parts[i+1])
+	invalid := fmt.Errorf("%w: this is not a hash of simple-scrypt", ErrEncodingInvalid)
+	parts := simpleScrypt.FindStringSubmatch(stored)
+	if parts == nil {
+		return "", invalid
 	}
-	if parts == nil || err != nil {
-		return "", fmt.Errorf("%w: this is not a hash of simple-scrypt", ErrEncodingInvalid)
+	var numbers [3]int
+	for i := range numbers {
+		number, err := strconv.Atoi(parts[i+1])
+		if err != nil {
+			return "", invalid
+		}
+		numbers[i] = number
 	}
 	if numbers[0] == 1 {
 		return "", fmt.Errorf("%w: N must be above 1", ErrInvalidParams)
