@@ -28,7 +28,7 @@ fn link(place: &Path) -> Result<(), String> {
     let name = file.file_name().unwrap_or_default().to_string_lossy();
     match name.strip_suffix(".a") {
         Some(name) if !name.ends_with(".dll") => {
-            println!("cargo:rustc-link-lib=static={}", name.trim_start_matches("lib"));
+            println!("cargo:rustc-link-lib=static={}", name.strip_prefix("lib").unwrap_or(name));
             println!("cargo:rustc-link-lib={}", if is_windows { "bcrypt" } else { "pthread" });
         }
         _ => println!("cargo:rustc-link-lib=dylib=scrypt_c"),
