@@ -110,3 +110,4 @@ class Texts(unittest.TestCase):
         words = "^n is N, at least 64, and 14 may be its logarithm, log_n: n=16384 is"
         self.assertRaisesRegex(ValueError, words, stored_text, SALT, KEY, 14, 8, 1)
         self.assertEqual(params_of(from_werkzeug(f"scrypt:16:8:1$seasalt${KEY.hex()}"))[:3], (4, 8, 1))
+        self.assertEqual(params_of("$scrypt$ln=17,r=8,p=1"), (17, 8, 1, 0))  # without a key
