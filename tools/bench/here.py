@@ -16,7 +16,7 @@ import sys
 import time
 
 from tools.bench import ours, picture
-from tools.library import buffers, loaded
+from tools.shared_library import buffers, loaded
 
 SECONDS, SMALL = float(os.environ.get("SECONDS", 10)), "SMALL" in os.environ
 PASSWORD, SALT = b"pleaseletmein", b"SodiumChloride"

@@ -12,7 +12,7 @@ import mmap
 import time
 
 from tools.bench import ours
-from tools.library import buffers, declared, loaded
+from tools.shared_library import buffers, declared, loaded
 from tools.tests import crypt64
 from tools.tests.worker import Worker
 

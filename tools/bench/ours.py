@@ -5,7 +5,7 @@ import datetime
 import os
 import sys
 
-from tools.library import declared
+from tools.shared_library import declared
 
 RUNS = int(os.environ.get("RUNS", 7))
 

@@ -21,7 +21,7 @@ import resource
 import sys
 
 from tools.generate import header
-from tools.library import buffers, declared, loaded
+from tools.shared_library import buffers, declared, loaded
 from tools.tests import crypt64, known, phc, reference, runs
 
 # the verdicts on the empty password, and within limits, in buffers: nothing is allocated there
