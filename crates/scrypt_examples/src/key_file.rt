@@ -58,7 +58,7 @@ impl Header {
     /// each step `go_on` is called with the number of cores that are done, of `params.cores()` in
     /// all.
     ///
-    /// Returns `None` as soon as `go_on` returns `false`.
+    /// Returns `None` if `go_on` returned `false`, and `AllocError` if an allocation fails.
     pub fn subkeys_in_steps<F: FnMut(u128) -> bool>(
         &self,
         alloc: Global,
@@ -77,6 +77,7 @@ impl Header {
         let mut own = Buffers::allocate(alloc, &BufferLens::of(&self.params))?;
         let mut key = [0u8; 64];
         let (salt, params) = (&self.salt, &self.params);
+        // a step of 1000 block mixes takes about a millisecond
         let derived = own.derive_key_in_steps(password, salt, params, 1000, go_on, &mut key);
         wipe(&mut own.chunks, &mut own.table, &mut own.scratch);
         match derived {
