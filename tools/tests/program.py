@@ -6,7 +6,7 @@ the other stream stays empty. The keys are from RFC 7914, section 12, and from P
 hashes are from tools/tests/known.py and bindings/cases.tsv.
 
 usage: python3 -m tools.tests.program PROGRAM    crates/scrypt_tool/out/scrypt_tool: the installed one is linked from it
-       python3 -m tools.tests.program EMULATOR.. PROGRAM    without the longest password
+       python3 -m tools.tests.program EMULATOR.. PROGRAM    without the longest password and the counts of work
 """
 
 import hashlib
@@ -16,7 +16,7 @@ import re
 import sys
 
 from tools.generate import header
-from tools.tests import allocations, crypt64, prompt, reference, runs
+from tools.tests import allocations, crypt64, prompt, reference, runs, work
 from tools.tests.hash_files import hash_files
 from tools.tests.known import CRYPT, EMPTY, EMPTY_OF_64, EMPTY_PHC, HASHLIB, PASSLIB, PLAIN, RFC, SHORT
 from tools.tests.runs import USAGE, run
@@ -336,7 +336,8 @@ def terminal(program):
 
 
 def main():
-    parts = [memory, rows, verdicts, long_passwords, raw_keys, salts, hash_files, information, streams, allocations.cases, terminal]
+    parts = [memory, rows, verdicts, long_passwords, raw_keys, salts, hash_files, information, streams, allocations.cases, terminal,
+             work.cases]
     sys.exit(not runs.report("program", itertools.chain(*(part(sys.argv[1:]) for part in parts))))
 
 
