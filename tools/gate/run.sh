@@ -13,7 +13,7 @@ gate() { make --no-print-directory -f tools/gate/gate.mk "$@"; }
 if [ $# = 0 ]; then
   set -- gate
   export PROVED_LIBRARIES=$PWD/crates # of this run: nothing begins with what an earlier one kept
-  echo "Proves and tests everything, in about 44 minutes on four CPUs." \
+  echo "Proves and tests everything, in about 39 minutes on four CPUs." \
     "What each task prints is in build/log."
   rm -rf build/{gate,log,lib,bin,machine.sh} crates/*/out/rlib crates/scrypt_tool/out/scrypt_tool.o
   for preset in native asan tsan by-rattle $(python3 -m tools.presets names); do
