@@ -6,7 +6,7 @@ WIDTH, HEIGHT, LEFT, RIGHT, TOP, BOTTOM = 720, 400, 56, 64, 76, 44
 
 # The colour of each line, on light and on dark pages.
 COLOURS = [("#c00000", "#ff7b72"), ("#8a4b00", "#e3a04f"), ("#0b5cad", "#79b8ff"), ("#18753c", "#6fdd8b"),
-           ("#6f42c1", "#c8a6ff"), ("#4d5761", "#b1bac4"), ("#a0007a", "#ff8fd8")]
+           ("#6f42c1", "#c8a6ff"), ("#4d5761", "#b1bac4"), ("#a0007a", "#ff8fd8"), ("#00757a", "#56d4dd")]
 
 
 def style():
