@@ -63,14 +63,14 @@ def sizes(run):
 def refused(run, wanted):
     """The number of allocations whose failure ends a run, or how the runs end if one ends differently.
 
-    Collecting the arguments, std makes one allocation that it can do without: its failure, after the
-    allocations for the arguments and before those of the run, changes nothing.
+    Collecting the arguments, the kit's std makes one allocation that it can do without: its failure, after the
+    allocations for the arguments and before those of the run, changes nothing. An erased program (rust) has none.
     """
     total = len(sizes(run))
     ends = [run(FAIL_AT=str(it + 1)) for it in range(total)]
-    of_arguments = ends.count(ARGUMENTS)
-    of_run = total - of_arguments - 1
-    return of_run if ends == [ARGUMENTS] * of_arguments + [wanted] + [MEMORY] * of_run else ends
+    of_arguments, of_neither = ends.count(ARGUMENTS), min(1, ends.count(wanted))
+    of_run = total - of_arguments - of_neither
+    return of_run if ends == [ARGUMENTS] * of_arguments + [wanted] * of_neither + [MEMORY] * of_run else ends
 
 
 def run_with(library, words, password, **settings):

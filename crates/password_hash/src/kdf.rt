@@ -1,18 +1,30 @@
 //! Key derivation functions, from a password and a salt to a key.
-ghost use Rattle.std.specs.Prelude.{◌≡◌, List, ℕ, OnOk, OnErr, IfErr, length};
+ghost use Rattle.std.specs.Prelude.{◌≡◌, List, ℕ, None, OnOk, OnErr, IfErr, length};
 
 use std::alloc::Global;
+use std::fmt;
 
 /// An error from deriving a key.
-#[derive(Clone, Copy, Debug, PartialEq, Eq, thiserror::Error)]
+#[derive(Clone, Copy, Debug, PartialEq, Eq)]
 pub enum Error {
     /// A key of this length cannot be derived.
-    #[error("refused key length")]
     Refused,
     /// An allocation failed.
-    #[error("out of memory")]
     OutOfMemory,
 }
+
+impl fmt::Display for Error {
+    ghost output = { λ _. None };
+
+    fn fmt<W: fmt::Write>(&self, f: &mut fmt::Formatter<W>) -> fmt::Result {
+        match self {
+            Error::Refused => f.write_str("refused key length"),
+            Error::OutOfMemory => f.write_str("out of memory"),
+        }
+    }
+}
+
+impl std::error::Error for Error {}
 
 /// The result type of deriving a key.
 pub type Result<T> = std::result::Result<T, Error>;

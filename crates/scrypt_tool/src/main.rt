@@ -94,37 +94,43 @@ fn file_text(rt: &HostRuntime, name: Option<&str>) -> Result<Option<String>, u8>
     let Some(name) = name else {
         return Ok(None);
     };
-    match read_hash(rt, name) {
-        Ok(text) => Ok(Some(text)),
+    let read = read_hash(rt, name);
+    // Escaped, so that the error stays on one line and a file name can't send control codes to the
+    // terminal.
+    let name = name.escape_debug();
+    match read {
+        Ok(Some(text)) => Ok(Some(text)),
+        Ok(None) => {
+            let _ = eprintln!(rt; "{name}: more than {MAX_BYTES} bytes");
+            Err(2)
+        }
         Err(error) => {
-            // Escaped, so that the error stays on one line and a file name can't send control codes
-            // to the terminal.
-            let name = name.escape_debug();
             let _ = eprintln!(rt; "{name}: {error}");
             Err(status_of(&error))
         }
     }
 }
 
-// The hash in the file with this name: the file's text without the newline at its end.
-fn read_hash(rt: &HostRuntime, name: &str) -> io::Result<String> {
+// The hash in the file with this name: the file's text without the newline at its end, or nothing if
+// it is too long.
+fn read_hash(rt: &HostRuntime, name: &str) -> io::Result<Option<String>> {
     let mut text = String::new(rt.alloc());
     // `fs::open` would add every function of the file system to the trusted computing base.
     let file = rt.open_file(OpenOptions::new().read(true), name)?;
     let mut file = file.take(MAX_BYTES as u64 + 1);
     if file.read_to_string(&mut text)? > MAX_BYTES {
-        return Err(io::Error::new(ErrorKind::FileTooLarge, "more than 4096 bytes"));
+        return Ok(None);
     }
     if text.ends_with('\n') {
         text.pop();
     }
-    Ok(text)
+    Ok(Some(text))
 }
 
 // The exit status for an error of reading the file: 2 if its content is not a hash.
 fn status_of(error: &io::Error) -> u8 {
     match error.kind() {
-        ErrorKind::FileTooLarge | ErrorKind::InvalidData => 2,
+        ErrorKind::InvalidData => 2,
         ErrorKind::OutOfMemory => 3,
         _ => 4,
     }
