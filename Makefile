@@ -17,6 +17,9 @@
 #   make doc       makes pages for reading the proof, and prints the address that a browser opens; needs
 #                  python3-jinja2
 #   make dist      makes packages for Debian, Python, Go, Rust and npm, archives, and their hashes, in build/dist
+# Without the kit:
+#   make rust      erases the contracts from the proved source, checks the erasure, and builds and tests what is left, plain
+#                  Rust, with stable cargo (1.89 or later): proved, then erased (rust/erase.py)
 # To change it:
 #   make check     proves and tests the changes since the last check
 #   make generate  generates the packages' declarations from the C header, as make lib does
@@ -38,7 +41,7 @@ FIRST_KEY = key 4 1 1 64 "" < /dev/null
 LIBRARIES = $(addprefix proved-,password_hash scrypt_kernel scrypt scrypt_commands)
 HAS_ROOM := $(shell [ $$(nproc) -ge 4 ] && awk '/^MemAvailable/ && $$2 > 12000000 { print "yes" }' /proc/meminfo)
 PROVE = $(MAKE) --no-print-directory -j$(if $(HAS_ROOM),2,1)
-.PHONY: help kit setup-run setup-lib setup-js setup-test try run lib linked js install uninstall test check documents \
+.PHONY: help kit setup-run setup-lib setup-js setup-test try run lib linked js install uninstall test check rust documents \
   suites examples built generate promises doc dist clean proved-scrypt_tool $(LIBRARIES)
 help:
 	@sed -n '/^#/!q; s/^# \{0,1\}//p' Makefile
@@ -99,6 +102,7 @@ check: kit documents # from nothing, the libraries are proved first, with more j
 	$(if $(wildcard crates/scrypt_commands/out/incremental),,$(PROVE) $(LIBRARIES))
 	@$(STEP) what-changed env RT_SECONDS=300 rt all test --jobs $(if $(HAS_ROOM),4,1)
 	@tools/gate/run.sh answers
+rust:; @rust/build.sh
 documents: generate
 suites examples: | built
 built:

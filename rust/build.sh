@@ -1,0 +1,55 @@
+#!/bin/sh
+# Builds and tests the erased crates by cargo, without the kit; as Debian's crates, unless CARGO_NET_OFFLINE is false.
+# usage: build.sh              the crates' tests, and the program without a prompt, build/rust/target/release/scrypt_tool
+#        build.sh c [TARGET]   build/rust/c/TARGET/scrypt_c.o for bindings/c, with the target's NM and OBJCOPY
+#        build.sh program      build/rust/scrypt_tool and scrypt_tool.o, for ERASED=1 bindings/cli/build.sh
+set -eu
+cd "$(dirname "$0")/.."
+out=build/rust/workspace
+rm -rf "$out"
+python3 -B -m rust.erase "$out"
+python3 -B -m rust.check "$out"
+if [ "${CARGO_NET_OFFLINE:-true}" = true ]; then
+  mkdir -p "$out/.cargo"
+  printf '[source.crates-io]\nreplace-with = "debian"\n[source.debian]\ndirectory = "%s"\n' \
+    "${CRATES:-/usr/share/cargo/registry}" > "$out/.cargo/config.toml"
+fi
+top=$PWD
+cd "$out"
+cargo fmt --all
+export CARGO_TARGET_DIR=../target
+case ${1:-} in
+  '')
+    cargo clippy --all-targets -- -D warnings
+    # Some tests take all memory that the process may have. One reads the peak of the process's memory, in which a second
+    # arena of glibc's malloc would have a part: libtest runs each test in a thread.
+    (ulimit -v 4000000; cargo test -- --test-threads=1 --skip memory::tables)
+    MALLOC_ARENA_MAX=1 cargo test -p library_tests memory::tables -- --exact
+    cargo build --release -p scrypt_tool
+    exit ;;
+  program)
+    heap=$(mktemp -d)
+    trap 'rm -r "$heap"' EXIT
+    cat > "$heap/heap.c" << 'END'
+#include <stdlib.h>
+void *clearing_malloc(size_t n) { return malloc(n); }
+void *clearing_realloc(void *p, size_t n) { return realloc(p, n); }
+void clearing_free(void *p) { free(p); }
+END
+    "${CC:-cc}" -O2 -c "$heap/heap.c" -o "$heap/heap.o" # build.sh links the library's
+    cargo rustc -p scrypt_tool --release --features c_heap -- \
+      --emit=obj="$top/build/rust/scrypt_tool.o" -C link-arg="$heap/heap.o"
+    cp ../target/release/scrypt_tool ..
+    exit ;;
+esac
+target=${2:-$(rustc -vV | sed -n 's/^host: //p')}
+to=../c/$target
+mkdir -p "$to"
+# One object, which calls a few functions of C and of libgcc. Names are as bindings/c/tests has them in lists, such as
+# scrypt_kernel::walk::step::<#a77805eccdbb2827>.
+RUSTFLAGS="-C relocation-model=pic ${RUSTFLAGS:-}" cargo rustc -p scrypt_c --release --features c_library --target "$target" \
+  --crate-type staticlib -- --emit=obj="$PWD/$to/all.o"
+"${NM:-nm}" "$to/all.o" | awk '$NF ~ /^_+[ZR]/ { print $NF }' | sort -u > "$to/names"
+c++filt < "$to/names" | sed -E 's/::h([0-9a-f]{16})$/::<#\1>/; s/ /_/g' | paste -d= "$to/names" - | sed 's/^/--redefine-sym=/' > "$to/renamed"
+"${OBJCOPY:-objcopy}" -w -G 'proved_*' -R .llvmbc -R .llvmcmd "@$to/renamed" "$to/all.o" "$to/scrypt_c.o"
+rm "$to/all.o" "$to/names" "$to/renamed"

@@ -1,0 +1,20 @@
+//! What a library without std has to have, and the level of its code. No call panics: that is proved.
+
+unsafe extern "C" {
+    fn abort() -> !;
+}
+
+#[panic_handler]
+fn panic(_: &core::panic::PanicInfo<'_>) -> ! {
+    unsafe { abort() }
+}
+
+#[unsafe(no_mangle)]
+extern "C" fn proved_level() -> u8 {
+    crate::simd::level()
+}
+
+#[unsafe(no_mangle)]
+extern "C" fn proved_force_level(level: u8) -> u8 {
+    crate::simd::force_level(level)
+}

@@ -1,0 +1,132 @@
+//! What stands in erased source in place of things of the Rattle kit's std and ports that stable
+//! Rust does not have in the same form.
+#![no_std]
+
+extern crate alloc;
+#[cfg(any(test, feature = "std"))]
+extern crate std;
+
+pub mod ascii;
+pub mod base64;
+#[cfg(feature = "c_heap")]
+mod c_heap;
+#[cfg(feature = "c_library")]
+mod c_library;
+mod grow;
+pub mod hex;
+#[cfg(all(feature = "std", unix))]
+pub mod host;
+#[cfg(feature = "js_module")]
+mod js_module;
+pub mod simd;
+
+use alloc::boxed::Box;
+
+/// The traits of calls that allocate.
+pub mod growth {
+    pub use crate::grow::{Allocate, Grow, GrowText, Texts, ToText, ToVec};
+    #[cfg(all(feature = "std", unix))]
+    pub use crate::host::ReadText;
+}
+
+pub use grow::filled;
+
+#[cfg(not(any(target_pointer_width = "64", target_arch = "wasm32")))]
+compile_error!("the proofs are of a usize of 64 bits");
+
+/// A number of bytes or words that parameters ask for: of 64 bits, as the usize of the proofs.
+#[cfg(target_pointer_width = "64")]
+pub type Size = usize;
+/// A number of bytes or words that parameters ask for: of 64 bits, as the usize of the proofs.
+#[cfg(target_pointer_width = "32")]
+pub type Size = u64;
+
+/// A number of elements of a slice that exists.
+#[inline(always)]
+#[allow(clippy::useless_conversion)]
+pub fn index(number: Size) -> usize {
+    usize::try_from(number).unwrap()
+}
+
+/// A number of elements that are to be allocated.
+#[inline(always)]
+#[allow(clippy::useless_conversion)]
+pub fn room(number: Size) -> Result<usize, AllocError> {
+    usize::try_from(number).map_err(|_| AllocError)
+}
+
+/// `vec!`, but with an error if memory is exhausted.
+#[macro_export]
+macro_rules! checked_vec {
+    ($item:expr; $len:expr) => {
+        $crate::filled($item, $len)
+    };
+}
+
+/// An allocation failed. `std::alloc::AllocError` is not stable.
+#[derive(Clone, Copy, Debug, PartialEq, Eq)]
+pub struct AllocError;
+
+impl core::fmt::Display for AllocError {
+    fn fmt(&self, f: &mut core::fmt::Formatter<'_>) -> core::fmt::Result {
+        f.write_str("out of memory")
+    }
+}
+
+impl core::error::Error for AllocError {}
+
+impl From<alloc::collections::TryReserveError> for AllocError {
+    fn from(_: alloc::collections::TryReserveError) -> AllocError {
+        AllocError
+    }
+}
+
+#[cfg(feature = "std")]
+impl From<AllocError> for std::io::Error {
+    fn from(_: AllocError) -> std::io::Error {
+        std::io::Error::from(std::io::ErrorKind::OutOfMemory)
+    }
+}
+
+/// Why a test failed.
+pub type Fail = Box<dyn core::error::Error>;
+
+/// `&words[at..at + len]`, which the source proves to be in bounds. Where a row of scrypt's table begins is secret, so the
+/// C library takes it without a check, which would be a branch; other callers of the crates may break their clauses.
+#[inline(always)]
+pub fn row(words: &[u32], at: usize, len: usize) -> &[u32] {
+    #[cfg(feature = "unchecked_rows")]
+    return unsafe { words.get_unchecked(at..at + len) };
+    #[cfg(not(feature = "unchecked_rows"))]
+    &words[at..at + len]
+}
+
+/// The slice that C passes as a pointer and a length. The pointer of an empty one may be null.
+///
+/// # Safety
+/// The `len` elements at the pointer are initialized, and borrowed for `'a`.
+pub unsafe fn slice<'a, T>(at: *const T, len: usize) -> &'a [T] {
+    if len == 0 {
+        return &[];
+    }
+    unsafe { core::slice::from_raw_parts(at, len) }
+}
+
+/// The same, to write to.
+///
+/// # Safety
+/// The `len` elements at the pointer are initialized, and borrowed alone for `'a`.
+pub unsafe fn slice_mut<'a, T>(at: *mut T, len: usize) -> &'a mut [T] {
+    if len == 0 {
+        return &mut [];
+    }
+    unsafe { core::slice::from_raw_parts_mut(at, len) }
+}
+
+/// `format!`, but with an error if memory is exhausted.
+#[macro_export]
+macro_rules! checked_format {
+    ($($given:tt)*) => {
+        $crate::growth::ToText::checked_to_string(&format_args!($($given)*))
+    };
+}
