@@ -18,8 +18,7 @@ KIT, NEEDS = ({name: of["vendor"][part] for name, of in PRESETS.items() if part 
 
 def levels(preset):
     """The levels of the preset's CPU, the oldest first, each with its number of tables."""
-    variables = PRESETS["base"]["cacheVariables"] | PRESETS[preset].get("cacheVariables", {})
-    return dict(it.split("=") for it in variables["LEVELS"].split(";"))
+    return dict(it.split("=") for it in (PRESETS["base"]["vendor"] | PRESETS[preset]["vendor"])["levels"].split(";"))
 
 
 def main(which, name=None):

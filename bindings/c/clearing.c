@@ -1,39 +1,36 @@
-/* Chooses which proved code is called, and wipes the stack that it used (SECURITY.md, row "freed
- * memory"). Not proved. The objects that the kit built contain each proved call as base_.., and, if
- * there is code for a newer processor, as newer_... */
+/* Wipes the stack that proved code used (SECURITY.md, row "freed memory"), and says which level of the processor
+ * its code is for. Not proved. The object that rust/build.sh makes contains each proved call as proved_..,
+ * and chooses the code when it runs. */
 #include "groups.h"
 
 #include <string.h>
 
+/* The levels, the lowest first, each with the number of interleaved chunks that is fastest
+ * (docs/DECISIONS.md). */
+static const struct {
+  const char *version;
+  size_t pays;
+} LEVELS[] = {
+#ifdef __x86_64__
+    {LIBRARY_VERSION " x86-64", 3},
+    {LIBRARY_VERSION " x86-64-avx2", 4},
+    {LIBRARY_VERSION " x86-64-avx512vl", 4},
+#else
+    {LIBRARY_VERSION " arm64", 4},
+#endif
+};
 /* A batch has an array of this size for each login. */
-#if BASE_PAYS > SCRYPT_MAX_LOGINS || (defined HAS_NEWER && NEWER_PAYS > SCRYPT_MAX_LOGINS)
-#error "a level in CMakePresets.json has more tables than SCRYPT_MAX_LOGINS"
+#if SCRYPT_MAX_LOGINS < 4
+#error "a level has more tables than SCRYPT_MAX_LOGINS"
 #endif
 
-#ifdef HAS_NEWER
-#include <stdio.h>
-#include <stdlib.h>
-static int is_newer = 0;
-__attribute__((constructor)) static void choose(void) {
-  __builtin_cpu_init();
-#ifndef IS_ALWAYS_BASE
-  is_newer = __builtin_cpu_supports(NEWER) != 0;
+uint8_t proved_level(void);
+uint8_t proved_force_level(uint8_t level);
+#ifdef FORCED_LEVEL /* in tests */
+__attribute__((constructor)) static void force(void) { proved_force_level(FORCED_LEVEL); }
 #endif
-  if (__builtin_cpu_supports(BASE)) return;
-  fputs("libscrypt_c: this processor lacks a feature of " BASE
-        ", which the library was built for\n", stderr);
-  abort();
-}
-#define CHOSEN(name) (is_newer ? newer_##name : base_##name)
-const char *scrypt_version(void) {
-  return is_newer ? LIBRARY_VERSION " " NEWER : LIBRARY_VERSION " " BASE;
-}
-size_t max_interleave(void) { return is_newer ? NEWER_PAYS : BASE_PAYS; }
-#else
-#define CHOSEN(name) base_##name
-const char *scrypt_version(void) { return LIBRARY_VERSION " " BASE; }
-size_t max_interleave(void) { return BASE_PAYS; }
-#endif
+const char *scrypt_version(void) { return LEVELS[proved_level()].version; }
+size_t max_interleave(void) { return LEVELS[proved_level()].pays; }
 
 /* BELOW is more stack than any proved call uses (tests/test_clearing.c). The frames of a proved
  * call begin APART bytes below the frame of clear_stack, so that they are wiped, whatever the
@@ -63,17 +60,15 @@ CLEARS static void clear_stack(void) {
   for (size_t i = sizeof below / sizeof *below; i-- > 0;) below[i] = 0;
 }
 
-#define DECLARED(name, parameters, type) type base_##name parameters; type newer_##name parameters;
-
 #undef PROVED_CALL
 #undef PROVED_PROCEDURE
 #define PROVED_CALL(name, parameters, arguments)                 \
-  DECLARED(name, parameters, int)                                \
+  int proved_##name parameters;                                  \
   __attribute__((noinline)) static int apart_##name parameters { \
     uint8_t apart[APART];                                        \
     int status;                                                  \
     KEEP(apart);                                                 \
-    status = CHOSEN(name) arguments;                             \
+    status = proved_##name arguments;                            \
     KEEP(apart);                                                 \
     return status;                                               \
   }                                                              \
@@ -84,11 +79,11 @@ CLEARS static void clear_stack(void) {
     return status;                                               \
   }
 #define PROVED_PROCEDURE(name, parameters, arguments)             \
-  DECLARED(name, parameters, void)                                \
+  void proved_##name parameters;                                  \
   __attribute__((noinline)) static void apart_##name parameters { \
     uint8_t apart[APART];                                         \
     KEEP(apart);                                                  \
-    CHOSEN(name) arguments;                                       \
+    proved_##name arguments;                                      \
     KEEP(apart);                                                  \
   }                                                               \
   CLEARS void cleared_##name parameters {                         \

@@ -14,6 +14,5 @@
 #ifdef _WIN32
 #include "windows.c"
 #else
-#include "kit_heap.c"
 #include "linux.c"
 #endif

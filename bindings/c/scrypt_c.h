@@ -566,9 +566,9 @@ int scrypt_calibrate(double seconds, size_t max_mem, uint32_t *log_n, uint32_t *
 SCRYPT_NODISCARD
 int scrypt_generate_salt(uint8_t *salt, size_t len);
 
-/* Returns the version of the linked library, and the CPU that its proved code was built for,
- * as in "1.0.0 x86-64-v2" or "1.0.0 arm64". If the library has code for two, it chooses the newer
- * one that the CPU can run. */
+/* Returns the version of the linked library, and the CPU that its proved code is for, as in
+ * "1.0.0 x86-64-avx2" or "1.0.0 arm64". On x86-64 the library has code for any CPU, for AVX2 and
+ * for AVX-512VL, and chooses the newest that this CPU can run. */
 const char *scrypt_version(void);
 
 /* ---- Statuses ---- */

@@ -8,7 +8,8 @@ set -eu
 cd "$(dirname "$0")/../.."
 if [ "${PRESET:-native}" = native ]; then
   build=build proved=out CC=${CC:-cc} objcopy=objcopy
-  kit_c="bindings/cli/heap.c $(dirname "$(rt doc)")/c/libos_c.a"
+  kit_c=bindings/cli/heap.c
+  if [ -z "${ERASED:-}" ]; then kit_c="$kit_c $(dirname "$(rt doc)")/c/libos_c.a"; fi # that of rust needs no kit
 else # the kit has its C only for x86-64
   . bindings/preset.sh
   proved=out/$PRESET

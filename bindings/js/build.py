@@ -1,57 +1,39 @@
 #!/usr/bin/env python3
-"""Makes bindings/js/scrypt.wasm of the crate scrypt_c, without what the package doesn't call.
+"""Makes bindings/js/scrypt.wasm of the erased crate scrypt_c (rust), without what the package doesn't call.
 
-The crate is proved for WebAssembly with a 64-bit memory (bindings/build.py), and linked as build/wasm/scrypt64.wasm.
-The kit compiles for the oldest CPU of this target, which has no vectors. Every engine has them by now, and with
-them (-msimd128) a key takes less than half of the time. scrypt.wasm is the same with a 32-bit memory, and declared.js
-has the statuses. It needs the kit, and the libraries below the crate, which `make lib` proves.
+It needs cargo, and rustc's target wasm32-unknown-unknown; not the kit. Numbers that pass 2^32 keep 64 bits
+(rust/wide.py), and one that would not fit ends the module. WASM_RUSTFLAGS has more flags, as for another sysroot.
 """
 
-import re
+import os
+import shutil
+import subprocess
 import sys
-import tempfile
 from pathlib import Path
 
-from bindings import build
-from bindings.js import lower
-from tools import copies, presets, prover_command
+from rust import check, erase
 from tools.generate import declarations
 
-TARGET = presets.KIT["javascript"]["target"]
-MADE = Path("build/wasm/scrypt64.wasm")
+TARGET = "wasm32-unknown-unknown"
+WORKSPACE, MADE = Path("build/wasm/workspace"), Path("build/wasm/target")
 MODULE = Path("bindings/js/scrypt.wasm")
-
-# The calls that the package makes. Others are left out: those that allocate have no allocator on
-# this target.
-CALLS = set("""
-scrypt_hash_mcf_with_buffers scrypt_hash_cost scrypt_hash_params scrypt_hash_phc_with_buffers scrypt_kdf_with_buffers
-scrypt_key_begin scrypt_key_finish scrypt_key_step scrypt_default_limits scrypt_needs_rehash scrypt_params_cost
-scrypt_stored_mcf scrypt_stored_phc scrypt_verify_begin scrypt_verify_finish scrypt_verify_limited_with_buffers
-""".split())
-
-
-def other_calls():
-    """The calls of the crate that the package doesn't make, and the functions for them that allocate."""
-    texts = [path.read_text("utf-8") for path in Path("crates/scrypt_c/src").glob("**/*.rt")]
-    named = r'(?:extern "C" fn (?=\w)|\bfn (?=\w+\(\s*alloc: Global))(\w+)'
-    return sorted({name for text in texts for name in re.findall(named, text)} - CALLS)
+FLAGS = ["-Coverflow-checks=on", "-Ctarget-feature=+simd128"]
+LINKED = ["--export=__heap_base", "-zstack-size=1048576", "--stack-first", "--strip-all"]
 
 
 def main():
     declarations.main()
-    MADE.parent.mkdir(parents=True, exist_ok=True)
-    with tempfile.TemporaryDirectory() as room:
-        archive = Path(room, "libscrypt_c.a")
-        verdict = build.build("scrypt_c", "javascript", "wasm64", archive, other_calls())
-        # It calls nothing outside, so that no axiom is reached.
-        if f" target={TARGET} " not in verdict or "axioms=" in verdict:
-            sys.exit("not proved as wanted")
-        own = prover_command.kit()
-        copies.run(f"{own}/bin/rattle-link", "--target", TARGET, "--toolchain", f"{own}/toolchain", "-o", MADE, archive)
-    # Binaryen's wasm-opt can do this too, but what is packed must not depend on which version of it
-    # is installed, if any.
-    lower.main(MADE, MODULE)
-    print(f"{MODULE.stat().st_size} bytes of {MADE.stat().st_size}")
+    shutil.rmtree(WORKSPACE, ignore_errors=True)
+    erase.main(WORKSPACE)
+    if check.main(WORKSPACE):
+        sys.exit("not erased as wanted")
+    flags = [*FLAGS, *(f"-Clink-arg={it}" for it in [*LINKED, *(f"--export={name}" for name in sorted(erase.JAVASCRIPT))])]
+    own = {"RUSTFLAGS": " ".join([*flags, os.environ.get("WASM_RUSTFLAGS", "")]), "CARGO_TARGET_DIR": str(MADE.resolve())}
+    words = ["cargo", "rustc", "-q", "-p", "scrypt_c", "--release", "--features", "js_module", "--target", TARGET]
+    words += ["--crate-type", "cdylib"]
+    subprocess.run(words, cwd=WORKSPACE, env={**os.environ, **own}, check=True)
+    shutil.copy(MADE / TARGET / "release/scrypt_c.wasm", MODULE)
+    print(f"{MODULE.stat().st_size} bytes")
 
 
 if __name__ == "__main__":

@@ -67,6 +67,8 @@ export class Instance {
 
   /** Takes zeros above the memory that is taken. */
   take(length, size = 1) {
+    // The module, of 32 bits, takes no longer slice.
+    if (length * size >= 2 ** 31) throw outOfMemory(new RangeError('2 GiB or more in one buffer'));
     const at = Math.ceil(this.#top / 64) * 64;
     const top = at + length * size;
     const missing = Math.ceil((top - this.#memory.buffer.byteLength) / PAGE);

@@ -192,8 +192,6 @@ def written():
     yield "docs/EVIDENCE.md", f"C library, program, JavaScript | {', '.join(axioms)}, 0 |"
     yield from (("docs/TRUST.md", f"`axioms={it}`:") for it in axioms)
     yield "README.md", f"of definitions, and {text_of('docs/TRUST.md', 'about [0-9]+ lines for the key, ', ' for a')} of the kit's"
-    lines = len(re.findall("^[^;\n]", read("bindings/c/kit_heap.ll"), re.M))
-    yield "docs/TRUST.md", f"`bindings/c/kit_heap.ll`, {lines} lines of LLVM IR"
     yield "CONTRIBUTING.md", f"the gate: {number('bindings/c/tests/test_hasher_load.c', 'size_t rounds = ', ';')} rounds"
     yield "CONTRIBUTING.md", f"runs for {WORDS[number('tools/gate/gate.mk', r'LIMIT=[^,]*,', 'h. ')]} hours is ended"
     log_ins = number("examples/login_site/accounts/hashers.py", "MAX_LOG_INS = ", " ")

@@ -25,7 +25,7 @@ OTHERS = {
         "#define SCRYPT_VERSION_MINOR {minor}\n",
         "#define SCRYPT_VERSION_PATCH {patch}\n",
         '#define SCRYPT_VERSION_STRING "{version}"',
-        '"{version} x86-64-v2" or "{version} arm64"',
+        '"{version} x86-64-avx2" or "{version} arm64"',
     ],
     "bindings/c/tests/cmake_client/CMakeLists.txt": ["find_package(scrypt_c {major} REQUIRED)"],
     "bindings/js/package.json": ['"version": "{version}"', '"url": "git+{url}.git"'],

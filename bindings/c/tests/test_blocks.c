@@ -1,5 +1,5 @@
 /* The memory that the calls allocate and free: in a program whose malloc, mmap and munmap record
- * it, and fail on request. PAYS is the number of tables that is fastest, by CMakePresets.json. */
+ * it, and fail on request. */
 #define _GNU_SOURCE
 #include "scrypt_c.h"
 #include "test.h"
@@ -10,6 +10,9 @@
 #include <sys/resource.h>
 #include <sys/syscall.h>
 #include <unistd.h>
+
+/* The number of tables that is fastest. */
+#define PAYS (strcmp(scrypt_version(), SCRYPT_VERSION_STRING " x86-64") == 0 ? 3u : 4u)
 
 enum { R = 8, BESIDE = 3 << 20 }; /* maximum overhead of a mapping */
 

@@ -3,19 +3,17 @@
 #include "buffers.h"
 #include "test.h"
 
-/* The start of the version, or the whole version if the test knows the processor that the library
- * is built for. */
+/* The start of the version, or the whole version if the test knows the level of the processor. */
 #ifdef PROCESSOR
 #define VERSION SCRYPT_VERSION_STRING " " PROCESSOR
+#define VERSION_LEN sizeof VERSION
 #else
-#define VERSION SCRYPT_VERSION_STRING " x86-64-v"
+#define VERSION SCRYPT_VERSION_STRING " "
+#define VERSION_LEN (sizeof VERSION - 1)
 #endif
 
-/* The number of tables, of two, that two chunks use; on arm64 they are mixed one after the
- * other. */
-#ifdef __aarch64__
-#define USED_OF_TWO 1
-#elif defined __x86_64__
+/* The number of tables, of two, that two chunks use. */
+#if defined __aarch64__ || defined __x86_64__
 #define USED_OF_TWO 2
 #else
 #error "write what this test knows of this processor"
@@ -331,4 +329,4 @@ TEST(explanations) {
   check(text[0] == '!', "without a cost or a capacity");
 }
 
-TEST(version) { check(strncmp(scrypt_version(), VERSION, sizeof VERSION - 1) == 0, "the version of the header"); }
+TEST(version) { check(strncmp(scrypt_version(), VERSION, VERSION_LEN) == 0, "the version of the header"); }

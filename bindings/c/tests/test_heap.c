@@ -1,4 +1,4 @@
-/* The heap of the proved calls: what kit_heap.c, or kit_heap.ll (IS_BY_LL), is trusted to do, by the kit's
+/* The heap of the proved calls: what kit_heap.c is trusted to do, by the kit's
  * crate libc (src/heap.rt). No tested call of the library reaches rattle_realloc. */
 #define _GNU_SOURCE
 #include "linux.c"
@@ -19,17 +19,7 @@ static void free_wiped(void *start) {
 #define free free_wiped
 #include "blocks.c"
 #undef free
-#ifdef IS_BY_LL
-struct tried {
-  bool ok;
-  void *p;
-};
-struct tried rattle_alloc(size_t n, size_t align);
-struct tried rattle_realloc(void *p, size_t kept, size_t n, size_t align);
-void rattle_dealloc(void *p);
-#else
 #include "kit_heap.c"
-#endif
 
 enum { ALIGN = 16 };
 

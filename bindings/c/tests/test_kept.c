@@ -8,6 +8,9 @@
 
 #include <psapi.h>
 
+/* The number of tables that is fastest. */
+#define PAYS (strcmp(scrypt_version(), SCRYPT_VERSION_STRING " x86-64") == 0 ? 3u : 4u)
+
 static const char TEXT[] = "$scrypt$ln=4,r=8,p=1$c2FsdHNhbHQ$AAAAAAAAAAAAAAAAAAAAAA";
 static scrypt_hasher *hasher;
 

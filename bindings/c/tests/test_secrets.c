@@ -31,7 +31,10 @@ static const struct {
   const char *name, *why;
   unsigned most[2]; /* with the right password and a wrong one; of a PHC string and a $7$ hash */
 } ALLOWED[] = {
-    {"scrypt_verify_limited_with_buffers", "the verdict becomes a status", {1, 2}},
+    {"scrypt_verify", "the verdict becomes a status", {1, 1}},
+    {"scrypt_verify_limited", "the same", {1, 1}},
+    {"scrypt_verify_unlimited", "the same", {1, 1}},
+    {"scrypt_verify_limited_with_buffers", "the same", {1, 2}},
     {"scrypt_verify_batch_with_buffers", "the same, of each login", {LOGINS, 2 * LOGINS}},
     {"scrypt_hasher_verify", "the same, in a batch of one", {1, 2}},
     {"scrypt_hash_with_salt", "PHC's letters are in a table; a $7$ text is checked to be UTF-8", {LETTERS, OF_UTF8}},

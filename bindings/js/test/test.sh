@@ -59,11 +59,6 @@ says_what_makes_it() {
 }
 
 has "Node 18" nodejs node -e 'process.exit(Number(parseInt(process.versions.node) < 18))' || exit 77
-# Node 18 does not compile each instruction on a 64-bit memory.
-later='process.exit(Number(parseInt(process.versions.node) < 20))'
-if has "Node 20, for the module before lower.py," "nodejs>=20" node -e "$later"; then
-  python3 -B -m bindings.js.test.test_lower
-fi
 says_what_makes_it
 node --test --test-reporter=tap $here/node.test.js > "$room/log" || { cat "$room/log"; exit 1; }
 grep -E '^# (pass|fail) ' "$room/log"
