@@ -54,7 +54,7 @@ def is_made_of(source, written, pairs):
 
 def main(output):
     kinds, failed = collections.Counter(), []
-    names = Path(erase.__file__).with_name("crates").read_text().split()
+    names = sorted(it.name for it in Path(erase.__file__).with_name("crates").iterdir() if it.is_dir())
     for path in sorted(it for name in names for it in Path("crates", name, "src").rglob("*.rt")):
         text = path.read_text()
         to = path.relative_to("crates").with_suffix(".rs")

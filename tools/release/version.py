@@ -32,6 +32,7 @@ OTHERS = {
     PYPROJECT: ['Repository = "{url}"'],
     "bindings/rust/Cargo.toml": ['version = "{version}"', 'repository = "{url}"'],
     "crates/scrypt_commands/src/usage.rt": ['"scrypt_tool {version}\\n"'],
+    "rust/crates/Cargo.toml": ['version = "{version}"'],
     "tools/release/README.md": ["`libscrypt-c{major}_*.deb`", "libscrypt-c{major}` removes"],
     "CHANGELOG.md": ["## [{version}] - "],
 }

@@ -1,0 +1,133 @@
+"""What the erasure deletes, replaces, and takes from files that are written by hand. rust/erase.py does it, and rust/check.py
+allows no more; each row has its reason."""
+
+# The prefix `pub`, or `pub(..)`, and a comma or a semicolon after the item are part of it, except after a clause.
+GHOST_ITEMS = {
+    "ghost use": "an import of names for clauses",
+    "ghost member": "a ghost member, field, parameter or argument",
+    "clause": "what a function requires or ensures",
+    "tactic": "an attribute for the prover",
+    "model": "how clauses see a type",
+    "Drop": "the bound or derive Drop: in Rust every type may be dropped",
+    "label": "a label that names a loop for the proof",
+    "C": "what exports a function to C: the file c_abi.rs does, since rustc passes slices otherwise",
+    "alloc": "the allocator, which every allocating call takes; std has one",
+}
+# Each: old text, new text, reason. The new names are those of the crate support.
+REPLACED = [
+    ("prove!(", "assert!(", "a constant condition: rustc checks it when it compiles"),
+    ("std::alloc::{AllocError, Global}", "support::AllocError", "not stable"),
+    ("std::alloc::AllocError", "support::AllocError", "not stable"),
+    ("vec![in alloc;", "support::checked_vec![", "std's vec! aborts if memory is exhausted"),
+    ("vec![in rt.alloc();", "support::checked_vec![", "the same"),
+    ("format!(in alloc;", "support::checked_format!(", "the same"),
+    ("std::test::Fail", "support::Fail", "the error of the kit's tests"),
+    ("base64::engine", "support::base64", "its tables show secrets; base64ct has none"),
+    ("fmt<W: fmt::Write>(&self, f: &mut fmt::Formatter<W>)", "fmt(&self, f: &mut fmt::Formatter<'_>)",
+     "the kit's Formatter names its writer"),
+    ("str::from_utf8(&places", "support::ascii::str_of(&places", "std's looks secret letters up in a table"),
+    ("String::from_utf8(text)", "support::ascii::string_of(text)", "the same"),
+    ("&x[k * len..k * len + len]", "support::row(x, k * len, len)",
+     "where a row of the table begins is secret: the C library has no branch on it"),
+    ("&self.words[self.starts[k]..self.starts[k] + self.len]", "support::row(self.words, self.starts[k], self.len)", "the same"),
+    ("pub trait OrderedBlocks: Copy {", "pub trait OrderedBlocks: Copy + support::simd::AtLevel {",
+     "the level of the processor, which the type names: the kit builds for one level"),
+    ("pub trait Lanes: Copy {", "pub trait Lanes: Copy + support::simd::AtLevel {", "the same"),
+    ("let most = W::max_interleave(); match n {", "let most = W::max_interleave(); support::at_level!(L => match n {",
+     "the same: once for each level"),
+    ("_ => unreachable!(), } }", "_ => unreachable!(), }) }", "the same"),
+    *((f"{call}::<Diagonal<{old}>", f"{call}::<Diagonal<{new}>", "the same") for call in ("mix_group", "step_chunks") for old, new in (
+        ("u32x4", "Four<L>"), ("u32x8", "Eight<L>"), ("Both<u32x8, u32x4>", "Both<Eight<L>, Four<L>>"),
+        ("Both<u32x8, u32x8>", "Both<Eight<L>, Eight<L>>"))),
+    ("pub mod both; pub mod scalars;", "pub mod both; pub mod scalars; mod vectors;", "the vectors of each level, by hand"),
+    ("use std::simd::{Simd, u32x4, u32x8};", "use support::simd::u32x4;", "the same"),
+    ("use crate::parts::Parts; use std::simd::{u32x4, u32x8};", "use crate::parts::Parts; use support::simd::u32x4;", "the same"),
+    ("use std::simd::{u32x4, u32x8};", "use support::simd::{Eight, Four, u32x4};", "the same"),
+    ("std::simd", "support::simd", "std::simd is not stable"),
+    ("let n = O::count(); let len = 32 * r;", "support::simd::require::<O>(); let n = O::count(); let len = 32 * r;",
+     "public functions: only who chose the type can name a level that the processor lacks"),
+    ("x.xor(O::read(&self.y, i))", "x.xor(O::read(&self.y, i)).kept()", "the order of instructions"),
+    ("pub trait Half: Lanes {", "pub trait Half: Lanes + support::simd::Tie {", "the same"),
+    ("let x = A::turned(b.a, c.a, d.a); let y = B::turned(b.b, c.b, d.b);",
+     "let mut x = A::turned(b.a, c.a, d.a); let mut y = B::turned(b.b, c.b, d.b);"
+     " support::simd::tie(&mut x.0, &mut y.0);", "the same"),
+    ("let once = self.double_round(); let twice = once.double_round(); let thrice = twice.double_round();"
+     " let all = thrice.double_round();", "let mut all = self; for _ in 0..4 { all = all.double_round(); }",
+     "the compiler takes half the time for a loop"),
+    ("put_vector(&mut x[k * len..k * len + len], j, from);", "unsafe { from.store(x, k * len + 4 * j) };",
+     "put_in_part's clauses inside and room; also take_turn's assert, below"),
+    ("Parts { words, len, starts }", "support::simd::inside(words, len, &starts); Parts { words, len, starts }",
+     "what the unchecked accesses need is checked here once"),
+    ("let r = len / 32; let mut x: O", "let r = len / 32; assert!(r > 0); let mut x: O", "the same"),
+    ("let r = len / 32; let row_len", "let r = len / 32; assert!(r > 0); let row_len", "the same"),
+    ("let r = len / 32; let x = mix_block",
+     "let r = len / 32; assert!(i < r && len <= output.len() / O::count()); let x = mix_block", "the same"),
+    ("inner.clone().unwrap()", "inner.clone()", "the kit's clone may fail; that of a hasher never does"),
+    ("outer.clone().unwrap()", "outer.clone()", "the same"),
+    ("use hex::", "use support::hex::", "the crate hex aborts if memory is exhausted"),
+    ("hex::encode(", "support::hex::encode(", "the same"),
+    ("hex::decode(", "support::hex::decode(", "the same"),
+    ("hasher.finalize()", "hasher.finalize().into()", "sha2 returns a GenericArray"),
+    ("fn main(rt: HostRuntime)", "support::program!(main); fn main(rt: HostRuntime)",
+     "std's main takes nothing, and ends the process if memory is exhausted"),
+    ("use std::process::ExitCode;", "", "the same"),
+    ("use std::fs::{Files, OpenOptions};", "use support::host::{ExitCode, HostRuntime, OpenOptions};",
+     "streams, files and random bytes are methods of the kit's HostRuntime"),
+    ("use std::io::{ErrorKind, IsTerminal, Read};", "use std::io::{ErrorKind, Read, Write};", "the same"),
+    ("use std::random::RandomSource;", "", "the same"),
+    ("use std::{env, io};", "use std::io;", "the same"),
+    ("eprint!(self.0;", "write!(self.0.stderr(),", "the same"),
+    ('eprintln!(rt; "{name}: {error}")', 'writeln!(rt.stderr(), "{name}: {}", support::host::Text(&error))',
+     "std's text of an error aborts if memory is exhausted"),
+    ("eprintln!(rt;", "writeln!(rt.stderr(),", "as for HostRuntime"),
+    ("env::args(rt)?.skip(1).collect(rt.alloc())?", "rt.words()?", "the same"),
+    ("let alloc = *self.text.allocator();", "", "std's String has no allocator"),
+]
+USED = set()  # the rules that replaced something
+# Crates that need no operating system: `std` is `core` in them, and what allocates is the crate alloc's.
+NO_STD = {"scrypt_kernel", "password_hash", "scrypt", "scrypt_c"}
+ROOTS = {"lib.rt": "#![no_std]\n\nextern crate alloc;\n\n", "main.rt": "#![cfg_attr(not(test), no_main)]\n\n"}
+ALLOCATED = {"String": "use alloc::string::String;\n", "Vec": "use alloc::vec::Vec;\n"}
+# Calls that allocate. In the kit they return a Result, as their stand-ins checked_.. do; std's abort.
+GROWTH = {"push", "push_str", "extend_from_slice", "resize", "resize_with", "reserve", "with_capacity", "to_vec",
+          "to_string", "from_str", "repeat", "replace", "read_to_string"}
+# Functions in which all that is for a level is inlined, by their files.
+LEVELS = {
+    "scrypt_kernel/src/walk.rt": {"step", "mix_recomputed"},
+    "scrypt_kernel/src/table.rt": {"fill", "recompute", "mix_row"},
+    "scrypt_kernel/src/steps.rt": {"step_chunks"},
+}
+# Items of these files that the file vectors.rs has in their place, for each level.
+BY_HAND = {
+    "scrypt_kernel/src/cores/simd.rt": ["impl Lanes for u32x4", "impl Lanes for u32x8", "fn plus<const N", "fn xor<const N",
+                                        "fn four_of<const N", "fn xor_rotated<const N"],
+    "scrypt_kernel/src/cores/simd/both.rt": ["impl Half for u32x4", "impl Half for u32x8"],
+}
+# Files that are written by hand, and the folders that they are in.
+FILES = {"vectors.rs": "scrypt_kernel/src/cores/simd", "with_64_bits.rs": "scrypt_c/src"}
+INLINED = set(BY_HAND)  # files in which all methods are inlined: those of a level have to be
+# The calls that the module for JavaScript exports, and how they take each type there, on 32 bits: each address, length and
+# number of type usize has 64 bits, as in the proofs (wide.py).
+JAVASCRIPT = set("""
+scrypt_hash_mcf_with_buffers scrypt_hash_cost scrypt_hash_params scrypt_hash_phc_with_buffers scrypt_kdf_with_buffers
+scrypt_key_begin scrypt_key_finish scrypt_key_step scrypt_default_limits scrypt_needs_rehash scrypt_params_cost
+scrypt_stored_mcf scrypt_stored_phc scrypt_verify_begin scrypt_verify_finish scrypt_verify_limited_with_buffers
+""".split())
+ABI = """
+#[cfg(target_pointer_width = "64")]
+mod c_abi;
+#[cfg(target_pointer_width = "32")]
+mod c_abi_64;
+#[cfg(target_pointer_width = "32")]
+mod with_64_bits;
+"""
+ABI_HEAD = """//! The functions that C calls: each slice is a pointer and a length there{}. Generated.
+#![allow(clippy::missing_safety_doc)]
+
+{}
+
+"""
+# Methods of these names that are the repository's own, by their receiver.
+OWN = {("hash", ".", "push_str"), (":", ":", "read_to_string")}
+
+
