@@ -13,7 +13,7 @@
 #   make install   installs the built files below prefix=/usr/local, and honours DESTDIR; after make run alone, the
 #                  program with its man page and its completion
 #   make uninstall removes the last installation; use the same DESTDIR
-#   make js        proves and builds the module for JavaScript into bindings/js, and tests it
+#   make js        builds the module for JavaScript into bindings/js, and tests it, without the kit
 #   make doc       makes pages for reading the proof, and prints the address that a browser opens; needs
 #                  python3-jinja2
 #   make dist      makes packages for Debian, Python, Go, Rust and npm, archives, and their hashes, in build/dist
@@ -47,7 +47,8 @@ help:
 	@sed -n '/^#/!q; s/^# \{0,1\}//p' Makefile
 kit:
 	@command -v rt > /dev/null || { echo "The Rattle kit's command rt isn't here: nothing was proved." >&2; exit 1; }
-setup-run setup-lib setup-js setup-test: setup-%: kit
+setup-run setup-lib setup-test: kit
+setup-run setup-lib setup-js setup-test: setup-%:
 	@tools/setup.sh $* $(if $(filter install,$(MAKECMDGOALS)),"$(prefix)")
 proved-password_hash proved-scrypt_kernel: private JOBS = $(if $(HAS_ROOM),--jobs 3)
 $(LIBRARIES): proved-%: kit
@@ -87,10 +88,9 @@ lib: setup-lib
 linked: # compiles and links the proved code
 	@cd bindings/c && LACKING= cmake --preset $(PRESET) > /dev/null
 	@cmake --build build/$(PRESET) -- --quiet
-js: export STEPS = password_hash scrypt_kernel scrypt module javascript
+js: export STEPS = module javascript
 js: setup-js
-	@echo "Proves and builds the module for JavaScript. The steps' logs are in build/log."
-	@$(PROVE) proved-scrypt
+	@echo "Builds the module for JavaScript. The steps' logs are in build/log."
 	@$(STEP) module python3 -m bindings.js.build
 	@$(STEP) javascript bindings/js/test/test.sh
 install: | $(filter run lib,$(MAKECMDGOALS))

@@ -1,20 +1,39 @@
 #!/bin/sh
-# Compiles core, compiler_builtins and alloc for a target that no prebuilt library is here for, from their sources.
-# usage: sysroot.sh TARGET OUT [OPTION..]      RUSTC and LIBRARY, the folder library/ of its sources, are in the environment
+# Runs a command, such as cargo, whose rustc can compile for TARGET: with the library that `rustup target add TARGET` brings, or
+# on Debian with core and alloc, which this compiles once from rust-web-src by rustc-web, in one or two minutes.
+# usage: sysroot.sh TARGET COMMAND [WORD..]
 set -eu
-target=$1 to=$2/lib/rustlib/$1/lib
-shift 2
-mkdir -p "$to"
-one() { # NAME ROOT OPTION..
-  name=$1 root=$2
+target=$1
+shift
+lib=$("${RUSTC:-rustc}" --print sysroot)/lib/rustlib/$target/lib
+if [ -e "$lib" ]; then exec "$@"; fi
+export RUSTC=/usr/bin/rustc
+version=$($RUSTC --version | cut -d' ' -f2)
+sources=/usr/src/rustc-$version/library
+if ! [ -e "$sources" ]; then
+  echo "rustc cannot compile for $target: rustup target add $target, or on Debian apt-get install rustc-web rust-web-src" >&2
+  exit 1
+fi
+out=$(dirname "$(dirname "$(realpath "$0")")")/build/rust/sysroot/$version/$target
+compile() { # CRATE FOLDER OPTION..
+  name=$1 folder=$2
   shift 2
-  RUSTC_BOOTSTRAP=1 "$RUSTC" --crate-name "$name" --crate-type rlib --edition 2024 --target "$target" --sysroot "$to" \
+  RUSTC_BOOTSTRAP=1 $RUSTC --crate-name "$name" --crate-type rlib --edition 2024 --target "$target" --sysroot "$new" \
     -O -Cpanic=abort -Ccodegen-units=1 -Zforce-unstable-if-unmarked --cap-lints allow -Cmetadata="$name" \
-    -L "$to" --out-dir "$to" "$@" "$LIBRARY/$root/src/lib.rs"
+    -L "$to" --out-dir "$to" "$@" "$sources/$folder/src/lib.rs"
 }
-case $target in wasm32-*) memory='feature="mem"' ;; *) memory='feature="mem-unaligned"' ;; esac
-one core core "$@"
-one compiler_builtins compiler-builtins/compiler-builtins "$@" --extern core --cfg 'feature="compiler-builtins"' \
-  --cfg "$memory" --cfg intrinsics_enabled --cfg arch_enabled --cfg optimizations_enabled \
-  --cfg 'feature="unstable-intrinsics"'
-one alloc alloc "$@" --extern core --extern compiler_builtins
+if ! [ -e "$out" ]; then
+  new=$out.$$ to=$out.$$/lib/rustlib/$target/lib
+  mkdir -p "$to"
+  case $target in wasm32-*) memory=mem ;; *) memory=mem-unaligned ;; esac
+  compile core core
+  compile compiler_builtins compiler-builtins/compiler-builtins --extern core --cfg 'feature="compiler-builtins"' \
+    --cfg "feature=\"$memory\"" --cfg intrinsics_enabled --cfg arch_enabled --cfg optimizations_enabled \
+    --cfg 'feature="unstable-intrinsics"'
+  compile alloc alloc --extern core --extern compiler_builtins
+  mv -T "$new" "$out" 2> /dev/null || rm -r "$new" # another run was faster
+fi
+export RUSTFLAGS="--sysroot $out ${RUSTFLAGS:-}"
+CARGO_TARGET_WASM32_UNKNOWN_UNKNOWN_LINKER=wasm-ld-$($RUSTC -vV | sed -n 's/^LLVM version: \([0-9]*\).*/\1/p')
+export CARGO_TARGET_WASM32_UNKNOWN_UNKNOWN_LINKER
+exec "$@"

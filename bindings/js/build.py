@@ -1,8 +1,8 @@
 #!/usr/bin/env python3
 """Makes bindings/js/scrypt.wasm of the erased crate scrypt_c (rust), without what the package doesn't call.
 
-It needs cargo, and rustc's target wasm32-unknown-unknown; not the kit. Numbers that pass 2^32 keep 64 bits
-(rust/wide.py), and one that would not fit ends the module. WASM_RUSTFLAGS has more flags, as for another sysroot.
+It needs cargo and core for wasm32-unknown-unknown (rust/sysroot.sh); not the kit. Numbers that pass 2^32 keep 64 bits
+(rust/wide.py), and one that would not fit ends the module.
 """
 
 import os
@@ -17,6 +17,7 @@ from tools.generate import declarations
 TARGET = "wasm32-unknown-unknown"
 WORKSPACE, MADE = Path("build/wasm/workspace"), Path("build/wasm/target")
 MODULE = Path("bindings/js/scrypt.wasm")
+SYSROOT, DEBIAN = Path("rust/sysroot.sh"), Path("tools/release/cargo.toml")
 FLAGS = ["-Coverflow-checks=on", "-Ctarget-feature=+simd128"]
 LINKED = ["--export=__heap_base", "-zstack-size=1048576", "--stack-first", "--strip-all"]
 
@@ -28,10 +29,12 @@ def main():
     if check.main(WORKSPACE):
         sys.exit("not erased as wanted")
     flags = [*FLAGS, *(f"-Clink-arg={it}" for it in [*LINKED, *(f"--export={name}" for name in sorted(erase.JAVASCRIPT))])]
-    own = {"RUSTFLAGS": " ".join([*flags, os.environ.get("WASM_RUSTFLAGS", "")]), "CARGO_TARGET_DIR": str(MADE.resolve())}
+    own = {"RUSTFLAGS": " ".join(flags), "CARGO_TARGET_DIR": str(MADE.resolve())}
     words = ["cargo", "rustc", "-q", "-p", "scrypt_c", "--release", "--features", "js_module", "--target", TARGET]
+    if os.environ.get("CARGO_NET_OFFLINE", "true") == "true":
+        words += ["--offline", "--config", DEBIAN.resolve()]
     words += ["--crate-type", "cdylib"]
-    subprocess.run(words, cwd=WORKSPACE, env={**os.environ, **own}, check=True)
+    subprocess.run([SYSROOT.resolve(), TARGET, *words], cwd=WORKSPACE, env={**os.environ, **own}, check=True)
     shutil.copy(MADE / TARGET / "release/scrypt_c.wasm", MODULE)
     print(f"{MODULE.stat().st_size} bytes")
 

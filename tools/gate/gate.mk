@@ -86,7 +86,7 @@ $(MACHINES): %: library-%
 # ---- Other languages ----
 python go rust drop-in: linked
 	$(TASK) bindings/$(subst -,_,$@)/test.sh
-module: library
+module:
 	$(TASK) $(PY) bindings.js.build
 javascript: $(call proved,module) linked
 	$(TASK) bindings/js/test/test.sh
