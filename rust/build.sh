@@ -3,6 +3,7 @@
 # usage: build.sh              the crates' tests, and the program without a prompt, build/rust/target/release/scrypt_tool
 #        build.sh c [TARGET]   build/rust/c/TARGET/scrypt_c.o for bindings/c, with the target's NM and OBJCOPY
 #        build.sh program      build/rust/scrypt_tool and scrypt_tool.o, for ERASED=1 bindings/cli/build.sh
+#        build.sh package      build/rust/target/package/*.crate: the packages that are published, each built from its own
 set -eu
 cd "$(dirname "$0")/.."
 out=build/rust/workspace
@@ -20,12 +21,26 @@ cargo fmt --all
 export CARGO_TARGET_DIR=../target
 case ${1:-} in
   '')
-    cargo clippy --all-targets -- -D warnings
+    cargo clippy --all-targets --features proved-scrypt/getrandom -- -D warnings
+    RUSTDOCFLAGS="-D warnings" cargo doc --no-deps --package 'proved-scrypt*' --features proved-scrypt/getrandom
     # Some tests take all memory that the process may have. One reads the peak of the process's memory, in which a second
     # arena of glibc's malloc would have a part: libtest runs each test in a thread.
-    (ulimit -v 4000000; cargo test -- --test-threads=1 --skip memory::tables)
+    (ulimit -v 4000000; cargo test --features proved-scrypt/getrandom -- --test-threads=1 --skip memory::tables)
     MALLOC_ARENA_MAX=1 cargo test -p library_tests memory::tables -- --exact
     cargo build --release -p scrypt_tool
+    exit ;;
+  package)
+    # Bottom up, as they are published: a registry of this machine has those below.
+    registry=$top/build/rust/registry
+    rm -rf "$registry" ../target/package
+    mkdir "$registry"
+    ln -s "${CRATES:-/usr/share/cargo/registry}"/* "$registry"
+    for folder in support scrypt_kernel password_hash scrypt; do
+      cp "$top/LICENSE" $folder
+      cargo --config "source.debian.directory=\"$registry\"" package --allow-dirty --manifest-path $folder/Cargo.toml
+      tar -xzf ../target/package/"$(sed -n 's/^name = "\(proved-.*\)"/\1/p' $folder/Cargo.toml)"-[0-9]*.crate -C "$registry"
+      for new in "$registry"/proved-scrypt*; do echo '{ "files": {} }' > "$new/.cargo-checksum.json"; done
+    done
     exit ;;
   program)
     heap=$(mktemp -d)

@@ -39,7 +39,7 @@ class Source:
         self.hand = BY_HAND.get(name, [])
         self.is_test = "std::test::Fail" in text
         self.no_std = crate in NO_STD
-        self.root = ROOTS.get(path.name, "") if self.no_std or path.name == "main.rt" else ""
+        self.root = ROOTS.get(name, ROOTS.get(path.name, "")) if self.no_std or path.name == "main.rt" else ""
         self.text, self.tokens, self.edits = text, [], []
         for found in TOKEN.finditer(text):
             if found.lastgroup not in ("space", "comment"):

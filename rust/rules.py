@@ -13,6 +13,20 @@ GHOST_ITEMS = {
     "C": "what exports a function to C: the file c_abi.rs does, since rustc passes slices otherwise",
     "alloc": "the allocator, which every allocating call takes; std has one",
 }
+# A method of the trait PasswordHasher that crates/ cannot have.
+DRAWING = """
+    /// Hashes `password` with a new salt of 16 random bytes from the system.
+    ///
+    /// Returns `SaltInvalid` if the system has no random bytes, and the errors of
+    /// [`hash_password_with_salt`](PasswordHasher::hash_password_with_salt).
+    #[cfg(feature = "getrandom")]
+    fn hash_password(&self, password: &[u8]) -> Result<H> {
+        let mut drawn = [0; 16];
+        getrandom::getrandom(&mut drawn).map_err(|_| crate::Error::SaltInvalid)?;
+        self.hash_password_with_salt(password, &drawn)
+    }
+
+"""
 # Each: old text, new text, reason. The new names are those of the crate support.
 REPLACED = [
     ("prove!(", "assert!(", "a constant condition: rustc checks it when it compiles"),
@@ -82,11 +96,18 @@ REPLACED = [
     ("eprintln!(rt;", "writeln!(rt.stderr(),", "as for HostRuntime"),
     ("env::args(rt)?.skip(1).collect(rt.alloc())?", "rt.words()?", "the same"),
     ("let alloc = *self.text.allocator();", "", "std's String has no allocator"),
+    ("pub trait PasswordHasher<H> {", "pub trait PasswordHasher<H> {" + DRAWING, "crates/ has no random bytes"),
+    ("hash_password(", "hash_password_with_drawn_salt(", "the same: `hash_password` draws the salt, as in the crate scrypt"),
 ]
 USED = set()  # the rules that replaced something
 # Crates that need no operating system: `std` is `core` in them, and what allocates is the crate alloc's.
 NO_STD = {"scrypt_kernel", "password_hash", "scrypt", "scrypt_c"}
-ROOTS = {"lib.rt": "#![no_std]\n\nextern crate alloc;\n\n", "main.rt": "#![cfg_attr(not(test), no_main)]\n\n"}
+ROOTS = {
+    "lib.rt": "#![no_std]\n\nextern crate alloc;\n\n", "main.rt": "#![cfg_attr(not(test), no_main)]\n\n",
+    # An example in README needs the feature, so that README is no test without it.
+    "scrypt/src/lib.rt": "#![no_std]\n#![cfg_attr(any(not(doctest), feature = \"getrandom\"), doc = include_str!(\"../README.md\"))]\n\n"
+                         "extern crate alloc;\n\n",
+}
 ALLOCATED = {"String": "use alloc::string::String;\n", "Vec": "use alloc::vec::Vec;\n"}
 # Calls that allocate. In the kit they return a Result, as their stand-ins checked_.. do; std's abort.
 GROWTH = {"push", "push_str", "extend_from_slice", "resize", "resize_with", "reserve", "with_capacity", "to_vec",

@@ -32,7 +32,8 @@ OTHERS = {
     PYPROJECT: ['Repository = "{url}"'],
     "bindings/rust/Cargo.toml": ['version = "{version}"', 'repository = "{url}"'],
     "crates/scrypt_commands/src/usage.rt": ['"scrypt_tool {version}\\n"'],
-    "rust/crates/Cargo.toml": ['version = "{version}"'],
+    "rust/crates/Cargo.toml": ['version = "{version}"', 'version = "={version}"', 'repository = "{url}"'],
+    "rust/crates/scrypt/README.md": ['version = "{major}"', "[repository]({url})"],
     "tools/release/README.md": ["`libscrypt-c{major}_*.deb`", "libscrypt-c{major}` removes"],
     "CHANGELOG.md": ["## [{version}] - "],
 }

@@ -34,9 +34,9 @@ pub fn output_len_ok(len: usize) -> bool
 
 /// Writes the scrypt key of `password` and `salt` to `output` (RFC 7914, section 6).
 ///
-/// Allocates three buffers of the lengths of [`BufferLens::of`]: the chunks, the table and the
-/// scratch, in this order and before the first core. A length of a stored key in `params` is
-/// ignored.
+/// Allocates three buffers of the lengths of [`BufferLens::of`](crate::BufferLens::of): the chunks,
+/// the table and the scratch, in this order and before the first core. A length of a stored key in
+/// `params` is ignored.
 ///
 /// Returns `InvalidOutputLen` exactly if the length of `output` is not allowed
 /// ([`output_len_ok`](crate::output_len_ok)), and otherwise `OutOfMemory` if an allocation fails.
@@ -83,8 +83,9 @@ pub fn scrypt_counted(
 }
 
 /// Derives the key as [`scrypt_counted`] does, by the backend `W`, in buffers that may have
-/// `max_mem` bytes together: it allocates [`BufferLens::tables_within`] tables and interleaves that
-/// many chunks. If this allocation fails, it uses one table.
+/// `max_mem` bytes together: it allocates
+/// [`BufferLens::tables_within`](crate::BufferLens::tables_within) tables and interleaves that many
+/// chunks. If this allocation fails, it uses one table.
 ///
 /// Returns `OutOfMemory` if an allocation for one table fails.
 #[tactic(auto, using(crate::proofs::AcceptedFacts::output_len_bound))]
@@ -115,13 +116,14 @@ pub fn scrypt_with_max_mem<W: Backend>(
 /// Writes the scrypt key of `password` and `salt` to `output`, in the caller's buffers
 /// (RFC 7914, section 6).
 ///
-/// `chunks` has exactly the length of [`BufferLens::of`] in bytes, and `table` and `scratch` have
-/// at least its lengths in words. Up to four chunks are interleaved, each with its own part of the
-/// table and of the scratch, if these are long enough ([`BufferLens::for_tables`]). The contents of
-/// the buffers before the call do not matter. After it `chunks` holds B after step 2, which
-/// suffices to test passwords against the key without running a core, and the contents of the
-/// others are unspecified: [`wipe`](crate::wipe) all three. `cores` counts the `4 * N * r * p`
-/// cores, and the blocks that SHA-256 compresses. Does not allocate.
+/// `chunks` has exactly the length of [`BufferLens::of`](crate::BufferLens::of) in bytes, and
+/// `table` and `scratch` have at least its lengths in words. Up to four chunks are interleaved,
+/// each with its own part of the table and of the scratch, if these are long enough
+/// ([`BufferLens::for_tables`](crate::BufferLens::for_tables)). The contents of the buffers before
+/// the call do not matter. After it `chunks` holds B after step 2, which suffices to test passwords
+/// against the key without running a core, and the contents of the others are unspecified:
+/// [`wipe`](crate::wipe) all three. `cores` counts the `4 * N * r * p` cores, and the blocks that
+/// SHA-256 compresses. Does not allocate.
 ///
 /// Returns `InvalidOutputLen`, and changes nothing, exactly if the length of `output` is
 /// not allowed ([`output_len_ok`](crate::output_len_ok)).
@@ -161,8 +163,9 @@ pub fn scrypt_with_buffers(
 }
 
 /// Derives the key as [`scrypt_with_buffers`] does, by the backend `W`, in buffers of any length.
-/// It uses only the front of each buffer, with the lengths of [`BufferLens::for_tables`] for the
-/// tables that fit, at most four and at most `p`. The rest of each buffer is unchanged.
+/// It uses only the front of each buffer, with the lengths of
+/// [`BufferLens::for_tables`](crate::BufferLens::for_tables) for the tables that fit, at most four
+/// and at most `p`. The rest of each buffer is unchanged.
 ///
 /// Returns `InvalidOutputLen` exactly if the length of `output` is not allowed, and otherwise
 /// `OutOfMemory` exactly if a buffer is too short. On an error nothing has changed.
@@ -214,9 +217,10 @@ pub fn scrypt_in_prefix<W: Backend>(
 /// SHA-256 compresses. How many rows are recomputed depends on the password and the salt, so,
 /// unlike with the whole table, the time of a call reveals something about them. Does not allocate.
 ///
-/// The buffers have the lengths of [`BufferLens::thin`]: `chunks` in bytes, `table` and `scratch`
-/// in words. `s` is at most `log_n`. The contents of the buffers before the call do not matter.
-/// After it `chunks` holds B after step 2, and the contents of the others are unspecified.
+/// The buffers have the lengths of [`BufferLens::thin`](crate::BufferLens::thin): `chunks` in
+/// bytes, `table` and `scratch` in words. `s` is at most `log_n`. The contents of the buffers
+/// before the call do not matter. After it `chunks` holds B after step 2, and the contents of the
+/// others are unspecified.
 ///
 /// Returns `InvalidOutputLen`, and changes nothing, exactly if the length of `output` is
 /// not allowed ([`output_len_ok`](crate::output_len_ok)).

@@ -2,18 +2,8 @@
 //! definitions.
 //!
 //! It draws no salts and starts no threads. Only calls with [`Limits`] limit the cost of a stored
-//! hash. In this example `alloc` is `rt.alloc()` of the `HostRuntime` that `main` takes.
-//!
-//! ```rust
-//! use scrypt::{Params, scrypt};
-//!
-//! let params = Params::new(14, 8, 1)?;
-//! let mut key = [0u8; 32];
-//! scrypt(alloc, b"pleaseletmein", b"SodiumChloride", &params, &mut key)?;
-//! ```
-//!
-//! After `Ok` the output is exactly the standard's key. The definitions that the contracts cite are
-//! in `specs/`, one file for each section of a standard.
+//! hash. The definitions that the contracts cite are in `specs/`, one file for each section of a
+//! standard.
 #![tactic(auto)]
 
 mod algorithm;
