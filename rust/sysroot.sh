@@ -1,6 +1,7 @@
 #!/bin/sh
-# Runs a command, such as cargo, whose rustc can compile for TARGET: with the library that `rustup target add TARGET` brings, or
-# on Debian with core and alloc, which this compiles once from rust-web-src by rustc-web, in one or two minutes.
+# Runs a command, such as cargo, whose rustc can compile for TARGET: with the library that `rustup target add TARGET`
+# brings, or on Debian with core and alloc, which this compiles once from rust-web-src by rustc-web, in one or two
+# minutes.
 # usage: sysroot.sh TARGET COMMAND [WORD..]
 set -eu
 target=$1
@@ -8,10 +9,11 @@ shift
 lib=$("${RUSTC:-rustc}" --print sysroot)/lib/rustlib/$target/lib
 if [ -e "$lib" ]; then exec "$@"; fi
 export RUSTC=/usr/bin/rustc
-version=$($RUSTC --version | cut -d' ' -f2)
+version=$($RUSTC --version 2> /dev/null | cut -d' ' -f2)
 sources=/usr/src/rustc-$version/library
 if ! [ -e "$sources" ]; then
-  echo "rustc cannot compile for $target: rustup target add $target, or on Debian apt-get install rustc-web rust-web-src" >&2
+  echo "rustc has no core for $target: rustup target add $target, or on Debian" \
+    "apt-get install rustc-web rust-web-src" >&2
   exit 1
 fi
 out=$(dirname "$(dirname "$(realpath "$0")")")/build/rust/sysroot/$version/$target

@@ -11,7 +11,7 @@ import subprocess
 import sys
 from pathlib import Path
 
-from rust import check, erase
+from rust import check, erase, rules
 from tools.generate import declarations
 
 TARGET = "wasm32-unknown-unknown"
@@ -28,7 +28,8 @@ def main():
     erase.main(WORKSPACE)
     if check.main(WORKSPACE):
         sys.exit("not erased as wanted")
-    flags = [*FLAGS, *(f"-Clink-arg={it}" for it in [*LINKED, *(f"--export={name}" for name in sorted(erase.JAVASCRIPT))])]
+    linked = [*LINKED, *(f"--export={name}" for name in sorted(rules.JAVASCRIPT))]
+    flags = [*FLAGS, *(f"-Clink-arg={it}" for it in linked)]
     own = {"RUSTFLAGS": " ".join(flags), "CARGO_TARGET_DIR": str(MADE.resolve())}
     words = ["cargo", "rustc", "-q", "-p", "scrypt_c", "--release", "--features", "js_module", "--target", TARGET]
     if os.environ.get("CARGO_NET_OFFLINE", "true") == "true":

@@ -1,5 +1,5 @@
 // Calls in workers, so that they don't block the thread of a page or of a server.
-import { amount, bytesAmong, optionsOf } from './arguments.js';
+import { amount, bytesAmong, count, optionsOf } from './arguments.js';
 import { ScryptError, errorNamed, outOfMemory } from './errors.js';
 import { host } from './host.js';
 import { compile } from './load.js';
@@ -18,8 +18,8 @@ let isFull = false; // a further worker could not start
 /** Sets the maximum number of workers, and of calls that wait for one. */
 export function configure(given) {
   const options = optionsOf(given, 'configure');
-  const most = amount(options.maxWorkers, 'maxWorkers', maxWorkers, 1);
-  maxQueue = amount(options.maxQueue, 'maxQueue', maxQueue);
+  const most = count(options.maxWorkers, 'maxWorkers', maxWorkers, 1);
+  maxQueue = count(options.maxQueue, 'maxQueue', maxQueue);
   maxWorkers = most;
 }
 
@@ -169,15 +169,34 @@ function leave(call, reason) {
   call.reject(reason);
 }
 
+// The calls of each signal, which has one listener: Node warns of a leak if it has more than ten.
+const ofSignals = new WeakMap();
+
+function listen(signal, call) {
+  if (!ofSignals.has(signal)) {
+    const calls = Object.assign(new Set(), { end: () => calls.forEach((it) => leave(it, signal.reason)) });
+    ofSignals.set(signal, calls);
+    signal.addEventListener('abort', calls.end);
+  }
+  ofSignals.get(signal).add(call);
+}
+
+function unlisten(signal, call) {
+  const calls = ofSignals.get(signal);
+  calls.delete(call);
+  if (calls.size > 0) return;
+  signal.removeEventListener('abort', calls.end);
+  ofSignals.delete(signal);
+}
+
 // Until the call is answered, rejected or aborted: also while the module is fetched, and while the
 // call waits for a worker.
 async function answer(call, signal, timeout) {
   const answered = new Promise((resolve, reject) => { Object.assign(call, { resolve, reject }); });
   call.isEndedBySignal = signal !== undefined && timeout === undefined;
-  const onAbort = () => leave(call, signal.reason);
   const message = `no worker was free within ${timeout} ms (timeout)`;
   const onTimeout = () => leave(call, new ScryptError('TIMEOUT', message));
-  signal?.addEventListener('abort', onAbort);
+  if (signal) listen(signal, call);
   if (timeout !== undefined) call.timer = setTimeout(onTimeout, Math.min(timeout, MAX_TIMER));
   compile().then((module) => {
     if (!call.isOver) enqueue(Object.assign(call, { module }));
@@ -186,7 +205,7 @@ async function answer(call, signal, timeout) {
     return await answered;
   } finally {
     clearTimeout(call.timer);
-    signal?.removeEventListener('abort', onAbort);
+    if (signal) unlisten(signal, call);
   }
 }
 

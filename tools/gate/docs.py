@@ -189,7 +189,7 @@ def written():
     yield "docs/EVIDENCE.md", f"(without test crates) | about {rattle:,} |"
     yield "docs/EVIDENCE.md", f"| about {definitions:,} | | lines of proofs | about {proofs:,} |"
     axioms = re.findall(r"axioms=(\d+)", read("docs/EVIDENCE.md"))  # of its verdicts: the C library, the program
-    yield "docs/EVIDENCE.md", f"C library, program, JavaScript | {', '.join(axioms)}, 0 |"
+    yield "docs/EVIDENCE.md", f"C library, program | {', '.join(axioms)} |"
     yield from (("docs/TRUST.md", f"`axioms={it}`:") for it in axioms)
     yield "README.md", f"of definitions, and {text_of('docs/TRUST.md', 'about [0-9]+ lines for the key, ', ' for a')} of the kit's"
     yield "CONTRIBUTING.md", f"the gate: {number('bindings/c/tests/test_hasher_load.c', 'size_t rounds = ', ';')} rounds"

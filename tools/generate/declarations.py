@@ -114,7 +114,7 @@ def rust():
 
 # ---- JavaScript ----
 
-# The sizes of numbers in the module, which is proved for a 64-bit memory.
+# The sizes of numbers in the module, whose calls have a size_t of 64 bits, as in C.
 SIZES = {"uint32_t": 4, "uint64_t": 8, "size_t": 8}
 
 

@@ -100,6 +100,18 @@ const asBefore = (version) => `import { createRequire, syncBuiltinESMExports } f
   Object.defineProperty(process, 'versions', { value: { ...process.versions, node: '${version}' } });
   const { hash, load, verify } = await import('scrypt-proved');`;
 
+test('a signal of many calls causes no warning, and ends them all', () => {
+  deepStrictEqual(prints(`import { scrypt } from 'scrypt-proved';
+    process.on('warning', ({ name }) => console.log(name));
+    const controller = new AbortController();
+    const call = (N) => scrypt('', '', { N, r: 8, p: 1, signal: controller.signal }).catch(({ name }) => name);
+    const calls = (N) => Promise.all(Array.from({ length: 12 }, () => call(N)));
+    await calls(2);
+    const ended = calls(2 ** 20);
+    controller.abort();
+    console.log(new Set(await ended));`), "Set(1) { 'AbortError' }\n");
+});
+
 test('the oldest Node computes', () => {
   deepStrictEqual(prints(`${asBefore('18.0.0')}
     console.log(await verify('a', await hash('a', { N: 2 })));`), 'true\n');

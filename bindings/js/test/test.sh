@@ -1,6 +1,6 @@
 #!/bin/sh
-# Tests the package in Node and in Chromium, against node:crypto; its types; and the bundles of
-# README. Prints the packages that are not installed.
+# Tests the package in Node and in Chromium, against node:crypto; its module against the C library;
+# its types; and the bundles of README. Prints the packages that are not installed.
 set -eu
 cd "$(dirname "$0")/../../.."
 room=$(mktemp -d)
@@ -62,6 +62,12 @@ has "Node 18" nodejs node -e 'process.exit(Number(parseInt(process.versions.node
 says_what_makes_it
 node --test --test-reporter=tap $here/node.test.js > "$room/log" || { cat "$room/log"; exit 1; }
 grep -E '^# (pass|fail) ' "$room/log"
+if [ -e build/lib/libscrypt_c.so ]; then
+  python3 -B $here/random_calls.py "${CALLS:-120000}" > "$room/log" || { cat "$room/log"; exit 1; }
+  tail -n 1 "$room/log"
+else
+  echo "not compared with the C library, which make lib builds"
+fi
 if has esbuild esbuild esbuild --version; then by_esbuild; fi
 if has tsc node-typescript tsc --version; then
   tsc --strict --exactOptionalPropertyTypes --noEmit --target es2022 --module node16 $here/types.ts

@@ -108,8 +108,9 @@ const endings = {
     await Promise.all([first, ...others]);
     equal(answers.join(), '0,1,2,TIMEOUT,3', 'FIFO');
     for (const timeout of [-1, NaN]) await refused('INVALID_LIMIT', () => call({ timeout }));
-    await refused('INVALID_LIMIT', () => configure({ maxWorkers: 0 }));
-    await refused('INVALID_LIMIT', () => configure({ maxQueue: NaN }));
+    for (const maxWorkers of [0, 2.5]) await refused('INVALID_LIMIT', () => configure({ maxWorkers }));
+    for (const maxQueue of [NaN, 0.5]) await refused('INVALID_LIMIT', () => configure({ maxQueue }));
+    configure({ maxQueue: Infinity });
   }),
   'bytes that no worker got are wiped': withWorkers(async (call, made, busy, answer, configure) => {
     configure({ maxQueue: 2 });
