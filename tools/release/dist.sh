@@ -1,6 +1,6 @@
 #!/bin/sh
 # Makes build/dist from the files that the gate proved: for each machine the archive of CPack, and for
-# Linux its Debian package; wheels for Python, the Go module, the Rust crate, the package for npm, the
+# Linux its Debian package; wheels for Python, the Go module, the Rust crates, the package for npm, the
 # sources and the hashes of all. The build is reproducible, byte for byte, if root makes it.
 # usage: dist.sh [PRESET..]       the machines, or all; UNPROVED=1 packs what no gate proved
 set -eu
@@ -48,10 +48,10 @@ files=$(python3 -c 'import json; print(*json.load(open("bindings/js/package.json
 cp "$@" "$parts/package"
 packed package "$name.tgz"
 cp "$@" bindings/rust
-cp tools/release/cargo.toml "$parts/cargo/config.toml"
 (cd bindings/rust && CARGO_HOME=$parts/cargo CARGO_TARGET_DIR=$parts/cargo \
   cargo package --quiet --offline --no-verify --allow-dirty)
-cp "$parts"/cargo/package/*.crate "$dist"
+rust/build.sh package > "$parts/log" 2>&1 || { cat "$parts/log"; exit 1; }
+cp "$parts"/cargo/package/*.crate build/rust/target/package/*.crate "$dist"
 git archive --format=tar --prefix="$name/" HEAD | gzip -9n > "$dist/$name-source.tar.gz"
 (cd "$dist" && chmod 644 -- * && sha256sum -- * > "$parts/SHA256SUMS" && mv "$parts/SHA256SUMS" . && du -ab -- *)
 rm -rf "$parts"

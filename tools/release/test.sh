@@ -29,9 +29,9 @@ by_pkg_config='cc /tmp/check.c -o /tmp/a $(pkg-config --cflags --libs scrypt_c) 
 by_cmake='rm -rf /tmp/b && cmake -S /tmp/client -B /tmp/b > /dev/null && cmake --build /tmp/b > /dev/null'
 
 (cd "$dist" && sha256sum --quiet -c SHA256SUMS)
-packages=python3-venv,gcc,libc6-dev,pkg-config,cmake,make,golang-go,cargo,librust-password-hash-dev
+packages=python3-venv,gcc,libc6-dev,pkg-config,cmake,make,golang-go,cargo
 mmdebstrap --quiet --variant=apt --include=$packages bookworm "$root"
-cp tools/release/check.* tools/release/cargo.toml "$dist"/* "$root/tmp"
+cp tools/release/check.* "$dist"/* "$root/tmp"
 mkdir "$root/tmp/client"
 sed 's|\.\./test_calls.c|/tmp/check.c|' bindings/c/tests/cmake_client/CMakeLists.txt > "$root/tmp/client/CMakeLists.txt"
 listed > "$room/before"
@@ -56,7 +56,7 @@ expect "$(inside "$moved $by_cmake && /tmp/b/shared")" "C by CMake, with the arc
 inside "cd /tmp && $(lines Python) > /dev/null && venv/bin/python -m scrypt_c -n 1"
 expect "$(inside "mkdir -p /tmp/go/client && cd /tmp/go/client && cp /tmp/scrypt-go-* /tmp/check.go . &&
   go mod init example.com/client 2> /dev/null; $(lines Go); go run check.go")" "Go, with the module"
-expect "$(inside "mkdir -p ~/.cargo /tmp/rust/client && cp /tmp/cargo.toml ~/.cargo/config.toml && cd /tmp/rust/client &&
+expect "$(inside "mkdir -p /tmp/rust/client && cd /tmp/rust/client &&
   cp /tmp/*.crate . && cargo init --quiet --vcs none; $(lines Rust); cp /tmp/check.rs src/main.rs &&
   cargo run --quiet")" "Rust, with the crate"
 if command -v node > /dev/null; then

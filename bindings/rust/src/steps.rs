@@ -5,9 +5,10 @@ use crate::{DeriveError, Params};
 use std::ops::ControlFlow;
 use std::ptr::null_mut;
 
-/// Derives a key like [`scrypt`](crate::scrypt()), in steps of about 10 ms. After each step it
-/// calls `progress` with the fraction that is done, from 0 to 1; `ControlFlow::Break` cancels the
-/// derivation. PBKDF2 at the beginning and at the end, of `128 * r * p` bytes, is one step each.
+/// Derives a key from `password` and `salt`, and writes it to `output`, in steps of about 10 ms. After
+/// each step it calls `progress` with the fraction that is done, from 0 to 1; `ControlFlow::Break`
+/// cancels the derivation. PBKDF2 at the beginning and at the end, of `128 * r * p` bytes, is one step
+/// each. The key length in `params` is ignored.
 ///
 /// ```
 /// use std::ops::ControlFlow;
@@ -24,8 +25,8 @@ use std::ptr::null_mut;
 ///
 /// # Errors
 ///
-/// `Cancelled` if `progress` returned `Break`, and the errors of `scrypt`. All leave the output
-/// unchanged.
+/// `InvalidOutputLen` if the output is empty or longer than scrypt allows, `OutOfMemory` if the memory
+/// is not available, and `Cancelled` if `progress` returned `Break`. All leave the output unchanged.
 pub fn scrypt_in_steps(
     password: &[u8],
     salt: &[u8],

@@ -1,6 +1,7 @@
 //! A hasher makes and verifies hashes, within limits and for several threads.
 
 use scrypt_c::*;
+use std::ops::ControlFlow;
 use std::panic::{RefUnwindSafe, UnwindSafe};
 use std::thread;
 use std::time::{Duration, Instant};
@@ -43,7 +44,8 @@ fn hashes() {
         assert_eq!(longer.verify_and_update(b"pw", text), Err(wanted), "{text:?}");
     }
     let (mut key, mut wanted) = ([0; 100], [0; 100]);
-    scrypt(b"pw", b"salt", &params, &mut wanted).unwrap();
+    let progress = |_| ControlFlow::Continue(());
+    scrypt_in_steps(b"pw", b"salt", &params, &mut wanted, progress).unwrap();
     assert_eq!((longer.key(b"pw", b"salt", &mut key), key), (Ok(()), wanted));
     assert_eq!(longer.key(b"pw", b"", &mut []), Err(Error::InvalidOutputLen));
     // A name that doesn't exist has the error of a wrong password, after a derivation.

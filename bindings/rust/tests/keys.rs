@@ -1,10 +1,10 @@
-//! Derives keys, also in steps, and tests each error.
+//! Derives keys in steps, and tests each error.
 
 use scrypt_c::*;
 use std::ops::ControlFlow;
 use std::time::{Duration, Instant};
 
-/// Keys are hashlib's, in one call and in steps.
+/// Keys are hashlib's.
 #[test]
 fn keys() {
     for (password, salt, log_n, r, p, wanted) in [
@@ -14,15 +14,14 @@ fn keys() {
     ] {
         let (password, salt, params) =
             (password.as_bytes(), salt.as_bytes(), Params::new(log_n, r, p).unwrap());
-        let (mut key, mut in_steps, mut last) = ([0; 8], [0; 8], 0.0);
-        scrypt(password, salt, &params, &mut key).unwrap();
+        let (mut key, mut last) = ([0; 8], 0.0);
         let progress = |done| {
             assert!(done > last && done <= 1.0, "{done} after {last}");
             last = done;
             ControlFlow::Continue(())
         };
-        scrypt_in_steps(password, salt, &params, &mut in_steps, progress).unwrap();
-        assert_eq!([key, in_steps].map(u64::from_be_bytes), [wanted; 2], "{params:?}");
+        scrypt_in_steps(password, salt, &params, &mut key, progress).unwrap();
+        assert_eq!(u64::from_be_bytes(key), wanted, "{params:?}");
         assert_eq!(last, 1.0);
     }
 }
@@ -32,9 +31,9 @@ fn keys() {
 fn rejected_keys() {
     let params = [4, 56].map(|log_n| Params::new(log_n, 1, 1).unwrap()); // the last: 2^63 bytes
     let mut key = [7; 4];
-    assert_eq!(scrypt(b"", b"", &params[0], &mut []), Err(DeriveError::InvalidOutputLen));
-    assert_eq!(scrypt(b"", b"", &params[1], &mut key), Err(DeriveError::OutOfMemory));
-    let in_steps = |of, key: &mut _| scrypt_in_steps(b"", b"", of, key, |_| ControlFlow::Break(()));
+    let in_steps =
+        |of, key: &mut [u8]| scrypt_in_steps(b"", b"", of, key, |_| ControlFlow::Break(()));
+    assert_eq!(in_steps(&params[0], &mut []), Err(DeriveError::InvalidOutputLen));
     assert_eq!(in_steps(&params[1], &mut key), Err(DeriveError::OutOfMemory));
     assert_eq!(in_steps(&params[0], &mut key), Err(DeriveError::Cancelled));
     assert_eq!(key, [7; 4]);

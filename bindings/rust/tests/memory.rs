@@ -38,23 +38,4 @@ fn memory() {
     let left = resident().saturating_sub(before);
     let (most, few) = (260 << 10, 4 << 10);
     assert!(held < most && held > most - 2 * few && left < few, "{held} KiB, then {left}");
-    #[cfg(feature = "password-hash")]
-    tables_of_scrypt();
-}
-
-/// `Scrypt` has as many tables as a default hasher has slots, whatever the number of threads.
-#[cfg(feature = "password-hash")]
-fn tables_of_scrypt() {
-    use scrypt_c::password_hash_0_4::PasswordHasher;
-    let Options { max_tables, processors, .. } = Hasher::default().options();
-    let slots = max_tables.min(processors).unwrap();
-    let scrypt = scrypt_c::Scrypt::from(Params::new(15, 8, 1).unwrap());
-    let (before, mut most) = (resident(), 0);
-    let log_in = || std::thread::spawn(move || scrypt.hash_password(b"pw", "c2FsdHNhbHQ").is_ok());
-    let mut threads: Vec<_> = (0..6 * slots).map(|_| log_in()).collect();
-    while threads.iter().any(|it| !it.is_finished()) {
-        most = most.max(resident().saturating_sub(before));
-    }
-    assert!(threads.drain(..).all(|it| it.join().unwrap()));
-    assert!(most < slots * (32 << 10) + (16 << 10), "{most} KiB, {slots} slots");
 }
