@@ -1,25 +1,32 @@
 #!/bin/sh
 # Builds and tests the erased crates by cargo, without the kit; as Debian's crates, unless CARGO_NET_OFFLINE is false.
 # usage: build.sh              the crates' tests, and the program without a prompt, build/rust/target/release/scrypt_tool
-#        build.sh c [TARGET]   build/rust/c/TARGET/scrypt_c.o for bindings/c, with the target's NM and OBJCOPY
+#        build.sh c [TARGET]   build/rust/c/TARGET/scrypt_c.o for bindings/c
 #        build.sh program      build/rust/scrypt_tool and scrypt_tool.o, for ERASED=1 bindings/cli/build.sh
 #        build.sh package      build/rust/target/package/*.crate: the packages that are published, each built from its own
+#        build.sh erase        only the crates, build/rust/workspace; with ERASED=1 other calls take what it left
 set -eu
 cd "$(dirname "$0")/.."
 out=build/rust/workspace
-rm -rf "$out"
-python3 -B -m rust.erase "$out"
-python3 -B -m rust.check "$out"
-if [ "${CARGO_NET_OFFLINE:-true}" = true ]; then
-  mkdir -p "$out/.cargo"
-  printf '[source.crates-io]\nreplace-with = "debian"\n[source.debian]\ndirectory = "%s"\n' \
-    "${CRATES:-/usr/share/cargo/registry}" > "$out/.cargo/config.toml"
-fi
-top=$PWD
+erase() {
+  rm -rf "$out"
+  python3 -B -m rust.erase "$out"
+  python3 -B -m rust.check "$out"
+  if [ "${CARGO_NET_OFFLINE:-true}" = true ]; then
+    mkdir -p "$out/.cargo"
+    printf '[source.crates-io]\nreplace-with = "debian"\n[source.debian]\ndirectory = "%s"\n' \
+      "${CRATES:-/usr/share/cargo/registry}" > "$out/.cargo/config.toml"
+  fi
+  if cargo fmt --version > /dev/null 2>&1; then (cd "$out" && cargo fmt --all); fi # only for readers
+}
+if [ -z "${ERASED:-}" ] || [ "${1:-}" = erase ]; then erase; fi
+top=$PWD host=$(rustc -vV | sed -n 's/^host: //p')
+target=${2:-$host}
 cd "$out"
-cargo fmt --all
 export CARGO_TARGET_DIR=../target
+if [ "$target" != "$host" ]; then CARGO_TARGET_DIR=../target-$target; fi
 case ${1:-} in
+  erase) exit ;;
   '')
     cargo clippy --all-targets --features proved-scrypt/getrandom -- -D warnings
     RUSTDOCFLAGS="-D warnings" cargo doc --no-deps --package 'proved-scrypt*' --features proved-scrypt/getrandom
@@ -57,14 +64,18 @@ END
     cp ../target/release/scrypt_tool ..
     exit ;;
 esac
-target=${2:-$(rustc -vV | sed -n 's/^host: //p')}
+case $target in # the names of binutils and of the compiler begin so
+  "$host") tools='' ;;
+  *-windows-gnu) tools=${target%%-*}-w64-mingw32- ;;
+  *) tools=${target%%-*}-linux-gnu- ;;
+esac
 to=../c/$target
 mkdir -p "$to"
 # One object, which calls a few functions of C and of libgcc. Names are as bindings/c/tests has them in lists, such as
 # scrypt_kernel::walk::step::<#a77805eccdbb2827>.
-RUSTFLAGS="-C relocation-model=pic ${RUSTFLAGS:-}" cargo rustc -p scrypt_c --release --features c_library --target "$target" \
-  --crate-type staticlib -- --emit=obj="$PWD/$to/all.o"
-"${NM:-nm}" "$to/all.o" | awk '$NF ~ /^_+[ZR]/ { print $NF }' | sort -u > "$to/names"
+RUSTFLAGS="-C relocation-model=pic ${RUSTFLAGS:-}" "$top/rust/sysroot.sh" "$target" cargo rustc -p scrypt_c --release \
+  --features c_library --target "$target" --crate-type staticlib -- --emit=obj="$PWD/$to/all.o"
+"${tools}nm" "$to/all.o" | awk '$NF ~ /^_+[ZR]/ { print $NF }' | sort -u > "$to/names"
 c++filt < "$to/names" | sed -E 's/::h([0-9a-f]{16})$/::<#\1>/; s/ /_/g' | paste -d= "$to/names" - | sed 's/^/--redefine-sym=/' > "$to/renamed"
-"${OBJCOPY:-objcopy}" -w -G 'proved_*' -R .llvmbc -R .llvmcmd "@$to/renamed" "$to/all.o" "$to/scrypt_c.o"
+"${tools}objcopy" -w -g -G 'proved_*' -R .llvmbc -R .llvmcmd "@$to/renamed" "$to/all.o" "$to/scrypt_c.o"
 rm "$to/all.o" "$to/names" "$to/renamed"

@@ -1,10 +1,9 @@
-"""Reads bindings/c/CMakePresets.json, the table of machines. A preset that the kit builds for has in its vendor part
-`kit`: the crates' backend (crates/scrypt/src/backends.rt), the target, if it isn't the kit's own, and options. Another
-machine than this has `needs`: the commands and files to build and run for it, each with its Debian package.
+"""Reads bindings/c/CMakePresets.json, the table of machines. Another machine than this has `needs` in its vendor part: the
+commands and files to build and run for it, each with its Debian package.
 
-usage: python3 -m tools.presets needs NAME  the needs of a machine, as COMMAND:PACKAGE
-       python3 -m tools.presets names       the other machines
-       python3 -m tools.presets proved      those for which the kit proves and compiles
+usage: python3 -m tools.presets names        the other machines
+       python3 -m tools.presets needs NAME   the needs of a machine, as COMMAND:PACKAGE
+       python3 -m tools.presets target NAME  the target of rustc
 """
 
 import json
@@ -13,18 +12,15 @@ from pathlib import Path
 
 FILE = Path(__file__).resolve().parents[1] / "bindings/c/CMakePresets.json"
 PRESETS = {it["name"]: it for it in json.loads(FILE.read_text("utf-8"))["configurePresets"]}
-KIT, NEEDS = ({name: of["vendor"][part] for name, of in PRESETS.items() if part in of.get("vendor", ())} for part in ("kit", "needs"))
-
-
-def levels(preset):
-    """The levels of the preset's CPU, the oldest first, each with its number of tables."""
-    return dict(it.split("=") for it in (PRESETS["base"]["vendor"] | PRESETS[preset]["vendor"])["levels"].split(";"))
+NEEDS = {name: it["vendor"]["needs"] for name, it in PRESETS.items() if "vendor" in it}
 
 
 def main(which, name=None):
     if which == "needs":
         return [f"{it}:{package}" for it, package in NEEDS[name].items()]
-    return [it for it in NEEDS if which == "names" or it in KIT]
+    if which == "target":
+        return [Path((PRESETS["base"]["cacheVariables"] | PRESETS[name]["cacheVariables"])["PROVED"]).name]
+    return list(NEEDS)
 
 
 if __name__ == "__main__":

@@ -1,4 +1,4 @@
-/* The memory that proved calls allocate, through kit_heap.c. Not proved. It is wiped before it is
+/* The memory that proved calls allocate, through rust/support. Not proved. It is wiped before it is
  * freed, or unmapped; the system wipes unmapped memory (SECURITY.md, row "freed memory"). Compiled
  * with -fno-plt: a linker that binds malloc at its first call saves registers in the stack. */
 #define _GNU_SOURCE

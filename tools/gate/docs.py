@@ -17,7 +17,6 @@ import re
 import subprocess
 import sys
 
-from tools import presets
 from tools.generate import header, specs
 from tools.generate.library import Library
 from tools.generate.sources import read
@@ -199,8 +198,8 @@ def written():
     yield "bindings/js/README.md", f"It needs Node {text_of('bindings/js/package.json', 'node.: .>=', chr(34))}"
     yield "bindings/python/README.md", f"It needs Python {text_of('bindings/python/pyproject.toml', 'requires-python = .>=', chr(34))}"
     yield "bindings/rust/README.md", f"It needs Rust {text_of('bindings/rust/Cargo.toml', 'rust-version = .', chr(34))}"
-    for level, tables in presets.levels("native").items():
-        yield "bindings/README.md", f"with {level} up to {WORDS[int(tables)]}"
+    for level, tables in re.findall(r'LIBRARY_VERSION " (x86[a-z0-9-]+)", (\d)', read("bindings/c/clearing.c")):
+        yield "bindings/README.md", f"`{level}` up to {WORDS[int(tables)]}"
     yield "bindings/README.md", f"with CMake {text_of('bindings/c/CMakeLists.txt', r'cmake_minimum_required.VERSION ', r'[)]')}"
 
 
@@ -234,7 +233,7 @@ def compared():
 
 
 def measured():
-    """The sentences that repeat a measurement of docs/PARAMETERS.md, or the minutes of README."""
+    """The sentences that repeat a measurement of docs/PARAMETERS.md."""
     name, smaller = "docs/PARAMETERS.md", text_of("docs/BENCHMARKS.md", r"\| 3 \| 16 \| ", " ")
     page = read(name)
     seconds = {int(log_n): float(it) for log_n, it in re.findall(r"^\| (\d+) \| [\d,]+ \| ([\d.]+) \| [\d.]+ \|$", page, re.M)}
@@ -252,11 +251,6 @@ def measured():
     yield "docs/BENCHMARKS.md", f"has {drawn} a second where the [table of logins](PARAMETERS.md#tables-for-each-cpu) has {four['17']}:"
     more = [spread(float(many[it]) / float(few[it]) for it in few) for few, many in ((one, two), (two, four))]
     yield name, f"is {more[0]} times that with one, and with four {more[1]} times that with two"
-    run, test = (text_of("README.md", f"{it}: (?:about )?", " minutes") for it in ("proves and builds it", "tests everything"))
-    yield "Makefile", f"builds the program, in about {run} minutes on four"
-    yield "Makefile", f"builds the C libraries, in about {run} minutes on four"
-    yield "tools/gate/run.sh", f"tests everything, in about {test} minutes on four"
-
 
 def wrong_numbers():
     """The sentences of all these that their files don't have. The marks of comments are not compared."""

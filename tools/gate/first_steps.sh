@@ -1,17 +1,19 @@
 #!/bin/bash
-# Checks the first step of make where packages are missing, what the gate prints, and the end of make run with its
-# installation. Nothing is proved: the prover, the packages and what is built are stubs.
+# Checks the first step of make where packages are missing, make setup, what the gate prints, and the end of make run with its
+# installation. Nothing is built: the packages and what is built are stubs.
 set -eu
 cd "$(dirname "$0")/../.."
 room=$(mktemp -d)
 trap 'rm -rf "$room"' EXIT
-mkdir -p "$room"/{bin,tools/gate,bindings/cli,build,crates/scrypt_tool}
-sed 's|/usr/include/bsd/readpassphrase.h|Makefile|' Makefile > "$room/Makefile" # which is there
-cp tools/{setup,install}.sh tools/lacks "$room/tools"
+mkdir -p "$room"/{bin,tools/gate,bindings/c,bindings/cli,rust/crates,build}
+cp Makefile "$room"
+cp tools/{setup,install}.sh tools/{lacks,presets.py} "$room/tools"
+cp bindings/c/CMakePresets.json "$room/bindings/c"
 cp tools/gate/{run,step}.sh "$room/tools/gate"
+cp rust/crates/Cargo.toml "$room/rust/crates"
 cp bindings/cli/{install.sh,scrypt_tool.1,scrypt_tool.bash} "$room/bindings/cli"
 cd "$room"
-unset NO_INSTALL PRESET STEPS NICE LIMIT EACH JOBS DESTDIR MAKEFLAGS # of who runs this
+unset CARGO_NET_OFFLINE PRESET STEPS NICE LIMIT EACH JOBS DESTDIR MAKEFLAGS # of who runs this
 export PATH="$room/bin:$PATH"
 is() { if [ "$1" != "$2" ]; then printf '%s\nand not: %s\n' "$1" "$2"; exit 1; fi; }
 fake() { # COMMAND LINE: a command that prints this line, and notes how it is called
@@ -19,28 +21,38 @@ fake() { # COMMAND LINE: a command that prints this line, and notes how it is ca
   chmod +x "bin/$1"
 }
 
-# ---- The first step ----
+# ---- The first step, and make setup ----
 cat > tools/packages.txt << 'END'
-lib test | sh:dash no-cc:gcc /no/cmake:cmake |
-run | sh:dash no-cc:gcc | the link
+run lib test | sh:dash no-cc:gcc |
+lib test | /no/cmake:cmake |
+run lib js test | cargo:cargo-web librust-hex-dev |
 js test | sh:dash | what is here
 (js) test | no-node:nodejs unknown | the page
 END
 setup() { { tools/setup.sh "$@" 2>&1 && echo and passes; } | xargs; }
-needs="needs these packages of Debian, and nothing was proved: apt-get install gcc"
+needs() { echo "make $1 needs these packages of Debian, which make setup $1 installs as root: $2"; }
 fake id 1000
 fake apt-get ""
+fake dpkg-query installed
+fake cargo "cargo 1.88.9"
+is "$(setup run)" "$(needs run 'cargo-web gcc')"
+fake cargo "cargo 1.95.0"
+is "$(setup run)" "$(needs run gcc)"
+is "$(setup lib)" "$(needs lib 'cmake gcc')"
+is "$(setup run "$room/Makefile/no")" "make install cannot write to $room/Makefile: prefix=\$HOME/.local?"
+is "$(DESTDIR="$room" setup run /usr)" "$(needs run gcc)"
+is "$(setup js)" "not run without nodejs: the page and passes"
+is "$(setup install js)" "Every package is installed that make js needs. and passes"
+is "$(setup install lib)" "make setup installs packages only as root on Debian; missing for make lib are: cmake gcc"
 fake dpkg-query ""
-is "$(setup run)" "not run without gcc: the link and passes"
-is "$(DESTDIR="$room" setup run /usr)" "make run $needs"
-is "$(setup lib)" "make lib $needs cmake"
-is "$(setup lib "$room/Makefile/no")" "make lib install cannot write to $room/Makefile, and nothing was proved: prefix=\$HOME/.local?"
+is "$(setup js)" "$(needs js 'librust-hex-dev (crates: or CARGO_NET_OFFLINE=false, to download them)')"
+is "$(CARGO_NET_OFFLINE=false setup js)" "not run without nodejs unknown: the page and passes"
 fake id 0
-is "$(NO_INSTALL=1 setup lib)" "make lib $needs cmake"
-is "$(setup js)" "not run without nodejs unknown: the page and passes"
-if grep apt-get asked; then echo "installs packages, not as root, with NO_INSTALL=1, or in brackets"; exit 1; fi
-is "$(setup lib)" "Installs these packages of Debian, in some minutes (NO_INSTALL=1 prevents it): gcc cmake make lib $needs cmake"
-grep -q '^apt-get install .* gcc cmake$' asked
+is "$(setup run)" "$(needs run 'gcc librust-hex-dev (crates: or CARGO_NET_OFFLINE=false, to download them)')"
+if grep apt-get asked; then echo "installs packages without make setup, or not as root"; exit 1; fi
+is "$(make --no-print-directory setup lib 2> said | xargs)" "Installs these packages of Debian, in some minutes: cmake gcc librust-hex-dev"
+grep -q '^make lib needs these packages of Debian, .*: cmake gcc librust-hex-dev ' said
+grep -q '^apt-get install .* cmake gcc librust-hex-dev$' asked
 
 # ---- Steps, and the last lines ----
 cat > tools/gate/gate.mk << 'MK'
@@ -95,12 +107,13 @@ unset EACH STEPS
 
 # ---- The program, installed beside an installation whose folder has the name that & of sed makes ----
 echo "run | sh:dash |" > tools/packages.txt
-fake rt "$room/kit"
-fake cc ""
-printf '#!/bin/sh\nmkdir -p build/bin && printf "#!/bin/sh\\necho the key of \\$*" > build/bin/scrypt_tool && chmod +x build/bin/*\n' > bindings/cli/build.sh
-chmod +x bindings/cli/build.sh
+cat > rust/build.sh << 'END'
+mkdir -p build/bin && printf '#!/bin/sh\necho the key of $*' > build/bin/scrypt_tool && chmod +x build/bin/*
+END
+echo '#!/bin/sh' > bindings/cli/build.sh
+chmod +x rust/build.sh bindings/cli/build.sh
 for it in ab 'a&b' 'a|b'; do
-  is "$(make --no-print-directory run install PROVE=: prefix=/usr DESTDIR="$room/$it" | tail -n 3)" \
+  is "$(make --no-print-directory run install prefix=/usr DESTDIR="$room/$it" | tail -n 3)" \
     "build/bin/scrypt_tool prints the first key of RFC 7914, section 12:
 the key of key 4 1 1 64
 installed below $room/$it/usr: scrypt_tool, its man page and its completion; make lib builds the libraries"

@@ -6,36 +6,39 @@ TASK = @NICE=$(or $(NICE),10) LIMIT=$(or $(LIMIT),2h) tools/gate/step.sh $@ $(NE
 NEEDS =
 PY = python3 -B -m
 
-PROGRAM = crates/scrypt_tool/out/scrypt_tool
+PROGRAM = build/bin/scrypt_tool
 LIBRARY = build/lib/libscrypt_c.so
-# Other machines: targets that the kit proves for, and Windows.
-CROSS := $(shell $(PY) tools.presets proved)
+# Other machines.
 MACHINES := $(shell $(PY) tools.presets names)
 FOR = $(shell $(PY) tools.presets needs $1) env -u CC
+BUILD = rust/build.sh c $(shell $(PY) tools.presets target $1)
+export ERASED = 1 # the task erased erases for all
 ifdef BUILT
-proved =
+built =
 else
-proved = $1
+built = $1
 endif
 
 # The longest tasks, and tasks that others wait for, are first.
-BUILDS = library linked module program $(CROSS:%=program-%) $(MACHINES:%=library-%)
+BUILDS = erased library linked module program $(MACHINES:%=library-%) crates
 documents = lint first-steps links version promises cores
 examples = $(patsubst examples/%/test.sh,example-%,$(wildcard examples/*/test.sh))
 LANGUAGES = python go rust javascript drop-in $(examples) examples-of-pages
 suites = native asan tsan $(LANGUAGES) answers migration oracle hostile
-gate = proofs $(BUILDS) $(MACHINES) $(CROSS:%=answers-%) must-not-compile new-user \
-  $(documents) $(suites) by-rattle
-# Tasks give way to the proofs: not those that others wait for, and less those that take long alone.
-proofs library linked: private NICE = 0
-$(CROSS:%=program-%) $(CROSS:%=library-%) $(CROSS) $(CROSS:%=answers-%): private NICE = 5
-.PHONY: tasks documents suites examples proved-scrypt proved-scrypt_tool $(gate)
+# They need the kit.
+proved = proofs kit-library same must-not-compile new-user
+gate = proofs $(BUILDS) $(MACHINES) $(proved) $(documents) $(suites)
+# Tasks give way to those that others wait for, and less those that take long alone.
+proofs erased library linked: private NICE = 0
+$(MACHINES:%=library-%) $(MACHINES): private NICE = 5
+$(proved): private NEEDS = rt:the-Rattle-kit
+.PHONY: tasks documents suites examples proved-scrypt $(sort $(gate))
 gate: $(gate)
 documents: $(documents)
 suites: $(suites)
 examples: $(examples)
 tasks: # of the targets OF
-	@echo $(foreach it,$(OF),$(or $($(it)),$(it)))
+	@echo $(foreach it,$(OF),$(or $(sort $($(it))),$(it)))
 
 # ---- The proofs ----
 proofs: private export EACH = 600
@@ -43,13 +46,16 @@ proofs: private LIMIT = 6h
 proofs:
 	+$(TASK) tools/gate/prove.sh
 # A task that needs a proved crate begins when `rt ci` has proved it: what follows there, tests and edits, takes
-# about as long as all of these tasks. One after another, so that one job waits at a time.
-proved-scrypt proved-scrypt_tool: proved-%:
-	@tools/gate/prove.sh $*
-proved-scrypt_tool: proved-scrypt
+# about as long as all of these tasks.
+proved-scrypt:
+	@tools/gate/prove.sh scrypt
 
-# ---- Code that must not compile, and counts ----
-must-not-compile new-user: $(call proved,proved-scrypt)
+# ---- What the kit builds, code that must not compile, and counts ----
+kit-library must-not-compile new-user: $(call built,proved-scrypt)
+kit-library:
+	$(TASK) $(PY) tools.tests.same build
+same: $(call built,library kit-library)
+	$(TASK) $(PY) tools.tests.same $(or $(CALLS),200000)
 must-not-compile:
 	$(TASK) $(PY) tools.gate.must_not_compile edits
 new-user:
@@ -69,18 +75,20 @@ version:
 promises:
 	$(TASK) $(PY) tools.generate.make check
 
-# ---- The library from C ----
-library: $(call proved,proved-scrypt)
-	$(TASK) $(PY) bindings.build native scrypt_c
-linked: $(call proved,library)
+# ---- The erased crates, and the library from C ----
+erased:
+	$(TASK) rust/build.sh erase
+crates: $(call built,erased)
+	$(TASK) rust/build.sh
+library: $(call built,erased)
+	$(TASK) $(call BUILD,native)
+linked: $(call built,library)
 	$(TASK) $(MAKE) --no-print-directory -f Makefile linked
-native asan tsan by-rattle: linked
+native asan tsan: linked
 	$(TASK) tools/gate/c_tests.sh $@
-$(CROSS:%=library-%): library-%: library
-	$(TASK) $(call FOR,$*) $(PY) bindings.build $* scrypt_c
-library-windows: library
-	$(TASK) $(call FOR,windows) $(PY) bindings.bitcode
-$(MACHINES): %: library-%
+$(MACHINES:%=library-%): library-%: $(call built,erased)
+	$(TASK) $(call FOR,$*) $(call BUILD,$*)
+$(MACHINES): %: $(call built,library-%)
 	$(TASK) $(call FOR,$*) tools/gate/c_tests.sh $*
 
 # ---- Other languages ----
@@ -88,11 +96,11 @@ python go rust drop-in: linked
 	$(TASK) bindings/$(subst -,_,$@)/test.sh
 module:
 	$(TASK) $(PY) bindings.js.build
-javascript: $(call proved,module) linked
+javascript: $(call built,module) linked
 	$(TASK) bindings/js/test/test.sh
 # Both have a program that reads from a terminal.
 answers example-key_files: private NEEDS = /dev/pts/ptmx:/dev/pts
-$(examples): example-%: $(call proved,module) linked
+$(examples): example-%: $(call built,module) linked
 	$(TASK) examples/$*/test.sh
 examples-of-pages: linked
 	$(TASK) python3 -B bindings/readme_examples.py
@@ -100,13 +108,7 @@ hostile: linked
 	$(TASK) $(PY) tools.tests.hostile $(LIBRARY) 30000
 
 # ---- The program ----
-program: $(call proved,proved-scrypt_tool linked)
-	$(TASK) tools/gate/program.sh
-$(CROSS:%=program-%): program-%: $(call proved,proved-scrypt_tool)
-	$(TASK) $(call FOR,$*) $(PY) bindings.build $* scrypt_tool
-$(CROSS:%=answers-%): answers-%: % program-%
-	$(TASK) $(call FOR,$*) env PRESET=$* tools/gate/program.sh
-oracle migration: private PROGRAM = build/bin/scrypt_tool # as it is installed, with the library's memory
-oracle migration: private NEEDS = build/bin/scrypt_tool:libbsd-dev
-answers oracle migration: program
+program: $(call built,erased)
+	$(TASK) sh -euc 'rust/build.sh program; bindings/cli/build.sh build/rust/scrypt_tool'
+answers oracle migration: $(call built,program)
 	$(TASK) $(PY) tools.tests.$(@:answers=program) $(PROGRAM)

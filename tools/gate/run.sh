@@ -2,7 +2,8 @@
 # Runs tasks of gate.mk, even if some fail. The last line is `N passed, M failed`, and `, K skipped` if what
 # these tasks need is not installed; the status is 0 if no task failed, and none did not begin because of a
 # failure. Before it come the tasks that were skipped, or ran in part, with the packages that they need, and the time.
-# usage: run.sh            the gate: every task, from nothing; `rt ci` proves every crate
+# Without the kit they say that nothing was proved.
+# usage: run.sh            the gate: every task, from nothing; with the kit `rt ci` proves every crate
 #        run.sh TARGET..   these tasks, or `documents`, `suites`, `examples`, with the files that are built
 set -u
 cd "$(dirname "$0")/../.."
@@ -13,12 +14,9 @@ gate() { make --no-print-directory -f tools/gate/gate.mk "$@"; }
 if [ $# = 0 ]; then
   set -- gate
   export PROVED_LIBRARIES=$PWD/crates # of this run: nothing begins with what an earlier one kept
-  echo "Proves and tests everything, in about 39 minutes on four CPUs." \
-    "What each task prints is in build/log."
-  rm -rf build/{gate,log,lib,bin,machine.sh} crates/*/out/rlib crates/scrypt_tool/out/scrypt_tool.o
-  for preset in native asan tsan by-rattle $(python3 -m tools.presets names); do
-    rm -rf "build/$preset" crates/*/out/"$preset"
-  done
+  echo "Tests everything, and with the kit proves it. What each task prints is in build/log."
+  rm -rf build/{gate,log,lib,bin,machine.sh,rust/{workspace,c,target*},native,asan,tsan} crates/*/out/{rlib,libscrypt_c.a}
+  for preset in $(python3 -B -m tools.presets names); do rm -rf "build/$preset"; done
   python3 -B -m tools.generate.declarations || exit 1
 else
   export BUILT=1
@@ -44,14 +42,17 @@ for task in $tasks; do
     *) failed=$((failed + 1)) && echo "$task: FAILED (build/log/$task.log)" ;;
   esac
 done
-if [ "$*" = gate ]; then
+if [ "$*" = gate ] && command -v rt > /dev/null; then
   # `rt ci` counts the crates and what it ran.
   read -r more _ less < <(sed -nE 's/^([0-9]+) passed, ([0-9]+) failed$/\1 . \2/p' build/log/proofs.log | tail -n 1)
   passed=$((passed + ${more:-0})) failed=$((failed + ${less:-1}))
-  if [ $failed = 0 ]; then python3 -B tools/release/proved.py keep build/log/{proofs,library,module,library-*,program-*}.log || failed=1; fi
+  if [ $failed = 0 ]; then python3 -B tools/release/proved.py keep build/log/{proofs,kit-library}.log || failed=1; fi
 fi
 if [ -n "$in_part" ]; then echo "in part: ${in_part#; }"; fi
 if [ -n "$without" ]; then echo "skipped: ${without#; }"; fi
+if [ "$*" = gate ] && ! command -v rt > /dev/null; then
+  echo "Nothing was proved, since the Rattle kit is not here: this tested the erased crates, and what is built from them."
+fi
 awk -v all="$(minutes)" '{ used += $3 } END { printf "%s minutes, %.1f CPU-minutes\n", all, used / 60 }' $results
 if [ "$skipped" = 0 ]; then skipped=; fi
 echo "$passed passed, $failed failed${skipped:+, $skipped skipped}"

@@ -2,7 +2,7 @@
 """Records the verdicts of the gate, and writes them into PROVED.txt, which every package has.
 
 usage: proved.py keep LOG..    keeps the verdicts that these logs of the gate have, with the commit, the kit, and the
-                               SHA-256 of all that the kit built; the gate calls this when it has passed
+                               SHA-256 of all that was compiled from the erased crates; the gate calls this when it has passed
        proved.py text          prints PROVED.txt, and fails for another commit or other files than were recorded
 
 UNPROVED=1 packs what is built, proved or not, and PROVED.txt says so.
@@ -17,14 +17,12 @@ import sys
 from pathlib import Path
 
 KEPT = Path("build/proved.json")
-# The files that the kit built. All other packed files are compiled and linked from these, reproducibly.
-BUILT = ["crates/scrypt_c/out/*/*/libscrypt_c.a", "crates/scrypt_tool/out/**/scrypt_tool.o", "bindings/js/scrypt.wasm"]
+# The files that rustc made. All other packed files are compiled and linked from these, reproducibly.
+BUILT = ["build/rust/c/*/scrypt_c.o", "build/bin/scrypt_tool", "build/*/bin/scrypt_tool", "bindings/js/scrypt.wasm"]
 UNPROVED = "There is no verdict here: `make dist UNPROVED=1` packed what was built, proved or not."
 GATE = """\
-The gate proved each crate in this commit's own clone. The library for C is proved once for both levels of
-x86-64, and the module for JavaScript and the copies for other processors begin with its proofs of what they
-have in common, so their lines have `incremental=trusted`. The libraries for Windows have the verdicts of
-the library for C: they are compiled from the input of the kit's compiler for that library."""
+The gate proved each crate in this commit's own clone. What is packed is compiled by rustc from these crates with their
+contracts deleted (docs/TRUST.md). The last verdict is of the library that the kit built to be compared with it."""
 
 
 def output(*command):
@@ -40,8 +38,8 @@ def commit():
 
 
 def digests():
-    """The hash of each file that the kit built, except by its own compiler, whose files are only compared."""
-    paths = (path for it in BUILT for path in Path().glob(it) if not {"by-rattle", "incremental"} & {*path.parts})
+    """The hash of each file that rustc made."""
+    paths = (path for it in BUILT for path in Path().glob(it))
     return {str(it): hashlib.sha256(it.read_bytes()).hexdigest() for it in sorted(paths)}
 
 
@@ -90,7 +88,7 @@ def text():
     sections = [
         ("scrypt, proved", f"version {version}\ncommit  {commit()}"),
         ("What the gate printed of each crate, and of its tests", said),
-        ("SHA-256 of what the kit built, of which all was linked",
+        ("SHA-256 of what rustc made, of which all was linked",
          "\n".join(f"{it}  {path}" for path, it in digests().items())),
     ]
     print("\n\n".join(f"{title}\n{'-' * len(title)}\n{body}" for title, body in sections))
