@@ -1,80 +1,178 @@
 #!/usr/bin/env python3
-"""Checks an erasure, without the code that erases: the tokens of each file that was written are a subsequence of its
-source's, except for what erase.REPLACED names. Then it lists what is missing by its first words, and fails if a run
-that is missing has a word of Rust's statements, which no ghost item has.
+"""Checks an erasure, and shares no code with the eraser. It reads each source beside what was written of it. What is
+missing has to be one whole ghost item, known by where it stands (`ghosts`); what differs has to be a rule of rules.py,
+each of which has to be used; all other tokens have to be there, in order. It prints how many items of each kind are missing.
 
 usage: python3 -m rust.check OUTPUT      (from the top of the repository)
 """
 
 import collections
+import functools
+import re
 import sys
 from pathlib import Path
 
-from rust import erase, wide
+from rust import rules
 
-RUST = {"fn", "return", "match", "while", "loop", "struct", "enum", "break", "continue", "mut", "unsafe", "mod", "async"}
-
-
-def tokens(text):
-    return [it.group() for it in erase.TOKEN.finditer(text) if it.lastgroup not in ("space", "comment")]
-
-
-PAIRS = [(tokens(old), tokens(new)) for old, new, _ in erase.REPLACED if new]
-PAIRS += [([], tokens(it)) for it in ("use support::growth::*;", *erase.ROOTS.values(), *erase.ALLOCATED.values())]
-PAIRS += [([], tokens(it)) for it in ("support::levels! {", "}")] + [(["std"], ["core"])]
-INLINED = [(tokens("#[inline]"), tokens("#[inline(always)]"))]
-WIDE = {name: [(tokens(old), tokens(new)) for old, new in pairs] for name, pairs in wide.WIDE.items()}
+LEX = re.compile(r"""//.*|\s+|(b?r(\#*)"(?:.|\n)*?"\2|b?"(?:[^"\\]|\\(?:.|\n))*"|"""
+                 r"""b?'(?:[^'\\]|\\[^u]|\\u\{\w+\})'|'?\w+|\S)""")
+PAIRS = {"(": ")", "[": "]", "{": "}"}
+# Ghost items of fixed words: their kind, the item, and the words after it.
+FIXED = [("allocator", "use std::alloc::Global;", ""), ("allocator", "let alloc = rt.alloc();", ""),
+         ("model", "use std::marker::Model;", ""), ("Drop", "#[derive(Drop)]", ""), ("Drop", ", Drop", ")]"),
+         ("Drop", "+ Drop", ">"), ("Drop", "where N::Err: Drop,", "ensures")]
 
 
-def find(source, words, at):
-    """The index after these words in a row in the source, from here on, or None."""
-    while at + len(words) <= len(source):
-        if source[at : at + len(words)] == words:
-            return at + len(words)
-        at += 1
+@functools.cache
+def lex(text):
+    return [it[1] for it in LEX.finditer(text) if it[1]]
+
+
+class Text:
+    """The words of a text; for each bracket the index of its partner, and for each word the bracket it is in."""
+
+    def __init__(self, name, text):
+        self.name, self.text, self.words = name, text, [*lex(text), *[""] * 9]
+        self.partners, self.around, opened = {}, [], []
+        for i, word in enumerate(self.words):
+            if word and word in PAIRS.values():
+                self.partners |= {i: opened[-1], opened.pop(): i}
+            self.around.append(self.words[opened[-1]] if opened else "")
+            if word in PAIRS:
+                opened.append(i)
+
+    def has(self, i, text):
+        return self.words[i:i + len(lex(text))] == lex(text)
+
+    def fault(self, i, what):
+        start = [it.start() for it in LEX.finditer(self.text) if it[1]][i:i + 1]
+        line = self.text.count("\n", 0, *start) + 1
+        raise ValueError(f"line {line}: {what} {' '.join(self.words[i:i + 12])}")
+
+
+def head(text, i, found):
+    """Adds the clauses and ghost parameters between the parameters of the function at i and its body, where Rust has a
+    type and `where` alone. Returns the index of the body, or of the semicolon."""
+    w = text.words
+    while w[i] != "(":
+        i += 1
+    while w[i] not in ("{", ";"):
+        if w[i] in ("requires", "ensures", "ghost"):
+            brace = i + (3 if w[i] == "ghost" and w[i + 2] == ":" else 1 if w[i + 1] == "{" else 2)
+            found[i] = "ghost parameter" if w[i] == "ghost" else "clause", text.partners[brace] + 1
+            i = found[i][1]
+        else:
+            i = text.partners[i] + 1 if w[i] in PAIRS else i + 1
+    return i
+
+
+def member(text, i):
+    """The ghost import, field or item at i: no item of Rust begins so."""
+    w, end = text.words, text.partners.get(i + 3, 0) + 1
+    begin = i - (w[i - 1] == "pub")
+    if w[i + 1] == "use" and w[begin - 1] in ("", ";", "{", "}", "]"):
+        return begin, "ghost use", w.index(";", i) + 1
+    if w[i + 2] in (":", "=") and w[i + 3] == "{" and w[begin - 1] in (";", "{", "}", ",") and w[end] in (",", ";"):
+        return begin, "ghost member", end + 1
+    return text.fault(i, "not a ghost item:")
+
+
+def other(text, i, jumps):
+    """The ghost item at i that its words tell, with what is around them, if there is one."""
+    w, at = text.words, i + 1 + (text.words[i + 1] == "!")
+    for kind, item, after in FIXED:
+        if text.has(i, item) and text.has(i + len(lex(item)), after):
+            return i, kind, i + len(lex(item))
+    if w[i] == "#" and text.has(at, "[tactic(") and text.partners[at + 2] == text.partners[at] - 1:
+        return i, "tactic", text.partners[at] + 1
+    if w[i][:1] == "'" and w[i + 1] == ":" and w[i + 2] in ("for", "while", "loop") and w[i] not in jumps:
+        return i, "label", i + 2
+    for form in rules.ARGUMENTS + rules.RUNTIMES * ("_tests/" in text.name):
+        end = i + len(lex(form))  # of a whole parameter or argument
+        if text.has(i, form) and text.around[i] + w[i - 1] in ("((", "(,") and w[end] in (",", ")"):
+            return i, "allocator", end + (w[end] == ",")
     return None
 
 
-def is_made_of(source, written, pairs):
-    """Whether the written tokens are a subsequence of the source's, with REPLACED in its place: the least part of the
-    source that each beginning of them needs."""
-    needed = {0: 0}
-    for at, word in enumerate(written):
-        if at not in needed:
+def ghosts(text):
+    """The ghost items by where they begin, with their kind and end; and the bodies of the functions."""
+    w, found, bodies, models = text.words, {}, {}, []
+    jumps = {name for word, name in zip(w, w[1:]) if word in ("break", "continue")}
+    for i, word in enumerate(w[:-9]):
+        if word == "fn" and w[i + 1].isidentifier():
+            bodies[i] = head(text, i, found)
+        elif word == "impl" and "Model" in w[i:w.index("{", i)]:
+            models.append(i)
+        elif i not in found and (item := member(text, i) if word == "ghost" else other(text, i, jumps)):
+            found[item[0]] = item[1:]
+    for i in models:  # all items of which are ghost
+        at = w.index("{", i) + 1
+        while w[at] != "}":
+            at = found[at][1] if at in found else text.fault(at, "not a ghost item:")
+        found[i] = "model", at + 1
+    return found, bodies
+
+
+def extent(text, mark, bodies):
+    """Where the function or `impl` that begins with these words does, at its attributes and its `pub`, and its end."""
+    w, i = text.words, next(at for at in range(len(text.words)) if text.has(at, mark))
+    end = text.partners[bodies.get(i) or w.index("{", i)] + 1
+    while w[i - 1] == "pub" or w[i - 1] in (")", "]") and w[text.partners[i - 1] - 1] in ("pub", "#"):
+        i = i - 1 if w[i - 1] == "pub" else text.partners[i - 1] - 1
+    return i, end
+
+
+def compare(name, source, written):
+    """How often each kind of item is missing, and each rule was used. A ValueError names the first difference."""
+    text, result, counted, rows, wraps = Text(name, source), Text(name, written), collections.Counter(), {}, {}
+    w, (found, bodies), i, j = text.words, ghosts(text), 0, 0
+    heads = [it for it in (rules.ROOTS.get(name), *rules.ALLOCATED.values(), rules.GROWTH_TRAITS) if it]
+    for row in rules.of(name):
+        rows.setdefault(lex(row[0])[0], []).append(row)
+    for begin, end in [extent(text, f"fn {level}", bodies) for level in rules.LEVELS.get(name, ())]:
+        wraps[begin], wraps[end] = wraps.get(begin, "") + "support::levels! {", "}" + wraps.get(end, "")
+    for mark in rules.BY_HAND.get(name, ()):
+        begin, end = extent(text, mark, bodies)
+        found[begin] = "by hand", end
+    while w[i] or i in wraps:
+        added = [it for it in heads if result.has(j, it) and (i == 0 or w[i] == "use")]
+        if added or i in wraps:
+            rule = "", added[0] if added else wraps.pop(i)
+            heads = [it for it in heads if it not in added]
+        elif i in found:
+            kind, i = found[i]
+            counted[kind] += 1
             continue
-        ends = [(at + 1, find(source, [word], needed[at]))]
-        if word.removeprefix("checked_") in erase.GROWTH:
-            ends.append((at + 1, find(source, [word.removeprefix("checked_")], needed[at])))
-        ends += [(at + len(new), find(source, old, needed[at])) for old, new in pairs if written[at : at + len(new)] == new]
-        for to, end in ends:
-            if end is not None:
-                needed[to] = min(end, needed.get(to, end))
-    return len(written) in needed
+        else:
+            is_growth = w[i] in rules.GROWTH and w[i - 1] in (".", ":") and result.has(j, f"checked_{w[i]}(")
+            rule = w[i], "checked_" * is_growth + w[i]
+            rule = next((row for row in rows.get(w[i], ()) if text.has(i, row[0])), rule)
+        if not result.has(j, rule[1]):
+            text.fault(i, f"{' '.join(result.words[j:j + 12])} was written for")
+        counted[rule] += rule[0] != rule[1]
+        i, j = i + len(lex(rule[0])), j + len(lex(rule[1]))
+    if result.words[j:-9] != lex(rules.ADDED.get(name, "")) or rules.ROOTS.get(name) in heads:
+        text.fault(0, "the file's end or head is another:")
+    return counted
 
 
-def main(output):
-    kinds, failed = collections.Counter(), []
-    names = sorted(it.name for it in Path(erase.__file__).with_name("crates").iterdir() if it.is_dir())
-    for path in sorted(it for name in names for it in Path("crates", name, "src").rglob("*.rt")):
-        text = path.read_text()
-        to = path.relative_to("crates").with_suffix(".rs")
-        written = Path(output, to).read_text()
+def main(output, more_rules=()):
+    counted, faults, every = collections.Counter(), [], [*rules.every(), *more_rules]
+    expected = {*(f"{folder}/{file}" for file, folder in rules.FILES.items()), *(f"scrypt_c/src/{file}" for file in rules.EXPORTS)}
+    for path in sorted(Path("crates").glob("*/src/**/*.rt")):
         name = path.relative_to("crates").as_posix()
-        pairs = PAIRS + WIDE.get(name, []) + INLINED * (name in erase.INLINED)
-        if not is_made_of(tokens(text), tokens(written.removesuffix(erase.ABI)), pairs):
-            failed.append(f"{path}: what was written is not a subsequence")
-        source = erase.Source(path)
-        source.erase()
-        for kind, start, end, _ in source.edits:
-            deleted = tokens(text[start:end])
-            kinds[kind] += 1
-            if kind not in ("replaced", "model", "C", "by hand") and RUST & set(deleted):
-                failed.append(f"{path}: {kind} with code: {' '.join(deleted)[:200]}")
-    rules = [*((old, new) for old, new, _ in erase.REPLACED), *((name, *rule) for name, of in wide.WIDE.items() for rule in of),
-             *((name, item) for name, of in erase.BY_HAND.items() for item in of)]
-    failed += [f"no file has what this rule replaces: {rule}" for rule in rules if rule not in erase.USED]
-    print(*(f"{kind}: {count}" for kind, count in kinds.most_common()), *failed, sep="\n")
-    return 1 if failed else 0
+        expected.add(name.removesuffix("rt") + "rs")
+        try:
+            counted += compare(name, path.read_text(), Path(output, name).with_suffix(".rs").read_text())
+        except (ValueError, LookupError, StopIteration) as fault:
+            faults.append(f"{name}: {fault}")
+    for path in Path("crates").iterdir():
+        found = {it.relative_to(output).as_posix() for it in Path(output, path.name, "src").rglob("*.rs")}
+        faults += [f"{name} has no source" for name in found - expected]
+    faults += [f"no source has what this rule is for: {rule}" for rule in every if not counted[rule]]
+    print(*(f"{kind}: {count}" for kind, count in counted.most_common() if isinstance(kind, str)),
+          f"rules: {len(every)}, used {sum(counted[rule] for rule in every)} times", *faults, sep="\n")
+    return 1 if faults else 0
 
 
 if __name__ == "__main__":

@@ -1,17 +1,35 @@
 """What the erasure deletes, replaces, and takes from files that are written by hand. rust/erase.py does it, and rust/check.py
 allows no more; each row has its reason."""
 
-# The prefix `pub`, or `pub(..)`, and a comma or a semicolon after the item are part of it, except after a clause.
-GHOST_ITEMS = {
-    "ghost use": "an import of names for clauses",
-    "ghost member": "a ghost member, field, parameter or argument",
-    "clause": "what a function requires or ensures",
-    "tactic": "an attribute for the prover",
-    "model": "how clauses see a type",
-    "Drop": "the bound or derive Drop: in Rust every type may be dropped",
-    "label": "a label that names a loop for the proof",
-    "C": "what exports a function to C: the file c_abi.rs does, since rustc passes slices otherwise",
-    "alloc": "the allocator, which every allocating call takes; std has one",
+import functools
+
+from rust import wide
+
+# What is deleted: by kind, why, and the forms of it. A form is an item, or what has to be before it|the item|what has to
+# be after it. NAME is any name, LABEL a loop's that no `break` and no `continue` names, and `…` all that the next bracket
+# closes, or all up to the next token.
+ARGUMENTS = ["alloc: Global", "_alloc: Global", "rt.alloc()", "alloc"]
+RUNTIMES = ["rt: HostRuntime", "rt: &HostRuntime", "rt", "&rt"]
+
+
+def arguments(forms):
+    return [f"{before}|{form}{after}" for form in forms for before in "(," for after in (",|", "|)")]
+
+
+DELETED = {
+    "clause": ("what a function requires or ensures",
+               [f"{word}{name} {{…}}" for word in ("requires", "ensures") for name in ("", " NAME")]),
+    "ghost use": ("an import of names for clauses", ["ghost use …;"]),
+    "ghost member": ("a ghost member, field, parameter or argument",
+                     [f"{pub}ghost NAME{mark} {{…}}{end}" for pub in ("", "pub ") for mark in ":=" for end in (",", ";", "")]),
+    "tactic": ("an attribute for the prover", ["#[tactic(…)]", "#![tactic(…)]"]),
+    "model": ("how clauses see a type",
+              ["use std::marker::Model;", "impl Model for NAME {…}", "impl<…> Model for NAME<…> {…}"]),
+    "Drop": ("in Rust every type may be dropped", ["#[derive(Drop)]", "|, Drop|)", "+ Drop", "where N::Err: Drop,"]),
+    "label": ("a name of a loop for the proof", ["|LABEL:|for", "|LABEL:|while", "|LABEL:|loop"]),
+    "allocator": ("std has one, which every allocating call takes",
+                  ["use std::alloc::Global;", "let alloc = rt.alloc();", *arguments(ARGUMENTS)]),
+    "runtime": ("in the crates of tests, which need no more of it than the allocator", arguments(RUNTIMES)),
 }
 # A method of the trait PasswordHasher that crates/ cannot have.
 DRAWING = """
@@ -29,6 +47,7 @@ DRAWING = """
 """
 # Each: old text, new text, reason. The new names are those of the crate support.
 REPLACED = [
+    ("#[unsafe(no_mangle)] pub extern \"C\" fn", "pub fn", "c_abi.rs exports it: rustc passes slices otherwise than C"),
     ("prove!(", "assert!(", "a constant condition: rustc checks it when it compiles"),
     ("std::alloc::{AllocError, Global}", "support::AllocError", "not stable"),
     ("std::alloc::AllocError", "support::AllocError", "not stable"),
@@ -99,17 +118,19 @@ REPLACED = [
     ("pub trait PasswordHasher<H> {", "pub trait PasswordHasher<H> {" + DRAWING, "crates/ has no random bytes"),
     ("hash_password(", "hash_password_with_drawn_salt(", "the same: `hash_password` draws the salt, as in the crate scrypt"),
 ]
-USED = set()  # the rules that replaced something
 # Crates that need no operating system: `std` is `core` in them, and what allocates is the crate alloc's.
 NO_STD = {"scrypt_kernel", "password_hash", "scrypt", "scrypt_c"}
 ROOTS = {
-    "lib.rt": "#![no_std]\n\nextern crate alloc;\n\n", "main.rt": "#![cfg_attr(not(test), no_main)]\n\n",
+    **{f"{name}/src/lib.rt": "#![no_std]\n\nextern crate alloc;\n\n" for name in NO_STD},
+    "scrypt_tool/src/main.rt": "#![cfg_attr(not(test), no_main)]\n\n",
     # An example in README needs the feature, so that README is no test without it.
     "scrypt/src/lib.rt": "#![no_std]\n#![cfg_attr(any(not(doctest), feature = \"getrandom\"), doc = include_str!(\"../README.md\"))]\n\n"
                          "extern crate alloc;\n\n",
 }
+GROWTH_TRAITS = "use support::growth::*;\n"
 ALLOCATED = {"String": "use alloc::string::String;\n", "Vec": "use alloc::vec::Vec;\n"}
-# Calls that allocate. In the kit they return a Result, as their stand-ins checked_.. do; std's abort.
+# Calls that allocate: in the kit they return a Result, as support's checked_.. do, and std's abort. A Result is used: `?` or
+# `unwrap` is after the call. What is not support's, such as a push_str of an ArrayString, does not compile by this name.
 GROWTH = {"push", "push_str", "extend_from_slice", "resize", "resize_with", "reserve", "with_capacity", "to_vec",
           "to_string", "from_str", "repeat", "replace", "read_to_string"}
 # Functions in which all that is for a level is inlined, by their files.
@@ -126,7 +147,6 @@ BY_HAND = {
 }
 # Files that are written by hand, and the folders that they are in.
 FILES = {"vectors.rs": "scrypt_kernel/src/cores/simd", "with_64_bits.rs": "scrypt_c/src"}
-INLINED = set(BY_HAND)  # files in which all methods are inlined: those of a level have to be
 # The calls that the module for JavaScript exports, and how they take each type there, on 32 bits: each address, length and
 # number of type usize has 64 bits, as in the proofs (wide.py).
 JAVASCRIPT = set("""
@@ -134,21 +154,66 @@ scrypt_hash_mcf_with_buffers scrypt_hash_cost scrypt_hash_params scrypt_hash_phc
 scrypt_key_begin scrypt_key_finish scrypt_key_step scrypt_default_limits scrypt_needs_rehash scrypt_params_cost
 scrypt_stored_mcf scrypt_stored_phc scrypt_verify_begin scrypt_verify_finish scrypt_verify_limited_with_buffers
 """.split())
-ABI = """
+EXPORT = """//! The functions that C calls: each slice is a pointer and a length there{}. Generated.
+#![allow(clippy::missing_safety_doc, unused_unsafe)]
+
+{}
+"""
+EXPORTS = {
+    "c_abi.rs": EXPORT.format("", "use crate::cost::Cost;\nuse scrypt::Progress;\nuse support::{slice, slice_mut};"),
+    "c_abi_64.rs": EXPORT.format(", of 64 bits each", "use crate::with_64_bits::{limited, place, progress, slice, slice_mut};"),
+}
+# How these take each type: a pattern of it, the parameters, with {0} for the name and {2} for the pattern's group, and what
+# the proved function is passed.
+PASSED = {
+    "c_abi.rs": [
+        (r"&(?:'\w+ )?\[(\w+)\]", "{0}: *const {2}, {0}_count: usize", "slice({0}, {0}_count)"),
+        (r"&(?:'\w+ )?mut \[(\w+)\]", "{0}: *mut {2}, {0}_count: usize", "slice_mut({0}, {0}_count)"),
+        (r".*", "{0}: {1}", "{0}"),
+    ],
+    "c_abi_64.rs": [
+        (r"&(?:'\w+ )?\[\w+\]", "{0}: u64, {0}_count: u64", "slice({0}, {0}_count)"),
+        (r"&(?:'\w+ )?mut \[\w+\]", "{0}: u64, {0}_count: u64", "slice_mut({0}, {0}_count)"),
+        (r"&.*Progress", "{0}: u64", "&mut progress({0})"),
+        (r"&.*", "{0}: u64", "place({0})"),
+        (r"usize", "{0}: u64", "limited({0})"),
+        (r"support::Size|u64", "{0}: u64", "{0}"),
+        (r"[iu]\d+", "{0}: {1}", "{0}"),
+    ],
+}
+# What is added to a file.
+ADDED = {"scrypt_c/src/lib.rt": """
 #[cfg(target_pointer_width = "64")]
 mod c_abi;
 #[cfg(target_pointer_width = "32")]
 mod c_abi_64;
 #[cfg(target_pointer_width = "32")]
 mod with_64_bits;
-"""
-ABI_HEAD = """//! The functions that C calls: each slice is a pointer and a length there{}. Generated.
-#![allow(clippy::missing_safety_doc)]
-
-{}
-
-"""
+"""}
 # Methods of these names that are the repository's own, by their receiver.
-OWN = {("hash", ".", "push_str"), (":", ":", "read_to_string")}
+OWN = [["hash", ".", "push_str"], [":", ":", "read_to_string"]]
 
 
+def is_no_std(name):
+    return name.split("/")[0] in NO_STD
+
+
+def heads(name, kept, grows):
+    """What is added before the first item of a file that has these words, and has calls of support's growth or not."""
+    allocated = [text for word, text in ALLOCATED.items() if word in kept and is_no_std(name)]
+    return "".join([ROOTS.get(name, ""), *allocated, GROWTH_TRAITS * grows])
+
+
+def of(name):
+    """The replacements in this file: old text, new text."""
+    is_inlined = [("#[inline]", "#[inline(always)]")] if name in BY_HAND else []  # methods of a level have to be inlined
+    core = [("std::", "core::")] if is_no_std(name) else []
+    return [*wide.WIDE.get(name, []), *((old, new) for old, new, _ in REPLACED), *is_inlined, *core]
+
+
+@functools.cache
+def every():
+    """Every rule, as the check counts it."""
+    growth = [(word, f"checked_{word}") for word in GROWTH]
+    wide_rows = [row for rows in wide.WIDE.values() for row in rows]
+    return [*{*wide_rows, *((old, new) for old, new, _ in REPLACED), *growth}]
