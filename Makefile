@@ -43,7 +43,7 @@ needs-run needs-lib needs-js needs-test: needs-%: | $(filter setup,$(MAKECMDGOAL
 	@tools/setup.sh $* $(if $(filter install,$(MAKECMDGOALS)),"$(prefix)")
 
 run: needs-run
-	@$(STEP) program sh -euc 'rust/build.sh program; ERASED=1 bindings/cli/build.sh build/rust/scrypt_tool'
+	@$(STEP) program rust/build.sh program
 	@echo "build/bin/scrypt_tool prints the first key of RFC 7914, section 12:"; \
 	  build/bin/scrypt_tool key 4 1 1 64 "" < /dev/null
 lib: export STEPS = library linked

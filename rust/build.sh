@@ -1,10 +1,12 @@
 #!/bin/sh
 # Builds and tests the erased crates by cargo, without the kit; as Debian's crates, unless CARGO_NET_OFFLINE is false.
-# usage: build.sh              the crates' tests, and the program without a prompt, build/rust/target/release/scrypt_tool
-#        build.sh c [TARGET]   build/rust/c/TARGET/scrypt_c.o for bindings/c
-#        build.sh program      build/rust/scrypt_tool and scrypt_tool.o, for ERASED=1 bindings/cli/build.sh
-#        build.sh package      build/rust/target/package/*.crate: the packages that are published, each built from its own
-#        build.sh erase        only the crates, build/rust/workspace; with ERASED=1 other calls take what it left
+# usage: build.sh                              the crates' tests
+#        build.sh c [TARGET]                   build/rust/c/TARGET/scrypt_c.o for bindings/c
+#        build.sh program [TARGET [OUTPUT]]    the program, build/bin/scrypt_tool
+#        build.sh package                      build/rust/target/package/*.crate: the packages that are published, each built
+#                                              from its own
+#        build.sh erase                        only the crates, build/rust/workspace; with ERASED=1 other calls take what
+#                                              it left
 set -eu
 cd "$(dirname "$0")/.."
 out=build/rust/workspace
@@ -25,6 +27,11 @@ target=${2:-$host}
 cd "$out"
 export CARGO_TARGET_DIR=../target
 if [ "$target" != "$host" ]; then CARGO_TARGET_DIR=../target-$target; fi
+case $target in # the names of binutils and of the compiler begin so
+  "$host") tools='' ;;
+  *-windows-gnu) tools=${target%%-*}-w64-mingw32- ;;
+  *) tools=${target%%-*}-linux-gnu- ;;
+esac
 case ${1:-} in
   erase) exit ;;
   '')
@@ -34,7 +41,6 @@ case ${1:-} in
     # arena of glibc's malloc would have a part: libtest runs each test in a thread.
     (ulimit -v 4000000; cargo test --features proved-scrypt/getrandom -- --test-threads=1 --skip memory::tables)
     MALLOC_ARENA_MAX=1 cargo test -p library_tests memory::tables -- --exact
-    cargo build --release -p scrypt_tool
     exit ;;
   package)
     # Bottom up, as they are published: a registry of this machine has those below.
@@ -49,25 +55,17 @@ case ${1:-} in
       for new in "$registry"/proved-scrypt*; do echo '{ "files": {} }' > "$new/.cargo-checksum.json"; done
     done
     exit ;;
-  program)
-    heap=$(mktemp -d)
-    trap 'rm -r "$heap"' EXIT
-    cat > "$heap/heap.c" << 'END'
-#include <stdlib.h>
-void *clearing_malloc(size_t n) { return malloc(n); }
-void *clearing_realloc(void *p, size_t n) { return realloc(p, n); }
-void clearing_free(void *p) { free(p); }
-END
-    "${CC:-cc}" -O2 -c "$heap/heap.c" -o "$heap/heap.o" # build.sh links the library's
-    cargo rustc -p scrypt_tool --release --features c_heap -- \
-      --emit=obj="$top/build/rust/scrypt_tool.o" -C link-arg="$heap/heap.o"
-    cp ../target/release/scrypt_tool ..
+  program) # with the prompt, and the library's memory, which is wiped before it is freed
+    room=$top/build/rust/program/$target output=$top/${3:-build/bin/scrypt_tool} CC=${tools}gcc
+    (cd "$top" && python3 -B -m tools.generate.declarations "$room")
+    for it in cli/terminal c/blocks c/linux; do
+      "$CC" -std=gnu99 -O2 -Wall -Wextra -fPIE -ffunction-sections -fstack-protector-strong -U_FORTIFY_SOURCE -D_FORTIFY_SOURCE=2 \
+        -I"$room" -I"$top/bindings/c" -c "$top/bindings/$it.c" -o "$room/${it#*/}.o"
+    done
+    "$top/rust/sysroot.sh" "$target" cargo rustc -p scrypt_tool --release --features program --target "$target" -- \
+      -C linker="$CC" -C link-args="$room/terminal.o $room/blocks.o $room/linux.o"
+    install -D "$CARGO_TARGET_DIR/$target/release/scrypt_tool" "$output"
     exit ;;
-esac
-case $target in # the names of binutils and of the compiler begin so
-  "$host") tools='' ;;
-  *-windows-gnu) tools=${target%%-*}-w64-mingw32- ;;
-  *) tools=${target%%-*}-linux-gnu- ;;
 esac
 to=../c/$target
 mkdir -p "$to"

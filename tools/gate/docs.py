@@ -28,8 +28,9 @@ NUMBERS, MIB = header.NUMBERS, 1 << 20
 WORDS = "no one two three four five six seven eight".split()
 
 # Names of other programs and libraries.
-OTHERS = {"check_password", "crypt_data", "crypt_r", "find_package", "maxmem_bytes", "must_use", "needs_update", "rattle_env",
-          "rattle_env_at", "run_in_executor", "sodium_init"}
+OTHERS = {"check_password", "crypt_data", "crypt_r", "find_package", "maxmem_bytes", "must_use", "needs_update", "rattle_alloc",
+          "rattle_arg", "rattle_dealloc", "rattle_env", "rattle_env_at", "rattle_errno", "rattle_realloc", "rattle_set_errno",
+          "run_in_executor", "sodium_init"}
 
 
 def files():

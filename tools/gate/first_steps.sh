@@ -110,8 +110,7 @@ echo "run | sh:dash |" > tools/packages.txt
 cat > rust/build.sh << 'END'
 mkdir -p build/bin && printf '#!/bin/sh\necho the key of $*' > build/bin/scrypt_tool && chmod +x build/bin/*
 END
-echo '#!/bin/sh' > bindings/cli/build.sh
-chmod +x rust/build.sh bindings/cli/build.sh
+chmod +x rust/build.sh
 for it in ab 'a&b' 'a|b'; do
   is "$(make --no-print-directory run install prefix=/usr DESTDIR="$room/$it" | tail -n 3)" \
     "build/bin/scrypt_tool prints the first key of RFC 7914, section 12:

@@ -109,6 +109,6 @@ hostile: linked
 
 # ---- The program ----
 program: $(call built,erased)
-	$(TASK) sh -euc 'rust/build.sh program; bindings/cli/build.sh build/rust/scrypt_tool'
+	$(TASK) rust/build.sh program
 answers oracle migration: $(call built,program)
 	$(TASK) $(PY) tools.tests.$(@:answers=program) $(PROGRAM)

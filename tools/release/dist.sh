@@ -21,7 +21,7 @@ for PRESET in $presets; do
   export PRESET
   make -s linked
   . bindings/preset.sh
-  if [ "$system" = linux ]; then bindings/cli/build.sh; fi
+  if [ "$system" = linux ]; then rust/build.sh program "$(python3 -m tools.presets target "$PRESET")" "$build/bin/scrypt_tool"; fi
   cp "$parts/PROVED.txt" "$build"
   generators=TGZ\;DEB
   if [ "$system" = windows ]; then generators=ZIP; fi

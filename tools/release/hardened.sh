@@ -10,7 +10,7 @@ for file in "$@"; do
   missing() { echo "$file: $1" >&2; exit 1; }
   says '\(FLAGS(_1)?\).*NOW' || missing "no BIND_NOW"
   says 'GNU_RELRO' || missing "no RELRO"
-  says 'GNU_STACK.* RW +0x' || missing "a stack that can be run"
+  says 'GNU_STACK.* RW +0' || missing "a stack that can be run"
   if says 'TEXTREL|\((RPATH|RUNPATH)\)'; then missing "code that is changed when it is loaded, or a path of libraries"; fi
   { nm "$file" 2> /dev/null; nm -D "$file"; } | grep -q __stack_chk_fail || missing "no stack protection"
   case $file in

@@ -5,13 +5,12 @@ A run writes one line, to standard output for the statuses 0 and 1, and otherwis
 the other stream stays empty. The keys are from RFC 7914, section 12, and from Python's hashlib; the
 hashes are from tools/tests/known.py and bindings/cases.tsv.
 
-usage: python3 -m tools.tests.program PROGRAM    crates/scrypt_tool/out/scrypt_tool: the installed one is linked from it
-       python3 -m tools.tests.program EMULATOR.. PROGRAM    without the longest password and the counts of work
+usage: python3 -m tools.tests.program PROGRAM
+       python3 -m tools.tests.program EMULATOR.. PROGRAM    without the longest password, terminals and the counts of work
 """
 
 import hashlib
 import itertools
-import os
 import re
 import sys
 
@@ -327,16 +326,8 @@ def raw_keys(program):
         yield f"a raw key of {length} bytes", run([*program, "--raw", *f"key 4 1 1 {length} 00".split()], b"password"), (0, key, "")
 
 
-def terminal(program):
-    """Runs on a terminal, if the installed program can be linked here."""
-    if os.path.exists(f"{program[-1]}.o"):
-        yield from prompt.cases(program[-1])
-    else:
-        print("there is no object of the program next to it: not tried on a terminal")
-
-
 def main():
-    parts = [memory, rows, verdicts, long_passwords, raw_keys, salts, hash_files, information, streams, allocations.cases, terminal,
+    parts = [memory, rows, verdicts, long_passwords, raw_keys, salts, hash_files, information, streams, allocations.cases, prompt.cases,
              work.cases]
     sys.exit(not runs.report("program", itertools.chain(*(part(sys.argv[1:]) for part in parts))))
 

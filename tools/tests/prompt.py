@@ -1,9 +1,8 @@
-"""Runs the installed program on a terminal, where it asks for the password without echo and shows progress."""
+"""Runs the program on a terminal, where it asks for the password without echo and shows progress."""
 
+import hashlib
 import re
 import signal
-import subprocess
-import tempfile
 
 from tools.generate import header
 from tools.tests.known import HASHLIB
@@ -14,7 +13,9 @@ VERSION = f"scrypt_tool {header.VERSION}"
 KEY, HASH, VERIFY = "key 4 1 1 16 ", "hash phc 4 1 1 4e61436c", f"verify {HASHLIB}"
 ONCE, TWICE = ["Password: "], ["Password: ", "The same again: "]
 
-ENDING = signal.SIGALRM, signal.SIGHUP, signal.SIGINT, signal.SIGQUIT, signal.SIGTERM
+# The signals that end a program by default, but SIGKILL; the program ignores SIGPIPE.
+ENDING = sorted(signal.valid_signals() - {signal.SIGKILL, signal.SIGSTOP, signal.SIGTSTP, signal.SIGTTIN, signal.SIGTTOU,
+                                          signal.SIGCHLD, signal.SIGCONT, signal.SIGURG, signal.SIGWINCH, signal.SIGPIPE})
 
 # The arguments, the input typed at each prompt or the signal, the status (below 0 for a signal), the
 # lines on the terminal, and the reason.
@@ -34,7 +35,12 @@ ROWS = [
     (HASH, ["password\n", "pass\x1a", "password\n"], 0, [*TWICE, TWICE[1], HASHLIB], "Ctrl-Z at the second one"),
     (VERIFY, ["x" * 4094 + "\n"], 1, [*ONCE, "no"], "the longest one"),
     (VERIFY, ["x" * 4096 + "\n"], 4, [*ONCE, "The password may have been cut.", "input failed"], "one that Linux truncates"),
-    (HASH, ["pass\0word\n"], 4, [*ONCE, "The password may have been cut.", "input failed"], "one that Ctrl-Space truncates"),
+    (KEY, ["x" * 2048 + "\x04" + "x" * 2048 + "\n"], 4, [*ONCE, "The password may have been cut.", "input failed"],
+     "one that is longer in two parts"),
+    (KEY, ["pass\x04word\n"], 0, [*ONCE, "d33c6ec1818daaf728f55afadfeaa558"], "one in two parts"),
+    (KEY, ["pass\0word\n"], 0, [*ONCE, hashlib.scrypt(b"pass\0word", salt=b"", n=16, r=1, p=1, dklen=16).hex()],
+     "a zero byte, by Ctrl-Space, belongs to it"),
+    (VERIFY, [(signal.SIGWINCH, b"password\n")], 0, [*ONCE, "ok"], "a window of another size: no second question"),
     *((words, [*typed, it], -it, questions, f"signal {it}: echo is on again before it ends the program")
       for it in ENDING for words, typed, questions in [(VERIFY, [], ONCE), (HASH, ["password\n"], TWICE)]),
     ("verify $8$", [], 2, ["hash refused: EncodingInvalid"], "an error before the input: no prompt"),
@@ -42,6 +48,14 @@ ROWS = [
     (f"--raw {KEY}", [], 2, ["--raw does not write to a terminal"], "raw bytes for a terminal: no prompt"),
 ]
 
+# Commands of a shell with jobs, what is typed, the lines but those of the shell, and the reason. The second line is of
+# stty, while the program is stopped.
+ECHO = 'stty -a | grep -oE -- "-?echo "; fg > /dev/null'
+JOBS = [
+    (f'"$@"; {ECHO}', [b"pass\x1a", b"password\n"], [*ONCE, "echo ", *ONCE, "ok"], "Ctrl-Z, and in the foreground again"),
+    (f'"$@" & until grep -q "^State:.T" /proc/$!/status; do :; done; {ECHO}', [b"password\n"], ["echo ", *ONCE, "ok"],
+     "in the background it stops before it asks"),
+]
 
 # The bar of --progress until it is removed, or until Ctrl-C is typed.
 BAR = re.compile(rb"(?:\r\[[# ]{40}\] {1,3}\d+ %)+(?:\r {48,}\r|\^C)")
@@ -62,10 +76,17 @@ BARS = [
 def prompts(program):
     """Each row. The echo is off at each prompt, and then on again."""
     for words, typed, status, lines, reason in ROWS:
-        answers = [it if isinstance(it, int) else it.encode() for it in typed]
+        answers = [it.encode() if isinstance(it, str) else it for it in typed]
         ended, shown, echo = session([program, *words.split(" ")], answers)
         written = shown.decode().removesuffix("\r\n").split("\r\n")
         yield f"on a terminal, {words!r} ({reason})", (ended, written, echo), (status, lines, [False] * len(typed) + [True])
+
+
+def jobs(program):
+    for shell, typed, lines, reason in JOBS:
+        ended, shown, echo = session(["bash", "-mc", shell, "bash", program, *VERIFY.split(" ")], typed)
+        written = [it for it in shown.decode().split("\r\n") if it and it[0] != "["]
+        yield f"{shell} ({reason})", (ended, written, echo), (0, lines, [False] * len(typed) + [True])
 
 
 def shown_by(words, answers):
@@ -89,11 +110,8 @@ def bars(program):
     yield "Ctrl-C at the bar", ended, (-signal.SIGINT, b"Password: \r\n", [False, True, True])
 
 
-def cases(program):
-    """The cases of the program that is linked from the proved one."""
-    with tempfile.TemporaryDirectory() as folder:
-        linked = f"{folder}/scrypt_tool"
-        subprocess.run([header.TOP / "bindings/cli/build.sh", program, linked], check=True)
-        subprocess.run([header.TOP / "tools/release/hardened.sh", linked], check=True)
-        yield from prompts(linked)
-        yield from bars(linked)
+def cases(words):
+    if len(words) == 1:  # not in an emulator
+        yield from prompts(*words)
+        yield from jobs(*words)
+        yield from bars(*words)

@@ -2,7 +2,6 @@
 
 import os
 import pty
-import select
 import signal
 import termios
 
@@ -13,16 +12,12 @@ def has_echo(terminal):
 
 
 def send(pid, terminal, answer):
-    """Types an answer or sends a signal. A signal that arrives before readpassphrase waits for its input is not seen
-    until another one arrives, so it is sent again if the program prints nothing for a second."""
-    while True:
-        if isinstance(answer, int):
-            os.kill(pid, answer)
+    """Types an answer, sends a signal, or does one after the other."""
+    for part in answer if isinstance(answer, tuple) else [answer]:
+        if isinstance(part, int):
+            os.kill(pid, part)
         else:
-            os.write(terminal, answer)
-        is_signal = isinstance(answer, int) or answer[-1:] in (b"\x03", b"\x1a")
-        if not is_signal or select.select([terminal], [], [], 1)[0]:
-            return
+            os.write(terminal, part)
 
 
 def read(terminal):

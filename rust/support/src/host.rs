@@ -11,7 +11,7 @@ use std::io::{self, ErrorKind, Read, Write};
 use std::os::fd::FromRawFd;
 
 unsafe extern "C" {
-    fn read(stream: c_int, to: *mut c_void, len: usize) -> isize;
+    fn read_or_ask(to: *mut c_void, len: usize, is_new: c_int) -> isize;
     fn write(stream: c_int, from: *const c_void, len: usize) -> isize;
     fn open(name: *const c_char, flags: c_int, ...) -> c_int;
     fn isatty(stream: c_int) -> c_int;
@@ -54,17 +54,22 @@ pub struct HostRuntime {
     words: &'static [*const c_char],
 }
 
-/// A stream without a buffer.
+/// The standard input, which asks for the password if it is a terminal (bindings/cli/terminal.c).
+pub struct Input {
+    is_new: bool,
+}
+
+/// An output without a buffer.
 pub struct Stream(c_int);
 
 fn counted(result: isize) -> io::Result<usize> {
     usize::try_from(result).map_err(|_| io::Error::last_os_error())
 }
 
-impl Read for Stream {
+impl Read for Input {
     fn read(&mut self, bytes: &mut [u8]) -> io::Result<usize> {
         loop {
-            match counted(unsafe { read(self.0, bytes.as_mut_ptr().cast(), bytes.len()) }) {
+            match counted(unsafe { read_or_ask(bytes.as_mut_ptr().cast(), bytes.len(), self.is_new.into()) }) {
                 Err(error) if error.kind() == ErrorKind::Interrupted => {}
                 ended => return ended,
             }
@@ -148,8 +153,11 @@ impl HostRuntime {
         }
     }
 
-    pub fn stdin(&self) -> Stream {
-        Stream(0)
+    /// The password is a new one, which is asked for twice, if the first word that is no option is `hash`.
+    pub fn stdin(&self) -> Input {
+        let words = self.words.iter().skip(1).map(|word| unsafe { CStr::from_ptr(*word) }.to_bytes());
+        let command = words.skip_while(|word| word.starts_with(b"--")).next();
+        Input { is_new: command == Some(b"hash") }
     }
 
     pub fn stdout(&self) -> Stream {
