@@ -35,6 +35,7 @@ esac
 case ${1:-} in
   erase) exit ;;
   '')
+    (cd "$top" && python3 -B -m rust.test_check > /dev/null)
     cargo clippy --all-targets --features proved-scrypt/getrandom -- -D warnings
     RUSTDOCFLAGS="-D warnings" cargo doc --no-deps --package 'proved-scrypt*' --features proved-scrypt/getrandom
     # Some tests take all memory that the process may have. One reads the peak of the process's memory, in which a second

@@ -1,7 +1,7 @@
 #!/usr/bin/env python3
 """Checks an erasure, and shares no code with the eraser. It reads each source beside what was written of it. What is
-missing has to be one whole ghost item, known by where it stands (`ghosts`); what differs has to be a rule of rules.py,
-each of which has to be used; all other tokens have to be there, in order. It prints how many items of each kind are missing.
+missing has to be one whole ghost item, known by where it stands (`ghosts`), what differs a rule of rules.py, and all
+other tokens have to be there, in order. It prints how many items of each kind are missing, and wants each rule used.
 
 usage: python3 -m rust.check OUTPUT      (from the top of the repository)
 """
@@ -16,7 +16,6 @@ from rust import rules
 
 LEX = re.compile(r"""//.*|\s+|(b?r(\#*)"(?:.|\n)*?"\2|b?"(?:[^"\\]|\\(?:.|\n))*"|"""
                  r"""b?'(?:[^'\\]|\\[^u]|\\u\{\w+\})'|'?\w+|\S)""")
-PAIRS = {"(": ")", "[": "]", "{": "}"}
 # Ghost items of fixed words: their kind, the item, and the words after it.
 FIXED = [("allocator", "use std::alloc::Global;", ""), ("allocator", "let alloc = rt.alloc();", ""),
          ("model", "use std::marker::Model;", ""), ("Drop", "#[derive(Drop)]", ""), ("Drop", ", Drop", ")]"),
@@ -35,10 +34,10 @@ class Text:
         self.name, self.text, self.words = name, text, [*lex(text), *[""] * 9]
         self.partners, self.around, opened = {}, [], []
         for i, word in enumerate(self.words):
-            if word and word in PAIRS.values():
+            if word in (")", "]", "}"):
                 self.partners |= {i: opened[-1], opened.pop(): i}
             self.around.append(self.words[opened[-1]] if opened else "")
-            if word in PAIRS:
+            if word in ("(", "[", "{"):
                 opened.append(i)
 
     def has(self, i, text):
@@ -46,99 +45,88 @@ class Text:
 
     def fault(self, i, what):
         start = [it.start() for it in LEX.finditer(self.text) if it[1]][i:i + 1]
-        line = self.text.count("\n", 0, *start) + 1
-        raise ValueError(f"line {line}: {what} {' '.join(self.words[i:i + 12])}")
+        raise ValueError(f"line {self.text.count(chr(10), 0, *start) + 1}: {what} {' '.join(self.words[i:i + 12])}")
 
+    def head(self, i, found):
+        """Adds the clauses and ghost parameters before the body of the function at i, where Rust has only a type and
+        `where`. Returns the index of the body, or of the semicolon."""
+        w = self.words
+        while w[i] not in ("{", ";"):
+            if w[i] in ("requires", "ensures", "ghost"):
+                brace = i + (3 if w[i] == "ghost" and w[i + 2] == ":" else 1 if w[i + 1] == "{" else 2)
+                found[i] = "ghost parameter" if w[i] == "ghost" else "clause", self.partners[brace] + 1
+                i = found[i][1]
+            else:
+                i = self.partners.get(i, i) + 1
+        return i
 
-def head(text, i, found):
-    """Adds the clauses and ghost parameters between the parameters of the function at i and its body, where Rust has a
-    type and `where` alone. Returns the index of the body, or of the semicolon."""
-    w = text.words
-    while w[i] != "(":
-        i += 1
-    while w[i] not in ("{", ";"):
-        if w[i] in ("requires", "ensures", "ghost"):
-            brace = i + (3 if w[i] == "ghost" and w[i + 2] == ":" else 1 if w[i + 1] == "{" else 2)
-            found[i] = "ghost parameter" if w[i] == "ghost" else "clause", text.partners[brace] + 1
-            i = found[i][1]
-        else:
-            i = text.partners[i] + 1 if w[i] in PAIRS else i + 1
-    return i
+    def member(self, i):
+        """The ghost import, field or item at i: no item of Rust begins so."""
+        w, end = self.words, self.partners.get(i + 3, 0) + 1
+        begin = i - (w[i - 1] == "pub")
+        if w[i + 1] == "use" and w[begin - 1] in ("", ";", "{", "}", "]"):
+            return begin, "ghost use", w.index(";", i) + 1
+        if w[i + 2] in (":", "=") and w[i + 3] == "{" and w[begin - 1] in (";", "{", "}", ",") and w[end] in (",", ";"):
+            return begin, "ghost member", end + 1
+        return self.fault(i, "not a ghost item:")
 
+    def other(self, i, jumps):
+        """The ghost item at i that its words tell, with what is around them, if there is one."""
+        w, at = self.words, i + 1 + (self.words[i + 1] == "!")
+        for kind, item, after in FIXED:
+            if self.has(i, item) and self.has(i + len(lex(item)), after):
+                return i, kind, i + len(lex(item))
+        if w[i] == "#" and self.has(at, "[tactic(") and self.partners[at + 2] == self.partners[at] - 1:
+            return i, "tactic", self.partners[at] + 1
+        if w[i][:1] == "'" and w[i + 1] == ":" and w[i + 2] in ("for", "while", "loop") and w[i] not in jumps:
+            return i, "label", i + 2
+        for form in rules.ARGUMENTS + rules.RUNTIMES * ("_tests/" in self.name):
+            end = i + len(lex(form))  # of a whole parameter or argument
+            if self.has(i, form) and self.around[i] + w[i - 1] in ("((", "(,") and w[end] in (",", ")"):
+                return i, "allocator", end + (w[end] == ",")
 
-def member(text, i):
-    """The ghost import, field or item at i: no item of Rust begins so."""
-    w, end = text.words, text.partners.get(i + 3, 0) + 1
-    begin = i - (w[i - 1] == "pub")
-    if w[i + 1] == "use" and w[begin - 1] in ("", ";", "{", "}", "]"):
-        return begin, "ghost use", w.index(";", i) + 1
-    if w[i + 2] in (":", "=") and w[i + 3] == "{" and w[begin - 1] in (";", "{", "}", ",") and w[end] in (",", ";"):
-        return begin, "ghost member", end + 1
-    return text.fault(i, "not a ghost item:")
+    def ghosts(self):
+        """The ghost items by where they begin, with their kind and end; and the bodies of the functions."""
+        w, found, bodies, models = self.words, {}, {}, []
+        jumps = {name for word, name in zip(w, w[1:]) if word in ("break", "continue")}
+        for i, word in enumerate(w[:-9]):
+            if word == "fn" and w[i + 1].isidentifier():
+                bodies[i] = self.head(i, found)
+            elif word == "impl" and "Model" in w[i:w.index("{", i)]:
+                models.append(i)
+            elif i not in found and (item := self.member(i) if word == "ghost" else self.other(i, jumps)):
+                found[item[0]] = item[1:]
+        for i in models:  # all items of which are ghost
+            at = w.index("{", i) + 1
+            while w[at] != "}":
+                at = found[at][1] if at in found else self.fault(at, "not a ghost item:")
+            found[i] = "model", at + 1
+        return found, bodies
 
-
-def other(text, i, jumps):
-    """The ghost item at i that its words tell, with what is around them, if there is one."""
-    w, at = text.words, i + 1 + (text.words[i + 1] == "!")
-    for kind, item, after in FIXED:
-        if text.has(i, item) and text.has(i + len(lex(item)), after):
-            return i, kind, i + len(lex(item))
-    if w[i] == "#" and text.has(at, "[tactic(") and text.partners[at + 2] == text.partners[at] - 1:
-        return i, "tactic", text.partners[at] + 1
-    if w[i][:1] == "'" and w[i + 1] == ":" and w[i + 2] in ("for", "while", "loop") and w[i] not in jumps:
-        return i, "label", i + 2
-    for form in rules.ARGUMENTS + rules.RUNTIMES * ("_tests/" in text.name):
-        end = i + len(lex(form))  # of a whole parameter or argument
-        if text.has(i, form) and text.around[i] + w[i - 1] in ("((", "(,") and w[end] in (",", ")"):
-            return i, "allocator", end + (w[end] == ",")
-    return None
-
-
-def ghosts(text):
-    """The ghost items by where they begin, with their kind and end; and the bodies of the functions."""
-    w, found, bodies, models = text.words, {}, {}, []
-    jumps = {name for word, name in zip(w, w[1:]) if word in ("break", "continue")}
-    for i, word in enumerate(w[:-9]):
-        if word == "fn" and w[i + 1].isidentifier():
-            bodies[i] = head(text, i, found)
-        elif word == "impl" and "Model" in w[i:w.index("{", i)]:
-            models.append(i)
-        elif i not in found and (item := member(text, i) if word == "ghost" else other(text, i, jumps)):
-            found[item[0]] = item[1:]
-    for i in models:  # all items of which are ghost
-        at = w.index("{", i) + 1
-        while w[at] != "}":
-            at = found[at][1] if at in found else text.fault(at, "not a ghost item:")
-        found[i] = "model", at + 1
-    return found, bodies
-
-
-def extent(text, mark, bodies):
-    """Where the function or `impl` that begins with these words does, at its attributes and its `pub`, and its end."""
-    w, i = text.words, next(at for at in range(len(text.words)) if text.has(at, mark))
-    end = text.partners[bodies.get(i) or w.index("{", i)] + 1
-    while w[i - 1] == "pub" or w[i - 1] in (")", "]") and w[text.partners[i - 1] - 1] in ("pub", "#"):
-        i = i - 1 if w[i - 1] == "pub" else text.partners[i - 1] - 1
-    return i, end
+    def extent(self, mark, bodies):
+        """Where the function or `impl` that begins with these words does, with its attributes and `pub`, and ends."""
+        w, i = self.words, next(at for at in range(len(self.words)) if self.has(at, mark))
+        end = self.partners[bodies[w.index("fn", i)] if "fn " in mark else w.index("{", i)] + 1
+        while w[i - 1] == "pub" or w[i - 1] in (")", "]") and w[self.partners[i - 1] - 1] in ("pub", "#"):
+            i = i - 1 if w[i - 1] == "pub" else self.partners[i - 1] - 1
+        return i, end
 
 
 def compare(name, source, written):
     """How often each kind of item is missing, and each rule was used. A ValueError names the first difference."""
     text, result, counted, rows, wraps = Text(name, source), Text(name, written), collections.Counter(), {}, {}
-    w, (found, bodies), i, j = text.words, ghosts(text), 0, 0
+    w, (found, bodies), i, j, start = text.words, text.ghosts(), 0, 0, 0
     heads = [it for it in (rules.ROOTS.get(name), *rules.ALLOCATED.values(), rules.GROWTH_TRAITS) if it]
     for row in rules.of(name):
         rows.setdefault(lex(row[0])[0], []).append(row)
-    for begin, end in [extent(text, f"fn {level}", bodies) for level in rules.LEVELS.get(name, ())]:
+    for begin, end in [text.extent(f"fn {level}", bodies) for level in rules.LEVELS.get(name, ())]:
         wraps[begin], wraps[end] = wraps.get(begin, "") + "support::levels! {", "}" + wraps.get(end, "")
-    for mark in rules.BY_HAND.get(name, ()):
-        begin, end = extent(text, mark, bodies)
-        found[begin] = "by hand", end
+    found |= {begin: ("by hand", end) for begin, end in (text.extent(it, bodies) for it in rules.BY_HAND.get(name, ()))}
     while w[i] or i in wraps:
-        added = [it for it in heads if result.has(j, it) and (i == 0 or w[i] == "use")]
-        if added or i in wraps:
-            rule = "", added[0] if added else wraps.pop(i)
-            heads = [it for it in heads if it not in added]
+        if j == start and (added := [it for it in heads if result.has(j, it)]):  # before all that is kept
+            rule, heads, start = ("", added[0]), heads[heads.index(added[0]) + 1:], j + len(lex(added[0]))
+        elif i in wraps:
+            rule = "", wraps.pop(i)
         elif i in found:
             kind, i = found[i]
             counted[kind] += 1
@@ -151,20 +139,20 @@ def compare(name, source, written):
             text.fault(i, f"{' '.join(result.words[j:j + 12])} was written for")
         counted[rule] += rule[0] != rule[1]
         i, j = i + len(lex(rule[0])), j + len(lex(rule[1]))
-    if result.words[j:-9] != lex(rules.ADDED.get(name, "")) or rules.ROOTS.get(name) in heads:
+    if result.words[j:-9] != lex(rules.ADDED.get(name, "")) or not result.has(0, rules.ROOTS.get(name, "")):
         text.fault(0, "the file's end or head is another:")
     return counted
 
 
 def main(output, more_rules=()):
     counted, faults, every = collections.Counter(), [], [*rules.every(), *more_rules]
-    expected = {*(f"{folder}/{file}" for file, folder in rules.FILES.items()), *(f"scrypt_c/src/{file}" for file in rules.EXPORTS)}
+    expected = {f"scrypt_c/src/{file}" for file in rules.EXPORTS} | {f"{to}/{file}" for file, to in rules.FILES.items()}
     for path in sorted(Path("crates").glob("*/src/**/*.rt")):
         name = path.relative_to("crates").as_posix()
         expected.add(name.removesuffix("rt") + "rs")
         try:
             counted += compare(name, path.read_text(), Path(output, name).with_suffix(".rs").read_text())
-        except (ValueError, LookupError, StopIteration) as fault:
+        except (ValueError, LookupError, StopIteration, OSError) as fault:
             faults.append(f"{name}: {fault}")
     for path in Path("crates").iterdir():
         found = {it.relative_to(output).as_posix() for it in Path(output, path.name, "src").rglob("*.rs")}

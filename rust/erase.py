@@ -3,9 +3,9 @@
 
 usage: python3 -m rust.erase OUTPUT [--clauses]      (from the top of the repository)
 
-It deletes whole items (rules.DELETED), replaces what the kit's std and ports have in another form (rules.REPLACED), and
-adds the manifests, the files that are written by hand, and what exports the calls to C. rust/check.py shows that the
-result is the source but for that; rustfmt lays it out. With --clauses the clauses of functions stay as comments.
+It deletes whole items (rules.DELETED), replaces what the kit's std has in another form (rules.REPLACED), and adds the
+manifests, the files written by hand and what exports the calls to C. rust/check.py shows that the result is the source
+but for that; rustfmt lays it out. With --clauses the clauses of functions stay as comments.
 """
 
 import functools
@@ -70,15 +70,13 @@ class Source:
         return i
 
     def deleted(self, i):
-        """The kind of what is deleted at i and the index after it, or None."""
+        """The kind of what is deleted at i, the index after it, and what marks its place; or None."""
         for kind, before, item, after in forms().get("LABEL" if self.words[i][:1] == "'" else self.words[i], ()):
             end = self.end(i, item) if self.words[i - len(before):i] == before or not before else None
             if end and self.end(end, after) is not None and (kind != "runtime" or "_tests/" in self.name):
-                return kind, end
-        at = self.end(i, words("#[inline(always)]")) or i
-        if any(self.end(at, words(item)) for item in rules.BY_HAND.get(self.name, ())):
-            return "by hand", self.partner[self.body(at)] + 1
-        return None
+                return kind, end, MARKS.get(kind, "\x02")
+        if any(self.end(i, words(item)) for item in rules.BY_HAND.get(self.name, ())):
+            return "by hand", self.partner[self.body(i)] + 1, MARKS["by hand"]
 
     def body(self, i):
         """The index of the brace that begins the body of the item at i, after its clauses."""
@@ -88,39 +86,33 @@ class Source:
         return i
 
     def replaced(self, i):
-        """The index after what is replaced at i, and the new text, or None."""
+        """The same of what is replaced at i: the new text is in its place."""
         for old, new in self.rules:
             if self.words[i] == old[0] and self.words[i:i + len(old)] == old:
-                return i + len(old), new
+                return "replaced", i + len(old), new
         w = self.words
         if w[i] in rules.GROWTH and w[i - 1] in (".", ":") and w[i + 1] == "(":
             end = self.partner[i + 1] + 1
             if (w[end] == "?" or w[end + 1] == "unwrap" or w[i + 2] == "alloc") and w[i - 2:i + 1] not in rules.OWN:
-                return i + 1, f"checked_{w[i]}"
-        return None
+                return "replaced", i + 1, f"checked_{w[i]}"
 
     def edits(self):
         """Where what changes begins and ends in the text, its kind, and the new text."""
-        i, first, kept, edits = 0, None, set(), []
+        i, kept, edits = 0, {}, []
         while i < len(self.tokens):
-            start, (begin, after) = i, self.tokens[i].span()
-            if found := self.deleted(i):
-                kind, i = found
-                edits.append((begin, self.tokens[i - 1].end(), kind, MARKS.get(kind, "\x02")))
-            elif found := self.replaced(i):
-                i, new = found
-                edits.append((begin, self.tokens[i - 1].end(), "replaced", new))
+            begin = self.tokens[i].start()
+            if found := self.deleted(i) or self.replaced(i):
+                kind, i, new = found
+                edits.append((begin, self.tokens[i - 1].end(), kind, new))
             else:
                 if self.words[i] == "fn" and self.words[i + 1] in rules.LEVELS.get(self.name, ()):
                     head = re.search(r"(?:///.*\n|#\[.*\n)*.*\Z", self.text[:begin]).start()
                     end = self.tokens[self.partner[self.body(i)]].end()
                     edits += [(head, head, "replaced", "support::levels! {\n"), (end, end, "replaced", "\n}")]
-                first = begin if self.words[i] == "use" and first is None else first
-                kept.add(self.words[i])
+                kept.setdefault(self.words[i], begin)
                 i += 1
-        heads = rules.heads(self.name, kept, any(new.startswith("checked_") for *_, new in edits))
-        first = self.tokens[0].start() if self.name in rules.ROOTS else first
-        return edits + [(first, first, "replaced", heads)] * bool(heads)
+        first, grows = min(kept.values(), default=0), any(new.startswith("checked_") for *_, new in edits)
+        return [*edits, (first, first, "replaced", rules.heads(self.name, kept, grows))]
 
     def erased(self, keeps_clauses=False):
         text, at = "", 0
@@ -143,16 +135,15 @@ def exported(file, name, source, erased):
             how, there, here = next(row for row in rules.PASSED[file] if re.fullmatch(row[0], kind))
             given.append(there.format(word, kind, *re.fullmatch(how, kind).groups()))
             passed.append(here.format(word))
-        inner = f"crate::{Path(name).stem}::{call}({', '.join(passed)})"
-        symbol = call if is_wide else f"proved_{call}"  # bindings/c has calls of its own by these names
         if not is_wide or call in rules.JAVASCRIPT:
-            text += f'\n#[unsafe(no_mangle)]\npub unsafe extern "C" fn {symbol}({", ".join(given)}){result}'
-            text += f" {{\nunsafe {{ {inner} }}\n}}\n"
+            symbol = call if is_wide else f"proved_{call}"  # bindings/c has calls of its own by these names
+            text += f'\n#[unsafe(no_mangle)]\npub unsafe extern "C" fn {symbol}({", ".join(given)}){result} {{\n'
+            text += f"unsafe {{ crate::{Path(name).stem}::{call}({', '.join(passed)}) }}\n}}\n"
     return text
 
 
 def main(output, *options):
-    here, exports = Path(__file__).parent, dict(rules.EXPORTS)
+    here, sources = Path(__file__).parent, []
     shutil.copytree(here / "crates", output, dirs_exist_ok=True)
     shutil.copytree(here / "support", Path(output, "support"), dirs_exist_ok=True)
     for path in sorted(Path("crates").glob("*/src/**/*.rt")):
@@ -161,10 +152,9 @@ def main(output, *options):
         to = Path(output, name).with_suffix(".rs")
         to.parent.mkdir(parents=True, exist_ok=True)
         to.write_text(erased + rules.ADDED.get(name, ""))
-        for file in exports:
-            exports[file] += exported(file, name, text, erased)
-    for file, text in exports.items():
-        Path(output, "scrypt_c/src", file).write_text(text)
+        sources.append((name, text, erased))
+    for file, head in rules.EXPORTS.items():
+        Path(output, "scrypt_c/src", file).write_text(head + "".join(exported(file, *it) for it in sources))
     for file, folder in rules.FILES.items():
         shutil.copy(here / "by_hand" / file, Path(output, folder))
 

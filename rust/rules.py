@@ -1,13 +1,13 @@
-"""What the erasure deletes, replaces, and takes from files that are written by hand. rust/erase.py does it, and rust/check.py
-allows no more; each row has its reason."""
+"""What the erasure deletes, replaces, and takes from files written by hand, each with its reason. rust/erase.py does it,
+and rust/check.py allows no more."""
 
 import functools
 
 from rust import wide
 
-# What is deleted: by kind, why, and the forms of it. A form is an item, or what has to be before it|the item|what has to
-# be after it. NAME is any name, LABEL a loop's that no `break` and no `continue` names, and `…` all that the next bracket
-# closes, or all up to the next token.
+# What is deleted: by kind, why, and its forms. A form is an item, or what has to be before it|the item|what has to be
+# after it. NAME is any name, LABEL a loop's that no `break` and no `continue` names, and `…` all that the next bracket
+# closes, or all up to the next token. The check does not use these forms.
 ARGUMENTS = ["alloc: Global", "_alloc: Global", "rt.alloc()", "alloc"]
 RUNTIMES = ["rt: HostRuntime", "rt: &HostRuntime", "rt", "&rt"]
 
@@ -21,7 +21,8 @@ DELETED = {
                [f"{word}{name} {{…}}" for word in ("requires", "ensures") for name in ("", " NAME")]),
     "ghost use": ("an import of names for clauses", ["ghost use …;"]),
     "ghost member": ("a ghost member, field, parameter or argument",
-                     [f"{pub}ghost NAME{mark} {{…}}{end}" for pub in ("", "pub ") for mark in ":=" for end in (",", ";", "")]),
+                     [f"{pub}ghost NAME{mark} {{…}}{end}"
+                      for pub in ("", "pub ") for mark in ":=" for end in (",", ";", "")]),
     "tactic": ("an attribute for the prover", ["#[tactic(…)]", "#![tactic(…)]"]),
     "model": ("how clauses see a type",
               ["use std::marker::Model;", "impl Model for NAME {…}", "impl<…> Model for NAME<…> {…}"]),
@@ -62,19 +63,23 @@ REPLACED = [
     ("String::from_utf8(text)", "support::ascii::string_of(text)", "the same"),
     ("&x[k * len..k * len + len]", "support::row(x, k * len, len)",
      "where a row of the table begins is secret: the C library has no branch on it"),
-    ("&self.words[self.starts[k]..self.starts[k] + self.len]", "support::row(self.words, self.starts[k], self.len)", "the same"),
+    ("&self.words[self.starts[k]..self.starts[k] + self.len]",
+     "support::row(self.words, self.starts[k], self.len)", "the same"),
     ("pub trait OrderedBlocks: Copy {", "pub trait OrderedBlocks: Copy + support::simd::AtLevel {",
      "the level of the processor, which the type names: the kit builds for one level"),
     ("pub trait Lanes: Copy {", "pub trait Lanes: Copy + support::simd::AtLevel {", "the same"),
     ("let most = W::max_interleave(); match n {", "let most = W::max_interleave(); support::at_level!(L => match n {",
      "the same: once for each level"),
     ("_ => unreachable!(), } }", "_ => unreachable!(), }) }", "the same"),
-    *((f"{call}::<Diagonal<{old}>", f"{call}::<Diagonal<{new}>", "the same") for call in ("mix_group", "step_chunks") for old, new in (
+    *((f"{call}::<Diagonal<{old}>", f"{call}::<Diagonal<{new}>", "the same")
+      for call in ("mix_group", "step_chunks") for old, new in (
         ("u32x4", "Four<L>"), ("u32x8", "Eight<L>"), ("Both<u32x8, u32x4>", "Both<Eight<L>, Four<L>>"),
         ("Both<u32x8, u32x8>", "Both<Eight<L>, Eight<L>>"))),
-    ("pub mod both; pub mod scalars;", "pub mod both; pub mod scalars; mod vectors;", "the vectors of each level, by hand"),
+    ("pub mod both; pub mod scalars;", "pub mod both; pub mod scalars; mod vectors;",
+     "the vectors of each level, by hand"),
     ("use std::simd::{Simd, u32x4, u32x8};", "use support::simd::u32x4;", "the same"),
-    ("use crate::parts::Parts; use std::simd::{u32x4, u32x8};", "use crate::parts::Parts; use support::simd::u32x4;", "the same"),
+    ("use crate::parts::Parts; use std::simd::{u32x4, u32x8};",
+     "use crate::parts::Parts; use support::simd::u32x4;", "the same"),
     ("use std::simd::{u32x4, u32x8};", "use support::simd::{Eight, Four, u32x4};", "the same"),
     ("std::simd", "support::simd", "std::simd is not stable"),
     ("let n = O::count(); let len = 32 * r;", "support::simd::require::<O>(); let n = O::count(); let len = 32 * r;",
@@ -116,7 +121,8 @@ REPLACED = [
     ("env::args(rt)?.skip(1).collect(rt.alloc())?", "rt.words()?", "the same"),
     ("let alloc = *self.text.allocator();", "", "std's String has no allocator"),
     ("pub trait PasswordHasher<H> {", "pub trait PasswordHasher<H> {" + DRAWING, "crates/ has no random bytes"),
-    ("hash_password(", "hash_password_with_drawn_salt(", "the same: `hash_password` draws the salt, as in the crate scrypt"),
+    ("hash_password(", "hash_password_with_drawn_salt(",
+     "the same: `hash_password` draws the salt, as in the crate scrypt"),
 ]
 # Crates that need no operating system: `std` is `core` in them, and what allocates is the crate alloc's.
 NO_STD = {"scrypt_kernel", "password_hash", "scrypt", "scrypt_c"}
@@ -124,13 +130,15 @@ ROOTS = {
     **{f"{name}/src/lib.rt": "#![no_std]\n\nextern crate alloc;\n\n" for name in NO_STD},
     "scrypt_tool/src/main.rt": "#![cfg_attr(not(test), no_main)]\n\n",
     # An example in README needs the feature, so that README is no test without it.
-    "scrypt/src/lib.rt": "#![no_std]\n#![cfg_attr(any(not(doctest), feature = \"getrandom\"), doc = include_str!(\"../README.md\"))]\n\n"
-                         "extern crate alloc;\n\n",
+    "scrypt/src/lib.rt":
+        "#![no_std]\n"
+        "#![cfg_attr(any(not(doctest), feature = \"getrandom\"), doc = include_str!(\"../README.md\"))]\n\n"
+        "extern crate alloc;\n\n",
 }
 GROWTH_TRAITS = "use support::growth::*;\n"
 ALLOCATED = {"String": "use alloc::string::String;\n", "Vec": "use alloc::vec::Vec;\n"}
-# Calls that allocate: in the kit they return a Result, as support's checked_.. do, and std's abort. A Result is used: `?` or
-# `unwrap` is after the call. What is not support's, such as a push_str of an ArrayString, does not compile by this name.
+# Calls that allocate: in the kit they return a Result, as support's checked_.. do, and std's abort. A Result is used:
+# `?` or `unwrap` is after the call. By a wrong name, such as checked_push_str of an ArrayString, it does not compile.
 GROWTH = {"push", "push_str", "extend_from_slice", "resize", "resize_with", "reserve", "with_capacity", "to_vec",
           "to_string", "from_str", "repeat", "replace", "read_to_string"}
 # Functions in which all that is for a level is inlined, by their files.
@@ -141,14 +149,14 @@ LEVELS = {
 }
 # Items of these files that the file vectors.rs has in their place, for each level.
 BY_HAND = {
-    "scrypt_kernel/src/cores/simd.rt": ["impl Lanes for u32x4", "impl Lanes for u32x8", "fn plus<const N", "fn xor<const N",
-                                        "fn four_of<const N", "fn xor_rotated<const N"],
+    "scrypt_kernel/src/cores/simd.rt": [
+        "impl Lanes for u32x4", "impl Lanes for u32x8",
+        *(f"#[inline(always)] fn {name}<const N" for name in ("plus", "xor", "four_of", "xor_rotated"))],
     "scrypt_kernel/src/cores/simd/both.rt": ["impl Half for u32x4", "impl Half for u32x8"],
 }
 # Files that are written by hand, and the folders that they are in.
 FILES = {"vectors.rs": "scrypt_kernel/src/cores/simd", "with_64_bits.rs": "scrypt_c/src"}
-# The calls that the module for JavaScript exports, and how they take each type there, on 32 bits: each address, length and
-# number of type usize has 64 bits, as in the proofs (wide.py).
+# The calls that the module for JavaScript exports, on 32 bits.
 JAVASCRIPT = set("""
 scrypt_hash_mcf_with_buffers scrypt_hash_cost scrypt_hash_params scrypt_hash_phc_with_buffers scrypt_kdf_with_buffers
 scrypt_key_begin scrypt_key_finish scrypt_key_step scrypt_default_limits scrypt_needs_rehash scrypt_params_cost
@@ -161,10 +169,12 @@ EXPORT = """//! The functions that C calls: each slice is a pointer and a length
 """
 EXPORTS = {
     "c_abi.rs": EXPORT.format("", "use crate::cost::Cost;\nuse scrypt::Progress;\nuse support::{slice, slice_mut};"),
-    "c_abi_64.rs": EXPORT.format(", of 64 bits each", "use crate::with_64_bits::{limited, place, progress, slice, slice_mut};"),
+    "c_abi_64.rs": EXPORT.format(", of 64 bits each",
+                                 "use crate::with_64_bits::{limited, place, progress, slice, slice_mut};"),
 }
-# How these take each type: a pattern of it, the parameters, with {0} for the name and {2} for the pattern's group, and what
-# the proved function is passed.
+# How these take each type: a pattern of it, the parameters, with {0} for the name and {2} for the pattern's group, and
+# what the proved function is passed. For JavaScript each address, length and number of type usize has 64 bits, as in
+# the proofs (wide.py).
 PASSED = {
     "c_abi.rs": [
         (r"&(?:'\w+ )?\[(\w+)\]", "{0}: *const {2}, {0}_count: usize", "slice({0}, {0}_count)"),
@@ -206,7 +216,7 @@ def heads(name, kept, grows):
 
 def of(name):
     """The replacements in this file: old text, new text."""
-    is_inlined = [("#[inline]", "#[inline(always)]")] if name in BY_HAND else []  # methods of a level have to be inlined
+    is_inlined = [("#[inline]", "#[inline(always)]")] if name in BY_HAND else []  # what is for a level
     core = [("std::", "core::")] if is_no_std(name) else []
     return [*wide.WIDE.get(name, []), *((old, new) for old, new, _ in REPLACED), *is_inlined, *core]
 

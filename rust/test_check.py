@@ -11,18 +11,20 @@ from pathlib import Path
 from rust import check, erase, rules
 
 WALK, SALSA, HASH = "scrypt_kernel/src/walk.rt", "scrypt_kernel/src/cores/salsa.rt", "scrypt_examples/src/hash.rt"
-USAGE, MIXING = "scrypt_commands/src/usage.rt", "scrypt/src/derivation/mixing.rt"
+USAGE, MIXING, ERROR = "scrypt_commands/src/usage.rt", "scrypt/src/derivation/mixing.rt", "password_hash/src/error.rt"
 # What is planted in the text that was written of a source.
 WRITTEN = [
     ("a deleted statement", WALK, "x.copy_from_slice(next);", ""),
-    ("a deleted loop", WALK, "for k in 0..(row.len() / 16).min(8) {\n        seen = seen | vector(row, 4 * k);\n    }", ""),
+    ("a deleted loop", WALK, """for k in 0..(row.len() / 16).min(8) {
+        seen = seen | vector(row, 4 * k);
+    }""", ""),
     ("a deleted body of a loop", WALK, "seen = seen | vector(row, 4 * k);", ""),
     ("a deleted return", HASH, "return Ok(None);", ""),
     ("a deleted question mark", HASH, "needs_rehash(&Params::default())?", "needs_rehash(&Params::default())"),
     ("a deleted argument", WALK, "(x, v, next, spare, len, log_n, s, cores)", "(x, v, next, len, log_n, s, cores)"),
     ("a deleted parameter", WALK, "    missing: usize,\n", ""),
     ("a deleted branch", WALK, "mix_recomputed::<O>(x, kept, missing, next, spare, len, cores);", ""),
-    ("a deleted else", WALK, "else {\n        let kept = part(x.len(), v, j >> s);", "{\n        let kept = part(x.len(), v, j >> s);"),
+    ("a deleted else", WALK, "else {\n        let kept", "{\n        let kept"),
     ("a deleted negation", HASH, "if !StoredHash", "if StoredHash"),
     ("a deleted mut", WALK, "let mut seen", "let seen"),
     ("a deleted attribute", WALK, "#[inline(always)]\n", ""),
@@ -37,18 +39,18 @@ WRITTEN = [
     ("added code", WALK, "let n = O::count();", "let n = O::count(); panic!();"),
     ("code added at the end", HASH, "salt)?))\n}", "salt)?))\n}\nfn f() {}"),
     ("a clause that is kept as code", HASH, "password: &[u8],\n) ->", "password: &[u8],\n)  ensures made { made } ->"),
-    ("a ghost import that is kept", HASH, "use password_hash::Result;", "ghost use password_hash::Result; use password_hash::Result;"),
+    ("a ghost import that is kept", HASH, "use password_hash", "ghost use password_hash::Result; use password_hash"),
     ("an allocator that is kept", HASH, ".verify( password)", ".verify(alloc, password)"),
-    ("a rule's new text that is incomplete", MIXING, "support::at_level!(L => match n {", "match n {"),
+    ("half of a rule", MIXING, "support::at_level!(L => match n {", "match n {"),
     ("a function for one level", WALK, "support::levels! {", ""),
     ("a head that is missing", "scrypt_kernel/src/lib.rt", "#![no_std]", ""),
-    ("a code of the kit for one level", "scrypt_kernel/src/cores/simd.rt", "pub mod both;", "impl Lanes for u32x4 {} pub mod both;"),
+    ("code that is by hand elsewhere", "scrypt_kernel/src/cores/simd.rt", "pub mod", "impl Lanes for u32x4 {} pub mod"),
 ]
 # Forms of what the eraser deletes, each of which a program would miss.
 FORMS = [
     (WALK, "x.copy_from_slice(…);"), (WALK, "for k in 0..(…).min(8) {…}"), (WALK, "else {…}"), (WALK, "|spare,|"),
-    (WALK, "#[inline(…)]"), (WALK, "let n = …;"), (HASH, "return …;"), (HASH, "?"), (HASH, "!"), (HASH, "ensures err {…} {…}"),
-    ("password_hash/src/error.rt", "ghost output = {…}; fn fmt"), ("password_hash/src/error.rt", "ghost use …; use …;"),
+    (WALK, "#[inline(…)]"), (WALK, "let n = …;"), (HASH, "return …;"), (HASH, "?"), (HASH, "!"),
+    (HASH, "ensures err {…} {…}"), (ERROR, "ghost output = {…}; fn fmt"), (ERROR, "ghost use …; use …;"),
 ]
 
 
