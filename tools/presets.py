@@ -2,6 +2,7 @@
 commands and files to build and run for it, each with its Debian package.
 
 usage: python3 -m tools.presets names        the other machines
+       python3 -m tools.presets packed       those of them that a release has packages for
        python3 -m tools.presets needs NAME   the needs of a machine, as COMMAND:PACKAGE
        python3 -m tools.presets target NAME  the target of rustc
 """
@@ -20,7 +21,7 @@ def main(which, name=None):
         return [f"{it}:{package}" for it, package in NEEDS[name].items()]
     if which == "target":
         return [Path((PRESETS["base"]["cacheVariables"] | PRESETS[name]["cacheVariables"])["PROVED"]).name]
-    return list(NEEDS)
+    return [it for it in NEEDS if which == "names" or PRESETS[it]["inherits"] == "base"]
 
 
 if __name__ == "__main__":

@@ -15,8 +15,10 @@ static const struct {
     {LIBRARY_VERSION " x86-64", 3},
     {LIBRARY_VERSION " x86-64-avx2", 4},
     {LIBRARY_VERSION " x86-64-avx512vl", 4},
-#else
+#elif defined __aarch64__
     {LIBRARY_VERSION " arm64", 4},
+#else /* big-endian, in tests */
+    {LIBRARY_VERSION " s390x", 1},
 #endif
 };
 /* A batch has an array of this size for each login. */

@@ -5,7 +5,7 @@ set -eu
 cd "$(dirname "$0")/../../bindings/c"
 targets=all
 cmake --preset "$1"
-case $1 in asan | tsan) # only what the preset tests
+case $1 in asan | tsan | s390x) # only what the preset tests
   targets=$(ctest --preset "$1" -N | sed -n 's/.*Test *#[0-9]*: //p') ;;
 esac
 # shellcheck disable=SC2086 # names without blanks

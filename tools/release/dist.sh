@@ -10,7 +10,7 @@ SOURCE_DATE_EPOCH=$(git log -1 --format=%ct)
 export SOURCE_DATE_EPOCH LC_ALL=C TZ=UTC
 dist=$PWD/build/dist parts=$PWD/build/dist-parts version=$(cat VERSION)
 name=scrypt-proved-$version
-presets=${*:-native $(python3 -m tools.presets names)}
+presets=${*:-native $(python3 -m tools.presets packed)}
 python3 -m tools.release.version
 rm -rf "$dist" "$parts"
 mkdir -p "$dist" "$parts"

@@ -15,7 +15,7 @@ build() {
   umask 027
   cd "$again"
   make run js
-  for PRESET in ${*:-native $(python3 -m tools.presets names)}; do make lib PRESET="$PRESET"; done
+  for PRESET in ${*:-native $(python3 -m tools.presets packed)}; do make lib PRESET="$PRESET"; done
   tools/release/dist.sh "$@"
 }
 (set -e; build "$@") > "$room/log" 2>&1 || { cat "$room/log"; exit 1; }

@@ -6,7 +6,7 @@
 # usage: test.sh [PRESET..]    as dist.sh was called
 set -euo pipefail
 cd "$(dirname "$0")/../.."
-dist=$PWD/build/dist presets=${*:-native $(python3 -m tools.presets names)}
+dist=$PWD/build/dist presets=${*:-native $(python3 -m tools.presets packed)}
 key=$(cat crates/scrypt_tool/stdout) # the first of RFC 7914, section 12
 room=$(mktemp -d)
 root=$room/root

@@ -12,13 +12,6 @@
 #define VERSION_LEN (sizeof VERSION - 1)
 #endif
 
-/* The number of tables, of two, that two chunks use. */
-#if defined __aarch64__ || defined __x86_64__
-#define USED_OF_TWO 2
-#else
-#error "write what this test knows of this processor"
-#endif
-
 /* RFC 7914, section 12, except the key whose table has 1 GiB. */
 static const struct {
   const char *password, *salt;
@@ -133,7 +126,7 @@ static void are_used(size_t tables) {
   size_t changed = 0;
   check(scrypt_key_with_buffers(INPUTS, 12, key, sizeof key, &in) == SCRYPT_OK, "a key in several tables");
   for (size_t row = 0; row < tables * 64; row++) changed += !is_all(FILL, in.table + 32 * row, 128);
-  check(changed == (tables == 2 ? USED_OF_TWO : tables) * 64, "the rows of all tables are used");
+  check(changed == tables * 64, "the rows of all tables are used");
   free_buffers(in);
 }
 

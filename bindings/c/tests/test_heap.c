@@ -1,10 +1,8 @@
-/* The heap of the proved calls: what kit_heap.c is trusted to do, by the kit's
- * crate libc (src/heap.rt). No tested call of the library reaches rattle_realloc. */
+/* The memory of the proved calls, in each size: no tested call of the library makes a block larger. */
 #define _GNU_SOURCE
 #include "linux.c"
 #include "test.h"
 
-#include <stdbool.h>
 #include <stdlib.h>
 
 /* The block that is freed next, unless it is a mapping. */
@@ -19,9 +17,8 @@ static void free_wiped(void *start) {
 #define free free_wiped
 #include "blocks.c"
 #undef free
-#include "kit_heap.c"
 
-enum { ALIGN = 16 };
+enum { ALIGN = 16 }; /* rust/support relies on it */
 
 static uint8_t byte_at(size_t at) { return (uint8_t)(at * 31 >> 3 | 1); }
 
@@ -35,29 +32,28 @@ static int is_filled(const uint8_t *block, size_t len) {
   return at == len;
 }
 
-static struct tried checked(struct tried it, int ok, const char *what) {
-  check(it.ok == ok && it.p != NULL && (uintptr_t)it.p % ALIGN == 0, what);
-  return it;
+static uint8_t *checked(void *block, const char *what) {
+  check(block != NULL && (uintptr_t)block % ALIGN == 0, what);
+  return (uint8_t *)block;
 }
 
 /* From malloc's blocks to mappings and back, with the bytes that both have. */
 static void resized(size_t from, size_t to) {
-  struct tried old = checked(rattle_alloc(from, ALIGN), 1, "a block");
-  struct tried new;
-  fill((uint8_t *)old.p, from);
-  to_free = (const uint8_t *)old.p, to_free_len = from;
-  new = checked(rattle_realloc(old.p, from, to, ALIGN), 1, "a resized block");
-  check(is_filled((const uint8_t *)new.p, from < to ? from : to), "the bytes of a resized block");
-  fill((uint8_t *)new.p, to);
-  (void)checked(rattle_realloc(new.p, to, SIZE_MAX / 2, ALIGN), 0, "a size that no system has");
-  check(is_filled((const uint8_t *)new.p, to), "the bytes of a block that is not resized");
-  to_free = (const uint8_t *)new.p, to_free_len = to;
-  rattle_dealloc(new.p);
+  uint8_t *old = checked(clearing_malloc(from), "a block"), *new;
+  fill(old, from);
+  to_free = old, to_free_len = from;
+  new = checked(clearing_realloc(old, to), "a resized block");
+  check(is_filled(new, from < to ? from : to), "the bytes of a resized block");
+  fill(new, to);
+  check(clearing_realloc(new, SIZE_MAX / 2) == NULL, "a size that no system has");
+  check(is_filled(new, to), "the bytes of a block that is not resized");
+  to_free = new, to_free_len = to;
+  clearing_free(new);
 }
 
 TEST(each_size) {
-  static const size_t SIZES[] = {0, 100, LARGE - 1, LARGE + 100};
+  static const size_t SIZES[] = {1, 100, LARGE - 1, LARGE + 100};
   enum { COUNT = sizeof SIZES / sizeof *SIZES };
   for (size_t i = 0; i < COUNT * COUNT; i++) resized(SIZES[i / COUNT], SIZES[i % COUNT]);
-  (void)checked(rattle_alloc(SIZE_MAX / 2, ALIGN), 0, "no memory");
+  check(clearing_malloc(SIZE_MAX / 2) == NULL, "no memory");
 }

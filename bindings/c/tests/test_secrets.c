@@ -7,7 +7,7 @@
 
 #include <valgrind/memcheck.h>
 
-enum { KEY_LEN = 64, LETTERS = 86, OF_UTF8 = 3, LOGINS = 2 };
+enum { KEY_LEN = 64, LOGINS = 2 };
 
 static uint8_t password[200];
 static int is_wrong; /* the password, for the text */
@@ -37,10 +37,10 @@ static const struct {
     {"scrypt_verify_limited_with_buffers", "the same", {1, 2}},
     {"scrypt_verify_batch_with_buffers", "the same, of each login", {LOGINS, 2 * LOGINS}},
     {"scrypt_hasher_verify", "the same, in a batch of one", {1, 2}},
-    {"scrypt_hash_with_salt", "PHC's letters are in a table; a $7$ text is checked to be UTF-8", {LETTERS, OF_UTF8}},
-    {"scrypt_hash_with_buffers", "PHC's letters", {LETTERS, 0}},
-    {"scrypt_hasher_hash", "PHC's letters", {LETTERS, 0}},
-    {"scrypt_stored_text", "PHC's letters", {LETTERS, 0}},
+    {"scrypt_hash_with_salt", "the letters are checked to be ASCII", {1, 1}},
+    {"scrypt_hash_with_buffers", "the same", {1, 0}},
+    {"scrypt_hasher_hash", "the same", {1, 0}},
+    {"scrypt_stored_text", "the same", {1, 0}},
 };
 
 static unsigned max_reports(const char *name, int is_mismatch) {
