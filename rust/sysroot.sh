@@ -27,12 +27,14 @@ compile() { # CRATE FOLDER OPTION..
 if ! [ -e "$out" ]; then
   new=$out.$$ to=$out.$$/lib/rustlib/$target/lib
   mkdir -p "$to"
-  case $target in wasm32-*) memory=mem ;; *) memory=mem-unaligned ;; esac
-  compile core core
+  memory=mem-unaligned panic=abort
+  # A panic ends the module, whose size the texts of panics would raise by a quarter.
+  case $target in wasm32-*) memory=mem panic=immediate-abort ;; esac
+  compile core core --cfg "panic=\"$panic\""
   compile compiler_builtins compiler-builtins/compiler-builtins --extern core --cfg 'feature="compiler-builtins"' \
     --cfg "feature=\"$memory\"" --cfg intrinsics_enabled --cfg arch_enabled --cfg optimizations_enabled \
     --cfg 'feature="unstable-intrinsics"'
-  compile alloc alloc --extern core --extern compiler_builtins
+  compile alloc alloc --cfg "panic=\"$panic\"" --extern core --extern compiler_builtins
   mv -T "$new" "$out" 2> /dev/null || rm -r "$new" # another run was faster
 fi
 export RUSTFLAGS="--sysroot $out ${RUSTFLAGS:-}"
