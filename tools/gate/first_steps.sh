@@ -121,6 +121,33 @@ done
 make --no-print-directory uninstall DESTDIR="$room/a|b"
 make --no-print-directory uninstall DESTDIR="$room/a&b"
 is "$(find ab 'a&b' 'a|b' -type f | cut -d/ -f1 | xargs)" "ab ab ab"
+is "$(make --no-print-directory uninstall DESTDIR="$room/a&b" 2>&1 | head -n 1)" \
+  "no file of build/installed is below $room/a&b, or is there any more"
+
+# ---- What Python compiled goes with its source, and nothing else ----
+mkdir -p to/py/scrypt_c/__pycache__
+touch to/py/scrypt_c/one.py to/py/scrypt_c/__pycache__/{one,other}.cpython-311.pyc
+echo /py/scrypt_c/one.py > build/installed
+make --no-print-directory uninstall DESTDIR="$room/to"
+is "$(find to -type f)" "to/py/scrypt_c/__pycache__/other.cpython-311.pyc"
+mv to/py/scrypt_c/__pycache__/{other,one}.cpython-311.pyc
+touch to/py/scrypt_c/one.py
+make --no-print-directory uninstall DESTDIR="$room/to"
+is "$(find to | xargs)" "to to/py"
+
+# ---- A tree with what CMake built for the tree that it is a copy of ----
+fake cmake ""
+mkdir -p build/native other/bindings/c
+touch build/native/{cmake_install.cmake,install_manifest.txt}
+echo "CMAKE_HOME_DIRECTORY:INTERNAL=$room/other/bindings/c" > build/native/CMakeCache.txt
+is "$(make --no-print-directory install 2>&1 | head -n 1)" \
+  "build/native is of $room/other, and nothing is installed: make clean lib builds it here"
+if grep '^cmake --install' asked; then echo "installs another tree's files"; exit 1; fi
+echo "CMAKE_HOME_DIRECTORY:INTERNAL=$room/bindings/c" > build/native/CMakeCache.txt
+make --no-print-directory install > said
+grep -q '^cmake --install' asked
+rm -r build/native
+
 rm build/bin/scrypt_tool
 is "$(make --no-print-directory install 2>&1 | head -n 1)" "nothing is built: make run builds the program, make lib the libraries"
 echo "the first step of make, its steps and last lines, and the installed program"
