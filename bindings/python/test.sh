@@ -12,7 +12,7 @@ export PYTHONDONTWRITEBYTECODE=1 SCRYPT_C_LIBRARY="$lib" PYTHONPATH="$PWD/.."
 quiet() { "$@" > "$room/log" 2>&1 || { cat "$room/log"; exit 1; }; grep '^Ran ' "$room/log" || true; }
 packed() { quiet $python -m hatchling build -t "$@"; }
 if [ "$system" != windows ]; then
-  quiet $python -W error -m unittest test_hasher test_keys test_library test_texts test_threads
+  quiet $python -W error -m unittest test_hasher test_keys test_library test_texts test_threads test_vectors
   imports() { $python -c "import $1" 2> /dev/null || { "$top/tools/lacks" "$1" "python3-$1"; return 1; }; }
   for it in django passlib; do if imports $it; then quiet $python -m unittest test_$it; fi; done
   imports bcrypt || true # the tests of Django leave out what needs it

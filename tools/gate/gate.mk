@@ -21,10 +21,10 @@ endif
 
 # The longest tasks, and tasks that others wait for, are first.
 BUILDS = erased library linked module program $(MACHINES:%=library-%) crates
-documents = lint first-steps links version promises cores
+documents = lint first-steps links version promises cores vectors
 examples = $(patsubst examples/%/test.sh,example-%,$(wildcard examples/*/test.sh))
 LANGUAGES = python go rust javascript drop-in $(examples) examples-of-pages
-suites = native asan tsan $(LANGUAGES) answers migration oracle hostile
+suites = native asan tsan $(LANGUAGES) answers migration oracle hostile vectors-by-library
 # They need the kit.
 proved = proofs kit-library same must-not-compile new-user
 gate = proofs $(BUILDS) $(MACHINES) $(proved) $(documents) $(suites)
@@ -74,6 +74,8 @@ version:
 	$(TASK) $(PY) tools.release.version
 promises:
 	$(TASK) $(PY) tools.generate.make check
+vectors:
+	$(TASK) $(PY) tools.generate.vectors check
 
 # ---- The erased crates, and the library from C ----
 erased:
@@ -106,6 +108,8 @@ examples-of-pages: linked
 	$(TASK) python3 -B bindings/readme_examples.py
 hostile: linked
 	$(TASK) $(PY) tools.tests.hostile $(LIBRARY) 30000
+vectors-by-library: linked
+	$(TASK) $(PY) tools.generate.vectors check $(LIBRARY)
 
 # ---- The program ----
 program: $(call built,erased)

@@ -8,9 +8,9 @@ import { tmpdir } from 'node:os';
 import { test } from 'node:test';
 import { fileURLToPath } from 'node:url';
 import { WORDS } from '../declared.js';
-import { ScryptError, storedText } from '../node.js';
+import { ScryptError, scrypt, storedText, verify } from '../node.js';
 import { checks } from './checks.js';
-import { hex } from './support.js';
+import { bytes, hex } from './support.js';
 
 const at = (path) => new URL(`../../../${path}`, import.meta.url);
 const read = (path) => readFileSync(at(path), 'utf8');
@@ -39,6 +39,23 @@ test('the texts of bindings/stored.tsv', async () => {
     if (wanted) deepStrictEqual(await stored(), wanted);
     else await rejects(stored, ScryptError, line);
     if (N >= 1 && N < 64) await rejects(stored, /may be its logarithm/, line);
+  }
+});
+
+test('the vectors of vectors/, but for what needs 1 GiB', async () => {
+  const data = (it) => bytes(it.map?.(([one, times]) => one.repeat(times)).join('') ?? it);
+  const calls = {
+    kdf: async ({ password, salt, N, r, p, dkLen, dk }) => hex(await scrypt(data(password), data(salt), { N, r, p, dkLen })) === dk,
+    phc: async ({ password, hash }) => await verify(data(password), data(hash)) || null,
+  };
+  for (const name of ['kdf', 'phc', 'mcf']) {
+    for (const { tests } of JSON.parse(read(`vectors/scrypt_${name}_test.json`)).testGroups) {
+      for (const it of tests.filter(({ flags }) => !flags.includes('LargeMemory'))) {
+        const answer = await (calls[name] ?? calls.phc)(it).catch(() => null);
+        const wanted = { valid: [true], invalid: [null], acceptable: [true, null] }[it.result];
+        deepStrictEqual(wanted.includes(answer), true, `${name} ${it.tcId}: ${it.comment}`);
+      }
+    }
   }
 });
 
