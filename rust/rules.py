@@ -120,6 +120,9 @@ REPLACED = [
     ("eprintln!(rt;", "writeln!(rt.stderr(),", "as for HostRuntime"),
     ("env::args(rt)?.skip(1).collect(rt.alloc())?", "rt.words()?", "the same"),
     ("let alloc = *self.text.allocator();", "", "std's String has no allocator"),
+    *((f"pub fn {it}", f"#[must_use] pub const fn {it}", "as in the crate scrypt") for it in (
+        "new() -> Scrypt", "new_with_params(params: Params)", "recommended()", "log_n(&self)", "n(&self)", "r(&self)", "p(&self)")),
+    ("{ Scrypt::default() }", "{ Scrypt::new_with_params(Params::RECOMMENDED) }", "the same: default is no const fn"),
     ("pub trait PasswordHasher<H> {", "pub trait PasswordHasher<H> {" + DRAWING, "crates/ has no random bytes"),
     ("hash_password(", "hash_password_with_drawn_salt(",
      "the same: `hash_password` draws the salt, as in the crate scrypt"),

@@ -63,11 +63,10 @@ impl Params {
     pub const RECOMMENDED_LEN: usize = 32;
 
     /// The parameters that are recommended for new hashes, with no length.
-    ///
-    /// The prover computes that they are accepted wherever the constant is used. A function of
-    /// another crate that uses it needs
-    /// `#[tactic(auto, unfolding(scrypt::specs::Accepted::are_accepted, scrypt::specs::Accepted::is_stored_len))]`.
-    /// `Params::default()` is the same value, and needs no attribute.
+    // The prover computes that they are accepted wherever the constant is used. A function of
+    // another crate that uses it needs
+    // `#[tactic(auto, unfolding(scrypt::specs::Accepted::are_accepted, scrypt::specs::Accepted::is_stored_len))]`.
+    // `Params::default()` is the same value, and needs no attribute.
     pub const RECOMMENDED: Params = Params {
         log_n: Params::RECOMMENDED_LOG_N,
         r: Params::RECOMMENDED_R,
