@@ -20,7 +20,7 @@ built = $1
 endif
 
 # The longest tasks, and tasks that others wait for, are first.
-BUILDS = erased library linked module program $(MACHINES:%=library-%) crates
+BUILDS = erased library linked module program $(MACHINES:%=library-%) crates packages
 documents = lint first-steps links version promises cores vectors
 examples = $(patsubst examples/%/test.sh,example-%,$(wildcard examples/*/test.sh))
 LANGUAGES = python go rust javascript drop-in $(examples) examples-of-pages
@@ -82,6 +82,8 @@ erased:
 	$(TASK) rust/build.sh erase
 crates: $(call built,erased)
 	$(TASK) rust/build.sh
+packages: $(call built,erased)
+	$(TASK) rust/build.sh package
 library: $(call built,erased)
 	$(TASK) $(call BUILD,native)
 linked: $(call built,library)
