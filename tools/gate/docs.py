@@ -21,7 +21,7 @@ from tools.generate import header, specs
 from tools.generate.library import Library
 from tools.generate.sources import read
 
-SOURCES = ("crates/", "examples/", "bindings/", "Makefile")
+SOURCES = ("crates/", "examples/", "bindings/", "rust/", "Makefile")
 SUFFIXES = (".rt", ".antt", ".c", ".h", ".py", ".go", ".rs", ".js", "Makefile")
 
 NUMBERS, MIB = header.NUMBERS, 1 << 20
@@ -199,6 +199,7 @@ def written():
     yield "bindings/js/README.md", f"It needs Node {text_of('bindings/js/package.json', 'node.: .>=', chr(34))}"
     yield "bindings/python/README.md", f"It needs Python {text_of('bindings/python/pyproject.toml', 'requires-python = .>=', chr(34))}"
     yield "bindings/rust/README.md", f"It needs Rust {text_of('bindings/rust/Cargo.toml', 'rust-version = .', chr(34))}"
+    yield "rust/crates/scrypt/README.md", f"needs Rust {text_of('rust/crates/Cargo.toml', 'rust-version = .', chr(34))}"
     for level, tables in re.findall(r'LIBRARY_VERSION " (x86[a-z0-9-]+)", (\d)', read("bindings/c/clearing.c")):
         yield "bindings/README.md", f"`{level}` up to {WORDS[int(tables)]}"
     yield "bindings/README.md", f"with CMake {text_of('bindings/c/CMakeLists.txt', r'cmake_minimum_required.VERSION ', r'[)]')}"
