@@ -3,8 +3,8 @@
 # command installs anything. Each says at its start what it lacks, and what is not run.
 #   make run       erases the contracts from the proved source, builds the program build/bin/scrypt_tool from the rest,
 #                  and prints the first key of RFC 7914, section 12, in about a minute
-#   make lib       builds the C libraries into build/lib, in about a minute; with PRESET=arm64 or
-#                  PRESET=windows for these, into build/PRESET
+#   make lib       builds the C libraries into build/lib, in about a minute; with PRESET=arm64 for that
+#                  CPU, and the program, or with PRESET=windows for Windows, into build/PRESET
 #   make js        builds the module for JavaScript into bindings/js, and tests it
 #   make test      is the gate: runs every test. With the Rattle kit it also proves everything, and checks that wrong
 #                  code is rejected; without it, its last lines say that nothing was proved
@@ -32,6 +32,7 @@ export PRESET DESTDIR
 prefix = $(or $(PREFIX),/usr/local)
 STEP = EACH=60 tools/gate/step.sh
 TARGET = $(shell python3 -B -m tools.presets target $(PRESET))
+IS_CROSS = $(filter arm64,$(PRESET)) # where the program runs too
 COMMANDS = $(or $(filter run lib js test,$(MAKECMDGOALS)),test)
 .PHONY: help setup needs-run needs-lib needs-js needs-test run lib linked js install uninstall test prove check kit \
   documents suites examples built generate promises doc dist clean
@@ -46,10 +47,11 @@ run: needs-run
 	@$(STEP) program rust/build.sh program
 	@echo "build/bin/scrypt_tool prints the first key of RFC 7914, section 12:"; \
 	  build/bin/scrypt_tool key 4 1 1 64 "" < /dev/null
-lib: export STEPS = library linked
+lib: export STEPS = library linked $(if $(IS_CROSS),program)
 lib: needs-lib
 	@$(STEP) library rust/build.sh c $(TARGET)
 	@$(STEP) linked $(MAKE) --no-print-directory linked
+	@$(if $(IS_CROSS),$(STEP) program rust/build.sh program $(TARGET) build/$(PRESET)/bin/scrypt_tool)
 linked: # compiles the C, and links the object of the proved calls
 	@cd bindings/c && LACKING= cmake --preset $(PRESET) > /dev/null
 	@cmake --build build/$(PRESET) -- --quiet

@@ -9,7 +9,7 @@
 #                                              it left
 set -eu
 cd "$(dirname "$0")/.."
-out=build/rust/workspace
+out=build/rust/workspace registry=${CRATES:-/usr/share/cargo/registry}
 erase() {
   rm -rf "$out"
   python3 -B -m rust.erase "$out"
@@ -17,7 +17,7 @@ erase() {
   if [ "${CARGO_NET_OFFLINE:-true}" = true ]; then
     mkdir -p "$out/.cargo"
     printf '[source.crates-io]\nreplace-with = "debian"\n[source.debian]\ndirectory = "%s"\n' \
-      "${CRATES:-/usr/share/cargo/registry}" > "$out/.cargo/config.toml"
+      "$registry" > "$out/.cargo/config.toml"
   fi
   if cargo fmt --version > /dev/null 2>&1; then (cd "$out" && cargo fmt --all); fi # only for readers
 }
@@ -45,15 +45,15 @@ case ${1:-} in
     exit ;;
   package)
     # Bottom up, as they are published: a registry of this machine has those below.
-    registry=$top/build/rust/registry
-    rm -rf "$registry" ../target/package
-    mkdir "$registry"
-    ln -s "${CRATES:-/usr/share/cargo/registry}"/* "$registry"
+    below=$top/build/rust/registry
+    rm -rf "$below" ../target/package
+    mkdir "$below"
+    ln -s "$registry"/* "$below"
     for folder in support scrypt_kernel password_hash scrypt; do
       cp "$top/LICENSE" $folder
-      cargo --config "source.debian.directory=\"$registry\"" package --allow-dirty --manifest-path $folder/Cargo.toml
-      tar -xzf ../target/package/"$(sed -n 's/^name = "\(proved-.*\)"/\1/p' $folder/Cargo.toml)"-[0-9]*.crate -C "$registry"
-      for new in "$registry"/proved-scrypt*; do echo '{ "files": {} }' > "$new/.cargo-checksum.json"; done
+      cargo --config "source.debian.directory=\"$below\"" package --allow-dirty --manifest-path $folder/Cargo.toml
+      tar -xzf ../target/package/"$(sed -n 's/^name = "\(proved-.*\)"/\1/p' $folder/Cargo.toml)"-[0-9]*.crate -C "$below"
+      for new in "$below"/proved-scrypt*; do echo '{ "files": {} }' > "$new/.cargo-checksum.json"; done
     done
     exit ;;
   program) # with the prompt, and the library's memory, which is wiped before it is freed
@@ -63,7 +63,16 @@ case ${1:-} in
       "$CC" -std=gnu99 -O2 -Wall -Wextra -fPIE -ffunction-sections -fstack-protector-strong -U_FORTIFY_SOURCE -D_FORTIFY_SOURCE=2 \
         -I"$room" -I"$top/bindings/c" -c "$top/bindings/$it.c" -o "$room/${it#*/}.o"
     done
-    "$top/rust/sysroot.sh" "$target" cargo rustc -p scrypt_tool --release --features program --target "$target" -- \
+    std=''
+    if ! [ -e "$(rustc --print sysroot)/lib/rustlib/$target" ]; then # std is compiled too, from Debian's rust-web-src
+      export RUSTC=/usr/bin/rustc RUSTC_BOOTSTRAP=1
+      sources=$($RUSTC --print sysroot)/lib/rustlib/src/rust/library
+      mkdir -p "$room/registry"
+      ln -sf "$registry"/* "$sources"/vendor/* "$room/registry"
+      std="-Zbuild-std=std,panic_abort --config source.debian.directory=\"$room/registry\""
+    fi
+    # shellcheck disable=SC2086 # words without blanks
+    cargo rustc $std -p scrypt_tool --release --features program --target "$target" -- \
       -C linker="$CC" -C link-args="$room/terminal.o $room/blocks.o $room/linux.o"
     install -D "$CARGO_TARGET_DIR/$target/release/scrypt_tool" "$output"
     exit ;;

@@ -20,17 +20,17 @@ built = $1
 endif
 
 # The longest tasks, and tasks that others wait for, are first.
-BUILDS = erased library linked module program $(MACHINES:%=library-%) crates packages
+BUILDS = erased library linked module program $(MACHINES:%=library-%) program-arm64 crates packages
 documents = lint first-steps links version promises cores vectors
 examples = $(patsubst examples/%/test.sh,example-%,$(wildcard examples/*/test.sh))
 LANGUAGES = python go rust javascript drop-in $(examples) examples-of-pages
 suites = native asan tsan $(LANGUAGES) answers migration oracle hostile vectors-by-library
 # They need the kit.
 proved = proofs kit-library same must-not-compile new-user
-gate = proofs $(BUILDS) $(MACHINES) $(proved) $(documents) $(suites)
+gate = proofs $(BUILDS) $(MACHINES) answers-arm64 $(proved) $(documents) $(suites)
 # Tasks give way to those that others wait for, and less those that take long alone.
 proofs erased library linked: private NICE = 0
-$(MACHINES:%=library-%) $(MACHINES): private NICE = 5
+$(MACHINES:%=library-%) $(MACHINES) program-arm64 answers-arm64: private NICE = 5
 $(proved): private NEEDS = rt:the-Rattle-kit
 .PHONY: tasks documents suites examples proved-scrypt $(sort $(gate))
 gate: $(gate)
@@ -116,5 +116,9 @@ vectors-by-library: linked
 # ---- The program ----
 program: $(call built,erased)
 	$(TASK) rust/build.sh program
+program-arm64: $(call built,erased)
+	$(TASK) $(call FOR,arm64) rust/build.sh program $(shell $(PY) tools.presets target arm64) build/arm64/bin/scrypt_tool
+answers-arm64: $(call built,arm64 program-arm64)
+	$(TASK) $(call FOR,arm64) env PRESET=arm64 tools/gate/program.sh
 answers oracle migration: $(call built,program)
 	$(TASK) $(PY) tools.tests.$(@:answers=program) $(PROGRAM)

@@ -21,7 +21,7 @@ for PRESET in $presets; do
   export PRESET
   make -s linked
   . bindings/preset.sh
-  if [ "$system" = linux ]; then rust/build.sh program "$(python3 -m tools.presets target "$PRESET")" "$build/bin/scrypt_tool"; fi
+  if [ "$system" = linux ] && ! [ -e "$build/bin/scrypt_tool" ]; then echo "no $build/bin/scrypt_tool: make run lib" >&2; exit 1; fi
   cp "$parts/PROVED.txt" "$build"
   generators=TGZ\;DEB
   if [ "$system" = windows ]; then generators=ZIP; fi
