@@ -121,7 +121,6 @@ def compare(name, source, written):
         rows.setdefault(lex(row[0])[0], []).append(row)
     for begin, end in [text.extent(f"fn {level}", bodies) for level in rules.LEVELS.get(name, ())]:
         wraps[begin], wraps[end] = wraps.get(begin, "") + "support::levels! {", "}" + wraps.get(end, "")
-    found |= {begin: ("by hand", end) for begin, end in (text.extent(it, bodies) for it in rules.BY_HAND.get(name, ()))}
     while w[i] or i in wraps:
         if j == start and (added := [it for it in heads if result.has(j, it)]):  # before all that is kept
             rule, heads, start = ("", added[0]), heads[heads.index(added[0]) + 1:], j + len(lex(added[0]))
@@ -147,11 +146,10 @@ def compare(name, source, written):
 def main(output, more_rules=()):
     counted, faults, every = collections.Counter(), [], [*rules.every(), *more_rules]
     expected = {f"scrypt_c/src/{file}" for file in rules.EXPORTS} | {f"{to}/{file}" for file, to in rules.FILES.items()}
-    for path in sorted(Path("crates").glob("*/src/**/*.rt")):
-        name = path.relative_to("crates").as_posix()
+    for name, text in rules.sources():
         expected.add(name.removesuffix("rt") + "rs")
         try:
-            counted += compare(name, path.read_text(), Path(output, name).with_suffix(".rs").read_text())
+            counted += compare(name, text, Path(output, name).with_suffix(".rs").read_text())
         except (ValueError, LookupError, StopIteration, OSError) as fault:
             faults.append(f"{name}: {fault}")
     for path in Path("crates").iterdir():

@@ -21,7 +21,7 @@ TOKEN = re.compile(r"""(?P<space>\s+)|(?P<comment>//[^\n]*)|(?P<string>b?r(\#*)"
 |(?P<char>b?'(?:\\.[^']*|[^'\\\n])')|(?P<life>'\w+)|(?P<word>\w+)|(?P<mark>.)""", re.S | re.X)
 OPEN, CLOSE = {"(", "[", "{"}, {")", "]", "}"}
 # What stands for a deleted item until the layout is known: a clause, one that the comments above it are about, others.
-MARKS = {"clause": "\x00", "ghost member": "\x01", "by hand": "\x01"}
+MARKS = {"clause": "\x00", "ghost member": "\x01"}
 
 
 def tokens(text):
@@ -75,8 +75,6 @@ class Source:
             end = self.end(i, item) if self.words[i - len(before):i] == before or not before else None
             if end and self.end(end, after) is not None and (kind != "runtime" or "_tests/" in self.name):
                 return kind, end, MARKS.get(kind, "\x02")
-        if any(self.end(i, words(item)) for item in rules.BY_HAND.get(self.name, ())):
-            return "by hand", self.partner[self.body(i)] + 1, MARKS["by hand"]
 
     def body(self, i):
         """The index of the brace that begins the body of the item at i, after its clauses."""
@@ -146,8 +144,7 @@ def main(output, *options):
     here, sources = Path(__file__).parent, []
     shutil.copytree(here / "crates", output, dirs_exist_ok=True)
     shutil.copytree(here / "support", Path(output, "support"), dirs_exist_ok=True)
-    for path in sorted(Path("crates").glob("*/src/**/*.rt")):
-        name, text = path.relative_to("crates").as_posix(), path.read_text()
+    for name, text in rules.sources():
         erased = Source(name, text).erased("--clauses" in options)
         to = Path(output, name).with_suffix(".rs")
         to.parent.mkdir(parents=True, exist_ok=True)

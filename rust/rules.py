@@ -2,8 +2,7 @@
 and rust/check.py allows no more."""
 
 import functools
-
-from rust import wide
+from pathlib import Path
 
 # What is deleted: by kind, why, and its forms. A form is an item, or what has to be before it|the item|what has to be
 # after it. NAME is any name, LABEL a loop's that no `break` and no `continue` names, and `…` all that the next bracket
@@ -53,18 +52,14 @@ REPLACED = [
     ("std::alloc::{AllocError, Global}", "support::AllocError", "not stable"),
     ("std::alloc::AllocError", "support::AllocError", "not stable"),
     ("vec![in alloc;", "support::checked_vec![", "std's vec! aborts if memory is exhausted"),
-    ("vec![in rt.alloc();", "support::checked_vec![", "the same"),
-    ("format!(in alloc;", "support::checked_format!(", "the same"),
     ("std::test::Fail", "support::Fail", "the error of the kit's tests"),
     ("base64::engine", "support::base64", "its tables show secrets; base64ct has none"),
     ("fmt<W: fmt::Write>(&self, f: &mut fmt::Formatter<W>)", "fmt(&self, f: &mut fmt::Formatter<'_>)",
      "the kit's Formatter names its writer"),
     ("str::from_utf8(&places", "support::ascii::str_of(&places", "std's looks secret letters up in a table"),
     ("String::from_utf8(text)", "support::ascii::string_of(text)", "the same"),
-    ("&x[k * len..k * len + len]", "support::row(x, k * len, len)",
+    ("&x[start..start + len]", "support::row(x, start, len)",
      "where a row of the table begins is secret: the C library has no branch on it"),
-    ("&self.words[self.starts[k]..self.starts[k] + self.len]",
-     "support::row(self.words, self.starts[k], self.len)", "the same"),
     ("pub trait OrderedBlocks: Copy {", "pub trait OrderedBlocks: Copy + support::simd::AtLevel {",
      "the level of the processor, which the type names: the kit builds for one level"),
     ("pub trait Lanes: Copy {", "pub trait Lanes: Copy + support::simd::AtLevel {", "the same"),
@@ -75,11 +70,6 @@ REPLACED = [
       for call in ("mix_group", "step_chunks") for old, new in (
         ("u32x4", "Four<L>"), ("u32x8", "Eight<L>"), ("Both<u32x8, u32x4>", "Both<Eight<L>, Four<L>>"),
         ("Both<u32x8, u32x8>", "Both<Eight<L>, Eight<L>>"))),
-    ("pub mod both; pub mod scalars;", "pub mod both; pub mod scalars; mod vectors;",
-     "the vectors of each level, by hand"),
-    ("use std::simd::{Simd, u32x4, u32x8};", "use support::simd::u32x4;", "the same"),
-    ("use crate::parts::Parts; use std::simd::{u32x4, u32x8};",
-     "use crate::parts::Parts; use support::simd::u32x4;", "the same"),
     ("use std::simd::{u32x4, u32x8};", "use support::simd::{Eight, Four, u32x4};", "the same"),
     ("std::simd", "support::simd", "std::simd is not stable"),
     ("let n = O::count(); let len = 32 * r;", "support::simd::require::<O>(); let n = O::count(); let len = 32 * r;",
@@ -100,26 +90,11 @@ REPLACED = [
     ("let r = len / 32; let row_len", "let r = len / 32; assert!(r > 0); let row_len", "the same"),
     ("let r = len / 32; let x = mix_block",
      "let r = len / 32; assert!(i < r && len <= output.len() / O::count()); let x = mix_block", "the same"),
-    ("inner.clone().unwrap()", "inner.clone()", "the kit's clone may fail; that of a hasher never does"),
-    ("outer.clone().unwrap()", "outer.clone()", "the same"),
-    ("use hex::", "use support::hex::", "the crate hex aborts if memory is exhausted"),
-    ("hex::encode(", "support::hex::encode(", "the same"),
-    ("hex::decode(", "support::hex::decode(", "the same"),
-    ("hasher.finalize()", "hasher.finalize().into()", "sha2 returns a GenericArray"),
-    ("fn main(rt: HostRuntime)", "support::program!(main); fn main(rt: HostRuntime)",
-     "std's main takes nothing, and ends the process if memory is exhausted"),
-    ("use std::process::ExitCode;", "", "the same"),
-    ("use std::fs::{Files, OpenOptions};", "use support::host::{ExitCode, HostRuntime, OpenOptions};",
-     "streams, files and random bytes are methods of the kit's HostRuntime"),
-    ("use std::io::{ErrorKind, IsTerminal, Read};", "use std::io::{ErrorKind, Read, Write};", "the same"),
-    ("use std::random::RandomSource;", "", "the same"),
-    ("use std::{env, io};", "use std::io;", "the same"),
-    ("eprint!(self.0;", "write!(self.0.stderr(),", "the same"),
-    ('eprintln!(rt; "{name}: {error}")', 'writeln!(rt.stderr(), "{name}: {}", support::host::Text(&error))',
-     "std's text of an error aborts if memory is exhausted"),
-    ("eprintln!(rt;", "writeln!(rt.stderr(),", "as for HostRuntime"),
-    ("env::args(rt)?.skip(1).collect(rt.alloc())?", "rt.words()?", "the same"),
-    ("let alloc = *self.text.allocator();", "", "std's String has no allocator"),
+    ("hasher.clone().unwrap()", "hasher.clone()", "the kit's clone may fail; that of a hasher never does"),
+    ("pub(crate) use scrypt::Simd as Target;",
+     "#[cfg(not(target_arch = \"wasm32\"))] pub(crate) use scrypt::Simd as Target;"
+     " #[cfg(target_arch = \"wasm32\")] pub(crate) use scrypt::SimdPairs as Target;",
+     "what else would be compiled makes the module for JavaScript larger"),
     *((f"pub fn {it}", f"#[must_use] pub const fn {it}", "as in the crate scrypt") for it in (
         "new() -> Scrypt", "new_with_params(params: Params)", "recommended()", "log_n(&self)", "n(&self)", "r(&self)", "p(&self)")),
     ("{ Scrypt::default() }", "{ Scrypt::new_with_params(Params::RECOMMENDED) }", "the same: default is no const fn"),
@@ -143,22 +118,16 @@ ALLOCATED = {"String": "use alloc::string::String;\n", "Vec": "use alloc::vec::V
 # Calls that allocate: in the kit they return a Result, as support's checked_.. do, and std's abort. A Result is used:
 # `?` or `unwrap` is after the call. By a wrong name, such as checked_push_str of an ArrayString, it does not compile.
 GROWTH = {"push", "push_str", "extend_from_slice", "resize", "resize_with", "reserve", "with_capacity", "to_vec",
-          "to_string", "from_str", "repeat", "replace", "read_to_string"}
+          "to_string", "from_str", "repeat", "replace"}
 # Functions in which all that is for a level is inlined, by their files.
 LEVELS = {
     "scrypt_kernel/src/walk.rt": {"step", "mix_recomputed"},
     "scrypt_kernel/src/table.rt": {"fill", "recompute", "mix_row"},
     "scrypt_kernel/src/steps.rt": {"step_chunks"},
 }
-# Items of these files that the file vectors.rs has in their place, for each level.
-BY_HAND = {
-    "scrypt_kernel/src/cores/simd.rt": [
-        "impl Lanes for u32x4", "impl Lanes for u32x8",
-        *(f"#[inline(always)] fn {name}<const N" for name in ("plus", "xor", "four_of", "xor_rotated"))],
-    "scrypt_kernel/src/cores/simd/both.rt": ["impl Half for u32x4", "impl Half for u32x8"],
-}
-# Files that are written by hand, and the folders that they are in.
-FILES = {"vectors.rs": "scrypt_kernel/src/cores/simd", "with_64_bits.rs": "scrypt_c/src"}
+# Files that are written by hand, and the folders that they are in: in place of a source, or beside them.
+FILES = {"vectors.rs": "scrypt_kernel/src/cores/simd", "size.rs": "scrypt/src", "host.rs": "scrypt_tool/src",
+         "with_64_bits.rs": "scrypt_c/src"}
 # The calls that the module for JavaScript exports, on 32 bits.
 JAVASCRIPT = set("""
 scrypt_hash_mcf_with_buffers scrypt_hash_cost scrypt_hash_params scrypt_hash_phc_with_buffers scrypt_kdf_with_buffers
@@ -171,13 +140,14 @@ EXPORT = """//! The functions that C calls: each slice is a pointer and a length
 {}
 """
 EXPORTS = {
-    "c_abi.rs": EXPORT.format("", "use crate::cost::Cost;\nuse scrypt::Progress;\nuse support::{slice, slice_mut};"),
+    "c_abi.rs": EXPORT.format("", "use crate::cost::Cost;\nuse scrypt::{Progress, Size};\n"
+                             "use support::{slice, slice_mut};"),
     "c_abi_64.rs": EXPORT.format(", of 64 bits each",
                                  "use crate::with_64_bits::{limited, place, progress, slice, slice_mut};"),
 }
 # How these take each type: a pattern of it, the parameters, with {0} for the name and {2} for the pattern's group, and
 # what the proved function is passed. For JavaScript each address, length and number of type usize has 64 bits, as in
-# the proofs (wide.py).
+# the proofs.
 PASSED = {
     "c_abi.rs": [
         (r"&(?:'\w+ )?\[(\w+)\]", "{0}: *const {2}, {0}_count: usize", "slice({0}, {0}_count)"),
@@ -190,7 +160,7 @@ PASSED = {
         (r"&.*Progress", "{0}: u64", "&mut progress({0})"),
         (r"&.*", "{0}: u64", "place({0})"),
         (r"usize", "{0}: u64", "limited({0})"),
-        (r"support::Size|u64", "{0}: u64", "{0}"),
+        (r"Size|u64", "{0}: u64", "{0}"),
         (r"[iu]\d+", "{0}: {1}", "{0}"),
     ],
 }
@@ -204,7 +174,7 @@ mod c_abi_64;
 mod with_64_bits;
 """}
 # Methods of these names that are the repository's own, by their receiver.
-OWN = [["hash", ".", "push_str"], [":", ":", "read_to_string"]]
+OWN = [["hash", ".", "push_str"]]
 
 
 def is_no_std(name):
@@ -219,14 +189,19 @@ def heads(name, kept, grows):
 
 def of(name):
     """The replacements in this file: old text, new text."""
-    is_inlined = [("#[inline]", "#[inline(always)]")] if name in BY_HAND else []  # what is for a level
     core = [("std::", "core::")] if is_no_std(name) else []
-    return [*wide.WIDE.get(name, []), *((old, new) for old, new, _ in REPLACED), *is_inlined, *core]
+    return [*((old, new) for old, new, _ in REPLACED), *core]
 
 
 @functools.cache
 def every():
     """Every rule, as the check counts it."""
     growth = [(word, f"checked_{word}") for word in GROWTH]
-    wide_rows = [row for rows in wide.WIDE.values() for row in rows]
-    return [*{*wide_rows, *((old, new) for old, new, _ in REPLACED), *growth}]
+    return [*((old, new) for old, new, _ in REPLACED), *growth]
+
+
+def sources():
+    """The sources that are erased, and their names in crates/: not those in whose place a file by hand stands."""
+    hand = {f"{folder}/{file}".replace(".rs", ".rt") for file, folder in FILES.items()}
+    paths = {path.relative_to("crates").as_posix(): path for path in sorted(Path("crates").glob("*/src/**/*.rt"))}
+    return [(name, path.read_text()) for name, path in paths.items() if name not in hand]

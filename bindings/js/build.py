@@ -2,7 +2,7 @@
 """Makes bindings/js/scrypt.wasm of the erased crate scrypt_c (rust), without what the package doesn't call.
 
 It needs cargo and core for wasm32-unknown-unknown (rust/sysroot.sh); not the kit. Numbers that pass 2^32 keep 64 bits
-(rust/wide.py), and one that would not fit ends the module.
+(rust/by_hand/size.rs), and one that would not fit ends the module.
 """
 
 import os

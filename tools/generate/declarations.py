@@ -161,7 +161,7 @@ def javascript():
 
 # ---- C ----
 
-C = {"u8": "uint8_t", "u32": "uint32_t", "u64": "uint64_t", "usize": "size_t", "i32": "int", "Cost": "scrypt_cost",
+C = {"u8": "uint8_t", "u32": "uint32_t", "u64": "uint64_t", "usize": "size_t", "Size": "size_t", "i32": "int", "Cost": "scrypt_cost",
      "Progress": "scrypt_progress"}
 
 
@@ -221,7 +221,7 @@ def proved_calls():
 def numbers():
     yield f"/* {NOTE}crates: numbers that C shares with the proved code. */"
     for name, path in (("MIN_INTERLEAVED_WORDS", "scrypt_c/src/keys.rt"), ("MAX_INTERLEAVED_MEM", "scrypt/src/buffers/lens.rt")):
-        number = re.search(rf"\bconst {name}: usize = (.*);", read(f"crates/{path}"))
+        number = re.search(rf"\bconst {name}: \w+ = (.*);", read(f"crates/{path}"))
         yield f"#define {name} ({number[1]}) /* crates/{path} */"
     yield f"#define DEFAULT_LIMITS {', '.join(map(str, header.LIMITS.values()))} /* crates/scrypt/src/limits.rt */"
 

@@ -93,8 +93,9 @@ const GROWN: usize = 2 * LETTERS + 1;
 
 // A text with `count` copies of a letter after it.
 pub fn followed(alloc: Global, text: &str, letter: &str, count: usize) -> Result<String, Fail> {
-    let letters = letter.repeat(alloc, count)?;
-    Ok(format!(in alloc; "{text}{}", letters.as_str())?)
+    let mut text = String::from_str(alloc, text)?;
+    text.push_str(letter.repeat(alloc, count)?.as_str())?;
+    Ok(text)
 }
 
 // Makes a text and pushes this field, or these bytes if it is empty. A push that fails leaves the
@@ -104,7 +105,7 @@ fn end_of_push(alloc: Global, text: &str, field: &str, bytes: &[u8]) -> CallEnd 
         return CallEnd::OutOfMemory;
     };
     let pushed = if field.is_empty() {
-        hash.push_base64(bytes, Base64::Crypt)
+        hash.push_base64(alloc, bytes, Base64::Crypt)
     } else {
         hash.push_str(field)
     };

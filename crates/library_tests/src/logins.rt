@@ -64,10 +64,11 @@ fn many_logins(rt: HostRuntime) -> Result<(), Fail> {
         scratch: 256,
     };
     let params = Params::new(4, 1, 1)?;
-    let mut own = Buffers::allocate(rt.alloc(), &lens)?;
+    let alloc = rt.alloc();
+    let mut own = Buffers::allocate(alloc, &lens)?;
     for &(first, others, is_first, is_last, reason) in &LOGINS {
-        let logins = logins_of(rt.alloc(), first, others, &params)?;
-        let mut verdicts = vec![in rt.alloc(); Ok(()); logins.len()]?;
+        let logins = logins_of(alloc, first, others, &params)?;
+        let mut verdicts = vec![in alloc; Ok(()); logins.len()]?;
         own.verify_logins(&logins, &mut verdicts);
         let wanted = (is_first, is_last);
         holds(

@@ -113,7 +113,7 @@ fn pushes(rt: HostRuntime) -> Result<(), Fail> {
     hash.push_str("")?;
     holds(refuses_a_dollar(&mut hash), "a dollar")?;
     holds(is(hash.as_str(), "$7$"), "an empty field")?;
-    hash.push_base64(&[0xff, 0xff], Base64::Crypt)?;
+    hash.push_base64(rt.alloc(), &[0xff, 0xff], Base64::Crypt)?;
     holds(is(hash.as_str(), "$7$$zzD"), "two bytes")
 }
 

@@ -19,6 +19,7 @@ ghost use Rattle.scrypt.specs.declared.stepping.StepsError.TheVariants.{Cancelle
 pub(crate) mod lens;
 pub(crate) mod memory;
 
+use crate::size::{Size, room};
 use crate::verifying::verify_in_buffers;
 use crate::{
     BufferLens, CoreCount, LimitedError, Limits, Login, Params, Simd, StepsError, StoredHash,
@@ -48,9 +49,9 @@ impl Buffers {
         ensures scratch { IfOk result (λ own. own.scratch.items ≡ replicate lens.now.scratch 0) }
     {
         Ok(Buffers {
-            chunks: vec![in alloc; 0u8; lens.chunks]?,
-            table: vec![in alloc; 0u32; lens.table]?,
-            scratch: vec![in alloc; 0u32; lens.scratch]?,
+            chunks: vec![in alloc; 0u8; room(lens.chunks)?]?,
+            table: vec![in alloc; 0u32; room(lens.table)?]?,
+            scratch: vec![in alloc; 0u32; room(lens.scratch)?]?,
         })
     }
 
@@ -66,9 +67,9 @@ impl Buffers {
     {
         let words = limits.max_mem / 4;
         let lens = BufferLens {
-            chunks: limits.max_mem.min(limits.max_work as usize),
+            chunks: limits.max_mem.min(limits.max_work as Size),
             table: words,
-            scratch: words.min((limits.max_work / 2) as usize),
+            scratch: words.min((limits.max_work / 2) as Size),
         };
         Buffers::allocate(alloc, &lens)
     }
@@ -79,7 +80,7 @@ impl Buffers {
     pub fn within(
         alloc: Global,
         params: &Params,
-        max_mem: usize,
+        max_mem: Size,
     ) -> Result<(usize, Buffers), AllocError>
         ensures width { IfOk result (λ got. (got.0 ≡ tables_within max_mem params.now) ⊎ (got.0 ≡ 1)) }
         ensures fits { IfOk result (λ got. 1 < got.0 → tables_bytes params.now got.0 ≤ max_mem) }

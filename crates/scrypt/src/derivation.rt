@@ -15,13 +15,14 @@ pub(crate) mod mixing;
 use crate::buffers::lens::interleaved_chunks;
 use crate::buffers::memory::{ActiveBuffers, Allocation, with_prefix};
 use crate::derivation::mixing::mix_all;
+use crate::size::Size;
 use crate::{Backend, CoreCount, DeriveError, InvalidOutputLen, Params, Simd};
 use scrypt_kernel::memory::{Allocated, Buffer, TableMemory};
 use scrypt_kernel::pbkdf2::pbkdf2_counted;
 use std::alloc::Global;
 
 /// The maximum length of an output in bytes (RFC 7914, section 6: `dkLen`).
-const MAX_OUTPUT_LEN: usize = ((1 << 32) - 1) * 32;
+const MAX_OUTPUT_LEN: Size = ((1 << 32) - 1) * 32;
 
 /// Returns whether an output of `len` bytes can be derived: `len` is from 1 to `(2^32 - 1) * 32`,
 /// which is 137438953440 (RFC 7914, section 6).
@@ -29,6 +30,7 @@ const MAX_OUTPUT_LEN: usize = ((1 << 32) - 1) * 32;
 pub fn output_len_ok(len: usize) -> bool
     ensures exact { result ≡ is_output_len len }
 {
+    let len = len as Size;
     (1..=MAX_OUTPUT_LEN).contains(&len)
 }
 
@@ -94,7 +96,7 @@ pub fn scrypt_with_max_mem<W: Backend>(
     password: &[u8],
     salt: &[u8],
     params: &Params,
-    max_mem: usize,
+    max_mem: Size,
     output: &mut [u8],
     cores: &mut CoreCount,
 ) -> Result<(), DeriveError>

@@ -3,6 +3,7 @@
 ghost use Rattle.std.specs.Prelude.{◌≡◌};
 ghost use Rattle.scrypt.specs.Limits.{admitting, are_within, limits_for_new};
 
+use crate::size::Size;
 use crate::{BufferLens, Params};
 
 /// Limits on the memory and the work of verifying a stored hash, and on the length of its key. An
@@ -11,7 +12,7 @@ use crate::{BufferLens, Params};
 #[derive(Clone, Copy, Debug, PartialEq, Eq)]
 pub struct Limits {
     /// The maximum size of the three buffers in bytes ([`BufferLens::bytes`]).
-    pub max_mem: usize,
+    pub max_mem: Size,
     /// The maximum work ([`Params::work`]): the cores of a derivation, and nine for each block that
     /// SHA-256 compresses, except for the blocks of a long password, salt or key.
     pub max_work: u64,
@@ -53,7 +54,7 @@ impl Limits {
         let bytes = BufferLens::of(params).bytes();
         let work = params.work();
         Limits {
-            max_mem: (self.max_mem as u128).max(bytes).min(u128::from(u64::MAX)) as usize,
+            max_mem: (self.max_mem as u128).max(bytes).min(u128::from(u64::MAX)) as Size,
             max_work: u128::from(self.max_work)
                 .max(work)
                 .min(u128::from(u64::MAX)) as u64,

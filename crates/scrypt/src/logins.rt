@@ -15,6 +15,7 @@ use crate::comparing::is_derived_key;
 use crate::derivation::derive_chunks;
 use crate::derivation::mixing::mix_all;
 use crate::errors::LimitedError;
+use crate::size::index;
 use crate::stored_parts::StoredParts;
 use crate::verifying::{accept_if, verify_in_buffers};
 use crate::{Backend, BufferLens, CoreCount, Decoy, Params, StoredHash};
@@ -90,7 +91,7 @@ impl<'p, 't> Login<'p, 't> {
         match self.params() {
             Some(params) => {
                 params.expose_invariant();
-                BufferLens::of(&params).chunks
+                index(BufferLens::of(&params).chunks)
             }
             None => 0,
         }

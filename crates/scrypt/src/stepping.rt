@@ -16,6 +16,7 @@ ghost use Rattle.scrypt.specs.declared.stepping.StepsError.TheVariants.{Cancelle
 use crate::buffers::lens::interleaved_chunks;
 use crate::derivation::mixing::group_by;
 use crate::derivation::{derive_chunks, output_len_ok};
+use crate::size::{Size, index};
 use crate::{Backend, BufferLens, CoreCount, InvalidOutputLen, Params};
 use scrypt_kernel::order::diagonal::{Both, Diagonal, Scalars};
 use scrypt_kernel::pbkdf2::pbkdf2_counted;
@@ -73,7 +74,7 @@ pub fn begin<W: Backend>(
         (length salt.now) (chunks_bytes params.now.r params.now.p)) cores.old cores.new }
 {
     params.expose_invariant();
-    let (chunks, _) = chunks.split_at_mut(BufferLens::of(params).chunks);
+    let (chunks, _) = chunks.split_at_mut(index(BufferLens::of(params).chunks));
     derive_chunks(password, salt, params, chunks, cores);
     begin_group::<W>(params, 0, chunks, table, scratch)
 }
@@ -118,7 +119,7 @@ pub fn step<W: Backend>(
     if mixes < 2usize << params.log_n() {
         return Progress { mixes, ..at };
     }
-    let (chunks, _) = chunks.split_at_mut(BufferLens::of(params).chunks);
+    let (chunks, _) = chunks.split_at_mut(index(BufferLens::of(params).chunks));
     end_group(params, at.chunks, n, chunks, scratch);
     begin_group::<W>(params, at.chunks + n, chunks, table, scratch)
 }
@@ -133,7 +134,7 @@ pub fn is_within<W: Backend>(params: &Params, at: Progress) -> bool
     let count = params.p() as usize;
     if at.chunks > count
         || at.interleaved > count - at.chunks
-        || at.mixes >= 2usize << params.log_n()
+        || at.mixes as Size >= Size::from(2u8) << params.log_n()
     {
         return false;
     }
@@ -190,7 +191,7 @@ pub fn finish(
     }
     // B is borrowed mutably, because the prover does not support a second shared borrow besides the
     // borrow of the count.
-    let (mixed, _) = chunks.split_at_mut(BufferLens::of(params).chunks);
+    let (mixed, _) = chunks.split_at_mut(index(BufferLens::of(params).chunks));
     pbkdf2_counted(password, mixed, output, cores);
     Ok(())
 }

@@ -10,7 +10,7 @@ ghost use Rattle.scrypt_c.specs.Texts.{bytes_reading};
 
 use crate::statuses::{INVALID_PARAMS, OK, TOO_COSTLY, limited_status_of, unread_status_of};
 use crate::texts::{stored_hash, whole_params};
-use scrypt::{BufferLens, Limits, Params};
+use scrypt::{BufferLens, Limits, Params, Size};
 
 /// The cost of a derivation: its parameters; the length of the key if it is the key of a hash; the
 /// number of tables and scratches that it can use, from 1 to 4 and not above `p`; the length of the
@@ -22,11 +22,11 @@ pub struct Cost {
     pub log_n: u32,
     pub r: u32,
     pub p: u32,
-    pub key_len: usize,
-    pub tables: usize,
-    pub chunks_len: usize,
-    pub table_len: usize,
-    pub scratch_len: usize,
+    pub key_len: Size,
+    pub tables: Size,
+    pub chunks_len: Size,
+    pub table_len: Size,
+    pub scratch_len: Size,
     pub bytes: u64,
     pub work: u64,
 }
@@ -43,7 +43,7 @@ pub struct Cost {
 #[unsafe(no_mangle)]
 pub extern "C" fn scrypt_hash_cost(
     text: &[u8],
-    max_mem: usize,
+    max_mem: Size,
     max_work: u64,
     min_key_len: usize,
     cost: &mut Cost,
@@ -84,7 +84,7 @@ pub extern "C" fn scrypt_params_cost(
     log_n: u8,
     r: u32,
     p: u32,
-    max_mem: usize,
+    max_mem: Size,
     max_work: u64,
     cost: &mut Cost,
 ) -> i32
@@ -109,7 +109,7 @@ pub extern "C" fn scrypt_params_cost(
 }
 
 // Returns what a derivation with these parameters needs.
-fn cost_of(params: &Params, key_len: usize, max_mem: usize) -> Cost
+fn cost_of(params: &Params, key_len: usize, max_mem: Size) -> Cost
     ensures value { result ≡ cost_of max_mem params.now key_len }
     ensures tables { AreMostTables max_mem params.now result.tables }
 {
@@ -118,8 +118,8 @@ fn cost_of(params: &Params, key_len: usize, max_mem: usize) -> Cost
         log_n: u32::from(params.log_n()),
         r: params.r(),
         p: params.p(),
-        key_len,
-        tables: BufferLens::tables_within(params, max_mem),
+        key_len: key_len as Size,
+        tables: BufferLens::tables_within(params, max_mem) as Size,
         chunks_len: lens.chunks,
         table_len: lens.table,
         scratch_len: lens.scratch,
@@ -140,7 +140,7 @@ pub extern "C" fn scrypt_default_limits(
     r: u32,
     p: u32,
     key_len: usize,
-    max_mem: &mut usize,
+    max_mem: &mut Size,
     max_work: &mut u64,
     min_key_len: &mut usize,
 ) -> i32

@@ -20,7 +20,7 @@ use crate::target::Target;
 use crate::texts::{copy_to, limited_hash, stored_hash};
 use password_hash::{Error, Result};
 use scrypt::laws::reading_names_no_password;
-use scrypt::{CoreCount, Params, StoredHash, mcf, phc};
+use scrypt::{CoreCount, Params, Size, StoredHash, mcf, phc};
 use std::alloc::Global;
 
 /// Writes the PHC string of the hash of `password` and `salt` to the start of `text`, and its
@@ -155,7 +155,7 @@ pub extern "C" fn scrypt_verify_limited(
     alloc: Global,
     password: &[u8],
     text: &[u8],
-    max_mem: usize,
+    max_mem: Size,
     max_work: u64,
     min_key_len: usize,
 ) -> i32

@@ -19,7 +19,7 @@ use crate::statuses::{
 use crate::target::Target;
 use crate::texts::{limited_hash, stored_hash, whole_params};
 use scrypt::steps::{begin, finish, is_within, step};
-use scrypt::{Backend, BufferLens, CoreCount, InvalidOutputLen, Params, Progress};
+use scrypt::{Backend, BufferLens, CoreCount, InvalidOutputLen, Params, Progress, Size};
 
 /// Begins a key in steps. It runs no core yet: `scrypt_key_step` does, and `scrypt_key_finish`
 /// writes the key. Up to four chunks are interleaved, one for each table and scratch.
@@ -151,7 +151,7 @@ pub extern "C" fn scrypt_key_finish(
     let Ok(params) = Params::new(log_n, r, p) else {
         return INVALID_PARAMS;
     };
-    if chunks.len() != BufferLens::of(&params).chunks {
+    if chunks.len() as Size != BufferLens::of(&params).chunks {
         return BUFFER_SIZE;
     }
     if at.chunks != params.p() as usize {
@@ -174,7 +174,7 @@ pub extern "C" fn scrypt_key_finish(
 pub extern "C" fn scrypt_verify_begin(
     password: &[u8],
     text: &[u8],
-    max_mem: usize,
+    max_mem: Size,
     max_work: u64,
     min_key_len: usize,
     log_n: &mut u8,
@@ -252,7 +252,7 @@ pub extern "C" fn scrypt_verify_finish(
         Ok((params, _)) => params,
         Err(error) => return status_of(error),
     };
-    if chunks.len() != BufferLens::of(&params).chunks {
+    if chunks.len() as Size != BufferLens::of(&params).chunks {
         return BUFFER_SIZE;
     }
     if at.chunks != params.p() as usize {
@@ -277,7 +277,7 @@ fn are_for_steps(
 {
     let lens = BufferLens::of(params);
     let (table_words, scratch_words) = (lens.table as u128, lens.scratch as u128);
-    chunks.len() == lens.chunks
+    chunks.len() as Size == lens.chunks
         && tables as u128 * table_words <= table.len() as u128
         && tables as u128 * scratch_words <= scratch.len() as u128
 }

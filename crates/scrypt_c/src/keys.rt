@@ -13,7 +13,7 @@ ghost use Rattle.scrypt_c.specs.Statuses.{IsKeyStatus};
 use crate::statuses::{BUFFER_SIZE, INVALID_OUTPUT_LEN, INVALID_PARAMS, OK, OUT_OF_MEMORY};
 use crate::target::Target;
 use scrypt::{
-    BufferLens, CoreCount, DeriveError, Params, output_len_ok, scrypt_in_prefix,
+    BufferLens, CoreCount, DeriveError, Params, Size, output_len_ok, scrypt_in_prefix,
     scrypt_thin_with_backend, scrypt_with_max_mem,
 };
 use std::alloc::Global;
@@ -38,7 +38,7 @@ pub extern "C" fn scrypt_kdf(
     r: u32,
     p: u32,
     max_tables: usize,
-    max_mem: usize,
+    max_mem: Size,
     output: &mut [u8],
 ) -> i32
     ensures value { result ≡ OK → output.new ≡ derived_key password.now salt.now log_n r p (length output.old) }
@@ -64,11 +64,11 @@ pub extern "C" fn scrypt_kdf(
 }
 
 // With fewer words in a table, interleaving is slower than one chunk at a time.
-const MIN_INTERLEAVED_WORDS: usize = 1 << 14;
+const MIN_INTERLEAVED_WORDS: Size = 1 << 14;
 
 // Returns the bytes of the buffers with all tables that are worth using, or 0 to select one table.
 #[tactic(auto, unfolding(crate::specs::Limits::bytes_that_pay))]
-fn bytes_that_pay(params: &Params, max_tables: usize, max_mem: usize) -> usize
+fn bytes_that_pay(params: &Params, max_tables: usize, max_mem: Size) -> Size
     ensures exact { result ≡ bytes_that_pay max_tables max_mem params.now }
 {
     if BufferLens::of(params).table < MIN_INTERLEAVED_WORDS {
@@ -76,7 +76,7 @@ fn bytes_that_pay(params: &Params, max_tables: usize, max_mem: usize) -> usize
     }
     let tables = BufferLens::tables_within(params, max_mem).min(max_tables);
     let bytes = BufferLens::for_tables(params, tables).bytes();
-    bytes.min(max_mem as u128) as usize
+    bytes.min(max_mem as u128) as Size
 }
 
 /// Writes the lengths of the buffers of a derivation with these parameters: for
@@ -91,9 +91,9 @@ pub extern "C" fn scrypt_buffer_lens(
     r: u32,
     p: u32,
     s: u8,
-    chunks: &mut usize,
-    table: &mut usize,
-    scratch: &mut usize,
+    chunks: &mut Size,
+    table: &mut Size,
+    scratch: &mut Size,
 ) -> i32
     ensures exact { (result ≡ OK) ↔ (IsTrue (are_accepted log_n r p) × IsSpacing log_n s) }
     ensures lens { result ≡ OK → AreBuffers log_n r p s chunks.new table.new scratch.new }
@@ -194,7 +194,10 @@ pub extern "C" fn scrypt_kdf_thin(
     if !output_len_ok(output.len()) {
         return INVALID_OUTPUT_LEN;
     }
-    if chunks.len() != lens.chunks || table.len() != lens.table || scratch.len() != lens.scratch {
+    if chunks.len() as Size != lens.chunks
+        || table.len() as Size != lens.table
+        || scratch.len() as Size != lens.scratch
+    {
         return BUFFER_SIZE;
     }
     if s == 0 {

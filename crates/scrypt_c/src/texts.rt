@@ -12,7 +12,7 @@ ghost use Rattle.scrypt_c.specs.Texts.{bytes_params, bytes_reading};
 use crate::statuses::{BUFFER_SIZE, OK};
 use password_hash::{Error, Result};
 use scrypt::laws::parameters_are_those_of_the_reading;
-use scrypt::{LimitedError, Limits, Params, StoredHash};
+use scrypt::{LimitedError, Limits, Params, Size, StoredHash};
 
 /// Reads the text of a hash.
 ///
@@ -31,7 +31,7 @@ pub fn stored_hash(bytes: &[u8]) -> Result<StoredHash<'_>>
 /// Reads the text of a hash that is within the limits.
 pub fn limited_hash(
     bytes: &[u8],
-    max_mem: usize,
+    max_mem: Size,
     max_work: u64,
     min_key_len: usize,
 ) -> std::result::Result<StoredHash<'_>, LimitedError>

@@ -28,8 +28,8 @@ use crate::target::Target;
 use crate::texts::{copy_to, limited_hash, stored_hash};
 use password_hash::{Error, Result};
 use scrypt::{
-    CoreCount, Decoy, LimitedError, Login, LoginHash, Params, StoredHash, mcf, phc, verify_logins,
-    wipe,
+    CoreCount, Decoy, LimitedError, Login, LoginHash, Params, Size, StoredHash, mcf, phc,
+    verify_logins, wipe,
 };
 
 /// Does what `scrypt_hash_phc` does, in the caller's buffers.
@@ -147,7 +147,7 @@ pub extern "C" fn scrypt_hash_mcf_with_buffers(
 pub extern "C" fn scrypt_verify_limited_with_buffers(
     password: &[u8],
     text: &[u8],
-    max_mem: usize,
+    max_mem: Size,
     max_work: u64,
     min_key_len: usize,
     chunks: &mut [u8],

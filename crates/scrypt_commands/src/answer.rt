@@ -222,9 +222,10 @@ fn key<M: Machine>(
     if is_raw {
         return Ok(Answer::Made(key));
     }
-    let mut digits = hex::encode(alloc, key.as_slice())?;
-    digits.push('\n')?;
-    Ok(Answer::Made(digits.into_bytes()))
+    let mut line = vec![in alloc; 0u8; 2 * key.len()]?;
+    let _ = hex::encode_to_slice(key.as_slice(), &mut line);
+    line.push(b'\n')?;
+    Ok(Answer::Made(line))
 }
 
 // Derives a key of an allowed length.

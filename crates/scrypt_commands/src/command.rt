@@ -9,7 +9,6 @@ ghost use Rattle.scrypt_commands.specs.Options.{texts_of};
 
 use crate::command_line::{CommandLine, Name};
 use crate::error::{CliError, Result};
-use hex::FromHexError;
 use password_hash::decimal::{read_u8, read_u32, read_usize};
 use scrypt::{Params, StoredHash, output_len_ok};
 use std::alloc::Global;
@@ -299,15 +298,18 @@ fn checked_params(unchecked: UncheckedParams, key_len: Option<usize>) -> Option<
 }
 
 // Returns the bytes of the salt. SALT_HEX is an even number of hexadecimal digits of either case.
+#[tactic(auto, using(crate::proofs::CommandFacts::decoded))]
 fn read_salt(alloc: Global, salt: Salt<'_>) -> Result<Vec<u8>>
     ensures { Gives (λ salt. salt.items) (salt_of salt.entry) result }
 {
     match salt {
-        Salt::Digits(digits) => match hex::decode(alloc, digits) {
-            Ok(salt) => Ok(salt),
-            Err(FromHexError::OutOfMemory) => Err(CliError::OutOfMemory),
-            Err(_) => Err(CliError::SaltNotHex),
-        },
+        Salt::Digits(digits) => {
+            let mut salt = vec![in alloc; 0u8; digits.len() / 2]?;
+            match hex::decode_to_slice(digits, &mut salt) {
+                Ok(()) => Ok(salt),
+                Err(_) => Err(CliError::SaltNotHex),
+            }
+        }
         Salt::Drawn(salt) => Ok(salt.to_vec(alloc)?),
     }
 }

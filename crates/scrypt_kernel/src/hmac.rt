@@ -7,7 +7,7 @@ ghost use Rattle.scrypt_kernel.specs.HmacState.{HoldsText};
 ghost use Rattle.scrypt_kernel.specs.Pbkdf2Cost.{end_cost, key_cost, state_cost};
 
 use crate::CoreCount;
-use crate::cores::sha256::{begin, finish, update};
+use crate::cores::sha256::{begin, copy_of, finish, update};
 use sha2::Sha256;
 
 /// Returns the HMAC-SHA-256 of `text` followed by `tail`, with the key `key` (RFC 2104, section 2).
@@ -52,9 +52,9 @@ impl Hmac {
         ensures counted { (secret text : List ℕ) → HoldsText self.now secret text
             → AreHashed (end_cost (length text) (length tail.now)) cores.old cores.new }
     {
-        let mut inner = self.inner.clone().unwrap();
+        let mut inner = copy_of(&self.inner);
         update(&mut inner, tail, cores);
-        let mut outer = self.outer.clone().unwrap();
+        let mut outer = copy_of(&self.outer);
         update(&mut outer, &finish(inner, cores), cores);
         finish(outer, cores)
     }

@@ -3,6 +3,8 @@
 ghost use Rattle.std.specs.Prelude.{◌≡◌, ℕ, ◌+◌, ◌*◌, ◌<◌, ◌≤◌, drop, length, slice_index, take};
 ghost use Rattle.scrypt_kernel.specs.Words.{part};
 
+use crate::words::row;
+
 /// At most four parts of `len` words each, which begin at these indices of `words`.
 #[derive(Clone, Copy)]
 pub struct Parts<'a> {
@@ -49,6 +51,6 @@ impl<'a> Parts<'a> {
         ensures value { result.now ≡ part_of self.now k }
         ensures len { length result.now ≡ self.now.len }
     {
-        &self.words[self.starts[k]..self.starts[k] + self.len]
+        row(self.words, self.starts[k], self.len)
     }
 }

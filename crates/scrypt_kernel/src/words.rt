@@ -1,6 +1,6 @@
 //! Lists of words, their bytes, and the parts that they are cut into.
 
-ghost use Rattle.std.specs.Prelude.{◌≡◌, ◌≢◌, ℕ, ◌+◌, ◌*◌, ◌%◌, ◌≤◌, length};
+ghost use Rattle.std.specs.Prelude.{◌≡◌, ◌≢◌, ℕ, ◌+◌, ◌*◌, ◌%◌, ◌≤◌, drop, length, take};
 ghost use Rattle.scrypt_kernel.specs.Words.{add_words, bytes_of, part, words_of};
 
 use std::simd::u32x4;
@@ -45,7 +45,17 @@ pub(crate) fn part(len: usize, x: &[u32], k: usize) -> &[u32]
     ensures value { result.now ≡ part len x.now k }
     ensures len { length result.now ≡ len }
 {
-    &x[k * len..k * len + len]
+    row(x, k * len, len)
+}
+
+/// Returns the `len` words of `x` that begin at the index `start`.
+#[inline(always)]
+pub(crate) fn row(x: &[u32], start: usize, len: usize) -> &[u32]
+    requires { start + len ≤ length x.now }
+    ensures value { result.now ≡ take len (drop start x.now) }
+    ensures len { length result.now ≡ len }
+{
+    &x[start..start + len]
 }
 
 /// Returns part `k` of `x`, which is cut into parts of four words, as a vector.

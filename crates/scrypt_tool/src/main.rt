@@ -9,30 +9,28 @@
 
 ghost use Rattle.std.specs.Prelude.{⊤};
 
+mod host;
 mod target;
 
+use crate::host::{ExitCode, HostRuntime};
 use crate::target::Target;
 use scrypt_commands::invocation::{Invocation, Machine};
-use std::fs::{Files, OpenOptions};
-use std::io::{ErrorKind, IsTerminal, Read};
-use std::process::ExitCode;
-use std::random::RandomSource;
-use std::{env, io};
+use std::io::{self, ErrorKind, Write};
 
 // Every hash is shorter, except a `$7$` hash with a salt so long that no program makes it.
-const MAX_BYTES: usize = 4096;
+const MAX_BYTES: u64 = 4096;
 
 // The whole bar of a key's progress.
 const FULL: &str = "########################################";
 
 fn main(rt: HostRuntime) -> ExitCode {
     let (mut output, mut errors) = (rt.stdout(), rt.stderr());
-    let Ok(words) = words(&rt) else {
+    let Ok(words) = host::words(&rt) else {
         let _ = errors.write_all(b"the arguments can't be read\n");
         return ExitCode::from(3);
     };
     let invocation = Invocation::parse(&words);
-    if invocation.is_raw() && output.is_terminal() {
+    if invocation.is_raw() && host::is_terminal(&output) {
         let _ = errors.write_all(b"--raw does not write to a terminal\n");
         return ExitCode::from(2);
     }
@@ -66,65 +64,50 @@ impl Machine for System<'_> {
 
     fn draw_salt(&self) -> io::Result<[u8; 16]> {
         let mut salt = [0u8; 16];
-        self.0.fill_bytes(&mut salt)?;
+        host::fill_random(self.0, &mut salt)?;
         Ok(salt)
     }
 
     fn show_progress(&self, percent: u8) {
-        if !self.0.stderr().is_terminal() {
+        let mut errors = self.0.stderr();
+        if !host::is_terminal(&errors) {
             return;
         }
         let drawn = FULL.len() * usize::from(percent.min(100)) / 100;
         let bar = FULL.get(..drawn).unwrap_or(FULL);
-        let _ = eprint!(self.0; "\r[{bar:<40}] {percent:>3} %");
+        let _ = write!(errors, "\r[{bar:<40}] {percent:>3} %");
         if percent == 100 {
-            let _ = eprint!(self.0; "\r{:48}\r", "");
+            let _ = write!(errors, "\r{:48}\r", "");
         }
     }
 }
 
-// The arguments after the program's name.
-fn words(rt: &HostRuntime) -> io::Result<Vec<String>> {
-    Ok(env::args(rt)?.skip(1).collect(rt.alloc())?)
-}
-
-// The text of the file with this name, if a name is given. If it can't be read, prints the reason
-// and returns the status.
+// The hash in the file with this name, if a name is given: the file's text without the newline at its
+// end. If it can't be read, prints the reason and returns the status.
 fn file_text(rt: &HostRuntime, name: Option<&str>) -> Result<Option<String>, u8> {
     let Some(name) = name else {
         return Ok(None);
     };
-    let read = read_hash(rt, name);
-    // Escaped, so that the error stays on one line and a file name can't send control codes to the
-    // terminal.
-    let name = name.escape_debug();
-    match read {
-        Ok(Some(text)) => Ok(Some(text)),
+    match host::read_text(rt, name, MAX_BYTES) {
+        Ok(Some(mut text)) => {
+            if text.ends_with('\n') {
+                text.pop();
+            }
+            Ok(Some(text))
+        }
         Ok(None) => {
-            let _ = eprintln!(rt; "{name}: more than {MAX_BYTES} bytes");
+            let _ = writeln!(
+                rt.stderr(),
+                "{}: more than {MAX_BYTES} bytes",
+                name.escape_debug()
+            );
             Err(2)
         }
         Err(error) => {
-            let _ = eprintln!(rt; "{name}: {error}");
+            host::report(rt, name, &error);
             Err(status_of(&error))
         }
     }
-}
-
-// The hash in the file with this name: the file's text without the newline at its end, or nothing if
-// it is too long.
-fn read_hash(rt: &HostRuntime, name: &str) -> io::Result<Option<String>> {
-    let mut text = String::new(rt.alloc());
-    // `fs::open` would add every function of the file system to the trusted computing base.
-    let file = rt.open_file(OpenOptions::new().read(true), name)?;
-    let mut file = file.take(MAX_BYTES as u64 + 1);
-    if file.read_to_string(&mut text)? > MAX_BYTES {
-        return Ok(None);
-    }
-    if text.ends_with('\n') {
-        text.pop();
-    }
-    Ok(Some(text))
 }
 
 // The exit status for an error of reading the file: 2 if its content is not a hash.

@@ -13,9 +13,6 @@ mod c_heap;
 #[cfg(feature = "c_library")]
 mod c_library;
 mod grow;
-pub mod hex;
-#[cfg(all(feature = "std", unix))]
-pub mod host;
 #[cfg(feature = "js_module")]
 mod js_module;
 pub mod simd;
@@ -25,35 +22,9 @@ use alloc::boxed::Box;
 /// The traits of calls that allocate.
 pub mod growth {
     pub use crate::grow::{Allocate, Grow, GrowText, Texts, ToText, ToVec};
-    #[cfg(all(feature = "std", unix))]
-    pub use crate::host::ReadText;
 }
 
 pub use grow::filled;
-
-#[cfg(not(any(target_pointer_width = "64", target_arch = "wasm32")))]
-compile_error!("the proofs are of a usize of 64 bits");
-
-/// A number of bytes or words that parameters ask for: of 64 bits, as the usize of the proofs.
-#[cfg(target_pointer_width = "64")]
-pub type Size = usize;
-/// A number of bytes or words that parameters ask for: of 64 bits, as the usize of the proofs.
-#[cfg(target_pointer_width = "32")]
-pub type Size = u64;
-
-/// A number of elements of a slice that exists.
-#[inline(always)]
-#[allow(clippy::useless_conversion)]
-pub fn index(number: Size) -> usize {
-    usize::try_from(number).unwrap()
-}
-
-/// A number of elements that are to be allocated.
-#[inline(always)]
-#[allow(clippy::useless_conversion)]
-pub fn room(number: Size) -> Result<usize, AllocError> {
-    usize::try_from(number).map_err(|_| AllocError)
-}
 
 /// `vec!`, but with an error if memory is exhausted.
 #[macro_export]
@@ -121,12 +92,4 @@ pub unsafe fn slice_mut<'a, T>(at: *mut T, len: usize) -> &'a mut [T] {
         return &mut [];
     }
     unsafe { core::slice::from_raw_parts_mut(at, len) }
-}
-
-/// `format!`, but with an error if memory is exhausted.
-#[macro_export]
-macro_rules! checked_format {
-    ($($given:tt)*) => {
-        $crate::growth::ToText::checked_to_string(&format_args!($($given)*))
-    };
 }

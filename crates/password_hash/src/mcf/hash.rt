@@ -106,12 +106,11 @@ impl PasswordHash {
     ///
     /// Returns `OutOfMemory` if an allocation fails.
     #[tactic(auto, using(crate::proofs::McfFacts::pushed))]
-    pub fn push_base64(&mut self, bytes: &[u8], encoding: Base64) -> Result<()>
+    pub fn push_base64(&mut self, alloc: Global, bytes: &[u8], encoding: Base64) -> Result<()>
         ensures ok { OnOk result (self.new ≡ self.old ++ dollar ∷ crypt64_of bytes.now) }
         ensures err { IfErr result (λ e. e ≡ Error.OutOfMemory) }
         ensures unchanged { OnErr result (self.new ≡ self.old) }
     {
-        let alloc = *self.text.allocator();
         let letters = encoding.encode_string(alloc, bytes)?;
         self.push_str(letters.as_str())
     }

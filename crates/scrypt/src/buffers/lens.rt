@@ -7,16 +7,17 @@ ghost use Rattle.scrypt.specs.Mixing.{HasTables};
 ghost use Rattle.scrypt.specs.Workspace.{interleaved_chunks};
 
 use crate::Params;
+use crate::size::{Size, index};
 
 /// The lengths of the three buffers of a derivation.
 #[derive(Clone, Copy, Debug, PartialEq, Eq)]
 pub struct BufferLens {
     /// The length of the chunks in bytes: `128 * r * p`.
-    pub chunks: usize,
+    pub chunks: Size,
     /// The length of the table in words: `32 * r * N` for one whole table.
-    pub table: usize,
+    pub table: Size,
     /// The length of the scratch in words: `64 * r` for one whole table.
-    pub scratch: usize,
+    pub scratch: Size,
 }
 
 impl BufferLens {
@@ -49,8 +50,8 @@ impl BufferLens {
         params.expose_invariant();
         BufferLens {
             chunks: one.chunks,
-            table: tables * one.table,
-            scratch: tables * one.scratch,
+            table: tables as Size * one.table,
+            scratch: tables as Size * one.scratch,
         }
     }
 
@@ -58,7 +59,7 @@ impl BufferLens {
     /// bytes together: as many as fit, at most four and at most `p`, but one even if it does not
     /// fit. [`BufferLens::for_tables`] returns the lengths.
     #[tactic(auto, unfolding(crate::specs::Limits::tables_within))]
-    pub fn tables_within(params: &Params, max_mem: usize) -> usize
+    pub fn tables_within(params: &Params, max_mem: Size) -> usize
         ensures exact { result ≡ tables_within max_mem params.now }
         ensures some { 0 < result }
         ensures few { result ≤ 4 }
@@ -103,11 +104,11 @@ impl BufferLens {
         ensures table { result.table ≡ table_words log_rows params.now.r }
         ensures scratch { result.scratch ≡ scratch_rows * (32 * params.now.r) }
     {
-        let row = 32 * params.r() as usize;
+        let row = 32 * params.r() as Size;
         BufferLens {
-            chunks: params.p() as usize * (4 * row),
-            table: (1usize << log_rows) * row,
-            scratch: scratch_rows * row,
+            chunks: params.p() as Size * (4 * row),
+            table: (Size::from(1u8) << log_rows) * row,
+            scratch: scratch_rows as Size * row,
         }
     }
 }
@@ -131,6 +132,6 @@ pub(crate) fn interleaved_chunks(
     params.expose_invariant();
     4usize
         .min(count)
-        .min(table / one.table)
-        .min(scratch / one.scratch)
+        .min(index(table as Size / one.table))
+        .min(index(scratch as Size / one.scratch))
 }

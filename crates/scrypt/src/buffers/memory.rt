@@ -8,6 +8,7 @@ ghost use Rattle.scrypt.specs.Mixing.{HasTables, IsAtFront, IsKept, IsReady, IsS
 ghost use Rattle.scrypt.specs.Workspace.{IsDone, are_enough, interleaved_chunks, workspace_of};
 
 use super::lens::{BufferLens, interleaved_chunks};
+use crate::size::{Size, index, room};
 use crate::{CoreCount, Params};
 use scrypt_kernel::memory::{Allocated, Buffer};
 use std::alloc::{AllocError, Global};
@@ -116,8 +117,8 @@ pub(crate) fn with_prefix<V, T, F: FnOnce(&mut ActiveBuffers<'_, Buffer<'_>>, &m
     params.expose_invariant();
     let lens = BufferLens::for_tables(params, width);
     let (chunks, _) = chunks.split_at_mut(count as usize * (128 * params.r() as usize));
-    let (table, _) = table.split_at_mut(lens.table);
-    let (scratch, _) = scratch.split_at_mut(lens.scratch);
+    let (table, _) = table.split_at_mut(index(lens.table));
+    let (scratch, _) = scratch.split_at_mut(index(lens.scratch));
     let mut rows = Buffer::new(table);
     let mut used = ActiveBuffers::new(width, chunks, &mut rows, scratch, cores);
     Some(derive(&mut used, output))
@@ -139,11 +140,11 @@ impl Allocation {
         ensures table { IfOk result (λ own. allocated_room own.table ≡ lens.now.table) }
         ensures scratch { IfOk result (λ own. length own.scratch.items ≡ lens.now.scratch) }
     {
-        let mut chunks = Vec::with_capacity(alloc, lens.chunks)?;
-        let table = Allocated::new(Vec::with_capacity(alloc, lens.table)?);
-        let scratch = vec![in alloc; 0u32; lens.scratch]?;
+        let mut chunks = Vec::with_capacity(alloc, room(lens.chunks)?)?;
+        let table = Allocated::new(Vec::with_capacity(alloc, room(lens.table)?)?);
+        let scratch = vec![in alloc; 0u32; room(lens.scratch)?]?;
         // All three are allocated: now the chunks are written.
-        chunks.resize_with(lens.chunks, || 0u8).unwrap();
+        chunks.resize_with(index(lens.chunks), || 0u8).unwrap();
         Ok(Allocation {
             chunks,
             table,
@@ -157,7 +158,7 @@ impl Allocation {
     pub(crate) fn allocate_within(
         alloc: Global,
         params: &Params,
-        max_mem: usize,
+        max_mem: Size,
     ) -> Result<(usize, Allocation), AllocError>
         ensures chunks { IfOk result (λ got. length got.1.chunks.items ≡ chunks_bytes params.now.r params.now.p) }
         ensures memory { IfOk result (λ got. HasTables params.now.log_n 0 params.now.r got.0

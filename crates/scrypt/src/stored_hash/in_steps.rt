@@ -8,6 +8,7 @@ ghost use Rattle.scrypt.specs.Stepping.{IsUnderWay};
 
 use super::StoredHash;
 use crate::comparing::is_derived_key;
+use crate::size::index;
 use crate::verifying::accept_if;
 use crate::{BufferLens, CoreCount, Progress};
 use password_hash::Result;
@@ -49,7 +50,7 @@ impl<'a> StoredHash<'a> {
     {
         match self.parts() {
             Ok(parts) => {
-                let (mixed, _) = chunks.split_at_mut(BufferLens::of(&parts.params).chunks);
+                let (mixed, _) = chunks.split_at_mut(index(BufferLens::of(&parts.params).chunks));
                 accept_if(is_derived_key(password, mixed, parts, cores))
             }
             Err(refused) => Err(refused),

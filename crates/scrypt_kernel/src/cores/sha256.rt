@@ -17,6 +17,13 @@ pub(crate) fn begin() -> Sha256
     Sha256::new()
 }
 
+/// Returns a hasher of the same message.
+pub(crate) fn copy_of(hasher: &Sha256) -> Sha256
+    ensures { (m : List ℕ) → Holds256 hasher.now m → Holds256 result m }
+{
+    hasher.clone().unwrap()
+}
+
 /// Adds `bytes` to the message, and counts the blocks that it fills.
 #[tactic(auto, using(crate::proofs::CountFacts::hashed_as, crate::proofs::HashFacts::same_fill))]
 pub(crate) fn update(hasher: &mut Sha256, bytes: &[u8], cores: &mut CoreCount)
@@ -35,5 +42,5 @@ pub(crate) fn finish(hasher: Sha256, cores: &mut CoreCount) -> [u8; 32]
     ensures counted { (m : List ℕ) → Holds256 hasher m → AreHashed (message_cost (length m % 64)) cores.old cores.new }
 {
     *cores = CoreCount::after_compressions(cores, &hasher, &[], true);
-    hasher.finalize()
+    hasher.finalize().into()
 }

@@ -4,21 +4,13 @@ ghost use Rattle.std.specs.Prelude.{◌≡◌, ◌≢◌, ℕ, ◌+◌, ◌*◌,
 
 use crate::cores::simd::Lanes;
 use crate::parts::Parts;
-use std::simd::{u32x4, u32x8};
+use std::simd::u32x4;
 
 /// One of the two vectors of [`Both`].
 pub trait Half: Lanes {
     /// States that it has at most two blocks. Does nothing at run time.
     fn few()
         ensures { Self.count ≤ 2 };
-}
-
-impl Half for u32x4 {
-    fn few() {}
-}
-
-impl Half for u32x8 {
-    fn few() {}
 }
 
 /// The lanes of the blocks of two vectors.
@@ -36,14 +28,14 @@ impl<A: Half, B: Half> Lanes for Both<A, B> {
 
     ghost lanes = { λ v k. of_both A.count (A.lanes v.a) (B.lanes v.b) k };
 
-    #[inline]
+    #[inline(always)]
     fn count() -> usize {
         A::few();
         B::few();
         A::count() + B::count()
     }
 
-    #[inline]
+    #[inline(always)]
     fn read(parts: &Parts<'_>, first: usize, j: usize) -> Both<A, B> {
         Both {
             a: A::read(parts, first, j),
@@ -51,7 +43,7 @@ impl<A: Half, B: Half> Lanes for Both<A, B> {
         }
     }
 
-    #[inline]
+    #[inline(always)]
     fn plus(self, y: Both<A, B>) -> Both<A, B> {
         Both {
             a: self.a.plus(y.a),
@@ -59,7 +51,7 @@ impl<A: Half, B: Half> Lanes for Both<A, B> {
         }
     }
 
-    #[inline]
+    #[inline(always)]
     fn xor(self, y: Both<A, B>) -> Both<A, B> {
         Both {
             a: self.a.xor(y.a),
@@ -67,7 +59,7 @@ impl<A: Half, B: Half> Lanes for Both<A, B> {
         }
     }
 
-    #[inline]
+    #[inline(always)]
     fn xor_rotated(self, y: Both<A, B>, bits: u32) -> Both<A, B> {
         Both {
             a: self.a.xor_rotated(y.a, bits),
@@ -75,7 +67,7 @@ impl<A: Half, B: Half> Lanes for Both<A, B> {
         }
     }
 
-    #[inline]
+    #[inline(always)]
     fn turned(b: Both<A, B>, c: Both<A, B>, d: Both<A, B>) -> (Both<A, B>, Both<A, B>, Both<A, B>) {
         let x = A::turned(b.a, c.a, d.a);
         let y = B::turned(b.b, c.b, d.b);
@@ -86,7 +78,7 @@ impl<A: Half, B: Half> Lanes for Both<A, B> {
         )
     }
 
-    #[inline]
+    #[inline(always)]
     fn four(self, k: usize) -> u32x4 {
         if k < A::count() {
             self.a.four(k)

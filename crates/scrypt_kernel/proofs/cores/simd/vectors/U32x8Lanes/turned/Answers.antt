@@ -1,6 +1,6 @@
 use Rattle.std.proofs.Common.{◌∷◌, [], refl}
 use Rattle.scrypt_kernel.proofs.LaneFacts.{AreTurned, eight_lanes}
-use Rattle.scrypt_kernel.proofs.cores.simd.U32x8Lanes.turned.Goals as goal
+use Rattle.scrypt_kernel.proofs.cores.simd.vectors.U32x8Lanes.turned.Goals as goal
 
 pub returns : goal.returns
 returns c k h = (

@@ -4,7 +4,7 @@ use Rattle.std.proofs.lemmas.Simd.{shifts_fit_splat}
 use Rattle.scrypt_kernel.specs.Words.{part}
 use Rattle.scrypt_kernel.proofs.LaneFacts.{xor_rotated_by_parts}
 use Rattle.scrypt_kernel.proofs.WordFacts.{part-zip2}
-use Rattle.scrypt_kernel.proofs.cores.simd.xor_rotated.Goals as goal
+use Rattle.scrypt_kernel.proofs.cores.simd.vectors.xor_rotated.Goals as goal
 
 pub overflow_shr-right : goal.overflow_shr-right
 overflow_shr-right g c = shifts_fit_splat 32 c.args.y g.row.N _ (omega arith)
