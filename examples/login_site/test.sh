@@ -8,9 +8,9 @@ if ! { command -v chromedriver && python3 -c 'import django, waitress, gunicorn,
   ../../tools/lacks "what it needs" python3-django python3-waitress gunicorn python3-selenium chromium-driver
   exit 77
 fi
-python3 -B manage.py test -k Client -k Waitress "$@"
+python3 -B manage.py test -k Client -k Column -k Waitress "$@"
 if command -v pg_virtualenv > /dev/null && python3 -c 'import psycopg2' 2> /dev/null; then
-  pg_virtualenv python3 -B manage.py test -k sessions -k Gunicorn "$@"
+  pg_virtualenv python3 -B manage.py test -k sessions -k Column -k Gunicorn "$@"
 else
   ../../tools/lacks PostgreSQL postgresql python3-psycopg2
 fi

@@ -8,10 +8,12 @@
 
 The first class in the list makes new hashes; a hash of another class is replaced at the next login.
 OverPBKDF2 and OverBCrypt hash the hashes of PBKDF2 and bcrypt once more, for users who don't log
-in: docs/MIGRATION.md of the repository shows how.
+in: `wrap_all` does so, and docs/MIGRATION.md of the repository shows how.
 
-A PasswordHasher makes and verifies the hashes of all these classes: it has the limits, the slots and
-the queue. By default they share one, with the handler for passlib too. Parameters and limits are
+A PasswordHasher makes and verifies the hashes of these classes: it has the limits, the slots and the
+queue. By default those of PHC strings share one, with the handler for passlib too. New hashes of
+ScryptPasswordHasher have N = 2**16 and p = 2, because with N = 2**17 they don't fit into Django's
+column of 128 characters; so it has a PasswordHasher of its own. Parameters and limits are
 attributes. To change them, put your own subclass into the list; `hasher` lets two classes share:
 
     class OurPasswordHasher(PHCPasswordHasher):
@@ -21,7 +23,9 @@ attributes. To change them, put your own subclass into the list; `hasher` lets t
         hasher = OurPasswordHasher.hasher
 
     class AnotherDjangoHasher(ScryptPasswordHasher):  # with a hasher of its own
-        work_factor, max_mem, timeout = 2**16, 1 << 30, 10
+        work_factor, parallelism, max_mem, timeout = 2**15, 4, 1 << 30, 10
+
+A hash that is longer than the column raises HashTooLongError before anything is derived.
 
 For a hash that is damaged or exceeds the limits, check_password raises a RefusedHashError. If no
 view catches it, put FalseIfRefused before the class: check_password returns False after the time of
@@ -36,8 +40,10 @@ from __future__ import annotations
 import base64
 import logging
 import re
-from typing import Any
+from typing import Any, Callable, Optional
 
+from django.apps import apps
+from django.contrib.auth import get_user_model
 from django.contrib.auth.hashers import (
     BasePasswordHasher,
     BCryptSHA256PasswordHasher,
@@ -45,10 +51,17 @@ from django.contrib.auth.hashers import (
     mask_hash,
     must_update_salt,
 )
+from django.core.exceptions import ImproperlyConfigured
 
 from .arguments import raw_password
-from .declared import MAX_SALT_LEN, RECOMMENDED_LOG_N, RECOMMENDED_P, RECOMMENDED_R, Status
-from .errors import InvalidHashError, RefusedHashError, TooCostlyError, VerifyMismatchError
+from .declared import MAX_SALT_LEN, RECOMMENDED_R, Status
+from .errors import (
+    HashTooLongError,
+    InvalidHashError,
+    RefusedHashError,
+    TooCostlyError,
+    VerifyMismatchError,
+)
 from .hasher import Limited, PasswordHasher, shared
 from .key import log_of
 from .migration import from_django
@@ -71,6 +84,28 @@ class FalseIfRefused:
 
 def _invalid(why: str) -> InvalidHashError:
     return InvalidHashError(Status.ENCODING_INVALID, why)
+
+
+def _check_column(*parts: object, key_len: int, padded: bool = False) -> None:
+    """Raises HashTooLongError if a hash of these parts, joined by `$`, and of a key in Base64 does
+    not fit into the column of the project's users. Without models there is no column."""
+    if not apps.ready:
+        return
+    try:
+        users = get_user_model()
+    except ImproperlyConfigured:  # of other users than Django's, or of none
+        from django.contrib.auth.base_user import AbstractBaseUser as users
+    room = users._meta.get_field("password").max_length
+    letters = _letters(key_len) + (-_letters(key_len) % 4 if padded else 0)
+    size = sum(len(str(it)) + 1 for it in parts) + letters
+    if room is not None and size > room:
+        words = f"the hash has {size} characters, and the column of users {room}"
+        raise HashTooLongError(Status.BUFFER_SIZE, words)
+
+
+def _letters(size: int) -> int:
+    """Returns how many letters of Base64 encode so many bytes."""
+    return (4 * size + 2) // 3
 
 
 class _Hasher(BasePasswordHasher):
@@ -118,9 +153,9 @@ class ScryptPasswordHasher(Limited, _Hasher):
     """The format of Django's own ScryptPasswordHasher: scrypt$N$SALT$r$p$KEY."""
 
     algorithm = "scrypt"
-    work_factor = 2**RECOMMENDED_LOG_N
+    work_factor = 2**16  # with p = 2 as much work as the recommended parameters
     block_size = RECOMMENDED_R
-    parallelism = RECOMMENDED_P
+    parallelism = 2
 
     @property
     def hasher(self) -> PasswordHasher:  # type: ignore[override]
@@ -136,8 +171,10 @@ class ScryptPasswordHasher(Limited, _Hasher):
         own = self.hasher.params  # 0 does not mean a default, and is rejected
         log_n = own.log_n if n is None else log_of(n)
         costs = accepted(log_n, own.r if r is None else r, own.p if p is None else p)
+        shown = self.algorithm, 1 << log_n, salt, *costs[1:]
+        _check_column(*shown, key_len=64, padded=True)
         key = base64.b64encode(self.hasher._key_with(*costs, password, salt.encode(), 64)).decode()
-        return f"{self.algorithm}${1 << log_n}${salt}${costs[1]}${costs[2]}${key}"
+        return "$".join(map(str, (*shown, key)))
 
     def _text(self, encoded: str) -> str:
         try:
@@ -161,7 +198,11 @@ class PHCPasswordHasher(_Hasher):
     def encode(self, password: str, salt: str) -> str:
         if password is None:
             raise TypeError("password must be provided.")
-        return self.algorithm + self.hasher.hash(password, salt=salt.encode())
+        raw, (log_n, r, p, key_len) = salt.encode(), self.hasher.params
+        letters = _letters(len(raw)) * "."
+        shown = ["7", 11 * "." + letters] if self.hasher.options.mcf else ["scrypt", f"ln={log_n},r={r},p={p}", letters]
+        _check_column(self.algorithm, *shown, key_len=key_len)
+        return self.algorithm + self.hasher.hash(password, salt=raw)
 
     def decode(self, encoded: str) -> dict[str, Any]:
         """Returns the parts of a hash, with the salt that `encode` was given. A salt of another
@@ -257,3 +298,32 @@ class OverBCrypt(OverPasswordHasher):
 
     def _old(self, password: str, settings: str) -> str:
         return self.inner().encode(password, settings.encode())
+
+
+def wrap_all(
+    users: Any, hasher: OverPasswordHasher, progress: Optional[Callable[[int, int], object]] = None
+) -> int:
+    """Stores what `hasher.wrap` returns in place of each hash of `hasher.inner` among `users`, a
+    queryset, and returns how many it has replaced. Each is replaced only if it is still the hash
+    that was read: a user who has logged in or changed the password meanwhile keeps the new hash. A
+    hash that is rejected stays, and the log has the reason.
+
+    `progress` is called after each with the number of hashes that are done, and of all. Each is
+    replaced in a transaction of its own, unless the caller has begun one, which would make logins
+    wait until it ends. After an interruption, call it again: it goes on with the rest.
+    """
+    every = users.model._base_manager.using(users.db)
+    left = users.filter(password__startswith=f"{hasher.inner.algorithm}$").order_by("pk")
+    done, replaced, total = 0, 0, left.count()
+    rest = left
+    while batch := list(rest.values_list("pk", "password")[:100]):
+        for key, old in batch:
+            try:
+                replaced += every.filter(pk=key, password=old).update(password=hasher.wrap(old))
+            except ValueError as error:
+                LOG.error("the hash of user %s is not replaced: %s", key, error)
+            done += 1
+            if progress is not None:
+                progress(done, total)
+        rest = left.filter(pk__gt=batch[-1][0])
+    return replaced

@@ -54,6 +54,10 @@ class InvalidOutputLenError(ScryptError, ValueError):
     """The key is empty, or longer than scrypt allows."""
 
 
+class HashTooLongError(ScryptError, ValueError):
+    """The hash is longer than Django's column for it. Nothing was derived."""
+
+
 # The exceptions of the statuses that a call of this package can return, except the statuses of an
 # invalid hash.
 KINDS: dict[int, type[Exception]] = {

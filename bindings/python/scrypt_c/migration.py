@@ -2,6 +2,9 @@
 
 Raises ValueError for a hash that is damaged, that has a key of a length which its program does not
 write, that no password matches, or that neither format can store. `n` is N, a power of two.
+
+`key_len` keeps only so many bytes of the key, at least 10: the first bytes of a key of scrypt are the
+key of that length. With 32, hashes fit into Django's column of 128 characters.
 """
 
 from __future__ import annotations
@@ -9,9 +12,10 @@ from __future__ import annotations
 import base64
 import ctypes
 import re
+from typing import Optional
 
 from .arguments import Bytes, number, raw_bytes
-from .declared import PHC_CAPACITY, PHC_OR_MCF
+from .declared import MIN_KEY_LEN, PHC_CAPACITY, PHC_OR_MCF
 from .errors import check
 from .library import lib
 from .params import accepted
@@ -24,22 +28,30 @@ def _value(letters: str) -> int:
     return sum(_LETTERS.index(it) << 6 * place for place, it in enumerate(letters))
 
 
-def stored_text(salt: Bytes, key: Bytes, n: int, r: int, p: int) -> str:
+def stored_text(
+    salt: Bytes, key: Bytes, n: int, r: int, p: int, *, key_len: Optional[int] = None
+) -> str:
     """Returns a hash from a salt and a key: a PHC string if the lengths allow it, otherwise a `$7$`
     hash. A PHC string keeps only the first 64 bytes of the key, which are the key of that length.
     An n below 64 is rejected: it may be a log_n, and then no password would match."""
     if 1 <= number(n, "n") < 64:
         meant = f"{n} may be its logarithm, log_n: n={1 << n} is N = 2**{n}"
         raise ValueError(f"n is N, at least 64, and {meant}")
-    return _text(salt, key, n, r, p)
+    return _text(salt, key, n, r, p, 0, key_len)
 
 
-def _text(salt: Bytes, key: Bytes, n: int, r: int, p: int, key_len: int = 0) -> str:
-    """Returns a hash like stored_text, for any N. If `key_len` is not 0, the key must have that
+def _text(
+    salt: Bytes, key: Bytes, n: int, r: int, p: int, written: int, key_len: Optional[int] = None
+) -> str:
+    """Returns a hash like stored_text, for any N. If `written` is not 0, the key must have that
     length."""
     salt, key, n = raw_bytes(salt, "a salt"), raw_bytes(key, "a key"), number(n, "n")
-    if key_len and len(key) != key_len:
-        raise ValueError(f"the key has {len(key)} bytes, where the program writes {key_len}")
+    if written and len(key) != written:
+        raise ValueError(f"the key has {len(key)} bytes, where the program writes {written}")
+    if key_len is not None:
+        if not MIN_KEY_LEN <= number(key_len, "key_len") <= len(key):
+            raise ValueError(f"key_len must be {MIN_KEY_LEN} to the {len(key)} bytes of the key: {key_len}")
+        key = key[:key_len]
     if n < 2 or n & (n - 1):  # no other program makes hashes with N = 1
         raise ValueError(f"n must be a power of two above 1: {n}")
     params = accepted(n.bit_length() - 1, r, p)
@@ -79,21 +91,21 @@ def from_powerdns(stored: str) -> str:
     return _text(salt, key, 1 << min(int(log_n), 64), int(r), int(p), 32)
 
 
-def from_django(stored: str) -> str:
+def from_django(stored: str, *, key_len: Optional[int] = None) -> str:
     """Converts a hash of Django 4.0 or later: `scrypt$n$salt$r$p$key`, with the salt as text."""
     pattern = r"scrypt\$([1-9]\d*)\$([^$]+)\$([1-9]\d*)\$([1-9]\d*)\$([^$]*)"
     n, salt, r, p, letters = _matched(pattern, stored, "Django")
     key = base64.b64decode(letters, validate=True)
     if base64.b64encode(key).decode() != letters:
         raise ValueError("the last letter of the key encodes more than its bytes")
-    return _text(salt.encode(), key, int(n), int(r), int(p), 64)
+    return _text(salt.encode(), key, int(n), int(r), int(p), 64, key_len)
 
 
-def from_werkzeug(stored: str) -> str:
+def from_werkzeug(stored: str, *, key_len: Optional[int] = None) -> str:
     """Converts a hash of Werkzeug 2.3 or later: `scrypt:n:r:p$salt$key`, with the salt as text."""
     pattern = r"scrypt:(\d+):(\d+):(\d+)\$([^$]*)\$([0-9a-f]*)"
     n, r, p, salt, key = _matched(pattern, stored, "Werkzeug")
-    return _text(salt.encode(), bytes.fromhex(key), int(n), int(r), int(p), 64)
+    return _text(salt.encode(), bytes.fromhex(key), int(n), int(r), int(p), 64, key_len)
 
 
 def from_crypt(stored: str) -> str:
@@ -108,11 +120,11 @@ def from_crypt(stored: str) -> str:
     return _text(salt.encode(), key, *costs, 32)
 
 
-def from_libscrypt(stored: str) -> str:
+def from_libscrypt(stored: str, *, key_len: Optional[int] = None) -> str:
     """Converts a hash of `libscrypt_hash`: `$s1$`, two hexadecimal digits each for log_n, r and p,
     the salt and the key."""
     pattern = r"\$s1\$([\da-fA-F]{6})\$([^$]*)\$([^$]*)"
     params, *letters = _matched(pattern, stored, "libscrypt")
     log_n, r, p = bytes.fromhex(params)
     salt, key = (base64.b64decode(it, validate=True) for it in letters)
-    return _text(salt, key, 1 << log_n, r, p, 64)
+    return _text(salt, key, 1 << log_n, r, p, 64, key_len)

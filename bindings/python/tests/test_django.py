@@ -12,18 +12,25 @@ from unittest import mock
 import django
 from django.conf import settings
 
-settings.configure(PASSWORD_HASHERS=[
-    f"{__name__}.Small", "scrypt_c.django.ScryptPasswordHasher",
-    "scrypt_c.django.OverPBKDF2", "django.contrib.auth.hashers.PBKDF2PasswordHasher"])
+settings.configure(
+    PASSWORD_HASHERS=[
+        f"{__name__}.Small", "scrypt_c.django.ScryptPasswordHasher",
+        "scrypt_c.django.OverPBKDF2", "django.contrib.auth.hashers.PBKDF2PasswordHasher"],
+    INSTALLED_APPS=["django.contrib.auth", "django.contrib.contenttypes"],
+    DATABASES={"default": {"ENGINE": "django.db.backends.sqlite3", "NAME": ":memory:"}},
+    DEFAULT_AUTO_FIELD="django.db.models.AutoField", USE_TZ=True)
 django.setup()
 
 from django.contrib.auth import hashers  # noqa: E402  after the settings
+from django.contrib.auth.models import User  # noqa: E402
+from django.core.management import call_command  # noqa: E402
 from django.utils.module_loading import import_string  # noqa: E402
 
 import scrypt_c  # noqa: E402
 from scrypt_c.django import FalseIfRefused, OverBCrypt, OverPBKDF2  # noqa: E402
-from scrypt_c.django import PHCPasswordHasher, ScryptPasswordHasher  # noqa: E402
+from scrypt_c.django import PHCPasswordHasher, ScryptPasswordHasher, wrap_all  # noqa: E402
 from scrypt_c.hasher import shared  # noqa: E402
+from scrypt_c.migration import from_django, from_libscrypt, from_werkzeug, stored_text  # noqa: E402
 from test_hasher import KEY, refuse_a_lone_surrogate  # noqa: E402
 
 NO_KEY = f"{86 * 'A'}=="  # 64 bytes of zeros, which no password has
@@ -96,12 +103,14 @@ class Hashers(unittest.TestCase):
             self.assertEqual(new, is_replaced * ["lètmein"], old)
 
     def test_all_share_one_hasher(self):
-        """Its max_tables is for both formats, and for the hashes over others. An attribute that
+        """Its max_tables is for PHC strings, and for the hashes over others. An attribute that
         differs makes another hasher."""
         usual = scrypt_c.PasswordHasher().options
-        for kind in (ScryptPasswordHasher, PHCPasswordHasher, OverPBKDF2, OverBCrypt):
+        for kind in (PHCPasswordHasher, OverPBKDF2, OverBCrypt):
             self.assertIs(kind().hasher, PHCPasswordHasher.hasher)
             self.assertEqual(kind().hasher.options, usual)
+        self.assertIs(ScryptPasswordHasher().hasher, ScryptPasswordHasher().hasher)
+        self.assertEqual(ScryptPasswordHasher().hasher.params[:3], (16, 8, 2))
         given = {"max_mem": 1 << 20, "max_work": 1 << 16, "max_tables": 3, "timeout": 0.5}
         kind = type("Ours", (ScryptPasswordHasher,), {"work_factor": 64, **given})
         self.assertIs(kind().hasher, kind().hasher)
@@ -124,9 +133,9 @@ class Hashers(unittest.TestCase):
             (Small(), Small().encode("pw", "sea$" + 18 * "s"), "sea$" + 18 * "s", False),
             (Small(), f"scrypt_c$7$46..../....seasalt${43 * '.'}", "seasalt", True),
             (Small(), "scrypt_c" + Small.hasher.hash("pw", salt=b"\xff\x00"), "\xff\x00", True),
-            (ScryptPasswordHasher(), f"scrypt$131072${21 * 's'}$8$1${NO_KEY}", 21 * "s", True),
-            (ScryptPasswordHasher(), f"scrypt$131072${22 * 's'}$8$1${NO_KEY}", 22 * "s", False),
-            (ScryptPasswordHasher(), f"scrypt$65536${22 * 's'}$8$1${NO_KEY}", 22 * "s", True),
+            (ScryptPasswordHasher(), f"scrypt$65536${21 * 's'}$8$2${NO_KEY}", 21 * "s", True),
+            (ScryptPasswordHasher(), f"scrypt$65536${22 * 's'}$8$2${NO_KEY}", 22 * "s", False),
+            (ScryptPasswordHasher(), f"scrypt$32768${22 * 's'}$8$2${NO_KEY}", 22 * "s", True),
         ]:
             self.assertEqual(it.decode(encoded)["salt"], salt, encoded)
             self.assertTrue(it.safe_summary(encoded)["salt"].startswith(salt[:6]), encoded)
@@ -164,7 +173,8 @@ class Hashers(unittest.TestCase):
     def test_no_hash(self):
         """It is verified, so it can be derived in a batch, unlike a new hash.
         The hasher derives new hashes too, so that they wait for its slots."""
-        hasher = mock.Mock(wraps=scrypt_c.PasswordHasher(log_n=6))
+        own = scrypt_c.PasswordHasher(log_n=6)
+        hasher = mock.Mock(wraps=own, params=own.params, options=own.options)
         ours = or_false(Small, hasher=hasher)
         with self.assertLogs("scrypt_c.django"):
             self.assertIs(ours.verify("pw", DAMAGED[0]), False)
@@ -197,6 +207,101 @@ class Hashers(unittest.TestCase):
             self.assertRaises(ValueError, theirs.encode, "pw", salt, *costs)
         ours.hasher.close()
         self.assertRaisesRegex(ValueError, "closed", ours.verify, "pw", stored)
+
+
+def derived(salt, n=64):
+    return hashlib.scrypt(b"pw", salt=salt, n=n, r=8, p=1, dklen=64, maxmem=1 << 26)
+
+
+def b64(data):
+    return base64.b64encode(data).decode()
+
+
+SALT = b"sixteen letters."
+# What docs/MIGRATION.md stores in Django's column: the function, and its arguments.
+CONVERTED = [
+    (from_werkzeug, f"scrypt:32768:8:1${SALT.decode()}${derived(SALT, 32768).hex()}"),
+    (from_django, f"scrypt$16384${22 * 'a'}$8$1${b64(derived(22 * b'a', 16384))}"),
+    (from_libscrypt, f"$s1$0e0801${b64(SALT)}${b64(derived(SALT, 16384))}"),
+    (stored_text, SALT, derived(SALT), 64, 8, 1),
+]
+PBKDF2_OF_32 = f"pbkdf2_sha256$260000${16 * '0f'}${b64(bytes(32))}"
+
+
+class Column(unittest.TestCase):
+    """What fits into the column of 128 characters, which SQLite does not check."""
+
+    def test_new_hashes_fit(self):
+        of_64 = {"hasher": scrypt_c.PasswordHasher(log_n=4, key_len=64)}
+        with mock.patch.object(scrypt_c.PasswordHasher, "hash", side_effect=AssertionError("derived")):
+            with mock.patch.object(scrypt_c.PasswordHasher, "_key_with", side_effect=AssertionError("derived")):
+                for it, *arguments in [
+                    (ScryptPasswordHasher(), "pw", 22 * "s", 2**17), (ScryptPasswordHasher(), "pw", 23 * "s"),
+                    (type("Long", (PHCPasswordHasher,), of_64)(), "pw", 22 * "s"),
+                    (type("Mcf", (PHCPasswordHasher,), {"hasher": scrypt_c.PasswordHasher(4, key_len=64, mcf=True)})(), "pw", 22 * "s"),
+                    (type("Long", (OverPBKDF2,), of_64)(), "pw", "s"),
+                ]:
+                    with self.assertRaisesRegex(scrypt_c.HashTooLongError, "has [0-9]+ characters, .* 128$"):
+                        it.encode(*arguments)
+                self.assertRaises(scrypt_c.HashTooLongError, OverPBKDF2().wrap, PBKDF2_OF_32)
+        for it in (ScryptPasswordHasher(), PHCPasswordHasher(), OverPBKDF2()):
+            self.assertLessEqual(len(it.encode("pw", it.salt())), 128)
+        self.assertEqual(len(ScryptPasswordHasher().encode("pw", 22 * "s")), 128)
+        with mock.patch.object(User._meta.get_field("password"), "max_length", 129):  # a longer column
+            self.assertEqual(len(ScryptPasswordHasher().encode("pw", 22 * "s", 2**17, 8, 1)), 129)
+
+    def test_converted_hashes_fit(self):
+        for convert, *arguments in CONVERTED:
+            self.assertGreater(len("scrypt_c" + convert(*arguments)), 128)
+            text = convert(*arguments, key_len=32)
+            self.assertLessEqual(len("scrypt_c" + text), 128, text)
+            self.assertTrue(hashers.check_password("pw", f"scrypt_c{text}"))
+            for key_len in (0, 9, 65):
+                self.assertRaisesRegex(ValueError, "^key_len must be 10 to", convert, *arguments, key_len=key_len)
+
+
+class WrapAll(unittest.TestCase):
+    """In SQLite; examples/login_site has the same in PostgreSQL."""
+
+    def setUp(self):
+        call_command("migrate", verbosity=0)
+        self.addCleanup(call_command, "flush", verbosity=0, interactive=False)
+        self.over = type("Small", (OverPBKDF2,), {"hasher": Over.small["hasher"]})()
+        cheap = type("Cheap", (hashers.PBKDF2PasswordHasher,), {"iterations": 1000})()
+        users = [User(username=f"user{at}", password=cheap.encode(f"old {at}", 8 * "s")) for at in range(205)]
+        users += [User(username="other", password="!"), User(username="damaged", password="pbkdf2_sha256$9$salt$")]
+        User.objects.bulk_create(users)
+
+    def test_a_change_meanwhile_stays(self):
+        """Of a password, in the middle of the same batch and in a later one."""
+        changed, seen = ["user9", "user204"], []
+
+        def progress(*numbers):
+            if not seen:
+                User.objects.filter(username__in=changed).update(password="new")
+            seen.append(numbers)
+
+        with self.assertLogs("scrypt_c.django") as log:
+            self.assertEqual(wrap_all(User.objects.all(), self.over, progress), 203)
+        self.assertEqual((seen[-1], len(seen), len(log.output)), ((205, 206), 205, 1))
+        self.assertEqual({it.password for it in User.objects.filter(username__in=changed)}, {"new"})
+        self.assertEqual({it.password[:14] for it in User.objects.filter(username__startswith="user2")},
+                         {"scrypt_pbkdf2$", "new"})
+        self.assertTrue(self.over.verify("old 8", User.objects.get(username="user8").password))
+        with self.assertLogs("scrypt_c.django"):
+            self.assertEqual(wrap_all(User.objects.all(), self.over), 0, "all are done")
+
+    def test_example_of_the_page(self):
+        page = pathlib.Path(__file__).parents[3] / "docs/MIGRATION.md"
+        code = re.search(r"(?ms)^```python\n(from django.db import migrations.*?)^```", page.read_text("utf-8"))[1]
+        User.objects.filter(pk__gt=User.objects.order_by("pk")[1].pk).delete()
+        names = {}
+        exec(code, names)
+        schema = mock.Mock(**{"connection.alias": "default"})
+        names["over_pbkdf2"](mock.Mock(**{"get_model.return_value": User}), schema)
+        self.assertEqual({it.password[:14] for it in User.objects.all()}, {"scrypt_pbkdf2$"})
+        self.assertTrue(hashers.check_password("old 0", User.objects.get(username="user0").password))
+        self.assertIs(names["Migration"].atomic, False)
 
 
 # For OverPBKDF2 and OverBCrypt: a cost and a salt of an old hash, and whether they are rejected.
@@ -237,15 +342,6 @@ class Over(unittest.TestCase):
                 self.assertLessEqual(len(stored), 128, "Django's column")
                 self.assertIn("salt", map(str, it.safe_summary(stored)))
             refuse_a_lone_surrogate(self, lambda wrong: it.verify(wrong, stored), it.verify_no_hash)
-
-    def test_example_of_the_page(self):
-        page = pathlib.Path(__file__).parents[3] / "docs/MIGRATION.md"
-        code = re.search(r"(?ms)^```python\n(for user.*?)^```", page.read_text("utf-8"))[1]
-        user = mock.Mock(password=hashers.PBKDF2PasswordHasher().encode("pw", "salt", 1000))
-        users = mock.Mock(**{"objects.filter.return_value": [user]})
-        exec(code, {"OverPBKDF2": OverPBKDF2, "User": users})
-        user.save.assert_called_once_with(update_fields=["password"])
-        self.assertTrue(hashers.check_password("pw", user.password))
 
     def test_rejected_settings(self):
         """The limit is exact, and nothing is derived above it, nor for a damaged hash, nor if the
