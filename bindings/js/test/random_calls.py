@@ -19,9 +19,10 @@ from pathlib import Path
 
 OBJECT = f"build/rust/c/{platform.machine()}-unknown-linux-gnu/scrypt_c.o"
 MODULE = "bindings/js/scrypt.wasm"
-# What the object calls besides C's library. No call here allocates.
-HEAP = """void *clearing_malloc(void) { return 0; } void *clearing_realloc(void) { return 0; }
-void clearing_free(void) {}"""
+# What the object calls besides C's library.
+HEAP = """#include <stdlib.h>
+void *clearing_malloc(size_t len) { return malloc(len); } void *clearing_realloc(void *at, size_t len) { return realloc(at, len); }
+void clearing_free(void *at) { free(at); }"""
 # Places in a memory: the buffers, and small things.
 CHUNKS, TABLE, SCRATCH, SMALL, SIZE = 0, 1 << 13, 5 << 13, 11 << 12, 13 << 12
 PASSWORD, SALT, OUTPUT, WORDS, PROGRESS, TEXT, KEY = (SMALL + it for it in (0, 512, 1024, 2560, 2944, 3072, 4096))
@@ -133,12 +134,13 @@ def case():
 
 
 class Native:
-    """The calls of the object, on a memory as the module's."""
+    """The calls of the object, on a memory as the module's, or those of another one (tools/tests/same.py)."""
 
-    def __init__(self):
+    def __init__(self, *linked, prefix="proved_"):
+        self.prefix = prefix
         with tempfile.TemporaryDirectory() as room:
             library = f"{room}/library.so"
-            words = ["cc", "-shared", "-o", library, "-x", "c", "-", "-x", "none", OBJECT]
+            words = ["cc", "-shared", "-o", library, "-x", "c", "-", "-x", "none", *(linked or [OBJECT])]
             subprocess.run(words, input=HEAP.encode(), check=True)
             self.library = ctypes.CDLL(library)
         self.room = ctypes.create_string_buffer(SIZE + 64)
@@ -147,13 +149,14 @@ class Native:
 
     def status(self, name, *args):
         numbers = (self.base + int(it[1:]) if str(it)[0] == "@" else int(it) for it in args)
-        return getattr(self.library, f"proved_{name}")(*map(ctypes.c_uint64, numbers))
+        return getattr(self.library, self.prefix + name)(*map(ctypes.c_uint64, numbers))
 
-    def answer(self, it):
+    def answer(self, it, level=None):
         self.memory[:] = bytes(SIZE)
         for at, text in it["written"]:
             self.memory[at:at + len(text) // 2] = bytes.fromhex(text)
-        self.library.proved_force_level(rng.choice([0, 1, 2]))
+        if self.prefix:
+            self.library.proved_force_level(rng.choice([0, 1, 2]) if level is None else level)
         statuses = [self.status(*call) for call in it["calls"]]
         return [statuses, hashlib.sha1(self.memory).hexdigest()]
 
