@@ -13,9 +13,8 @@ list(TRANSFORM SYSTEM_LIBRARIES PREPEND -l OUTPUT_VARIABLE PRIVATE_LIBS)
 configure_file(scrypt_c.pc.in scrypt_c.pc @ONLY)
 install(FILES ${CMAKE_CURRENT_BINARY_DIR}/scrypt_c.pc DESTINATION ${CMAKE_INSTALL_LIBDIR}/pkgconfig COMPONENT dev)
 
-# The documents keep their folders, since they link to each other. A release has PROVED.txt.
+# The documents keep their folders, since they link to each other.
 install(FILES ${TOP}/README.md ${TOP}/SECURITY.md ${TOP}/LICENSE ${TOP}/tools/release/NOTICES TYPE DOC)
-install(FILES ${BUILT}/PROVED.txt TYPE DOC OPTIONAL)
 install(DIRECTORY ${TOP}/docs TYPE DOC)
 install(FILES ${TOP}/bindings/README.md DESTINATION ${CMAKE_INSTALL_DOCDIR}/bindings)
 install(FILES ${TOP}/bindings/c/README.md DESTINATION ${CMAKE_INSTALL_DOCDIR}/bindings/c)

@@ -3,7 +3,6 @@
 SCRYPT_C_LIBRARY names the library's file or its folder. If it is not set, the library is taken from
 build/lib of the repository, where `make lib` puts it. A source archive already has the library in
 the package, and takes no file from outside the archive, where another user may have put anything.
-SCRYPT_C_PROVED, if it is set, names a text about the proof, which is added to the licences.
 SCRYPT_C_MACHINE is the processor of a library for another machine.
 """
 
@@ -29,8 +28,8 @@ def found(folder, names):
 
 
 def tag_of(library):
-    """Returns the tag of a wheel with this library. Its newest symbol from glibc is of version
-    2.14, or 2.17 on arm64, and the tags for glibc require 2.17; the tag for musl requires 1.2."""
+    """Returns the tag of a wheel with this library, whose newest symbols from glibc are of version
+    2.17 (the test `glibc` of bindings/c); the tag for musl requires 1.2."""
     if library[:2] == b"MZ":
         return "py3-none-win_amd64"
     machine = os.environ.get("SCRYPT_C_MACHINE") or platform.machine()
@@ -61,8 +60,6 @@ class Library(BuildHookInterface):
         folder = f"{self.build_config.builder.artifact_project_id}.dist-info/" if is_wheel else ""
         places = top, top / "tools/release", root
         texts = [place / it for place in places for it in ("LICENSE", "NOTICES")]
-        if is_wheel and os.environ.get("SCRYPT_C_PROVED"):
-            texts.append(pathlib.Path(os.environ["SCRYPT_C_PROVED"]))
         files |= {str(it): f"{folder}{it.name}" for it in texts if it.exists()}
         if is_wheel:
             build_data |= {"pure_python": False, "tag": tag_of(library.read_bytes())}

@@ -46,7 +46,11 @@ if [ "$*" = gate ] && command -v rt > /dev/null; then
   # `rt ci` counts the crates and what it ran.
   read -r more _ less < <(sed -nE 's/^([0-9]+) passed, ([0-9]+) failed$/\1 . \2/p' build/log/proofs.log | tail -n 1)
   passed=$((passed + ${more:-0})) failed=$((failed + ${less:-1}))
-  if [ $failed = 0 ]; then python3 -B tools/release/proved.py keep build/log/{proofs,kit-library}.log || failed=1; fi
+  if [ $failed = 0 ]; then # what a release has of this commit
+    { echo "commit $(git describe --always --dirty --abbrev=40 --exclude '*')"; rt version
+      grep -hE '^(== |logic=|rt: [a-z_]+ is kept:)' build/log/{proofs,kit-library}.log; } > build/PROVED.txt
+    if grep ^logic= build/PROVED.txt | grep -v ^logic=proved; then failed=1; fi
+  fi
 fi
 if [ -n "$in_part" ]; then echo "in part: ${in_part#; }"; fi
 if [ -n "$without" ]; then echo "skipped: ${without#; }"; fi

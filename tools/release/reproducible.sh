@@ -8,13 +8,13 @@ room=$(mktemp -d)
 trap 'rm -rf "$room"' EXIT
 again=$room/an/other/folder
 git clone --quiet . "$again"
-if [ -e build/proved.json ]; then mkdir "$again/build" && cp build/proved.json "$again/build"; fi
-export TZ=Asia/Kathmandu LC_ALL=C.UTF-8 HOME="$room" RUSTUP_HOME="${RUSTUP_HOME:-$HOME/.rustup}"
-export PATH="$PATH:${CARGO_HOME:-$HOME/.cargo}/bin"
+if [ -e build/PROVED.txt ]; then mkdir "$again/build" && cp build/PROVED.txt "$again/build"; fi
+export PATH="$PATH:${CARGO_HOME:-$HOME/.cargo}/bin" RUSTUP_HOME="${RUSTUP_HOME:-$HOME/.rustup}"
+export TZ=Asia/Kathmandu LC_ALL=C.UTF-8 HOME="$room"
 build() {
   umask 027
   cd "$again"
-  make run js
+  python3 -B -m bindings.js.build
   for PRESET in ${*:-native $(python3 -m tools.presets packed)}; do make lib PRESET="$PRESET"; done
   tools/release/dist.sh "$@"
 }

@@ -57,6 +57,7 @@ const REFUSED = [
   ['TOO_COSTLY', 'scrypt', '', '', { N: 2 ** 21, r: 8, p: 1 }],
   ['TOO_COSTLY', 'scrypt', '', '', { ...OF, maxwork: 1 }],
   ['OUT_OF_MEMORY', 'scrypt', 'secret', '', { N: 2 ** 30, r: 8, p: 1, maxmem: 2 ** 45 }],
+  ['OUT_OF_MEMORY', 'scrypt', 'secret', '', { N: 2 ** 21, r: 8, p: 1, maxmem: 2 ** 45 }], // 2 GiB
 ];
 
 // Above the default limits, but fast.
