@@ -35,9 +35,12 @@ if ! [ -e "$out" ]; then
     --cfg "feature=\"$memory\"" --cfg intrinsics_enabled --cfg arch_enabled --cfg optimizations_enabled \
     --cfg 'feature="unstable-intrinsics"'
   compile alloc alloc --cfg "panic=\"$panic\"" --extern core --extern compiler_builtins
+  # Not as an option of cargo, which puts a hash of options, and so of this folder, into the names of symbols.
+  printf '#!/bin/sh\ncase " $* " in *" --target %s "*) set -- --sysroot "%s" "$@" ;; esac\nexec %s "$@"\n' \
+    "$target" "$out" "$RUSTC" > "$new/rustc"
+  chmod +x "$new/rustc"
   mv -T "$new" "$out" 2> /dev/null || rm -r "$new" # another run was faster
 fi
-export RUSTFLAGS="--sysroot $out ${RUSTFLAGS:-}"
 CARGO_TARGET_WASM32_UNKNOWN_UNKNOWN_LINKER=wasm-ld-$($RUSTC -vV | sed -n 's/^LLVM version: \([0-9]*\).*/\1/p')
-export CARGO_TARGET_WASM32_UNKNOWN_UNKNOWN_LINKER
+export CARGO_TARGET_WASM32_UNKNOWN_UNKNOWN_LINKER RUSTC="$out/rustc"
 exec "$@"

@@ -21,6 +21,7 @@ rows() { # COMMAND
   esac
   for it in $machines; do
     echo "$1 | $(python3 -B -m tools.presets needs "$it") |$([ "$1" = lib ] || echo " the build and the tests for $it")"
+    echo "$1 | rustc-web rust-web-src | the library for $it, unless rustup has its target"
   done
 }
 # Whether a word of a row is here. A cargo that is older than the crates allow is not; crates of Debian are not needed if cargo

@@ -3,7 +3,7 @@
 set -eu
 failed=0
 
-# The files of a kind, the Debian package of the linter, and its command, which prints nothing if all is well.
+# The files of a kind, except Rust's in rust/, which rust/build.sh formats, the Debian package of the linter, and its command, which prints nothing if all is well.
 lint() {
   kind=$1 package=$2
   shift 2
@@ -11,8 +11,8 @@ lint() {
     tools/lacks "$1" $package
     return
   fi
-  wrong=$(find bindings crates examples tools -name "$kind" -not -path '*/out/*' \
-    -not -path '*/target/*' -exec "$@" {} + 2>&1) || test -n "$wrong" || wrong="$1 failed"
+  wrong=$(find bindings crates examples rust tools -name "$kind" -not -path '*/out/*' \
+    -not -path '*/target/*' -not -path 'rust/*.rs' -exec "$@" {} + 2>&1) || test -n "$wrong" || wrong="$1 failed"
   if test -z "$wrong"; then echo "ok $1"; else echo "$wrong"; failed=1; fi
 }
 
@@ -24,7 +24,7 @@ rattle=$(dirname "$(rt doc 2> /dev/null)")/bin/rattle
 lint '*.rt' the-Rattle-kit "$rattle" fmt --check
 lint '*.antt' the-Rattle-kit "$rattle" fmt --check
 # A name beside a file of mktemp is free to every user of the machine, a name in a folder of mktemp is not.
-without=$(find bindings examples tools -name '*.sh' -exec grep -nE '\$\(mktemp\)' {} + || true)
+without=$(find bindings examples rust tools -name '*.sh' -exec grep -nE '\$\(mktemp\)' {} + || true)
 test -z "$without" || { echo "mktemp without -d: $without"; failed=1; }
 # Go may free a hasher during the last call of a method that reads it, unless something after that needs the hasher.
 freed=$(awk '/^func / { method = $0; reads = keeps = 0 } /h\.shared\.c[,).]/ { reads = 1 }
