@@ -120,7 +120,7 @@ def compare(name, source, written):
     for row in rules.of(name):
         rows.setdefault(lex(row[0])[0], []).append(row)
     for begin, end in [text.extent(f"fn {level}", bodies) for level in rules.LEVELS.get(name, ())]:
-        wraps[begin], wraps[end] = wraps.get(begin, "") + "support::levels! {", "}" + wraps.get(end, "")
+        wraps[begin], wraps[end] = wraps.get(begin, "") + "support::levels! { unsafe", "}" + wraps.get(end, "")
     while w[i] or i in wraps:
         if j == start and (added := [it for it in heads if result.has(j, it)]):  # before all that is kept
             rule, heads, start = ("", added[0]), heads[heads.index(added[0]) + 1:], j + len(lex(added[0]))

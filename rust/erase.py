@@ -106,7 +106,7 @@ class Source:
                 if self.words[i] == "fn" and self.words[i + 1] in rules.LEVELS.get(self.name, ()):
                     head = re.search(r"(?:///.*\n|#\[.*\n)*.*\Z", self.text[:begin]).start()
                     end = self.tokens[self.partner[self.body(i)]].end()
-                    edits += [(head, head, "replaced", "support::levels! {\n"), (end, end, "replaced", "\n}")]
+                    edits += [(head, head, "replaced", "support::levels! { unsafe\n"), (end, end, "replaced", "\n}")]
                 kept.setdefault(self.words[i], begin)
                 i += 1
         first, grows = min(kept.values(), default=0), any(new.startswith("checked_") for *_, new in edits)

@@ -42,7 +42,7 @@ WRITTEN = [
     ("a ghost import that is kept", HASH, "use password_hash", "ghost use password_hash::Result; use password_hash"),
     ("an allocator that is kept", HASH, ".verify( password)", ".verify(alloc, password)"),
     ("half of a rule", MIXING, "support::at_level!(L => match n {", "match n {"),
-    ("a function for one level", WALK, "support::levels! {", ""),
+    ("a function for one level", WALK, "support::levels! { unsafe", ""),
     ("a head that is missing", "scrypt_kernel/src/lib.rt", "#![no_std]", ""),
     ("code that is by hand elsewhere", "scrypt_kernel/src/cores/simd.rt", "pub mod", "impl Lanes for u32x4 {} pub mod"),
 ]

@@ -11,10 +11,10 @@ fn panic(_: &core::panic::PanicInfo<'_>) -> ! {
 
 #[unsafe(no_mangle)]
 extern "C" fn proved_level() -> u8 {
-    crate::simd::level()
+    crate::level::level()
 }
 
 #[unsafe(no_mangle)]
 extern "C" fn proved_force_level(level: u8) -> u8 {
-    crate::simd::force_level(level)
+    crate::level::force_level(level)
 }

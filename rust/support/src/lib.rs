@@ -15,6 +15,7 @@ mod c_library;
 mod grow;
 #[cfg(feature = "js_module")]
 mod js_module;
+pub mod level;
 pub mod simd;
 
 use alloc::boxed::Box;
