@@ -9,7 +9,7 @@ pub end_group-requires-clause-inside : goal.end_group-requires-clause-inside
 end_group-requires-clause-inside g c =
     let params = c.args.params.now in
     chunks_inside c.args.at.chunks c.args.at.interleaved params.p (128 * params.r) _ c.requires.going.within.chunks
-    (c.split_at_mut-chunks.ensures.front_len ∙ c.of.ensures.chunks)
+    (c.split_at_mut-chunks.ensures.front_len ∙ c.index.ensures ∙ c.of.ensures.chunks)
 
 pub returns-clause-under_way : goal.returns-clause-under_way
 returns-clause-under_way g c password salt at =
@@ -19,8 +19,8 @@ returns-clause-under_way g c password salt at =
     all_done params.log_n c.mix_more-mixes.result _ _ (omega (arith, c.log_n.ensures)) (rw c.log_n.ensures.value at c.if-mixes-log_n.false) c.mix_more-mixes.ensures.done in
     let mixed = rw all at (c.mix_more-mixes.ensures.mixed (words_from b params.r c.args.at.chunks) at.next) in
     let front : AreMixed b params.log_n params.r c.args.at.chunks c.split_at_mut-chunks.result.0.now =
-    rw (c.split_at_mut-chunks.ensures.front, c.of.ensures.chunks) at.mixed in
-    let long = c.end_group.auto.chunks ∙ c.split_at_mut-chunks.ensures.front_len ∙ c.of.ensures.chunks in
+    rw (c.split_at_mut-chunks.ensures.front, c.index.ensures, c.of.ensures.chunks) at.mixed in
+    let long = c.end_group.auto.chunks ∙ c.split_at_mut-chunks.ensures.front_len ∙ c.index.ensures ∙ c.of.ensures.chunks in
     let after = c.begin_group.ensures.under_way password salt (c.end_group.ensures.mixed b _ front mixed) in
     record {
       mixed = rw (take_at c.end_group.new.chunks _ _ long) (rw (take_all (chunks_bytes params.r params.p) c.end_group.new.chunks (omega (arith, long))) at after.mixed);
