@@ -14,6 +14,7 @@ export TZ=Asia/Kathmandu LC_ALL=C.UTF-8 HOME="$room"
 build() {
   umask 027
   cd "$again"
+  make run
   python3 -B -m bindings.js.build
   for PRESET in ${*:-native $(python3 -m tools.presets packed)}; do make lib PRESET="$PRESET"; done
   tools/release/dist.sh "$@"
