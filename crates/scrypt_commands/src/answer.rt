@@ -224,7 +224,7 @@ fn key<M: Machine>(
     }
     let mut line = vec![in alloc; 0u8; 2 * key.len()]?;
     let _ = hex::encode_to_slice(key.as_slice(), &mut line);
-    line.push(b'\n')?;
+    line.extend_from_slice(b"\n")?;
     Ok(Answer::Made(line))
 }
 
