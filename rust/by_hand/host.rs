@@ -111,8 +111,8 @@ pub(crate) fn report(rt: &HostRuntime, name: &str, error: &io::Error) {
 impl HostRuntime {
     /// The password is a new one, which is asked for twice, if the first word that is no option is `hash`.
     pub(crate) fn stdin(&self) -> Input {
-        let words = self.words.iter().skip(1).map(|word| unsafe { CStr::from_ptr(*word) }.to_bytes());
-        let command = words.skip_while(|word| word.starts_with(b"--")).next();
+        let mut words = self.words.iter().skip(1).map(|word| unsafe { CStr::from_ptr(*word) }.to_bytes());
+        let command = words.find(|word| !word.starts_with(b"--"));
         Input { is_new: command == Some(b"hash") }
     }
 

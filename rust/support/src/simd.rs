@@ -23,6 +23,7 @@ pub use arch::avx::{Avx2, Avx512};
 ///
 /// # Safety
 /// The processor has the level, for each call.
+#[allow(clippy::missing_safety_doc)] // as above
 pub trait Level: Copy + 'static {
     const LEVEL: u8;
 
