@@ -10,6 +10,8 @@ PROGRAM = build/bin/scrypt_tool
 LIBRARY = build/lib/libscrypt_c.so
 # Other machines.
 MACHINES := $(shell $(PY) tools.presets names)
+# The levels of an x86-64 machine's code.
+LEVELS := $(and $(filter x86_64,$(shell uname -m)),x86-64 x86-64-avx2 x86-64-avx512vl)
 FOR = $(shell $(PY) tools.presets needs $1) env -u CC
 BUILD = rust/build.sh c $(shell $(PY) tools.presets target $1)
 export ERASED = 1 # the task erased erases for all
@@ -24,7 +26,8 @@ BUILDS = erased library linked module program $(MACHINES:%=library-%) program-ar
 documents = lint first-steps links version promises cores vectors
 examples = $(patsubst examples/%/test.sh,example-%,$(wildcard examples/*/test.sh))
 LANGUAGES = python go rust javascript drop-in $(examples) examples-of-pages
-suites = native asan tsan $(LANGUAGES) answers migration oracle hostile vectors-by-library
+compiled = $(LEVELS:%=compiled-%)
+suites = native asan tsan $(LANGUAGES) answers migration oracle hostile vectors-by-library $(compiled)
 # They need the kit.
 proved = proofs kit-library same must-not-compile new-user
 gate = proofs $(BUILDS) $(MACHINES) answers-arm64 $(proved) $(documents) $(suites)
@@ -94,6 +97,11 @@ $(MACHINES:%=library-%): library-%: $(call built,erased)
 	$(TASK) $(call FOR,$*) $(call BUILD,$*)
 $(MACHINES): %: $(call built,library-%)
 	$(TASK) $(call FOR,$*) tools/gate/c_tests.sh $*
+
+# The code of each level is compared with RFC 7914.
+$(compiled): private NEEDS = objdump:binutils
+$(compiled): compiled-%: linked
+	$(TASK) $(PY) tools.tests.compiled.check $(LIBRARY) $*
 
 # ---- Other languages ----
 python go rust drop-in: linked

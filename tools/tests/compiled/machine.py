@@ -1,0 +1,414 @@
+"""A processor that runs code for x86-64 on symbolic words (words.py), along one path, in a memory whose addresses are
+numbers.
+
+A value is a tuple of words, the low one first; a value of 8 or 16 bits is one word. What is not known here ends a run
+with `Unknown`: an instruction, a flag, an address that is not mapped, a symbolic target or number of bits. A condition
+or an address that is symbolic is reported, also if the condition is the same for every input. An address may depend on
+one index: it reads each of the places, or a table of any size whose words are known by their addresses.
+"""
+
+from tools.tests.compiled import words
+from tools.tests.compiled.program import THREAD, Unknown
+from tools.tests.compiled.words import (
+    ALL, WIDE, add, atom, conj, is_zero, product, rotate, shift_left, shift_right, times, wide, wide_sum, xor,
+)
+
+RAX, RCX, RDX, RBX, RSP, RBP, RSI, RDI = range(8)
+ARGUMENTS = (RDI, RSI, RDX, RCX, 8, 9)
+KEPT = (RBX, RSP, RBP, 12, 13, 14, 15)  # the registers that a call preserves
+RETURN = 0x0FEE_0000  # what a call returns to
+CLOBBERED = 1024  # bytes below the stack pointer that a call may have changed
+MAX_PLACES = 64  # of an address with an index
+
+# For the name of an instruction a function of the machine, the instruction and its operands, which returns the address
+# of the next instruction if that is not the one after it (x86_64.py).
+HANDLERS = {}
+EXTERNALS = {}  # functions of other libraries, of the machine, which return their result if they have one
+
+
+class Branch(Exception):
+    """A symbolic condition that is not decided, with the words that it compares."""
+
+
+# ---- Values ----
+
+LOW = {size: (1 << 8 * size) - 1 for size in (1, 2, 4, 8)}  # the numbers below which a value of a size is
+
+
+def value_of(number, size):
+    """The value of this size in bytes."""
+    return wide(number) if size == 8 else (number & LOW[size],)
+
+
+def number_of(value):
+    """The number, or None if the value is symbolic."""
+    if any(type(word) is not int for word in value):
+        return None
+    return sum(word << 32 * i for i, word in enumerate(value))
+
+
+def concrete(value):
+    number = number_of(value)
+    if number is None:
+        raise Unknown("a symbolic address, target or operand")
+    return number
+
+
+def signed(number, size):
+    return number - (1 << 8 * size) if number >> 8 * size - 1 else number
+
+
+def total(size, x, y, factor=1, carry=0):
+    """x + factor * (y + carry)."""
+    if size == 8:
+        return wide_sum(wide_sum(x, y, factor), (carry, 0), factor)
+    return (conj(add(x[0], times(add(y[0], carry), factor & ALL)), LOW[size]),)
+
+
+def shifted(value, k):
+    """The value as one number, shifted to the left by k bits, or to the right by -k."""
+    far, k = divmod(k, 32)
+    low, high = ([value[i] if 0 <= i < len(value) else 0 for i in range(-at, len(value) - at)] for at in (far + 1, far))
+    return tuple(xor(shift_left(y, k), shift_right(x, 32 - k)) for x, y in zip(low, high))
+
+
+def parts(value, size):
+    return [value[at : at + size] for at in range(0, len(value), size)]
+
+
+def joined(some_parts):
+    return tuple(it for part in some_parts for it in part)
+
+
+def elements(value, size):
+    """The words of a vector, or its bytes, its pairs of bytes, or its pairs of words."""
+    if size >= 4:
+        return list(value) if size == 4 else parts(value, size // 4)
+    return [rotate(word, -i, LOW[size]) for word in value for i in range(0, 32, 8 * size)]
+
+
+def vector_of(some, size):
+    """The vector of these elements."""
+    if size >= 4:
+        return tuple(some) if size == 4 else joined(some)
+    made, count = [0] * -(-len(some) * size // 4), 4 // size
+    for i, it in enumerate(some):
+        made[i // count] = xor(made[i // count], shift_left(it, i % count * 8 * size))
+    return tuple(made)
+
+
+# ---- Memory ----
+
+
+class Region:
+    """Addresses that are mapped. The words are those of `content`, or else variables with the region's name. If it is a
+    `table`, the words at an address with an index are variables too, by that address."""
+
+    def __init__(self, name, start, size, content=None, writable=False):
+        self.name, self.start, self.end, self.content, self.writable = name, start, start + size, content, writable
+        self.table, self.written = None, {}
+
+
+class Memory(dict):
+    """Each word that was used, by its address divided by four."""
+
+    def __init__(self, regions):
+        super().__init__()
+        self.regions, self.forgotten = regions, {}
+
+    def __missing__(self, index):
+        it = self.region(max(4 * index, *(it.start for it in self.regions if it.start < 4 * index + 4)), 1)
+        at = 4 * index - it.start
+        if it.content:
+            self[index] = int.from_bytes(it.content[at : at + 4], "little")
+        else:
+            self[index] = atom(it.name, at // 4, self.forgotten.get(index))
+        return self[index]
+
+    def forget(self, start, end, when):
+        """From now on the words that were used here are other variables."""
+        for index in range(start // 4, end // 4):
+            if index in self:
+                del self[index]
+                self.forgotten[index] = when
+
+    def region(self, start, size, writes=False):
+        for it in self.regions:
+            if it.start <= start and start + size <= it.end and it.writable >= writes:
+                return it
+        raise Unknown(f"{'writes' if writes else 'reads'} {size} bytes at {start:#x}")
+
+    def load(self, start, size):
+        if size:
+            self.region(start, size)
+        if start % 4 == size % 4 == 0:
+            return tuple(self[index] for index in range(start // 4, (start + size) // 4))
+        return vector_of([rotate(self[at // 4], -(at % 4 * 8), 0xFF) for at in range(start, start + size)], 1)
+
+    def bytes(self, start, size):
+        return elements(self.load(start, size), 1)[:size]
+
+    def store(self, start, value, size):
+        if size:
+            self.region(start, size, writes=True)
+        if start % 4 == size % 4 == 0:
+            self.update(zip(range(start // 4, (start + size) // 4), value))
+        else:
+            for at, it in zip(range(start, start + size), elements(value, 1)):
+                others = conj(self[at // 4], ~(0xFF << at % 4 * 8) & ALL)
+                self[at // 4] = xor(others, shift_left(it, at % 4 * 8))
+
+    def at_index(self, address, size, value=None):
+        """Reads or writes at an address with an index."""
+        found = words.exact(address)
+        if not found or len(found[0]) != 1 or size % 4:
+            raise Unknown("an address that depends on more than an index")
+        low, high = words.bounds(*found)
+        region = self.region(low, high - low + size, value is not None)
+        [(index, step)], constant = found[0].items(), found[1]
+        if region.table is None:
+            if value is not None or words.greatest(index) >= MAX_PLACES:
+                raise Unknown("an address with an index")
+            places = range(constant, constant + step * (words.greatest(index) + 1), step)
+            return tuple(words.chosen(index[0], it) for it in zip(*(self.load(at, size) for at in places)))
+        if region.written and region.table != (index, step):
+            raise Unknown("a table that is read at one index and written at another")
+        places = [(constant - region.start) // 4 + i for i in range(size // 4)]
+        if value is not None:
+            region.table = index, step
+            return region.written.update(zip(places, value))
+        return tuple(region.written.get(at) or atom(region.name, index, step, at) for at in places)
+
+
+# ---- Flags: carry, zero, sign and overflow, of the last operation that set them ----
+
+
+def flags_of(size, result, carry, overflow):
+    result &= LOW[size]
+    return carry, result == 0, result >> 8 * size - 1, overflow
+
+
+def flags_of_sum(size, sign, a, b, carry=0):
+    whole, exact = a + sign * (b + carry), signed(a, size) + sign * (signed(b, size) + carry)
+    return flags_of(size, whole, whole >> 8 * size != 0, exact != signed(whole & LOW[size], size))
+
+
+FLAGS = {
+    "add": lambda size, *of: flags_of_sum(size, 1, *of),
+    "sub": lambda size, *of: flags_of_sum(size, -1, *of),
+    "logic": lambda size, result: flags_of(size, result, 0, 0),
+    "shift": lambda size, result: flags_of(size, result, None, None),
+    "carry": lambda size, carry: (carry, None, None, None),
+    "multiply": lambda size, overflow: (overflow, None, None, overflow),
+}
+CONDITIONS = {
+    "o": lambda c, z, s, o: o,
+    "b": lambda c, z, s, o: c,
+    "e": lambda c, z, s, o: z,
+    "be": lambda c, z, s, o: c | z,
+    "s": lambda c, z, s, o: s,
+    "l": lambda c, z, s, o: s ^ o,
+    "le": lambda c, z, s, o: z | (s ^ o),
+}
+OPPOSITES = {"no": "o", "ae": "b", "ne": "e", "a": "be", "ns": "s", "ge": "l", "g": "le"}
+
+
+def symbolic_condition(code, kind, size, x, y=(0, 0), carry=(0,)):
+    """The value of a condition of symbolic operands: by their bounds, or as a function of their bits."""
+    if kind == "carry" and code == "b":
+        return x[0]
+    if kind in ("logic", "shift") and code in ("e", "be", "s"):
+        return shift_right(x[-1], min(8 * size, 32) - 1) if code == "s" else product(map(is_zero, x))
+    pairs = [(*it, 0)[:2] for it in (x, y)]
+    low, high = words.difference(*pairs)
+    if kind == "sub" and carry == (0,) and code in ("b", "e", "be"):
+        if high < 0 or low > 0 or code == "b" and low >= 0 or code == "be" and high <= 0:
+            return int(high < 0 and code != "e" or code == "be" and high <= 0)
+        if code == "e":
+            return words.is_same(*pairs)
+    if kind == "add" and code == "e" and carry == (0,) and size == 8:
+        return words.is_same(wide_sum(*pairs), (0, 0))
+    if kind == "add" and code == "b" and carry == (0,) and size == 8:
+        each = [words.exact(it) for it in pairs]
+        if None not in each and sum(words.bounds(*it)[1] for it in each) < WIDE:
+            return 0
+    made = words.by_cases(lambda a, b: int(CONDITIONS[code](*FLAGS[kind](size, a, b))), x[0], y[0])
+    if made is None or x[1:] not in ((), (0,)) or y[1:] not in ((), (0,)) or carry != (0,):
+        raise Unknown("a condition of symbolic words")
+    return made
+
+
+# ---- The machine ----
+
+
+class Machine:
+    """`cuts` has functions that do what the code at an address does, and `before` has functions that are called before
+    the code there. `decide` returns the value of a symbolic condition. `reports` has each address and condition that is
+    symbolic: the instruction, which of both, and the words."""
+
+    def __init__(self, program, regions, cuts=(), has_sha=False):
+        self.program, self.cuts, self.before, self.reports, self.has_sha = program, dict(cuts), {}, {}, has_sha
+        image = Region("image", program.BASE, len(program.image), bytes(program.image), writable=True)
+        thread = Region("thread", THREAD, 64, bytes(range(64)))  # with the canary of the stack protector
+        self.memory = Memory([*regions, image, thread])
+        self.registers, self.calls, self.jumped = [None] * 16, 0, None
+        self.forget(range(16))
+
+    def decide(self, condition, operands):
+        raise Branch(operands)
+
+    def forget(self, registers):
+        """Forgets these registers, the vectors and the flags."""
+        self.calls += 1
+        for i in registers:
+            self.registers[i] = tuple(atom("register", self.calls, i, k) for k in range(2))
+        self.vectors = {}  # each that was used since then
+        self.set_flags("unknown", 8)
+
+    def vector(self, i):
+        if i not in self.vectors:
+            self.vectors[i] = tuple(atom("vector", self.calls, i, k) for k in range(16))
+        return self.vectors[i]
+
+    def set_flags(self, *flags, keeps_carry=False):
+        """The flags are those of this kind of operation, with its size and its operands."""
+        self.flags, self.carry = flags, self.carry if keeps_carry else flags
+
+    # Operands
+
+    def get(self, it):
+        if it.number is not None:
+            return it.number
+        if it.vector is not None:
+            return self.vector(it.vector)[: it.size // 4]
+        if it.register is None:
+            return self.load(self.address(it), it.size)
+        value = self.registers[it.register]
+        if it.size == 8:
+            return value
+        return value[:1] if it.size == 4 else (conj(shift_right(value[0], it.bit), LOW[it.size]),)
+
+    def put(self, it, value, is_vex=False):
+        """Puts a value into an operand, cut or extended by zeros to its size. What is above it in a vector is kept, or
+        0 if the instruction is one of AVX."""
+        count = max(1, it.size // 4)
+        if len(value) != count:
+            value = (*value, *(0,) * count)[:count]
+        if it.vector is not None:
+            self.vectors[it.vector] = value + ((0,) * 16 if is_vex else self.vector(it.vector))[count:]
+        elif it.register is None:
+            self.store(self.address(it), value, it.size)
+        elif it.size == 8:
+            self.registers[it.register] = value
+        elif it.size == 4:
+            self.registers[it.register] = (*value, 0)
+        else:  # the other bits are kept
+            low, high = self.registers[it.register]
+            mask = LOW[it.size] << it.bit
+            self.registers[it.register] = xor(conj(low, ~mask & ALL), conj(shift_left(value[0], it.bit), mask)), high
+
+    def address(self, it, size=8):
+        made = value_of(it.at, size)
+        for register, factor in ((it.base, 1), (it.index, it.scale)):
+            if register is not None:
+                made = total(size, made, self.registers[register][: size // 4], factor)
+        return made
+
+    def load(self, address, size):
+        at = number_of(address)
+        if at is not None:
+            return self.memory.load(at, size)
+        self.report("address", [address])
+        value = self.memory.at_index(address, size)
+        made_of = value[0].made_of if type(value[0]) is words.Word else ("", 0, ())
+        if made_of[0] == "choice" and all(type(it) is int for it in made_of[2]):  # a table of the program
+            return (made_of[2][self.decide(made_of[1], [address])],)
+        return value
+
+    def store(self, address, value, size):
+        at = number_of(address)
+        if at is not None:
+            return self.memory.store(at, value, size)
+        self.report("address", [address])
+        self.memory.at_index(address, size, value)
+
+    def report(self, what, some_words):
+        self.reports[self.at, what, tuple(some_words)] = None
+
+    # Conditions
+
+    def condition(self, code):
+        if code in OPPOSITES:
+            return xor(self.condition(OPPOSITES[code]), 1)
+        kind, size, *operands = self.carry if code == "b" else self.flags
+        if kind == "unknown" or code == "be" and self.carry is not self.flags:
+            raise Unknown("a flag that is not known")
+        if None in map(number_of, operands):
+            return symbolic_condition(code, kind, size, *operands)
+        return int(CONDITIONS[code](*FLAGS[kind](size, *map(number_of, operands))))
+
+    def holds(self, code):
+        """Whether a condition holds on this path."""
+        kind, _, *operands = self.carry if OPPOSITES.get(code, code) == "b" else self.flags
+        value = self.condition(code)
+        if None in map(number_of, operands):
+            self.report("condition", operands)
+        return bool(value) if type(value) is int else self.decide(value, operands)
+
+    # Running
+
+    def call(self, at, *arguments):
+        """Puts the arguments of a function where it takes them, and runs it."""
+        stacked = [RETURN, *arguments[len(ARGUMENTS) :]]
+        top = (concrete(self.registers[RSP]) - 8 * len(stacked) & ~15) - 8  # a call leaves it 8 below a multiple of 16
+        for number, it in zip(ARGUMENTS, arguments):
+            self.registers[number] = value_of(it, 8)
+        for i, it in enumerate(stacked):
+            self.memory.store(top + 8 * i, value_of(it, 8), 8)
+        self.registers[RSP] = value_of(top, 8)
+        self.kept = [value_of(top + 8, 8) if i == RSP else self.registers[i] for i in KEPT]
+        self.run(at)
+
+    def keeps(self):
+        """Whether the registers that a call preserves are those before it."""
+        return self.kept == [self.registers[i] for i in KEPT]
+
+    def run(self, at):
+        """Runs until the code at this address returns."""
+        self.at = at
+        while self.at != RETURN:
+            if self.at in self.cuts or self.at in self.program.externals:
+                name = self.program.externals.get(self.at)
+                if self.at not in self.cuts and name not in EXTERNALS:
+                    raise Unknown(f"a call of {name}")
+                self.run_other(self.cuts.get(self.at) or EXTERNALS[name])
+                continue
+            if self.at in self.before:
+                self.before[self.at](self)
+            it = self.program.decoded.get(self.at) or self.program.instruction(self.at)
+            try:
+                to = HANDLERS[it.name](self, it, *it.operands)
+                if to and to <= self.at and self.jumped and it.name[0] == "j":
+                    self.jumped(self, to)
+                self.at = to or it.next
+            except (Unknown, KeyError, TypeError) as error:
+                raise Unknown(f"{it.text}: {error}") from error
+
+    def run_other(self, function):
+        """Does what a function does, and returns from it. What a call does not preserve is forgotten."""
+        result = function(self)
+        top = concrete(self.registers[RSP])
+        self.forget(set(range(16)) - set(KEPT))
+        self.memory.forget(top - CLOBBERED, top, self.calls)
+        if result is not None:
+            self.registers[RAX] = result
+        self.at = concrete(self.pop())
+
+    def push(self, value):
+        self.registers[RSP] = value_of(concrete(self.registers[RSP]) - 8, 8)
+        self.memory.store(number_of(self.registers[RSP]), value, 8)
+
+    def pop(self):
+        at = concrete(self.registers[RSP])
+        self.registers[RSP] = value_of(at + 8, 8)
+        return self.memory.load(at, 8)
