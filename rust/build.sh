@@ -83,6 +83,7 @@ mkdir -p "$to"
 # scrypt_kernel::walk::step::<#a77805eccdbb2827>.
 RUSTFLAGS="-C relocation-model=pic ${RUSTFLAGS:-}" "$top/rust/sysroot.sh" "$target" cargo rustc -p scrypt_c --release \
   --features c_library --target "$target" --crate-type staticlib -- --emit=obj="$PWD/$to/all.o"
+case $target in *-apple-*) exec mv "$to/all.o" "$to/scrypt_c.o" ;; esac # with all its names: the library is not built for it
 "${tools}nm" "$to/all.o" | awk '$NF ~ /^_+[ZR]/ { print $NF }' | sort -u > "$to/names"
 c++filt < "$to/names" | sed -E 's/::h([0-9a-f]{16})$/::<#\1>/; s/ /_/g' | paste -d= "$to/names" - | sed 's/^/--redefine-sym=/' > "$to/renamed"
 "${tools}objcopy" -w -g -G 'proved_*' -R .llvmbc -R .llvmcmd "@$to/renamed" "$to/all.o" "$to/scrypt_c.o"

@@ -56,7 +56,7 @@ grep -q '^apt-get install .* cmake gcc librust-hex-dev$' asked
 
 # ---- Steps, and the last lines ----
 cat > tools/gate/gate.mk << 'MK'
-documents = proved counted parts part none needs wrong hangs after
+documents = proved counted parts part none needs wrong hangs after proofs
 tasks:; @echo $($(OF))
 documents: $(documents)
 STEP = @tools/gate/step.sh $@
@@ -70,6 +70,7 @@ needs: none; $(STEP) nothing:d no-cc:gcc true
 wrong:; $(STEP) bash -c 'echo why; exit 3'
 hangs:; @LIMIT=1 tools/gate/step.sh $@ bash -c 'sleep 7914 & echo $$! > child; sleep 7914'
 after: wrong
+proofs:; @tools/gate/step.sh $@ no-rt:the-Rattle-kit true
 waits:; $(STEP) ./until_said 'of . tasks have ended'
 MK
 # until_said TEXT ends when the line of the command that runs it has this text, so that no load breaks the test.
@@ -86,12 +87,14 @@ why
 wrong: FAILED
 
 hangs: FAILED after its limit, 1
+proofs: skipped (needs the-Rattle-kit)
 wrong: FAILED (build/log/wrong.log)
 hangs: FAILED (build/log/hangs.log)
 after: did not begin, since what it needs failed
 in part: part (needs a b)
-skipped: none (needs c); needs (needs d gcc)
-4 passed, 3 failed, 2 skipped"
+skipped: none (needs c); needs (needs d gcc); proofs (needs the-Rattle-kit)
+Nothing was proved, since the Rattle kit is not here: this tested the erased crates, and what is built from them.
+4 passed, 3 failed, 3 skipped"
 timeout 600 sh -c 'while grep -qs "^State:.[^Z]" "/proc/$(cat child)/status"; do sleep 0.1; done' ||
   { echo "a child of a task that hangs is left"; exit 1; }
 

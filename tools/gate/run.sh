@@ -42,7 +42,7 @@ for task in $tasks; do
     *) failed=$((failed + 1)) && echo "$task: FAILED (build/log/$task.log)" ;;
   esac
 done
-if [ "$*" = gate ] && command -v rt > /dev/null; then
+if grep -q '^proofs ' $results && [[ $without != *"; proofs ("* ]]; then
   # `rt ci` counts the crates and what it ran.
   read -r more _ less < <(sed -nE 's/^([0-9]+) passed, ([0-9]+) failed$/\1 . \2/p' build/log/proofs.log | tail -n 1)
   passed=$((passed + ${more:-0})) failed=$((failed + ${less:-1}))
@@ -54,7 +54,7 @@ if [ "$*" = gate ] && command -v rt > /dev/null; then
 fi
 if [ -n "$in_part" ]; then echo "in part: ${in_part#; }"; fi
 if [ -n "$without" ]; then echo "skipped: ${without#; }"; fi
-if [ "$*" = gate ] && ! command -v rt > /dev/null; then
+if [[ $without == *"; proofs ("* ]]; then
   echo "Nothing was proved, since the Rattle kit is not here: this tested the erased crates, and what is built from them."
 fi
 awk -v all="$(minutes)" '{ used += $3 } END { printf "%s minutes, %.1f CPU-minutes\n", all, used / 60 }' $results
