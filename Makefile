@@ -32,7 +32,8 @@ export PRESET DESTDIR
 prefix = $(or $(PREFIX),/usr/local)
 STEP = EACH=60 tools/gate/step.sh
 TARGET = $(shell python3 -B -m tools.presets target $(PRESET))
-IS_CROSS = $(filter arm64,$(PRESET)) # where the program runs too
+# Where the program runs too. A comment behind the value would leave a blank in it, which is true.
+IS_CROSS = $(filter arm64,$(PRESET))
 COMMANDS = $(or $(filter run lib js test,$(MAKECMDGOALS)),test)
 .PHONY: help setup needs-run needs-lib needs-js needs-test run lib linked js install uninstall test prove check kit \
   documents suites examples built generate promises doc dist clean
