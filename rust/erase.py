@@ -118,7 +118,7 @@ class Source:
             if kind == "clause" and keeps_clauses:
                 new = re.sub(r"^\s*", lambda it: it.group() + "// ", self.text[start:end], flags=re.M) + "\n"
             text, at = text + self.text[at:start] + new, end
-        text = re.sub(r"\s*\x00", "", text + self.text[at:])
+        text = re.sub(r"(?:\s*\x00)+(\n *\{)?", lambda it: it[1] and " {" or "", text + self.text[at:])
         text = re.sub(r"(?:\n *//.*)*\n *\x01(?= *\n|\Z)", "", text)
         return re.sub(r"(?:\n *)?\x02(?= *\n)|[\x01\x02]", "", text).lstrip("\n")
 
