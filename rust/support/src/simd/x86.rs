@@ -77,14 +77,15 @@ pub fn tied(mut x: Quad, mut y: Quad) -> (Quad, Quad) {
 }
 
 /// What the processor and the system have: 2 is AVX-512F and VL, 1 is AVX2, both with BMI 1 and 2.
+#[allow(unused_unsafe)] // CPUID became safe to call after Rust 1.89
 pub fn level() -> u8 {
-    let (most, _) = __get_cpuid_max(0);
-    let one = __cpuid(1);
+    // SAFETY: each x86-64 has CPUID.
+    let (most, one) = unsafe { (__get_cpuid_max(0).0, __cpuid(1)) };
     if most < 7 || one.ecx >> 27 & 3 != 3 {
         return 0; // the system does not save AVX's registers, or there are none
     }
-    // SAFETY: the system has enabled XGETBV, which the bit 27 says.
-    let (seven, saved) = (__cpuid_count(7, 0).ebx, unsafe { saved_registers() });
+    // SAFETY: leaf 7 is there, and the system has enabled XGETBV, as bit 27 says.
+    let (seven, saved) = unsafe { (__cpuid_count(7, 0).ebx, saved_registers()) };
     let has = |bits: &[u32]| bits.iter().all(|bit| seven >> bit & 1 == 1);
     if saved & 6 != 6 || one.ecx >> 28 & 1 == 0 || !has(&[3, 5, 8]) {
         0
