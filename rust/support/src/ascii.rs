@@ -11,7 +11,7 @@ fn is_ascii(bytes: &[u8]) -> bool {
 
 pub fn str_of(bytes: &[u8]) -> Result<&str, Utf8Error> {
     if is_ascii(bytes) {
-        // ASCII is UTF-8.
+        // SAFETY: ASCII is UTF-8.
         return Ok(unsafe { core::str::from_utf8_unchecked(bytes) });
     }
     core::str::from_utf8(bytes)
@@ -19,7 +19,7 @@ pub fn str_of(bytes: &[u8]) -> Result<&str, Utf8Error> {
 
 pub fn string_of(bytes: Vec<u8>) -> Result<String, FromUtf8Error> {
     if is_ascii(&bytes) {
-        // ASCII is UTF-8.
+        // SAFETY: ASCII is UTF-8.
         return Ok(unsafe { String::from_utf8_unchecked(bytes) });
     }
     String::from_utf8(bytes)

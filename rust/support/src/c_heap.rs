@@ -13,6 +13,7 @@ struct Heap;
 #[global_allocator]
 static HEAP: Heap = Heap;
 
+// SAFETY: these are C's malloc, realloc and free, with the same conditions.
 unsafe impl GlobalAlloc for Heap {
     // Addresses are multiples of 16; the source has no type with a greater alignment.
     unsafe fn alloc(&self, layout: Layout) -> *mut u8 {

@@ -6,7 +6,7 @@ unsafe extern "C" {
 
 #[panic_handler]
 fn panic(_: &core::panic::PanicInfo<'_>) -> ! {
-    unsafe { abort() }
+    unsafe { abort() } // SAFETY: C's, which takes nothing
 }
 
 #[unsafe(no_mangle)]

@@ -7,6 +7,7 @@ struct NoHeap;
 #[global_allocator]
 static HEAP: NoHeap = NoHeap;
 
+// SAFETY: it gives no memory.
 unsafe impl GlobalAlloc for NoHeap {
     unsafe fn alloc(&self, _: Layout) -> *mut u8 {
         core::ptr::null_mut()

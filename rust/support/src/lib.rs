@@ -67,6 +67,7 @@ pub type Fail = Box<dyn core::error::Error>;
 /// C library takes it without a check, which would be a branch; other callers of the crates may break their clauses.
 #[inline(always)]
 pub fn row(words: &[u32], at: usize, len: usize) -> &[u32] {
+    // SAFETY: whoever takes the feature says that no caller breaks a clause.
     #[cfg(feature = "unchecked_rows")]
     return unsafe { words.get_unchecked(at..at + len) };
     #[cfg(not(feature = "unchecked_rows"))]
@@ -81,6 +82,7 @@ pub unsafe fn slice<'a, T>(at: *const T, len: usize) -> &'a [T] {
     if len == 0 {
         return &[];
     }
+    // SAFETY: the caller's.
     unsafe { core::slice::from_raw_parts(at, len) }
 }
 
@@ -92,5 +94,6 @@ pub unsafe fn slice_mut<'a, T>(at: *mut T, len: usize) -> &'a mut [T] {
     if len == 0 {
         return &mut [];
     }
+    // SAFETY: the caller's.
     unsafe { core::slice::from_raw_parts_mut(at, len) }
 }
