@@ -122,6 +122,7 @@ static void enter(scrypt_hasher *hasher, struct call *call) {
   call->status = SCRYPT_E_OUT_OF_MEMORY;
   if (hasher->is_closed) end_call(call, SCRYPT_E_CLOSED);
   else if (slot != NULL) assign_slot(hasher->queue, slot, call);
+  else if (hasher->queue->stats.waiting >= hasher->options.max_waiting) end_call(call, SCRYPT_E_BUSY);
   else enqueue(hasher->queue, call);
 }
 
@@ -273,7 +274,8 @@ static int run(scrypt_hasher *hasher, struct call *call, int64_t timeout_ms) {
   enter(hasher, call);
   await(queue, call, timeout_ms);
   if (call->state == LEADING) lead(hasher, call);
-  queue->stats.failed += call->status == SCRYPT_E_OUT_OF_MEMORY || call->status == SCRYPT_E_TIMEOUT;
+  queue->stats.failed +=
+      call->status == SCRYPT_E_OUT_OF_MEMORY || call->status == SCRYPT_E_TIMEOUT || call->status == SCRYPT_E_BUSY;
   mutex_unlock(&queue->lock);
   return call->status;
 }
@@ -333,9 +335,11 @@ int scrypt_hasher_needs_rehash(const scrypt_hasher *hasher, const char *text, si
 
 int scrypt_hasher_stats(const scrypt_hasher *hasher, scrypt_stats *stats) {
   if (hasher == NULL || stats == NULL) return SCRYPT_E_NULL_POINTER;
+  if (stats->size != sizeof *stats) return SCRYPT_E_OPTIONS_SIZE;
   mutex_lock(&hasher->queue->lock);
   *stats = hasher->queue->stats;
   mutex_unlock(&hasher->queue->lock);
+  stats->size = sizeof *stats;
   return SCRYPT_OK;
 }
 

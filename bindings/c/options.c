@@ -5,6 +5,7 @@
 #include "system.h"
 
 #define MAX_SLOTS 8192 /* the maximum number of processors of Linux */
+#define MAX_WAITING 1000
 
 #define CHOOSE(field, value) \
   if (completed->field == SCRYPT_AUTO) completed->field = (value)
@@ -50,6 +51,7 @@ void scrypt_options_init(scrypt_options *options) {
       .min_key_len = SCRYPT_AUTO,
       .max_tables = SCRYPT_AUTO,
       .processors = SCRYPT_AUTO,
+      .max_waiting = SCRYPT_AUTO,
   };
 }
 
@@ -61,6 +63,7 @@ int complete_options(const scrypt_options *options, scrypt_options *completed, s
   if (options != NULL) *completed = *options;
   else scrypt_options_init(completed);
   CHOOSE(processors, processors_of_process());
+  CHOOSE(max_waiting, MAX_WAITING);
   if (completed->processors == 0 || completed->max_tables == 0) return SCRYPT_E_INVALID_PARAMS;
   if (completed->key_len < SCRYPT_MIN_KEY_LEN || completed->key_len > SCRYPT_MAX_KEY_LEN) return SCRYPT_E_INVALID_PARAMS;
   status = scrypt_default_limits(completed->log_n, completed->r, completed->p, completed->key_len, &max_mem,

@@ -123,9 +123,10 @@ enum scrypt_status {
   SCRYPT_E_NULL_POINTER = 17,         /* a required pointer is NULL */
   SCRYPT_E_CLOSED = 18,               /* the hasher is closed */
   SCRYPT_E_TIMEOUT = 19,              /* timed out waiting for a free slot in the hasher */
-  SCRYPT_E_OPTIONS_SIZE = 20,         /* the size in the options is not sizeof (scrypt_options) */
+  SCRYPT_E_OPTIONS_SIZE = 20,         /* the size in scrypt_options or scrypt_stats is not its sizeof */
   SCRYPT_E_UNFINISHED = 21,           /* not all chunks of a derivation in steps are mixed */
-  SCRYPT_E_INVALID_PROGRESS = 22      /* of JavaScript's module: no derivation has this progress */
+  SCRYPT_E_INVALID_PROGRESS = 22,     /* of JavaScript's module: no derivation has this progress */
+  SCRYPT_E_BUSY = 23                  /* max_waiting calls wait for a slot in the hasher already */
 };
 
 /* ---- Keys ---- */
@@ -474,6 +475,7 @@ typedef struct scrypt_options {
                             /* machine and of its control group if that is less; one or more */
   size_t processors;        /* maximum number of slots: the CPUs that this process may use, */
                             /* by its affinity and CPU quota; one or more */
+  size_t max_waiting;       /* maximum number of calls that wait for a slot: 1000; with 0 none */
 } scrypt_options;
 
 /* Writes the size and the defaults. Does nothing for NULL. */
@@ -495,14 +497,14 @@ const scrypt_options *scrypt_hasher_options(const scrypt_hasher *hasher);
  * is weaker than new hashes, so that a new one should be stored, and otherwise 0.
  * This and the next two calls wait for a slot of the hasher for up to timeout_ms milliseconds, or
  * without a limit if that is negative, and then return SCRYPT_E_TIMEOUT; the timeout doesn't end a
- * derivation.
+ * derivation. If max_waiting calls wait already, they return SCRYPT_E_BUSY immediately.
  * For an unknown user, pass NULL with text_len 0: the call verifies a decoy with
  * the parameters and lengths of new hashes, like scrypt_verify_batch_with_buffers, and returns
  * SCRYPT_MISMATCH after the work of a wrong password for such a hash, so that a timing attack
  * doesn't tell who exists. While hashes of older parameters are stored, it does: then verify
  * against the hash of another user, chosen by a keyed hash of the name, and ignore the result.
  * SCRYPT_E_NULL_POINTER; the errors of scrypt_hash_cost, without waiting; SCRYPT_E_CLOSED,
- * SCRYPT_E_TIMEOUT, SCRYPT_E_OUT_OF_MEMORY, and last SCRYPT_MISMATCH if the password is wrong. */
+ * SCRYPT_E_BUSY, SCRYPT_E_TIMEOUT, SCRYPT_E_OUT_OF_MEMORY, and last SCRYPT_MISMATCH if the password is wrong. */
 SCRYPT_NODISCARD
 int scrypt_hasher_verify(scrypt_hasher *hasher, const void *password, size_t password_len, const char *text,
                          size_t text_len, int *needs_rehash, int64_t timeout_ms);
@@ -511,15 +513,15 @@ int scrypt_hasher_verify(scrypt_hasher *hasher, const void *password, size_t pas
  * of salt_len bytes is used. The capacity must be SCRYPT_PHC_CAPACITY or more or, for a $7$ hash,
  * SCRYPT_MCF_CAPACITY of the salt's length.
  * SCRYPT_E_NULL_POINTER, SCRYPT_E_SALT_INVALID if the salt of a PHC string does not have 1 to 64 bytes,
- * SCRYPT_E_BUFFER_SIZE, SCRYPT_E_NO_RANDOM_BYTES, SCRYPT_E_CLOSED, SCRYPT_E_TIMEOUT,
- * SCRYPT_E_OUT_OF_MEMORY. */
+ * SCRYPT_E_BUFFER_SIZE, SCRYPT_E_NO_RANDOM_BYTES, SCRYPT_E_CLOSED, SCRYPT_E_BUSY,
+ * SCRYPT_E_TIMEOUT, SCRYPT_E_OUT_OF_MEMORY. */
 SCRYPT_NODISCARD
 int scrypt_hasher_hash(scrypt_hasher *hasher, const void *password, size_t password_len, const void *salt,
                        size_t salt_len, char *text, size_t capacity, int64_t timeout_ms);
 
 /* Writes the scrypt key of password and salt with the parameters of new hashes, key_len bytes long.
- * SCRYPT_E_NULL_POINTER, SCRYPT_E_INVALID_OUTPUT_LEN, SCRYPT_E_CLOSED, SCRYPT_E_TIMEOUT,
- * SCRYPT_E_OUT_OF_MEMORY. */
+ * SCRYPT_E_NULL_POINTER, SCRYPT_E_INVALID_OUTPUT_LEN, SCRYPT_E_CLOSED, SCRYPT_E_BUSY,
+ * SCRYPT_E_TIMEOUT, SCRYPT_E_OUT_OF_MEMORY. */
 SCRYPT_NODISCARD
 int scrypt_hasher_key(scrypt_hasher *hasher, const void *password, size_t password_len, const void *salt,
                       size_t salt_len, uint8_t *key, size_t key_len, int64_t timeout_ms);
@@ -532,12 +534,13 @@ int scrypt_hasher_needs_rehash(const scrypt_hasher *hasher, const char *text, si
 
 /* Statistics of a hasher, for metrics; in a child, since the fork. */
 typedef struct scrypt_stats {
+  size_t size;      /* sizeof (scrypt_stats), which the caller sets: later versions can add fields */
   size_t waiting;   /* calls in the wait queue */
   size_t deriving;  /* calls that derive, including each call of a batch */
-  uint64_t failed;  /* calls that have returned SCRYPT_E_OUT_OF_MEMORY or SCRYPT_E_TIMEOUT */
+  uint64_t failed;  /* calls that have returned SCRYPT_E_OUT_OF_MEMORY, _TIMEOUT or _BUSY */
 } scrypt_stats;
 
-/* Writes the statistics. SCRYPT_E_NULL_POINTER. */
+/* Writes the statistics. SCRYPT_E_NULL_POINTER, SCRYPT_E_OPTIONS_SIZE. */
 SCRYPT_NODISCARD
 int scrypt_hasher_stats(const scrypt_hasher *hasher, scrypt_stats *stats);
 

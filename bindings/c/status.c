@@ -31,9 +31,11 @@ static const struct {
     ROW(E_NULL_POINTER, "a required pointer is NULL"),
     ROW(E_CLOSED, "the hasher is closed"),
     ROW(E_TIMEOUT, "timed out waiting for a free slot in the hasher"),
-    ROW(E_OPTIONS_SIZE, "the size in the options of a hasher is not sizeof (scrypt_options)"),
+    ROW(E_OPTIONS_SIZE, "the size in the options or statistics of a hasher is not sizeof (scrypt_options) or "
+                        "sizeof (scrypt_stats)"),
     ROW(E_UNFINISHED, "not all chunks of the derivation in steps are mixed"),
     ROW(E_INVALID_PROGRESS, "no derivation with these parameters has this progress"),
+    ROW(E_BUSY, "as many calls as may wait for a slot in the hasher wait already"),
 };
 #undef ROW
 

@@ -47,6 +47,8 @@ const (
 	ErrNoRandomBytes Error = C.SCRYPT_E_NO_RANDOM_BYTES
 	// ErrKeyTooShort means that the key in the hash is shorter than the limits allow.
 	ErrKeyTooShort Error = C.SCRYPT_E_KEY_TOO_SHORT
+	// ErrBusy means that MaxWaiting calls wait for a slot of the Hasher already.
+	ErrBusy Error = C.SCRYPT_E_BUSY
 	// ErrClosed means that the Hasher is closed, or was not created by NewHasher.
 	ErrClosed Error = C.SCRYPT_E_CLOSED
 )

@@ -41,7 +41,7 @@ type Options struct {
 
 	// The number of slots, that is, of concurrent derivations: by default the number of CPUs
 	// that the affinity and the CPU quota of the process allow, or runtime.GOMAXPROCS(0) if that
-	// was set to less than runtime.NumCPU().
+	// is less.
 	Processors int
 
 	// The limits on Params.Memory and Params.Work, above which a hash returns ErrTooCostly: by
@@ -52,11 +52,15 @@ type Options struct {
 	// The limit on the length of a hash's key in bytes, up to Params.KeyLen, below which a hash
 	// returns ErrKeyTooShort: by default that of DefaultLimits, or KeyLen if that is less.
 	MinKeyLen int
+
+	// The maximum number of calls that wait for a slot: by default 1000. The next one returns ErrBusy
+	// immediately.
+	MaxWaiting int
 }
 
 // A Hasher makes password hashes, and verifies passwords against hashes of either format. It is
 // safe for concurrent use by multiple goroutines. Calls wait in FIFO order for one of Processors
-// slots. Waiting verifications with the same LogN, R and P are derived in one batch if there are
+// slots, and return ErrBusy if MaxWaiting calls wait already. Waiting verifications with the same LogN, R and P are derived in one batch if there are
 // tables for them, which takes less time on some CPUs. An error or a context of one call does
 // not affect the others.
 //
@@ -77,7 +81,9 @@ type hasher struct {
 	c       *C.scrypt_hasher
 	inside  chan struct{} // a counting semaphore: each goroutine in C takes a system thread
 	calls   atomic.Int64  // how many calls wait or derive
-	refused atomic.Uint64 // how many calls failed: out of memory, or their context ended
+	refused atomic.Uint64 // how many calls failed: out of memory, too many waiting, or their context ended
+	slots   int64
+	waiting int64 // the maximum number of calls that wait
 }
 
 // NewHasher returns a Hasher. Its errors show the options, and match (errors.Is) ErrInvalidParams,
@@ -88,10 +94,7 @@ func NewHasher(options Options) (*Hasher, error) {
 	options.LogN = orDefault(options.LogN, usual.LogN)
 	options.R = orDefault(options.R, usual.R)
 	options.P = orDefault(options.P, usual.P)
-	if n := runtime.GOMAXPROCS(0); n < runtime.NumCPU() {
-		options.Processors = orDefault(options.Processors, n)
-	}
-	if options.MaxTables < 0 || options.Processors < 0 || options.MinKeyLen < 0 {
+	if options.MaxTables < 0 || options.Processors < 0 || options.MinKeyLen < 0 || options.MaxWaiting < 0 {
 		return nil, fmt.Errorf("%w: %+v", ErrInvalidOption, options)
 	}
 	var with C.scrypt_options
@@ -114,14 +117,23 @@ func NewHasher(options Options) (*Hasher, error) {
 	if options.MCF {
 		with.mcf = 1
 	}
-	shared := &hasher{}
-	if status := C.scrypt_hasher_new(&with, &shared.c); status != C.SCRYPT_OK {
+	shared := &hasher{waiting: int64(orDefault(options.MaxWaiting, 1000))}
+	with.max_waiting = ^C.size_t(0) // run counts those that wait in Go and in C
+	status := C.scrypt_hasher_new(&with, &shared.c)
+	most := C.size_t(runtime.GOMAXPROCS(0))
+	if status == C.SCRYPT_OK && options.Processors == 0 && most < C.scrypt_hasher_options(shared.c).processors {
+		C.scrypt_hasher_free(&shared.c)
+		with.processors = most
+		status = C.scrypt_hasher_new(&with, &shared.c)
+	}
+	if status != C.SCRYPT_OK {
 		return nil, fmt.Errorf("%w: %v: %+v", Error(status), options.Params.cost(), options)
 	}
 	derive := C.scrypt_hasher_options(shared.c).processors
 	if tables := C.scrypt_hasher_options(shared.c).max_tables; tables < derive {
 		derive = tables
 	}
+	shared.slots = int64(derive)
 	if derive > mostInside/perSlot {
 		derive = mostInside / perSlot
 	}
@@ -142,14 +154,15 @@ func (h *Hasher) Options() Options {
 		Params:  Params{LogN: int(with.log_n), R: int(with.r), P: int(with.p), KeyLen: int(with.key_len)},
 		MCF:     with.mcf != 0,
 		SaltLen: int(with.salt_len), MaxTables: int(with.max_tables), Processors: int(with.processors),
-		MaxMem: uint64(with.max_mem), MaxWork: uint64(with.max_work), MinKeyLen: int(with.min_key_len),
+		MaxWaiting: int(h.shared.waiting),
+		MaxMem:     uint64(with.max_mem), MaxWork: uint64(with.max_work), MinKeyLen: int(with.min_key_len),
 	}
 }
 
 // Stats are the statistics of a Hasher.
 type Stats struct {
 	Waiting, Deriving int    // how many calls wait for a slot, and derive, now
-	Failed            uint64 // how many calls ran out of memory, or whose context ended
+	Failed            uint64 // how many calls ran out of memory or returned ErrBusy, or whose context ended
 }
 
 // Stats returns the current statistics, for metrics; it cannot fail. For the zero value of a Hasher
@@ -158,13 +171,26 @@ func (h *Hasher) Stats() Stats {
 	if h.shared == nil {
 		return Stats{}
 	}
-	var now C.scrypt_stats
-	_ = C.scrypt_hasher_stats(h.shared.c, &now)            // its only error is for NULL
-	waiting := h.shared.calls.Load() - int64(now.deriving) // includes calls that are not in C
+	deriving := h.shared.deriving()
+	waiting := h.shared.calls.Load() - deriving // includes calls that are not in C
 	if waiting < 0 {
 		waiting = 0
 	}
-	return Stats{int(waiting), int(now.deriving), h.shared.refused.Load()}
+	return Stats{int(waiting), int(deriving), h.shared.refused.Load()}
+}
+
+// deriving returns how many calls derive.
+func (h *hasher) deriving() int64 {
+	now := C.scrypt_stats{size: C.sizeof_scrypt_stats}
+	_ = C.scrypt_hasher_stats(h.c, &now) // its only errors are for NULL, and for the size
+	runtime.KeepAlive(h)
+	return int64(now.deriving)
+}
+
+// isFull returns whether the last of this number of calls may not wait. While a slot is free, some of them are about to
+// derive.
+func (h *hasher) isFull(calls int64) bool {
+	return calls-h.slots > h.waiting && calls-h.deriving() > h.waiting
 }
 
 // Close frees the memory that the Hasher keeps; the memory of a running derivation is freed when it
@@ -178,7 +204,7 @@ func (h *Hasher) Close() error {
 }
 
 // Hash returns a new hash, with a random salt from the system. Its errors are the context's error,
-// ErrOutOfMemory, ErrNoRandomBytes and ErrClosed.
+// ErrOutOfMemory, ErrNoRandomBytes, ErrBusy and ErrClosed.
 func (h *Hasher) Hash(ctx context.Context, password []byte) (string, error) {
 	return h.hash(ctx, password, nil)
 }
@@ -229,7 +255,7 @@ func (h *Hasher) Key(ctx context.Context, password, salt []byte, keyLen int) ([]
 // returns ErrMismatch. While hashes of older parameters are stored, their time tells who exists:
 // see docs/HASHER.md of the repository.
 //
-// Other errors match (errors.Is) the context's error, ErrClosed or ErrOutOfMemory. If the hash is
+// Other errors match (errors.Is) the context's error, ErrClosed, ErrBusy or ErrOutOfMemory. If the hash is
 // rejected, Verify returns, without waiting, an error that matches ErrRefused: ErrInvalidHash,
 // ErrTooCostly if the hash exceeds the limits, or ErrKeyTooShort if its key has fewer bytes than
 // MinKeyLen.
@@ -309,7 +335,11 @@ func (h *Hasher) run(ctx context.Context, password []byte,
 	// The context's methods, which can panic, are called before anything is acquired.
 	shared, done := h.shared, ctx.Done()
 	end, isBounded := ctx.Deadline()
-	shared.calls.Add(1)
+	if shared.isFull(shared.calls.Add(1)) {
+		shared.calls.Add(-1)
+		shared.refused.Add(1)
+		return ErrBusy
+	}
 	isInside := false
 	leave := func() {
 		if isInside {

@@ -91,13 +91,13 @@ func TestOptions(t *testing.T) {
 	usual, large := newHasher(t, Options{}).Options(), newHasher(t, Options{Params: Params{LogN: 19, P: 2}}).Options()
 	tables, processors := usual.MaxTables, usual.Processors
 	maxMem, maxWork, minKeyLen := DefaultLimits()
-	check(t, usual == Options{Recommended(), false, 16, tables, processors, maxMem, maxWork, minKeyLen}, usual)
+	check(t, usual == Options{Recommended(), false, 16, tables, processors, maxMem, maxWork, minKeyLen, 1000}, usual)
 	check(t, tables >= 1 && tables <= 2*processors && processors <= runtime.NumCPU(), usual)
 	check(t, large.MaxMem == 536875008 && large.MaxWork == 33556480, large)
 	for given, inside := range map[Options]int{
-		{Params{5, 3, 2, 20}, true, 1, 2, 3, 1 << 20, 1 << 16, 20}:                                         2 * perSlot,
-		{Params{5, 3, 2, 20}, true, 64, 3, 2, 1 << 20, 1 << 16, 1}:                                         2 * perSlot,
-		{Params{4, 8, 1, 32}, false, 16, math.MaxInt64, math.MaxInt64, math.MaxUint64, math.MaxUint64, 16}: 4096,
+		{Params{5, 3, 2, 20}, true, 1, 2, 3, 1 << 20, 1 << 16, 20, 1}:                                                     2 * perSlot,
+		{Params{5, 3, 2, 20}, true, 64, 3, 2, 1 << 20, 1 << 16, 1, 7}:                                                     2 * perSlot,
+		{Params{4, 8, 1, 32}, false, 16, math.MaxInt64, math.MaxInt64, math.MaxUint64, math.MaxUint64, 16, math.MaxInt64}: 4096,
 	} {
 		hasher := newHasher(t, given)
 		check(t, hasher.Options() == given && cap(hasher.shared.inside) == inside, given, cap(hasher.shared.inside))
@@ -304,7 +304,7 @@ func TestDoneWithoutError(t *testing.T) {
 
 // Stats counts calls that wait, derive and fail. Close ends the calls that wait.
 func TestStats(t *testing.T) {
-	hasher := newHasher(t, Options{Params{LogN: 4}, false, 0, 1, 0, math.MaxUint64, math.MaxUint64, 0})
+	hasher := newHasher(t, Options{Params{LogN: 4}, false, 0, 1, 0, math.MaxUint64, math.MaxUint64, 0, 0})
 	check(t, hasher.Verify(ctx, huge, nil) == ErrOutOfMemory && hasher.Verify(ctx, "$7$", nil) == ErrEncodingInvalid)
 	busy(t, hasher)
 	canceled, cancel := context.WithCancel(ctx)
@@ -322,6 +322,27 @@ func TestStats(t *testing.T) {
 		check(t, i < 10 && err == context.Canceled || i >= 10 && err == ErrClosed, i, err)
 	}
 	wait(func() bool { return hasher.Stats() == Stats{Failed: 11} })
+}
+
+// If MaxWaiting calls wait, in C and in Go, the next one returns at once.
+func TestMaxWaiting(t *testing.T) {
+	for _, most := range []int{1, 2, perSlot, 3 * perSlot} { // the last wait outside of C too
+		hasher := newHasher(t, Options{Params: Params{LogN: 4}, MaxTables: 1, MaxWaiting: most})
+		busy(t, hasher)
+		ended := make(chan error, most)
+		for i := 0; i < most; i++ {
+			go func() { ended <- hasher.Verify(ctx, noHash, nil) }()
+		}
+		wait(func() bool { return hasher.Stats() == Stats{most, 1, 0} })
+		_, err := hasher.Hash(ctx, nil)
+		check(t, err == ErrBusy && hasher.Stats() == Stats{most, 1, 1}, err, hasher.Stats())
+		for i := 0; i < most; i++ {
+			check(t, <-ended == ErrMismatch, i)
+		}
+		check(t, hasher.Verify(ctx, noHash, nil) == ErrMismatch, "a place is free")
+	}
+	_, err := NewHasher(Options{MaxWaiting: -1})
+	check(t, errors.Is(err, ErrInvalidOption), err)
 }
 
 // A Hasher keeps at most MaxTables tables, until Close or until nothing refers to it. KeyContext keeps

@@ -142,8 +142,8 @@ export type ErrorCode =
   | 'HASH_PARAMS_INVALID'
   /** No worker was free within `timeout`. */
   | 'TIMEOUT'
-  /** `maxQueue` calls already wait for a worker. */
-  | 'QUEUE_FULL'
+  /** `maxWaiting` calls already wait for a worker. */
+  | 'BUSY'
   /** The engine has no WebAssembly with SIMD. */
   | 'UNSUPPORTED'
   /** The module was not found, or the engine may not compile it. The next call tries again. */
@@ -211,7 +211,7 @@ export function storedText(
  * machine or the container; and 1000 calls.
  */
 export function configure(
-  options: { maxWorkers?: number | undefined; maxQueue?: number | undefined },
+  options: { maxWorkers?: number | undefined; maxWaiting?: number | undefined },
 ): void;
 /** Whether this engine has WebAssembly with SIMD. */
 export function isSupported(): boolean;

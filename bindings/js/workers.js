@@ -8,7 +8,7 @@ import { MAX_WORKERS } from './machine.js';
 const IDLE_MS = 5000; // an idle worker ends after this time, and its memory is freed
 const MAX_TIMER = 2 ** 31 - 1; // milliseconds: a longer timer fires immediately
 
-let [maxWorkers, maxQueue] = [MAX_WORKERS, 1000];
+let [maxWorkers, maxWaiting] = [MAX_WORKERS, 1000];
 
 const workers = new Set(); // all workers that have not ended
 const idle = [];
@@ -19,7 +19,7 @@ let isFull = false; // a further worker could not start
 export function configure(given) {
   const options = optionsOf(given, 'configure');
   const most = count(options.maxWorkers, 'maxWorkers', maxWorkers, 1);
-  maxQueue = count(options.maxQueue, 'maxQueue', maxQueue);
+  maxWaiting = count(options.maxWaiting, 'maxWaiting', maxWaiting);
   maxWorkers = most;
 }
 
@@ -154,9 +154,9 @@ function enqueue(call) {
   waiting.push(call);
   assign();
   const isLast = waiting.at(-1) === call;
-  if (isLast && waiting.length > maxQueue + starting()) {
-    const message = `${maxQueue} calls wait for a worker already (maxQueue)`;
-    leave(call, new ScryptError('QUEUE_FULL', message));
+  if (isLast && waiting.length > maxWaiting + starting()) {
+    const message = `${maxWaiting} calls wait for a worker already (maxWaiting)`;
+    leave(call, new ScryptError('BUSY', message));
   }
 }
 

@@ -176,9 +176,15 @@ def decided():
     yield "bindings/c/README.md", f"{new} ASCII characters by default, and never more than {longest}"
     yield "docs/PARAMETERS.md", f"The salt length is {NUMBERS['SALT_LEN']} bytes by default, the key length {NUMBERS['KEY_LEN']};"
     yield from each(f"up to {WORDS[2 * NUMBERS['MAX_LOGINS']]} calls for each", "bindings/go/hasher.go", "bindings/go/README.md")
-    queue = number("bindings/js/workers.js", r"\[MAX_WORKERS, ", r"\]")
+    queue = number("bindings/c/options.c", "define MAX_WAITING ", " ")
+    yield "bindings/c/scrypt_c.h", f"that wait for a slot: {queue};"
+    yield "bindings/js/workers.js", f"[MAX_WORKERS, {queue}]"
     yield "bindings/js/README.md", f"(by default {queue})"
     yield "bindings/js/index.d.ts", f"and {queue} calls."
+    yield "bindings/go/hasher.go", f"orDefault(options.MaxWaiting, {queue})"
+    yield "bindings/rust/src/hasher.rs", f"the default, means {queue}."
+    yield from each(f"by default {queue}", "docs/HASHER.md", "SECURITY.md", "bindings/go/hasher.go", "bindings/rust/README.md",
+                    "bindings/python/scrypt_c/hasher.py")
 
 
 def written():
@@ -194,8 +200,8 @@ def written():
     yield "README.md", f"of definitions, and {text_of('docs/TRUST.md', 'about [0-9]+ lines for the key, ', ' for a')} of the kit's"
     yield "CONTRIBUTING.md", f"the gate: {number('bindings/c/tests/test_hasher_load.c', 'size_t rounds = ', ';')} rounds"
     yield "CONTRIBUTING.md", f"runs for {WORDS[number('tools/gate/gate.mk', r'LIMIT=[^,]*,', 'h. ')]} hours is ended"
-    log_ins = number("examples/login_site/accounts/hashers.py", "MAX_LOG_INS = ", " ")
-    yield "examples/login_site/README.md", f"if {log_ins} logins are in progress"
+    log_ins = number("examples/login_site/accounts/hashers.py", "max_waiting=", r"\)")
+    yield "examples/login_site/README.md", f"if {log_ins} logins wait already"
     yield "bindings/js/README.md", f"It needs Node {text_of('bindings/js/package.json', 'node.: .>=', chr(34))}"
     yield "bindings/python/README.md", f"It needs Python {text_of('bindings/python/pyproject.toml', 'requires-python = .>=', chr(34))}"
     yield "bindings/rust/README.md", f"It needs Rust {text_of('bindings/rust/Cargo.toml', 'rust-version = .', chr(34))}"

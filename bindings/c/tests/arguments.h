@@ -56,6 +56,7 @@ static void take_arguments(const void *password, size_t password_len, const void
   given.capacity = sizeof made.text, given.len = sizeof made.salt;
   given.max_mem = SIZE_MAX, given.max_work = UINT64_MAX;
   given.timeout_ms = -1;
+  made.stats->size = sizeof *made.stats;
   given.seconds = 1e-9; /* too short for any parameters */
   *given.buffers = new_buffers(log_n, r, p, 0, cost.tables < max_tables ? cost.tables : max_tables);
   scrypt_options_init(&given.of_hasher);

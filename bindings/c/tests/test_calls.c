@@ -256,6 +256,7 @@ static const char *const WORDS[] = {
     [SCRYPT_E_OPTIONS_SIZE] = "sizeof (scrypt_options)",
     [SCRYPT_E_UNFINISHED] = "not all chunks",
     [SCRYPT_E_INVALID_PROGRESS] = "this progress",
+    [SCRYPT_E_BUSY] = "wait already",
 };
 enum { STATUSES = sizeof WORDS / sizeof *WORDS };
 

@@ -141,7 +141,7 @@ static void check_tables(size_t max_tables) {
 /* Lets all derivations end, and compares the batches and their order. */
 static void end(const char *wanted_batches) {
   char in_order[256] = "", *at = in_order;
-  scrypt_stats stats = {1, 1, 1};
+  scrypt_stats stats = {sizeof stats, 1, 1, 1};
   uint64_t refused = 0;
   WRITE(is_stopped, 0);
   until(READ(over) == started);
@@ -149,7 +149,7 @@ static void end(const char *wanted_batches) {
   for (int i = 0; i < started; i++) {
     pthread_join(all[i].id, NULL);
     expect(all[i].status == all[i].wanted, "%s: %d of call %d", scenario, all[i].status, i);
-    refused += all[i].status == SCRYPT_E_OUT_OF_MEMORY || all[i].status == SCRYPT_E_TIMEOUT;
+    refused += all[i].status == SCRYPT_E_OUT_OF_MEMORY || all[i].status == SCRYPT_E_TIMEOUT || all[i].status == SCRYPT_E_BUSY;
   }
   for (int i = 0; i < begun; i++) at += sprintf(at, "%s%s", i > 0 ? " " : "", batches[i].calls);
   expect(strcmp(in_order, wanted_batches) == 0, "%s: batches %s", scenario, in_order);
@@ -169,6 +169,29 @@ TEST(scenarios) {
     end(SCENARIOS[i].batches);
   }
   expect(READ(windows_ahead) > 0, "no window lasts");
+}
+
+/* With max_waiting of 2 a third call returns at once, whatever it is, and one waits again when a place is free. */
+TEST(busy) {
+  scrypt_stats stats = {.size = sizeof stats - 1};
+  begin("a bounded queue", 1, 2);
+  hasher->options.max_waiting = 2;
+  play("abb");
+  start('a', -1, SCRYPT_E_BUSY), start('k', 60000, SCRYPT_E_BUSY);
+  IS(READ(over), 2);
+  end_first();
+  play("a");
+  start('a', 0, SCRYPT_E_TIMEOUT);
+  IS(scrypt_hasher_stats(hasher, &stats), SCRYPT_E_OPTIONS_SIZE);
+  stats.size = sizeof stats;
+  IS(scrypt_hasher_stats(hasher, &stats), SCRYPT_OK);
+  expect(stats.size == sizeof stats && stats.failed == 3 && stats.waiting == 1, "statistics");
+  end("0 12 5");
+  begin("no call waits", 1, 1);
+  hasher->options.max_waiting = 0;
+  play("a");
+  start('a', -1, SCRYPT_E_BUSY);
+  end("0");
 }
 
 TEST(calls_that_lead_or_follow_do_not_time_out) {

@@ -208,7 +208,7 @@ static int watched_key(const void *password, size_t password_len, const void *sa
 #define OF(n, its_r, its_p, ...)                                                                          \
   {.size = sizeof(scrypt_options), .log_n = n, .r = its_r, .p = its_p, .key_len = SCRYPT_KEY_LEN,         \
    .salt_len = SCRYPT_SALT_LEN, .max_mem = SCRYPT_AUTO, .max_work = SCRYPT_AUTO,                          \
-   .min_key_len = SCRYPT_AUTO, .max_tables = 1, .processors = 1, __VA_ARGS__}
+   .min_key_len = SCRYPT_AUTO, .max_tables = 1, .processors = 1, .max_waiting = SCRYPT_AUTO, __VA_ARGS__}
 static scrypt_hasher *made_of(const scrypt_options *options) {
   scrypt_hasher *hasher = NULL;
   IS(scrypt_hasher_new(options, &hasher), SCRYPT_OK);
@@ -236,7 +236,7 @@ static int verify(scrypt_hasher *hasher, const char *text, const char *password,
  * closed hasher has memory. The invariants of the queue hold. */
 static struct look { int leading, is_idle; scrypt_stats stats; } look_at(scrypt_hasher *hasher) {
   struct queue *queue = hasher->queue;
-  struct look at = {0, 1, {0, 0, 0}};
+  struct look at = {0, 1, {0, 0, 0, 0}};
   size_t waiting = 0;
   mutex_lock(&queue->lock);
   at.stats = queue->stats;

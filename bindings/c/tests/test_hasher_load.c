@@ -12,7 +12,7 @@ static void fork_here(scrypt_hasher *hasher, const char *what) { (void)hasher, (
 /* In a child: the hasher works, and has no calls or memory of the parent. */
 static void check_child(scrypt_hasher *hasher) {
   char text[SCRYPT_PHC_CAPACITY];
-  scrypt_stats stats = {1, 1, 1};
+  scrypt_stats stats = {sizeof stats, 1, 1, 1};
   failed = inside = tables_inside = is_stopped = windows_last = 0;
   mapped = 0;
   IS(scrypt_hasher_stats(hasher, &stats), SCRYPT_OK);
@@ -70,7 +70,7 @@ TEST(at_any_time) {
   static const size_t PROCESSORS[] = {1, 2, 64};
   size_t rounds = 24;
   pthread_t all[16];
-  scrypt_stats stats;
+  scrypt_stats stats = {.size = sizeof stats};
   if (argument != NULL) rounds = (size_t)atoi(argument);
   for (size_t round = 0; round < rounds; round++) {
     size_t processors = PROCESSORS[round % 3];

@@ -28,6 +28,7 @@ static const struct {
     {"too little work", OF(14, 8, 1, .max_work = 1 << 10), SCRYPT_E_TOO_COSTLY},
     {"no limit", OF(20, 8, 4, .max_mem = SIZE_MAX, .max_work = UINT64_MAX), SCRYPT_OK},
     {"above the default limits, which are raised", OF(20, 8, 4, .mcf = 0), SCRYPT_OK},
+    {"no call may wait", OF(4, 8, 1, .max_waiting = 0), SCRYPT_OK},
     {"a size of another version", {.size = 1, .key_len = 9}, SCRYPT_E_OPTIONS_SIZE},
     {"more slots than any machine has", OF(4, 8, 1, .max_tables = SIZE_MAX, .processors = SIZE_MAX), SCRYPT_OK}};
 
@@ -51,7 +52,8 @@ static const uint64_t LIMITS[] = {DEFAULT_LIMITS};
 /* What a field means that the caller leaves as it is. */
 TEST(initial_options) {
   static const scrypt_options WANTED = OF(SCRYPT_RECOMMENDED_LOG_N, SCRYPT_RECOMMENDED_R, SCRYPT_RECOMMENDED_P,
-                                          .max_tables = SCRYPT_AUTO, .processors = SCRYPT_AUTO);
+                                          .max_tables = SCRYPT_AUTO, .processors = SCRYPT_AUTO,
+                                          .max_waiting = SCRYPT_AUTO);
   scrypt_options options;
   memset(&options, 0, sizeof options);
   options.mcf = 7;
@@ -64,7 +66,8 @@ TEST(defaults) {
   const size_t processors = processors_of_process();
   const scrypt_options wanted = OF(SCRYPT_RECOMMENDED_LOG_N, SCRYPT_RECOMMENDED_R, SCRYPT_RECOMMENDED_P,
                                    .max_mem = LIMITS[0], .max_work = LIMITS[1], .min_key_len = LIMITS[2],
-                                   .max_tables = 2 * processors, .processors = processors);
+                                   .max_tables = 2 * processors, .processors = processors,
+                                   .max_waiting = 1000);
   scrypt_hasher *hasher = made_of(NULL), *none = NULL;
   expect(memcmp(scrypt_hasher_options(hasher), &wanted, sizeof wanted) == 0, "the completed defaults");
   IS(scrypt_hasher_options(NULL), NULL);

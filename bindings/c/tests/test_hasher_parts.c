@@ -274,6 +274,7 @@ TEST(many_waits) {
   static const int STATUSES[] = {SCRYPT_OK, SCRYPT_MISMATCH, SCRYPT_OK, SCRYPT_MISMATCH};
   scrypt_hasher *hasher = new_hasher(1, 1, 4);
   struct queue *queue = hasher->queue;
+  hasher->options.max_waiting = SIZE_MAX;
   struct call *all = (struct call *)calloc(N + 1, sizeof *all), *batch[4] = {&all[0]}, *it;
   clock_t begun_at = clock();
   mutex_lock(&queue->lock);

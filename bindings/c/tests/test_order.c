@@ -127,6 +127,7 @@ static const struct {
 /* Fills all outputs but the derivation and the hasher, which are first. */
 static void forget(void) {
   memset(&made.output, 0xaa, sizeof made - (size_t)((uint8_t *)&made.output - (uint8_t *)&made));
+  made.stats->size = sizeof *made.stats;
 }
 
 /* A call without a row fails too. */

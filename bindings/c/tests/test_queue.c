@@ -56,11 +56,18 @@ static void end_in_model(int i, int status) {
 }
 
 /* Of the classes 0 and 1 are verifications that are not compatible, and 2 is a key. */
+static int is_full(void) {
+  size_t waiting = 0;
+  for (int i = 0; i < now.entered; i++) waiting += now.wanted[i] == WAITING;
+  return waiting >= now.hasher.options.max_waiting;
+}
+
 static void enter_one(int class) {
-  int i = now.entered++, is_free = now.batches[0].count == 0 || now.batches[1].count == 0;
+  int is_busy = is_full(), i = now.entered++, is_free = now.batches[0].count == 0 || now.batches[1].count == 0;
   now.calls[i].kind = class == 2 ? KEY : VERIFY;
   now.calls[i].cost.log_n = (uint32_t)class;
   now.wanted[i] = is_free ? LEADING : WAITING;
+  if (!is_free && is_busy) end_in_model(i, SCRYPT_E_BUSY);
   if (now.hasher.is_closed) end_in_model(i, SCRYPT_E_CLOSED);
   enter(&now.hasher, &now.calls[i]);
 }
@@ -200,10 +207,13 @@ static void explore(void) {
 }
 
 TEST(all_runs) {
-  static const size_t TABLES[] = {2, 5, 8}; /* one in each slot; two and three; four */
-  for (int i = 0; i < 3; i++) {
+  static const struct { size_t tables, waiting; } RUNS[] = {
+      {2, CALLS}, {5, CALLS}, {8, CALLS}, /* one table in each slot; two and three; four */
+      {8, 2}, {5, 1}, {8, 0}};            /* calls find the queue full, or none may wait */
+  for (size_t i = 0; i < sizeof RUNS / sizeof *RUNS; i++) {
+    const scrypt_options options = {.max_tables = RUNS[i].tables, .max_waiting = RUNS[i].waiting};
     memset(seen, 0, sizeof seen);
-    now = (struct world){.hasher = {.options = {.max_tables = TABLES[i]}, .slots = SLOTS}};
+    now = (struct world){.hasher = {.options = options, .slots = SLOTS}};
     now.hasher.queue = &now.of.queue;
     explore();
   }

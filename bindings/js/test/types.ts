@@ -12,7 +12,7 @@ export async function calls(password: Bytes): Promise<unknown> {
   const isOfNobody: boolean = await verify(password, null) || await verify(password, undefined);
   const { verified, newHash }: Verification = await verifyAndUpdate(password, text, { N: 2 ** 18, format: 'mcf', timeout: 1000 });
   const stored: string | undefined = verified ? newHash : undefined;
-  configure({ maxWorkers: 1, maxQueue: Infinity });
+  configure({ maxWorkers: 1, maxWaiting: Infinity });
   const own: Scrypt = await load(new URL('./scrypt.wasm', 'https://example.org/'));
   await own.scryptAsync('', '', { N: 2, r: 8, p: 1, signal, onProgress: (fraction) => fraction.toFixed() });
   const { N, r, p, dkLen } = own.params(await storedText('salt', key, { N: 64, r: 8, p: 1 }));

@@ -93,7 +93,7 @@ const endings = {
     await Promise.all(Array.from({ length: 9 }, () => refused('WORKER_FAILED', call, 'no memory')));
   }, () => false),
   'more calls than workers': withWorkers(async (call, made, busy, answer, configure) => {
-    configure({ maxQueue: 3 });
+    configure({ maxWaiting: 3 });
     const answers = [];
     const add = (i, options) =>
       call(options).then(() => answers.push(i), ({ code }) => answers.push(code));
@@ -101,7 +101,7 @@ const endings = {
     await busy();
     await later(600); // the timeout does not count while it computes
     const others = [1, 2, 3].map((i) => add(i));
-    await refused('QUEUE_FULL', () => call());
+    await refused('BUSY', () => call());
     for (let i = 0; i < 3; i++) await answer(KEY);
     await add('late', { timeout: 1 });
     await answer(KEY);
@@ -109,11 +109,11 @@ const endings = {
     equal(answers.join(), '0,1,2,TIMEOUT,3', 'FIFO');
     for (const timeout of [-1, NaN]) await refused('INVALID_LIMIT', () => call({ timeout }));
     for (const maxWorkers of [0, 2.5]) await refused('INVALID_LIMIT', () => configure({ maxWorkers }));
-    for (const maxQueue of [NaN, 0.5]) await refused('INVALID_LIMIT', () => configure({ maxQueue }));
-    configure({ maxQueue: Infinity });
+    for (const maxWaiting of [NaN, 0.5]) await refused('INVALID_LIMIT', () => configure({ maxWaiting }));
+    configure({ maxWaiting: Infinity });
   }),
   'bytes that no worker got are wiped': withWorkers(async (call, made, busy, answer, configure) => {
-    configure({ maxQueue: 2 });
+    configure({ maxWaiting: 2 });
     const first = call();
     await busy();
     const [abort, secrets] = [new AbortController(), [1, 2, 3, 4].map((it) => Uint8Array.of(it))];
@@ -121,7 +121,7 @@ const endings = {
       refused('AbortError', () => call({ signal: AbortSignal.abort() }, secrets[0])),
       refused('AbortError', () => call({ signal: abort.signal }, secrets[1])),
       refused('TIMEOUT', () => call({ timeout: 1 }, secrets[2])),
-      refused('QUEUE_FULL', () => call({}, secrets[3])).then(() => abort.abort()),
+      refused('BUSY', () => call({}, secrets[3])).then(() => abort.abort()),
     ]);
     equal(secrets.join(), '0,0,0,0');
     await answer(KEY);

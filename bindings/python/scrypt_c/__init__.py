@@ -29,6 +29,7 @@ from .arguments import Bytes, Password
 from .calibration import calibrate
 from .declared import DEFAULT_MAX_MEM, DEFAULT_MAX_WORK, DEFAULT_MIN_KEY_LEN, VERSION_STRING, Status
 from .errors import (
+    BusyError,
     HashTooLongError,
     InvalidHashError,
     InvalidOutputLenError,
@@ -52,6 +53,7 @@ __all__ = [
     "DEFAULT_MAX_WORK",
     "RECOMMENDED",
     "Bytes",
+    "BusyError",
     "HashTooLongError",
     "InvalidHashError",
     "InvalidOutputLenError",

@@ -6,6 +6,8 @@ import operator
 import threading
 from typing import Optional, Union
 
+from .declared import AUTO
+
 # The types of salts and keys, and of passwords, for callers that annotate theirs.
 Bytes = Union[bytes, bytearray, memoryview]
 Password = Union[str, bytes, bytearray, memoryview]
@@ -53,8 +55,10 @@ def number(value: int, what: str) -> int:
 
 
 def in_64_bits(value: int, what: str) -> int:
-    """Clamps a limit to the range of C's types: a limit above 64 bits allows everything."""
-    return min(max(number(value, what), 0), (1 << 64) - 1)
+    """Clamps a limit to the range of C's types: a limit above 64 bits allows everything, and so does
+    AUTO, which is the default in C."""
+    most = (1 << 64) - 1
+    return most if number(value, what) >= AUTO else max(value, 0)
 
 
 def seconds(value: Optional[float], what: str) -> Optional[float]:

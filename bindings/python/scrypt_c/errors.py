@@ -54,6 +54,11 @@ class InvalidOutputLenError(ScryptError, ValueError):
     """The key is empty, or longer than scrypt allows."""
 
 
+class BusyError(ScryptError, TimeoutError):
+    """`max_waiting` calls wait for a slot of the hasher already. Nothing was derived. It is a
+    TimeoutError too."""
+
+
 class HashTooLongError(ScryptError, ValueError):
     """The hash is longer than Django's column for it. Nothing was derived."""
 
@@ -71,6 +76,7 @@ KINDS: dict[int, type[Exception]] = {
     Status.KEY_TOO_SHORT: KeyTooShortError,
     Status.CLOSED: ValueError,
     Status.TIMEOUT: TimeoutError,
+    Status.BUSY: BusyError,
 }
 
 

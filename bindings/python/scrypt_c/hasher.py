@@ -36,11 +36,12 @@ class Options(NamedTuple):
     min_key_len: int
     max_tables: int
     processors: int
+    max_waiting: int
 
 
 class Stats(NamedTuple):
     """The numbers of calls that wait and that derive, and of calls that failed because there was no
-    memory or no slot in time. In a child process they begin at the fork."""
+    memory, or no slot in time, or too many waited. In a child process they begin at the fork."""
 
     waiting: int
     deriving: int
@@ -54,6 +55,7 @@ class PasswordHasher:
     `mcf` makes `$7$` hashes of crypt(5) instead of PHC hashes. A hasher is thread-safe. It has
     `processors` slots, by default one for each CPU that this process may use, and calls
     derive in slots; the others wait in FIFO order, and raise TimeoutError after `timeout` seconds.
+    If `max_waiting` calls wait, by default 1000, the next one raises BusyError immediately.
     Waiting verifications with the same N, r and p are derived in one batch, which takes less time
     on some CPUs. An error, timeout or exception of one call does not affect the others.
 
@@ -82,6 +84,7 @@ class PasswordHasher:
         min_key_len: Optional[int] = None,
         max_tables: Optional[int] = None,
         processors: Optional[int] = None,
+        max_waiting: Optional[int] = None,
         timeout: Optional[float] = None,
     ) -> None:
         self._params = Params(*accepted(log_n, r, p), number(key_len, "key_len"))
@@ -94,11 +97,14 @@ class PasswordHasher:
         for name, count in counts.items():
             if count is not None and number(count, name) < 1:
                 raise ValueError(f"{name} must be at least 1: {count}")
+        if max_waiting is not None and number(max_waiting, "max_waiting") < 0:
+            raise ValueError(f"max_waiting must not be negative: {max_waiting}")
         if min_key_len is not None and not 0 <= number(min_key_len, "min_key_len") <= key_len:
             words = f"min_key_len must be 0 to key_len, {key_len}: {min_key_len}"
             check(Status.INVALID_PARAMS, words)
         self._timeout = seconds(timeout, "timeout")
         # As they were passed: None depends on the machine, and a copy may be on another machine.
+        counts["max_waiting"] = max_waiting
         limits = {"max_mem": max_mem, "max_work": max_work, "min_key_len": min_key_len, **counts}
         others = {"salt_len": salt_len, "mcf": bool(mcf), "timeout": timeout}
         self._options: dict[str, Any] = {**others, **limits}
@@ -125,7 +131,7 @@ class PasswordHasher:
 
     def stats(self) -> Stats:
         """Returns the current statistics, for metrics."""
-        stats = declared.Stats()
+        stats = declared.Stats(ctypes.sizeof(declared.Stats))
         check(lib.scrypt_hasher_stats(self._c, stats))
         return Stats(stats.waiting, stats.deriving, stats.failed)
 
@@ -183,13 +189,10 @@ class PasswordHasher:
             return self.key(password, salt=salt, key_len=key_len)
         limits = {"max_mem": self.options.max_mem, "max_work": self.options.max_work}
         other = PasswordHasher(log_n, r, p, **self._options | limits)
-        if not _OTHERS.acquire(timeout=-1 if self._timeout is None else self._timeout):
-            check(Status.TIMEOUT, f"timeout={self._timeout}")
-        try:
-            with other:
-                return other.key(password, salt=salt, key_len=key_len)
-        finally:
-            _OTHERS.release()
+        # In one statement: between an acquire and a try, a signal handler's exception would leave
+        # the lock taken.
+        with _OTHERS, other:
+            return other.key(password, salt=salt, key_len=key_len)
 
     def verify(self, hash: Union[str, bytes, None], password: Password) -> Literal[True]:
         """Returns True if the password matches the hash, in either format.
@@ -246,7 +249,9 @@ class PasswordHasher:
         """Raises the error of a status for this hash, or for a new one. The hash is only read for a
         message that has its parameters."""
         if status not in (Status.KEY_TOO_SHORT, Status.OUT_OF_MEMORY, Status.TOO_COSTLY):
-            check(status, f"timeout={self._timeout}" if status == Status.TIMEOUT else "")
+            option = {Status.TIMEOUT: "timeout", Status.BUSY: "max_waiting"}.get(status)
+            values = {"timeout": self._timeout, "max_waiting": self.options.max_waiting}
+            check(status, f"{option}={values[option]}" if option else "")
             return
         options = self.options
         limits = options.max_mem, options.max_work, options.min_key_len
@@ -263,11 +268,17 @@ def _copied(kind: type[PasswordHasher], params: Params, options: dict[str, Any])
     return hasher
 
 
-# Held for a key with other parameters. A fork waits for it, so that it is free in the child.
+# Held for a key with other parameters. A child has a new one: a thread of the parent may hold this.
 _OTHERS = threading.RLock()
+
+
+def _renew() -> None:
+    global _OTHERS
+    _OTHERS = threading.RLock()
+
+
 if hasattr(os, "register_at_fork"):
-    after = {f"after_in_{it}": _OTHERS.release for it in ("parent", "child")}
-    os.register_at_fork(before=_OTHERS.acquire, **after)
+    os.register_at_fork(after_in_child=_renew)
 
 
 class Limited:
@@ -277,6 +288,7 @@ class Limited:
     max_mem: Optional[int] = None
     max_work: Optional[int] = None
     max_tables: Optional[int] = None
+    max_waiting: Optional[int] = None
     timeout: Optional[float] = None
 
 

@@ -16,6 +16,9 @@ from .params import NO_LIMIT, Params, accepted, check_costs, cost_of
 # than several.
 LONG = 3 << 18
 
+# What a maxmem of 0 means in hashlib.
+OF_HASHLIB = 32 << 20
+
 
 def scrypt(
     password: Bytes,
@@ -24,7 +27,7 @@ def scrypt(
     n: int,
     r: int,
     p: int,
-    maxmem: int = 0,
+    maxmem: Optional[int] = None,
     dklen: int = 64,
     max_work: Optional[int] = None,
     progress: Optional[Callable[[float], object]] = None,
@@ -33,8 +36,9 @@ def scrypt(
 
     Set limits if `n`, `r` and `p` are untrusted: TooCostlyError, which is a ValueError, is raised
     if the derivation needs more than `maxmem` bytes, or if its `Params.work` is above `max_work`. A
-    `maxmem` of 0 means no limit on memory; in hashlib it means 32 MiB. If p is 2 or more, several
-    tables make a derivation faster, if they fit in `maxmem`, or in 129 MiB without a limit.
+    `maxmem` of 0 means 32 MiB, as in hashlib, where it is the default; here the default is no limit
+    on memory. If p is 2 or more, several tables make a derivation faster, if they fit in `maxmem`,
+    or in 129 MiB without a limit.
 
     A long derivation runs in steps of about 10 ms. Between two steps Python runs signal handlers,
     so that Ctrl-C ends it, and calls `progress` with the fraction that is done, from 0 to 1. An
@@ -42,16 +46,17 @@ def scrypt(
     `128 * r * p` bytes, is one step each.
     """
     password, salt = raw_bytes(password, "a password"), raw_bytes(salt, "a salt")
-    n, maxmem, dklen = number(n, "n"), number(maxmem, "maxmem"), number(dklen, "dklen")
+    n, dklen = number(n, "n"), number(dklen, "dklen")
+    most = NO_LIMIT if maxmem is None else number(maxmem, "maxmem") or OF_HASHLIB
     params = Params(*accepted(log_of(n), r, p))
-    if maxmem < 0:
+    if most < 0:
         raise ValueError(f"maxmem must not be negative: {maxmem}")
     max_work = NO_LIMIT if max_work is None else in_64_bits(max_work, "max_work")
-    max_mem = in_64_bits(maxmem or NO_LIMIT, "maxmem")
+    max_mem = in_64_bits(most, "maxmem")
     check_costs(*cost_of(params, max_mem, max_work), max_mem, max_work)
     if not 1 <= dklen <= MAX_OUTPUT_LEN:
         check(Status.INVALID_OUTPUT_LEN, f"dklen={dklen}")
-    return derived(password, salt, params, max_mem if maxmem else AUTO, dklen, progress)
+    return derived(password, salt, params, AUTO if maxmem is None else max_mem, dklen, progress)
 
 
 def log_of(n: int) -> int:

@@ -120,11 +120,13 @@ class Hashes(unittest.TestCase):
         usual, cores = PasswordHasher().options, scrypt_c.RECOMMENDED.cores
         self.assertTrue(1 <= usual.max_tables <= 2 * usual.processors <= 2 * os.cpu_count(), usual)
         limits = scrypt_c.DEFAULT_MAX_MEM, scrypt_c.DEFAULT_MAX_WORK, scrypt_c.DEFAULT_MIN_KEY_LEN
-        self.assertEqual(usual, (False, 16, *limits, usual.max_tables, usual.processors))
+        self.assertEqual(usual, (False, 16, *limits, usual.max_tables, usual.processors, 1000))
         given = {"mcf": True, "salt_len": 64, "max_mem": 1 << 20, "max_work": 1 << 16, "min_key_len": 9}
-        given |= {"max_tables": 3, "processors": 2}
+        given |= {"max_tables": 3, "processors": 2, "max_waiting": 0}
         self.assertEqual((PasswordHasher(4, **given).options._asdict(), cores), (given, 4_194_304))
         self.assertEqual(PasswordHasher(4, key_len=10).options.min_key_len, 10)
+        for most in ("max_mem", "max_work"):  # 2**64 - 2 is SCRYPT_AUTO in C, the default
+            self.assertEqual(getattr(PasswordHasher(4, **{most: B64 - 2}).options, most), B64 - 1)
 
     def test_limits(self):
         """The limits on memory and work are exact, and 2^64 + 1 is not truncated to 1."""

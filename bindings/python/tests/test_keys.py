@@ -40,6 +40,11 @@ class Keys(unittest.TestCase):
             self.assertEqual((seen, seen[-1]), (sorted(seen), 1), costs)
             for derive in (hashlib.scrypt, scrypt_c.scrypt):
                 self.assertRaises(ValueError, derive, password, **costs, maxmem=of.memory - 1)
+        for maxmem in (0, 32 << 20):  # the same in hashlib
+            for derive in (hashlib.scrypt, scrypt_c.scrypt):
+                self.assertRaises(ValueError, derive, b"", salt=b"", n=1 << 15, r=8, p=1, maxmem=maxmem)
+                derive(b"", salt=b"", n=1 << 14, r=8, p=1, maxmem=maxmem)
+        self.assertTrue(scrypt_c.scrypt(b"", salt=b"", n=1 << 15, r=8, p=1))
         most = {"maxmem": B64 + 1, "max_work": B64 + 1}
         self.assertEqual(key(password=bytearray(b"pw"), salt=memoryview(b"salt"), **most), key())
 

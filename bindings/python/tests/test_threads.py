@@ -3,6 +3,7 @@
 import contextlib
 import functools
 import math
+import os
 import signal
 import subprocess
 import sys
@@ -11,7 +12,7 @@ import time
 import unittest
 from concurrent.futures import ThreadPoolExecutor
 
-from scrypt_c import PasswordHasher, VerifyMismatchError
+from scrypt_c import BusyError, PasswordHasher, VerifyMismatchError
 from test_hasher import KEY
 from test_keys import growth
 
@@ -98,6 +99,43 @@ class Threads(unittest.TestCase):
             self.assertRaises(KeyboardInterrupt, hasher.verify, TEXT, "pw")
             self.assertIs(type(other.exception()), VerifyMismatchError)
             self.assertEqual(hasher.stats(), (0, 0, 1))
+
+    def test_a_bounded_queue(self):
+        """If max_waiting calls wait, the next one returns at once, whatever it is."""
+        hasher = PasswordHasher(log_n=4, max_tables=1, max_waiting=1)
+        with busy(hasher), ThreadPoolExecutor(1) as threads:
+            other = threads.submit(hasher.verify, TEXT, "pw")
+            until_waiting(hasher, 1)
+            for call in (lambda: hasher.verify(TEXT, "pw"), lambda: hasher.hash("pw")):
+                with self.assertRaisesRegex(BusyError, "max_waiting=1$") as caught:
+                    call()
+                self.assertIsInstance(caught.exception, TimeoutError)
+            self.assertEqual(hasher.stats(), (1, 1, 2))
+            self.assertIs(type(other.exception()), VerifyMismatchError)
+        self.assertRaises(ValueError, PasswordHasher, max_waiting=-1)
+
+    def test_other_keys_and_signals_and_forks(self):
+        """An exception of a signal handler leaves no lock taken, and a fork does not wait for a key."""
+        hasher = PasswordHasher(log_n=4, max_mem=1 << 30, max_work=1 << 40)
+        before = signal.signal(signal.SIGALRM, signal.default_int_handler)
+        self.addCleanup(signal.signal, signal.SIGALRM, before)
+        for at in range(300):
+            try:
+                signal.setitimer(signal.ITIMER_REAL, 1e-5 + at * 1e-6)
+                hasher._key_with(3, 1, 1, b"pw", b"salt", 32)
+                signal.setitimer(signal.ITIMER_REAL, 0)
+            except KeyboardInterrupt:
+                pass
+        with ThreadPoolExecutor(1) as threads:
+            self.assertEqual(len(threads.submit(hasher._key_with, 3, 1, 1, b"pw", b"salt", 32).result(60)), 32)
+            slow = threads.submit(hasher._key_with, 19, 8, 1, b"pw", b"salt", 32)
+            time.sleep(0.2)
+            child = os.fork()
+            if child == 0:
+                os._exit(len(hasher._key_with(3, 1, 1, b"pw", b"salt", 32)) != 32)
+            self.assertFalse(slow.done(), "the fork has not waited for it")
+            self.assertEqual(os.waitpid(child, 0)[1], 0)
+            slow.result()
 
     def test_timeout_in_milliseconds(self):
         """A timeout is rounded up to milliseconds, and limited to the maximum of threading."""

@@ -68,6 +68,8 @@ pub enum Error {
     Closed,
     /// The call did not get a slot of the hasher before its timeout expired.
     Timeout,
+    /// As many calls as may wait for a slot of the hasher wait already. Nothing was derived.
+    Busy,
     /// The derivation was cancelled.
     Cancelled,
     /// A status of a newer library.
@@ -75,7 +77,7 @@ pub enum Error {
 }
 
 // The errors without numbers, and their statuses.
-const BY_STATUS: [(c_int, Error); 14] = [
+const BY_STATUS: [(c_int, Error); 15] = [
     (MISMATCH, Error::PasswordInvalid),
     (INVALID_PARAMS, Error::InvalidParams),
     (INVALID_OUTPUT_LEN, Error::InvalidOutputLen),
@@ -90,6 +92,7 @@ const BY_STATUS: [(c_int, Error); 14] = [
     (NO_RANDOM_BYTES, Error::NoRandomBytes),
     (CLOSED, Error::Closed),
     (TIMEOUT, Error::Timeout),
+    (BUSY, Error::Busy),
 ];
 
 impl DeriveError {

@@ -33,6 +33,9 @@ pub struct Options {
     /// The number of slots, that is, of concurrent derivations. `None`, the default, means the
     /// number of CPUs that the affinity and the CPU quota of the process allow.
     pub processors: Option<usize>,
+    /// The maximum number of calls that wait for a slot; the next one returns `Busy` immediately.
+    /// `None`, the default, means 1000.
+    pub max_waiting: Option<usize>,
     /// How long a call waits for a slot before it returns `Timeout`, rounded up to milliseconds.
     /// The time of the derivation does not count. `None`, the default, means no timeout.
     pub timeout: Option<Duration>,
@@ -52,6 +55,7 @@ impl Default for Options {
             salt_len: SALT_LEN as usize,
             max_tables: None,
             processors: None,
+            max_waiting: None,
             timeout: None,
             limits: None,
             min_key_len: None,
@@ -67,14 +71,15 @@ pub struct Stats {
     pub waiting: usize,
     /// The number of calls that derive.
     pub deriving: usize,
-    /// The number of calls that have returned `OutOfMemory` or `Timeout`.
+    /// The number of calls that have returned `OutOfMemory`, `Timeout` or `Busy`.
     pub failed: u64,
 }
 
 /// Makes password hashes, and verifies passwords against hashes of either format.
 ///
 /// A hasher is thread-safe, and a clone is the same hasher. Calls wait in FIFO order for one of
-/// [`Options::processors`] slots, and return `Timeout` after [`Options::timeout`]. Waiting
+/// [`Options::processors`] slots, and return `Timeout` after [`Options::timeout`], or `Busy` if
+/// [`Options::max_waiting`] calls wait already. Waiting
 /// verifications with the same N, r and p are derived in one batch if there are tables for them,
 /// which takes less time on some CPUs. An error of one call does not affect the others.
 ///
@@ -138,6 +143,7 @@ impl Hasher {
         raw.min_key_len = options.min_key_len.unwrap_or(raw.min_key_len);
         raw.max_tables = options.max_tables.unwrap_or(raw.max_tables);
         raw.processors = options.processors.unwrap_or(raw.processors);
+        raw.max_waiting = options.max_waiting.unwrap_or(raw.max_waiting);
         let mut hasher = null_mut();
         // SAFETY: both pointers are to local variables.
         let status = unsafe { scrypt_hasher_new(&raw, &mut hasher) };
@@ -168,6 +174,7 @@ impl Hasher {
         Options {
             max_tables: Some(raw.max_tables),
             processors: Some(raw.processors),
+            max_waiting: Some(raw.max_waiting),
             limits: Some(Limits { max_mem: raw.max_mem, max_work: raw.max_work }),
             min_key_len: Some(raw.min_key_len),
             ..self.0.options
@@ -176,7 +183,7 @@ impl Hasher {
 
     /// Returns the current statistics, for metrics.
     pub fn stats(&self) -> Stats {
-        let mut now = RawStats::default();
+        let mut now = RawStats { size: size_of::<RawStats>(), ..RawStats::default() };
         // SAFETY: the hasher lives until this returns, and `now` is a local variable; so the status
         // is OK.
         unsafe { scrypt_hasher_stats(self.raw(), &mut now) };
@@ -187,7 +194,7 @@ impl Hasher {
     ///
     /// # Errors
     ///
-    /// `NoRandomBytes`, `Closed`, `Timeout` and `OutOfMemory`.
+    /// `NoRandomBytes`, `Closed`, `Busy`, `Timeout` and `OutOfMemory`.
     pub fn hash(&self, password: &[u8]) -> Result<String, Error> {
         self.text(password, None)
     }
@@ -196,7 +203,7 @@ impl Hasher {
     ///
     /// # Errors
     ///
-    /// `SaltInvalid` unless the salt of a PHC hash has 1 to 64 bytes, `Closed`, `Timeout` and
+    /// `SaltInvalid` unless the salt of a PHC hash has 1 to 64 bytes, `Closed`, `Busy`, `Timeout` and
     /// `OutOfMemory`.
     pub fn hash_with_salt(&self, password: &[u8], salt: &[u8]) -> Result<String, Error> {
         self.text(password, Some(salt))
@@ -244,7 +251,7 @@ impl Hasher {
     ///
     /// `PasswordInvalid` for a wrong password. If the hash is rejected ([`Error::is_refused`]),
     /// without waiting: `TooCostly` if it exceeds the limits, `KeyTooShort` if its key is too short,
-    /// and other errors if the text is not a hash, or has no key. `Closed`, `Timeout` and
+    /// and other errors if the text is not a hash, or has no key. `Closed`, `Busy`, `Timeout` and
     /// `OutOfMemory`.
     pub fn verify(&self, password: &[u8], text: &str) -> Result<(), Error> {
         self.verify_optional(password, Some(text))

@@ -61,11 +61,19 @@ fn options() {
     let Options { max_tables, processors, .. } = usual;
     assert!(Some(1) <= max_tables && max_tables <= processors.map(|it| 2 * it), "{usual:?}");
     let (limits, min_key_len) = (Some(Limits::DEFAULT), Some(Limits::DEFAULT_MIN_KEY_LEN));
-    let values = Options { max_tables, processors, limits, min_key_len, ..Options::default() };
+    let max_waiting = Some(1000);
+    let values =
+        Options { max_tables, processors, max_waiting, limits, min_key_len, ..Options::default() };
     assert_eq!((usual, usual.salt_len), (values, 16));
     let (limits, min_key_len) = (Some(Limits { max_mem: 1 << 20, max_work: 1 << 16 }), Some(32));
-    let given =
-        Options { max_tables: Some(3), processors: Some(2), limits, min_key_len, ..small() };
+    let given = Options {
+        max_tables: Some(3),
+        processors: Some(2),
+        max_waiting,
+        limits,
+        min_key_len,
+        ..small()
+    };
     assert_eq!(Hasher::new(given).unwrap().options(), given);
     for salt_len in [0, 16 + (1 << 32)] {
         assert_eq!(Hasher::new(Options { salt_len, ..small() }).err(), Some(Error::SaltInvalid));
@@ -138,6 +146,29 @@ fn clones() {
     assert_eq!(clone.key(b"pw", b"", &mut [0]), Err(Error::Closed));
     assert_eq!(clone.verify(b"pw", ""), Err(Error::EncodingInvalid), "the text is checked first");
     assert_eq!((clone.needs_rehash(&text), other.verify(b"pw", &text)), (Ok(false), Ok(())));
+}
+
+/// If as many calls as may wait do, the next one returns at once.
+#[test]
+fn a_bounded_queue() {
+    let costly = format!("$scrypt$ln=17,r=8,p=4$c2FsdHNhbHQ${}", "A".repeat(43));
+    let hasher =
+        Hasher::new(Options { max_tables: Some(1), max_waiting: Some(1), ..small() }).unwrap();
+    thread::scope(|scope| {
+        let deriving = scope.spawn(|| hasher.verify(b"pw", &costly));
+        while hasher.stats().deriving == 0 {
+            thread::yield_now();
+        }
+        let waiting = scope.spawn(|| hasher.verify(b"pass\0word", PHC));
+        while hasher.stats().waiting == 0 {
+            thread::yield_now();
+        }
+        assert_eq!(hasher.verify(b"pass\0word", PHC), Err(Error::Busy));
+        assert_eq!(hasher.hash(b"pw"), Err(Error::Busy));
+        assert_eq!(hasher.stats().failed, 2);
+        assert_eq!(waiting.join().unwrap(), Ok(()));
+        assert_eq!(deriving.join().unwrap(), Err(Error::PasswordInvalid));
+    });
 }
 
 /// While another call derives, a call waits until the timeout of its options.

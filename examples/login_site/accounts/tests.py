@@ -21,6 +21,7 @@ from scrypt_c.django import OverPBKDF2, ScryptPasswordHasher, wrap_all
 from selenium import webdriver
 
 from .backend import stored_hash_for
+from .hashers import Scrypt
 
 PASSWORD, NEW = "correct horse battery", "another horse battery"
 COSTLY = f"scrypt_c$scrypt$ln=30,r=8,p=1$c2FsdHNhbHRzYWx0c2FsdA${'A' * 43}"
@@ -113,10 +114,15 @@ class ClientTest(TestCase):
         self.assertContains(self.log_in(), "correct username")
 
     def test_overload(self):
-        no_memory = mock.patch("scrypt_c.PasswordHasher.verify", side_effect=MemoryError)
-        for overload in (mock.patch("accounts.hashers.MAX_LOG_INS", 0), no_memory):
-            with overload:
-                self.assertEqual(self.log_in().status_code, 503)
+        """The only slot is taken, and no call may wait; or there is no memory."""
+        one = PasswordHasher(max_tables=1, max_waiting=0)
+        with mock.patch.object(Scrypt, "hasher", one), ThreadPoolExecutor(1) as pool:
+            other = pool.submit(one.hash, PASSWORD)
+            while one.stats().deriving == 0 and not other.done():
+                time.sleep(0.001)
+            self.assertEqual(self.log_in().status_code, 503)
+        with mock.patch("scrypt_c.PasswordHasher.verify", side_effect=MemoryError):
+            self.assertEqual(self.log_in().status_code, 503)
 
 
 class ColumnTest(TransactionTestCase):
