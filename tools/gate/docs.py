@@ -176,6 +176,13 @@ def decided():
     yield "bindings/c/README.md", f"{new} ASCII characters by default, and never more than {longest}"
     yield "docs/PARAMETERS.md", f"The salt length is {NUMBERS['SALT_LEN']} bytes by default, the key length {NUMBERS['KEY_LEN']};"
     yield from each(f"up to {WORDS[2 * NUMBERS['MAX_LOGINS']]} calls for each", "bindings/go/hasher.go", "bindings/go/README.md")
+    yield "bindings/js/README.md", f"idle for {WORDS[number('bindings/js/workers.js', 'IDLE_MS = ', ';') // 1000]} seconds"
+    most = WORDS[number("bindings/js/machine.js", r"Math.min\(processors, ", ",")]
+    yield from each(f"up to {most}", "bindings/js/README.md", "bindings/js/index.d.ts")
+    yield "bindings/js/index.d.ts", f"{WORDS[number('bindings/js/instance.js', 'AT_ONCE = ', ';')].title()} chunks are interleaved"
+    assert text_of("bindings/js/core.js", r"ofMachine\(2n ", ";") == "** 30n + 2n ** 20n)"
+    yield from each("1 GiB and 1 MiB", "bindings/js/README.md", "docs/HASHER.md")
+    yield from each(f"1 to {NUMBERS['MAX_OUTPUT_LEN']}", "bindings/c/status.c", "bindings/cli/scrypt_tool.1")
     queue = number("bindings/c/options.c", "define MAX_WAITING ", " ")
     yield "bindings/c/scrypt_c.h", f"that wait for a slot: {queue};"
     yield "bindings/js/workers.js", f"[MAX_WORKERS, {queue}]"

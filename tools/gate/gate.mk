@@ -23,7 +23,7 @@ endif
 
 # The longest tasks, and tasks that others wait for, are first.
 BUILDS = erased library linked module program $(MACHINES:%=library-%) program-arm64 crates packages
-documents = lint first-steps links version promises cores vectors
+documents = lint first-steps links version promises cores declarations vectors
 examples = $(patsubst examples/%/test.sh,example-%,$(wildcard examples/*/test.sh))
 LANGUAGES = python go rust javascript drop-in $(examples) examples-of-pages
 compiled = $(LEVELS:%=compiled-%)
@@ -77,6 +77,8 @@ version:
 	$(TASK) $(PY) tools.release.version
 promises:
 	$(TASK) $(PY) tools.generate.make check
+declarations:
+	$(TASK) $(PY) tools.tests.header
 vectors:
 	$(TASK) $(PY) tools.generate.vectors check
 

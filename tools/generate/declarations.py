@@ -31,6 +31,7 @@ IN_CRATES = {
     },
     "crates/password_hash/src/traits.rt": {"SALT_LEN": r"drawn: \[u8; (\d+)\]"},
     "crates/scrypt_commands/src/invocation.rt": {"SALT_LEN": r"fn draw_salt\(&self\) -> io::Result<\[u8; (\d+)\]>"},
+    "crates/scrypt/src/derivation.rt": {"MAX_OUTPUT_LEN": r"const MAX_OUTPUT_LEN: Size = (.*);"},
     "crates/scrypt_c/src/with_buffers.rt": {"MAX_LOGINS": r"statuses: &mut \[i32; (\d+)\]"},
 }
 
@@ -47,6 +48,7 @@ def inside(word):
 # ---- Python ----
 
 PYTHON = {"int": "INT", "uint8_t": "U8", "uint32_t": "U32", "uint64_t": "U64", "int64_t": "I64", "size_t": "SIZE", "double": "DOUBLE"}
+NO_RESULT = {"void": "None"}
 
 
 def in_python(declared):
@@ -56,7 +58,7 @@ def in_python(declared):
         return f"POINTER({inside(word).lower()})" if "**" in declared else inside(word).lower()
     if word in ("void", "char", "uint8_t") and "*" in declared:
         return "BYTES"
-    kind = inside(word) if word in STRUCTURES else PYTHON.get(word, "None")
+    kind = inside(word) if word in STRUCTURES else (PYTHON | NO_RESULT)[word]
     return f"POINTER({kind})" if "*" in declared else kind
 
 
@@ -184,8 +186,8 @@ def check_numbers():
     """Fails if a number of the header differs from that of the proved code."""
     for path, patterns in IN_CRATES.items():
         for name, pattern in patterns.items():
-            number = re.search(pattern, read(path))[1]
-            if number != str(NUMBERS[name]):
+            number = eval(re.search(pattern, read(path))[1])
+            if number != NUMBERS[name]:
                 sys.exit(f"{path}: {name} is {number}, and {NUMBERS[name]} in the header")
 
 
