@@ -17,7 +17,8 @@ in 2^s, the code branches by the last s bits of an index: then a piece is run on
 from tools.tests.compiled import definition, words
 from tools.tests.compiled.calls import AFTER, Call, Case, Derivation, Verification, expect
 from tools.tests.compiled.definition import LITTLE, bytes_of, words_of
-from tools.tests.compiled.machine import Branch, Memory, number_of, parts, shifted, signed, total
+from tools.tests.compiled.machine import Branch
+from tools.tests.compiled.memory import Memory, number_of, parts, shifted, signed, total
 from tools.tests.compiled.program import Unknown
 from tools.tests.compiled.words import ALL, atom, wide, wide_sum
 
@@ -217,8 +218,8 @@ class AnyRows(Case):
     # Loops
 
     def to_loop(self, count, run, *given):
-        """Runs until the code jumps back so many times to the begin of a long loop that uses the table. Returns for each
-        time what is left to count, the registers and the memory."""
+        """Runs until the code jumps back so many times to the begin of a long loop that uses the table. Returns for
+        each time what is left to count, the registers and the memory."""
         times = []
 
         def jumped(m, to):

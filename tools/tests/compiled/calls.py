@@ -6,9 +6,8 @@ import re
 from tools.tests import crypt64, phc
 from tools.tests.compiled import definition, words, x86_64
 from tools.tests.compiled.definition import LITTLE, bytes_of, compress, compressed, pbkdf2, words_of
-from tools.tests.compiled.machine import (
-    CLOBBERED, KEPT, RAX, RDI, RDX, RETURN, RSI, RSP, Machine, Region, concrete, number_of, parts, value_of, vector_of,
-)
+from tools.tests.compiled.machine import CLOBBERED, KEPT, RAX, RDI, RDX, RETURN, RSI, RSP, Machine
+from tools.tests.compiled.memory import Region, concrete, number_of, parts, value_of, vector_of
 from tools.tests.compiled.program import Unknown
 from tools.tests.compiled.words import WIDE, atom, is_zero, product, swapped, xor
 
@@ -78,8 +77,8 @@ class Call:
         self.program, self.next, self.ends = compression.program, 1 << 32, []
         self.machine = Machine(self.program, [Region("stack", STACK - 0x8000, 0x8000, writable=True)], compression.cuts)
         self.memory = self.machine.memory
-        for name in ("LEVEL", "FOUND"):  # that are chosen and found at run time
-            [at] = self.program.functions[f"support::simd::{name}"]
+        for name in ("TAKEN", "FOUND"):  # the level that is chosen at run time, and what the processor has
+            [at] = self.program.functions[f"support::level::{name}"]
             self.memory.store(at, (LEVELS.index(level),), 1)
 
     def buffer(self, name, size, unit=1, odd=0, content=None, writable=True):

@@ -1,17 +1,17 @@
 """The instructions of x86-64 that occur, by their names in Intel's manual, as functions of symbolic words. The names of
-AVX begin with a `v`, and those with a number of bits at the end are of AVX-512. compare them with a processor:
-processor.py."""
+AVX begin with a `v`."""
 
 from functools import reduce
 
 from tools.tests.compiled import words
-from tools.tests.compiled.machine import (
-    ALL, CONDITIONS, EXTERNALS, HANDLERS, LOW, OPPOSITES, RAX, RBX, RCX, RDI, RDX, RSI, WIDE, add, concrete, conj,
-    elements, is_zero, joined, number_of, parts, rotate, shift_left, shift_right, shifted, signed, total,
-    value_of, vector_of, wide_sum, xor,
+from tools.tests.compiled.machine import CONDITIONS, EXTERNALS, HANDLERS, OPPOSITES, RAX, RBX, RCX, RDI, RDX, RSI
+from tools.tests.compiled.memory import (
+    LOW, concrete, elements, joined, number_of, parts, shifted, signed, total, value_of, vector_of,
 )
 from tools.tests.compiled.program import Unknown
-from tools.tests.compiled.words import disj, spread, subtract, times
+from tools.tests.compiled.words import (
+    ALL, WIDE, add, conj, disj, is_zero, rotate, shift_left, shift_right, spread, subtract, times, wide_sum, xor,
+)
 
 NOTHING = ("nop", "endbr64", "fldz", "fstp")  # the x87's registers are not modelled, and nothing here reads them
 HANDLERS |= dict.fromkeys(NOTHING, lambda m, it, *_: None)
