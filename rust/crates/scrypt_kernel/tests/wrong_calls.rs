@@ -125,7 +125,7 @@ fn typed<O: OrderedBlocks>(random: &mut Random) {
 /// The other functions.
 fn plain_calls(random: &mut Random) {
     for _ in 0..ROUNDS {
-        let (r, log_n, s) = (random.below(3), random.below(4) as u8, random.below(12) as u8);
+        let (r, log_n, s) = (random.below(3), random.below(4) as u8, random.below(5) as u8);
         let (mut b, mut v, mut t) = (random.bytes(128 * r), random.words((32 * r) << log_n), random.words(96 * r));
         let (x, mut y) = (random.words(32 * r), random.words(32 * r));
         tried(|cores| lanes::scrypt_block_mix(&x, &mut y, cores));
