@@ -40,6 +40,7 @@ case ${1:-} in
     RUSTDOCFLAGS="-D warnings" cargo doc --no-deps --package 'proved-scrypt*' --features proved-scrypt/getrandom
     # Some tests take all memory that the process may have. One reads the peak of the process's memory, in which a second
     # arena of glibc's malloc would have a part: libtest runs each test in a thread.
+    # shellcheck disable=SC3045 # the shells of Linux have -v
     (ulimit -v 4000000; cargo test --features proved-scrypt/getrandom -- --test-threads=1 --skip memory::tables)
     MALLOC_ARENA_MAX=1 cargo test -p library_tests memory::tables -- --exact
     exit ;;
@@ -69,9 +70,10 @@ case ${1:-} in
       sources=$($RUSTC --print sysroot)/lib/rustlib/src/rust/library
       mkdir -p "$room/registry"
       ln -sf "$registry"/* "$sources"/vendor/* "$room/registry"
+      # shellcheck disable=SC2089 # for cargo, not for the shell
       std="-Zbuild-std=std,panic_abort --config source.debian.directory=\"$room/registry\""
     fi
-    # shellcheck disable=SC2086 # words without blanks
+    # shellcheck disable=SC2086,SC2090 # words without blanks
     cargo rustc $std -p scrypt_tool --release --features program --target "$target" -- \
       -C linker="$CC" -C link-args="$room/terminal.o $room/blocks.o $room/linux.o"
     install -D "$CARGO_TARGET_DIR/$target/release/scrypt_tool" "$output"

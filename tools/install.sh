@@ -36,6 +36,7 @@ fi
 if [ -e "$folder/cmake_install.cmake" ]; then
   # CMake has absolute paths: a copy of a tree would install, and list, what the other tree has.
   built_in=$(sed -n 's|^CMAKE_HOME_DIRECTORY:INTERNAL=\(.*\)/bindings/c$|\1|p' "$folder/CMakeCache.txt")
+  # shellcheck disable=SC3013 # the shells of Linux and test(1) have it
   [ "$built_in" -ef . ] || end "$folder is of $built_in, and nothing is installed: make clean lib builds it here"
   cmake --install "$folder" --prefix "$1" > build/install.log
   cp "$folder/install_manifest.txt" $list

@@ -5,7 +5,7 @@
 # usage: setup.sh run|lib|js|test [PREFIX]   with DESTDIR as make has it. With a prefix, `make install` follows
 #        setup.sh install COMMAND..          installs what these commands lack, if it runs as root on Debian
 set -u
-cd "$(dirname "$0")/.."
+cd "$(dirname "$0")/.." || exit
 end() { # WHY
   echo "make $1" >&2
   exit 1

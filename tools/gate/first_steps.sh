@@ -136,6 +136,7 @@ is "$(find to -type f)" "to/py/scrypt_c/__pycache__/other.cpython-311.pyc"
 mv to/py/scrypt_c/__pycache__/{other,one}.cpython-311.pyc
 touch to/py/scrypt_c/one.py
 make --no-print-directory uninstall DESTDIR="$room/to"
+# shellcheck disable=SC2038 # names without blanks
 is "$(find to | xargs)" "to to/py"
 
 # ---- A tree with what CMake built for the tree that it is a copy of ----

@@ -17,7 +17,9 @@ lint() {
 }
 
 lint '*.py' pyflakes3 pyflakes3
-lint '*.sh' shellcheck shellcheck --severity=error
+# Not: what a sourced file assigns, or reads.
+lint '*.sh' shellcheck shellcheck --severity=warning --exclude=SC1090,SC2034,SC2154
+lint '*.c' cppcheck cppcheck --quiet --error-exitcode=1 --enable=warning,performance,portability --suppress='*:*/tests/*'
 lint '*.go' golang-go gofmt -l
 lint '*.rs' rustfmt rustfmt --check --edition 2021 --config-path bindings/rust
 rattle=$(dirname "$(rt doc 2> /dev/null)")/bin/rattle

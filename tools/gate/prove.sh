@@ -2,7 +2,7 @@
 # usage: prove.sh         runs `rt ci`, and compares the axioms of the program with docs/TRUST.md
 #        prove.sh NAME    waits until that run has proved this crate; the libraries are then in crates/*/out/rlib
 set -u
-cd "$(dirname "$0")/../.."
+cd "$(dirname "$0")/../.." || exit
 log=build/log/proofs.log
 if [ $# = 1 ]; then
   while read -r line; do

@@ -6,7 +6,7 @@
 # usage: run.sh            the gate: every task, from nothing; with the kit `rt ci` proves every crate
 #        run.sh TARGET..   these tasks, or `documents`, `suites`, `examples`, with the files that are built
 set -u
-cd "$(dirname "$0")/../.."
+cd "$(dirname "$0")/../.." || exit
 results=build/log/results
 jobs=${JOBS:-$(($(nproc) + 2))} # with the proofs and what waits for them
 gate() { make --no-print-directory -f tools/gate/gate.mk "$@"; }
@@ -29,6 +29,7 @@ while sleep "${EACH:-60}" > /dev/null 2>&1; do
   ended=$(cut -d' ' -f1 $results | grep -cxFf <(tr ' ' '\n' <<< "$tasks"))
   echo "$(minutes) minutes: $ended of $(wc -w <<< "$tasks") tasks have ended"
 done &
+# shellcheck disable=SC2064 # of this process
 trap "kill $! 2> /dev/null" EXIT
 gate --keep-going --output-sync=target -j"$jobs" "$@"
 

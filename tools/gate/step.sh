@@ -11,6 +11,7 @@
 #           is shown. Without it there is only the last line
 #   LIMIT   the time after which the command and its children are ended, as timeout(1) takes it; without it there is none
 set -u
+# shellcheck disable=SC2206 # names without blanks
 name=$1 log=build/log/$1.log title=$1 missing='' before='' steps=(${STEPS:-})
 shift
 for at in "${!steps[@]}"; do
@@ -60,6 +61,7 @@ run() {
 TIMEFORMAT='%0U %0S'
 { time run "$@"; } 2> "$LACKING.time"
 status=$?
+# shellcheck disable=SC2046 # numbers
 { kill $(jobs -p) && wait; } 2> /dev/null
 read -r user system < <(tail -n 1 "$LACKING.time")
 absent=$(sort -u "$LACKING" | xargs)

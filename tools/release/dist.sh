@@ -56,6 +56,7 @@ cp "$@" bindings/go/*.go bindings/go/*.h bindings/go/libscrypt_c_*.a bindings/go
   "$parts/$module"
 packed "$module" "$module.tar.gz"
 files=$(python3 -c 'import json; print(*json.load(open("bindings/js/package.json"))["files"])')
+# shellcheck disable=SC2046 # names without blanks
 (cd bindings/js && cp package.json README.md $(ls $files 2> /dev/null) "$parts/package")
 cp "$@" "$parts/package"
 packed package "$name.tgz"

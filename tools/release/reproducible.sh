@@ -16,6 +16,7 @@ build() {
   cd "$again"
   make run
   python3 -B -m bindings.js.build
+  # shellcheck disable=SC2048 # names without blanks
   for PRESET in ${*:-native $(python3 -m tools.presets packed)}; do make lib PRESET="$PRESET"; done
   tools/release/dist.sh "$@"
 }
