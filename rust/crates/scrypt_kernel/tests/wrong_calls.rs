@@ -1,6 +1,11 @@
 //! Calls of the public functions with wrong lengths, counts and types, by safe Rust alone: each returns or panics, and
 //! none reads or writes outside of a slice. With debug assertions the two accesses that have no check in release builds
-//! say so; otherwise run this below valgrind or with AddressSanitizer: every slice is an allocation of its own.
+//! say so. Without them AddressSanitizer sees it, since every slice is an allocation of its own; no debug assertion and
+//! no overflow check is on then:
+//!
+//!     RUSTC_BOOTSTRAP=1 RUSTFLAGS=-Zsanitizer=address CARGO_PROFILE_DEV_OPT_LEVEL=0 \
+//!     CARGO_PROFILE_DEV_DEBUG_ASSERTIONS=false CARGO_PROFILE_DEV_OVERFLOW_CHECKS=false \
+//!     cargo test --target x86_64-unknown-linux-gnu -p proved-scrypt-kernel --test wrong_calls
 #![forbid(unsafe_code)]
 
 use scrypt_kernel::block_mix::{lanes, plain};
