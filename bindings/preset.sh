@@ -26,7 +26,8 @@ fi
 begin_test() {
   lib=$PWD/$build/lib
   room=$(mktemp -d)
-  trap 'chmod -R u+w "$room"; rm -rf "$room"' EXIT
+  # Wine's server writes to the folder until some seconds after the last program.
+  trap 'chmod -R u+w "$room"; rm -rf "$room" 2> /dev/null || { sleep 10; rm -rf "$room"; }' EXIT
   if [ "$system" = windows ]; then export WINEPREFIX="${WINEPREFIX:-$room/wine}"; fi
 }
 

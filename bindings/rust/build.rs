@@ -29,7 +29,9 @@ fn link(place: &Path) -> Result<(), String> {
     match name.strip_suffix(".a") {
         Some(name) if !name.ends_with(".dll") => {
             println!("cargo:rustc-link-lib=static={}", name.strip_prefix("lib").unwrap_or(name));
-            println!("cargo:rustc-link-lib={}", if is_windows { "bcrypt" } else { "pthread" });
+            // The stack protector of MinGW, which is inside, takes random bytes from the last.
+            let others: &[_] = if is_windows { &["bcrypt", "advapi32"] } else { &["pthread"] };
+            others.iter().for_each(|it| println!("cargo:rustc-link-lib={it}"));
         }
         _ => println!("cargo:rustc-link-lib=dylib=scrypt_c"),
     }

@@ -1,6 +1,6 @@
 #!/bin/sh
 # Tests the Rust crate with the library of build/lib, and its package in a separate folder. With
-# PRESET=windows, tests it in Wine, by Debian's compiler, which has Rust's own library for Windows.
+# PRESET=windows, tests it in Wine, by Debian's compiler.
 set -eu
 cd "$(dirname "$0")/../.."
 . bindings/preset.sh
@@ -15,10 +15,22 @@ crate() {
   grep '^test result: ' "$room/log" || true
 }
 if [ "$system" = windows ]; then
-  has /usr/lib/rustlib/x86_64-pc-windows-gnu libstd-rust-dev-windows || exit 77
-  # A backtrace crashes Wine, where tests panic on purpose.
-  export PATH="/usr/bin:$PATH" CARGO_TARGET_X86_64_PC_WINDOWS_GNU_RUNNER="$emulator"
-  RUST_BACKTRACE=0 crate cargo test --quiet --target x86_64-pc-windows-gnu --tests
+  # Debian has Rust's own library for Windows as source, and Wine 8 lacks a DLL that it calls. A backtrace crashes Wine,
+  # where tests panic on purpose.
+  target=x86_64-pc-windows-gnu
+  sources=$(/usr/bin/rustc --print sysroot)/lib/rustlib/src/rust/library
+  has "$sources" rust-web-src || exit 77
+  export PATH="/usr/bin:$PATH" RUSTC=/usr/bin/rustc RUSTC_BOOTSTRAP=1 RUST_BACKTRACE=0 \
+    CARGO_TARGET_X86_64_PC_WINDOWS_GNU_RUNNER="$emulator"
+  mkdir -p "$CARGO_TARGET_DIR/$target/debug/deps"
+  cat > "$room/prng.c" << 'END'
+#include <windows.h>
+#include <ntsecapi.h>
+__declspec(dllexport) BOOL ProcessPrng(void *to, size_t n) { return RtlGenRandom(to, n); }
+END
+  "$CC" -shared "$room/prng.c" -o "$CARGO_TARGET_DIR/$target/debug/deps/bcryptprimitives.dll" -ladvapi32
+  crate cargo test --quiet -Zbuild-std=std,test,panic_unwind --target $target --tests \
+    --config 'source.crates-io.replace-with="std"' --config "source.std.directory=\"$sources/vendor\""
   echo "called from Rust, in Wine"
   exit
 fi
