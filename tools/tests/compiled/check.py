@@ -45,7 +45,7 @@ def cases(is_long):
         yield f"{case}, a row in {1 << s}, by induction", partial(case.thin, s)
     case = Case(9, 8, 1, 1, 2, 64)
     yield f"{case}, allocated", case.allocated
-    for count in (1, 2, 5):
+    for count in (1, 2, 5) if is_long else (2,):
         case = Case(9, 8, 2, 1, 2, 64)
         yield f"{case}, in steps of {count}", partial(case.in_steps, count)
     for form, key_len in ((phc.text, 64), (phc.text, 39), (crypt64.text, 97)):
