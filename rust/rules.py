@@ -1,5 +1,5 @@
-"""What the erasure deletes, replaces, and takes from files written by hand, each with its reason. rust/erase.py does it,
-and rust/check.py allows no more."""
+"""What the erasure deletes, replaces, and takes from files written by hand, each with its reason. rust/erase.py does
+it, and rust/check.py allows no more."""
 
 import functools
 from pathlib import Path
@@ -100,7 +100,8 @@ REPLACED = [
      " #[cfg(target_arch = \"wasm32\")] pub(crate) use scrypt::SimdPairs as Target;",
      "what else would be compiled makes the module for JavaScript larger"),
     *((f"pub fn {it}", f"#[must_use] pub const fn {it}", "as in the crate scrypt") for it in (
-        "new() -> Scrypt", "new_with_params(params: Params)", "recommended()", "log_n(&self)", "n(&self)", "r(&self)", "p(&self)")),
+        "new() -> Scrypt", "new_with_params(params: Params)", "recommended()", "log_n(&self)", "n(&self)", "r(&self)",
+        "p(&self)")),
     ("{ Scrypt::default() }", "{ Scrypt::new_with_params(Params::RECOMMENDED) }", "the same: default is no const fn"),
     ("pub trait PasswordHasher<H> {", "pub trait PasswordHasher<H> {" + DRAWING, "crates/ has no random bytes"),
     ("hash_password(", "hash_password_with_drawn_salt(",

@@ -1,6 +1,6 @@
-//! What the program asks of its system, over the C library. Written by hand in place of the source's file, which takes it
-//! from the kit. Rust's own start of a program opens closed streams anew, and allocates, and ends the process if memory
-//! is exhausted: the program begins in C's `main`.
+//! What the program asks of its system, over the C library. Written by hand in place of the source's file, which takes
+//! it from the kit. Rust's own start of a program opens closed streams anew, and allocates, and ends the process if
+//! memory is exhausted: the program begins in C's `main`.
 
 use std::ffi::{CStr, c_char, c_int, c_void};
 use std::fmt::{self, Display};

@@ -1,5 +1,5 @@
-//! Numbers that parameters ask for, whether or not a memory has room for so many. Written by hand in place of the source's
-//! file: the proofs are of a `usize` of 64 bits.
+//! Numbers that parameters ask for, whether or not a memory has room for so many. Written by hand in place of the
+//! source's file: the proofs are of a `usize` of 64 bits.
 
 use support::AllocError;
 

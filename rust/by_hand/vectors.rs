@@ -3,15 +3,15 @@
 //!
 //! Here and in `words::put_in_part` are the two accesses without a check of bounds, which no plain Rust caller can make
 //! go wrong, whatever lengths and counts it passes:
-//! - `read` loads the words `4 * j` to `4 * j + 3` of a part. `mix` and `Allocated::mix_next` assert that r = len / 32 is
-//!   not 0, and `take_turn` that `i < r`: so each block that they ask for is one of the 2 r of `len` words, and `Parts`
-//!   asserts for all four starts that `len` words are there. Each of the six callers makes its `Parts` of the `len` that
-//!   it passes on.
+//! - `read` loads the words `4 * j` to `4 * j + 3` of a part. `mix` and `Allocated::mix_next` assert that r = len / 32
+//!   is not 0, and `take_turn` that `i < r`: so each block that they ask for is one of the 2 r of `len` words, and
+//!   `Parts` asserts for all four starts that `len` words are there. Each of the six callers makes its `Parts` of the
+//!   `len` that it passes on.
 //! - `put_in_part` stores to the same words of part `k` of the output, with `k` below the count of blocks: `take_turn`
 //!   asserts that the output has so many parts of `len` words. The other caller, `permute_block`, asks for block `k` of
 //!   `x.len() / 16`.
-//! - Only this crate makes `Parts` and vectors, so that nobody else can ask for a block: a type that another crate gives
-//!   to a function as an `OrderedBlocks` has to be an `AtLevel`, which is unsafe to implement.
+//! - Only this crate makes `Parts` and vectors, so that nobody else can ask for a block: a type that another crate
+//!   gives to a function as an `OrderedBlocks` has to be an `AtLevel`, which is unsafe to implement.
 //! - The vectors of a level that the processor lacks: `mix_chunks`, `step_chunks` and both `mix_next` of memory, which
 //!   are all public functions that make vectors of their type parameter, ask for the level first.
 //!
@@ -25,8 +25,8 @@ use crate::parts::Parts;
 use support::level::AtLevel;
 use support::simd::{Eight, Four, Level, tie_halves, u32x4};
 
-// SAFETY, of all these: they make vectors of their level only from others and by `read`, and read and write the blocks that
-// they are asked for.
+// SAFETY, of all these: they make vectors of their level only from others and by `read`, and read and write the blocks
+// that they are asked for.
 unsafe impl<A: AtLevel, B: AtLevel> AtLevel for Both<A, B> {
     const LEVEL: u8 = if A::LEVEL > B::LEVEL { A::LEVEL } else { B::LEVEL };
 }

@@ -1,5 +1,5 @@
-//! The two calls of base64 0.22 that the source makes, over base64ct, which looks nothing up in a table: the letters of a
-//! derived key are secret. Both reject padding and bits after the last byte.
+//! The two calls of base64 0.22 that the source makes, over base64ct, which looks nothing up in a table: the letters of
+//! a derived key are secret. Both reject padding and bits after the last byte.
 
 pub mod general_purpose {
     use base64ct::{Base64Unpadded, Encoding};

@@ -2,19 +2,18 @@
 //! program runs. Elsewhere there is one level.
 //!
 //! A level is a type, [`Base`](crate::simd::Base), `Avx2` or `Avx512`, of the vectors that are computed with.
-//! [`at_level!`](crate::at_level) takes the type once for a whole fill and walk, and [`levels!`](crate::levels) compiles
-//! the functions in which all of these are inlined for each level. The crate cpufeatures has no AVX-512 in the version
-//! that Debian 12 has, 0.2.4, so detection is here.
+//! [`at_level!`](crate::at_level) takes the type once for a whole fill and walk, and [`levels!`](crate::levels)
+//! compiles the functions in which all of these are inlined for each level. The crate cpufeatures has no AVX-512 in the
+//! version that Debian 12 has, 0.2.4, so detection is here.
 
 use crate::simd::arch;
 use core::sync::atomic::{AtomicU8, Ordering};
 
 /// The level that code of the type is for: 0 is the least one.
 ///
-/// # Safety
-/// The kernel's traits `Lanes` and `OrderedBlocks`, which have this one, read and write words without a check of bounds.
-/// A type that implements them reads and writes only blocks that it was asked for; and if its level is not 0, its values
-/// exist only where the processor has that level.
+/// # Safety The kernel's traits `Lanes` and `OrderedBlocks`, which have this one, read and write words without a check
+/// of bounds. A type that implements them reads and writes only blocks that it was asked for; and if its level is not
+/// 0, its values exist only where the processor has that level.
 ///
 /// Other types do not implement them by accident:
 /// ```compile_fail
@@ -24,8 +23,8 @@ use core::sync::atomic::{AtomicU8, Ordering};
 pub unsafe trait AtLevel: Sized {
     const LEVEL: u8 = 0;
 
-    /// Does nothing at run time. But the compiler computes it before what it is used for: otherwise it joins the rows that
-    /// a block mix reads to its block one after the other, which the next core waits for.
+    /// Does nothing at run time. But the compiler computes it before what it is used for: otherwise it joins the rows
+    /// that a block mix reads to its block one after the other, which the next core waits for.
     #[inline(always)]
     fn kept(self) -> Self {
         self
@@ -104,8 +103,8 @@ macro_rules! at_level {
 }
 
 /// The function, compiled for the level of its first type parameter. All that it calls and that is for this level is
-/// inlined, or is such a function too. It is `unsafe` to write: whoever calls the function has a value of the type, or has
-/// asked for the level by [`require`].
+/// inlined, or is such a function too. It is `unsafe` to write: whoever calls the function has a value of the type, or
+/// has asked for the level by [`require`].
 #[macro_export]
 macro_rules! levels {
     (unsafe $(#[$about:meta])* $visible:vis fn $name:ident<$O:ident: $bound:ident $(, $M:ident: $other:ident)*>(

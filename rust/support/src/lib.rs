@@ -63,8 +63,9 @@ impl From<AllocError> for std::io::Error {
 /// Why a test failed.
 pub type Fail = Box<dyn core::error::Error>;
 
-/// `&words[at..at + len]`, which the source proves to be in bounds. Where a row of scrypt's table begins is secret, so the
-/// C library takes it without a check, which would be a branch; other callers of the crates may break their clauses.
+/// `&words[at..at + len]`, which the source proves to be in bounds. Where a row of scrypt's table begins is secret, so
+/// the C library takes it without a check, which would be a branch; other callers of the crates may break their
+/// clauses.
 #[inline(always)]
 pub fn row(words: &[u32], at: usize, len: usize) -> &[u32] {
     // SAFETY: whoever takes the feature says that no caller breaks a clause.

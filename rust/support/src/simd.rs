@@ -1,7 +1,7 @@
 //! Vectors of four words and of eight, in place of `std::simd`, which is not stable, for each [`level`](crate::level).
 //!
-//! A value of [`Four`] or [`Eight`] for a level exists only where the processor has it: those of level 0 are made of words,
-//! all others by [`Four::load`], whose caller says so. This is why the methods may use the level's instructions.
+//! A value of [`Four`] or [`Eight`] for a level exists only where the processor has it: those of level 0 are made of
+//! words, all others by [`Four::load`], whose caller says so. This is why the methods may use the level's instructions.
 
 use crate::level::AtLevel;
 use core::marker::PhantomData;
@@ -236,8 +236,8 @@ impl<L: Level> Eight<L> {
     }
 }
 
-/// Panics unless the words have a part of `len` at each of these starts. The C library has no such branch: where a row of
-/// the table starts is secret, and its callers keep the clauses of `Parts`.
+/// Panics unless the words have a part of `len` at each of these starts. The C library has no such branch: where a row
+/// of the table starts is secret, and its callers keep the clauses of `Parts`.
 #[inline(always)]
 #[cfg_attr(feature = "unchecked_rows", allow(unused_variables))]
 pub fn inside(words: &[u32], len: usize, starts: &[usize; 4]) {

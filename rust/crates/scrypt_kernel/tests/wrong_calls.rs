@@ -106,7 +106,8 @@ fn typed<O: OrderedBlocks>(random: &mut Random) {
         let mut table = random.words(row * rows);
         let (i, len) = (random.number(rows / 2), random.number(32 * r));
         tried(|cores| Buffer::new(&mut table).mix_next::<O>(i, len, cores));
-        tried(|cores| mix_chunks::<O, _>(&mut b, given_r, &mut Buffer::new(&mut table), &mut scratch, log_n, s as u8, cores));
+        let rows_of = &mut Buffer::new(&mut table);
+        tried(|cores| mix_chunks::<O, _>(&mut b, given_r, rows_of, &mut scratch, log_n, s as u8, cores));
         let mut own = Allocated::new(table.to_vec());
         if i < 4 && len < 100 {
             tried(|cores| own.mix_next::<O>(i, len, cores));
