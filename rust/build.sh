@@ -32,6 +32,8 @@ case $target in # the names of binutils and of the compiler begin so
   *-windows-gnu) tools=${target%%-*}-w64-mingw32- ;;
   *) tools=${target%%-*}-linux-gnu- ;;
 esac
+# Only proved code calls the kernel in the C library and the program, so they need no check of where a row begins.
+PROVED="--cfg unchecked_rows ${RUSTFLAGS:-}"
 case ${1:-} in
   erase) exit ;;
   '')
@@ -74,7 +76,7 @@ case ${1:-} in
       std="-Zbuild-std=std,panic_abort --config source.debian.directory=\"$room/registry\""
     fi
     # shellcheck disable=SC2086,SC2090 # words without blanks
-    cargo rustc $std -p scrypt_tool --release --features program --target "$target" -- \
+    RUSTFLAGS=$PROVED cargo rustc $std -p scrypt_tool --release --features program --target "$target" -- \
       -C linker="$CC" -C link-args="$room/terminal.o $room/blocks.o $room/linux.o"
     install -D "$CARGO_TARGET_DIR/$target/release/scrypt_tool" "$output"
     exit ;;
@@ -83,7 +85,7 @@ to=../c/$target
 mkdir -p "$to"
 # One object, which calls a few functions of C and of libgcc. Names are as bindings/c/tests has them in lists, such as
 # scrypt_kernel::walk::step::<#a77805eccdbb2827>.
-RUSTFLAGS="-C relocation-model=pic ${RUSTFLAGS:-}" "$top/rust/sysroot.sh" "$target" cargo rustc -p scrypt_c --release \
+RUSTFLAGS="-C relocation-model=pic $PROVED" "$top/rust/sysroot.sh" "$target" cargo rustc -p scrypt_c --release \
   --features c_library --target "$target" --crate-type staticlib -- --emit=obj="$PWD/$to/all.o"
 case $target in *-apple-*) exec mv "$to/all.o" "$to/scrypt_c.o" ;; esac # with all its names: the library is not built for it
 "${tools}nm" "$to/all.o" | awk '$NF ~ /^_+[ZR]/ { print $NF }' | sort -u > "$to/names"

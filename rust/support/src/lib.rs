@@ -68,10 +68,10 @@ pub type Fail = Box<dyn core::error::Error>;
 /// clauses.
 #[inline(always)]
 pub fn row(words: &[u32], at: usize, len: usize) -> &[u32] {
-    // SAFETY: whoever takes the feature says that no caller breaks a clause.
-    #[cfg(feature = "unchecked_rows")]
+    // SAFETY: whoever sets this says that no caller breaks a clause: rust/build.sh does, for the C library and the program.
+    #[cfg(unchecked_rows)]
     return unsafe { words.get_unchecked(at..at + len) };
-    #[cfg(not(feature = "unchecked_rows"))]
+    #[cfg(not(unchecked_rows))]
     &words[at..at + len]
 }
 

@@ -239,9 +239,9 @@ impl<L: Level> Eight<L> {
 /// Panics unless the words have a part of `len` at each of these starts. The C library has no such branch: where a row
 /// of the table starts is secret, and its callers keep the clauses of `Parts`.
 #[inline(always)]
-#[cfg_attr(feature = "unchecked_rows", allow(unused_variables))]
+#[cfg_attr(unchecked_rows, allow(unused_variables))]
 pub fn inside(words: &[u32], len: usize, starts: &[usize; 4]) {
-    #[cfg(not(feature = "unchecked_rows"))]
+    #[cfg(not(unchecked_rows))]
     for start in starts {
         assert!(len <= words.len() && *start <= words.len() - len);
     }
