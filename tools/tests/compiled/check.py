@@ -14,6 +14,7 @@ from tools.tests import crypt64, phc
 from tools.tests.compiled import definition, words
 from tools.tests.compiled.any_rows import AnyRows
 from tools.tests.compiled.calls import FOUND, LEVELS, Case, Compression, Wrong, expect
+from tools.tests.compiled.machine import Branch
 from tools.tests.compiled.program import Program, Unknown
 
 # Lengths around the blocks of SHA-256, of the password, the salt and the key; and the alignment.
@@ -69,7 +70,7 @@ def run_all(program, levels, is_long=False):
             try:
                 run(compression, level)
                 print(f"ok {level}: {what} ({time.process_time() - begin:.1f} s)", flush=True)
-            except (Wrong, Unknown) as error:
+            except (Wrong, Unknown, Branch) as error:
                 failed += 1
                 print(f"{level}: {what}: WRONG: {error}", flush=True)
     for _, what, text in FOUND:
