@@ -153,7 +153,8 @@ def vpternlogd(m, it, to, y, z, k):
 
 @handles("vzeroupper")
 def vzeroupper(m, it):
-    m.vectors = {i: value[:4] + (0,) * 12 for i, value in m.vectors.items()}  # what is unknown may be anything
+    """Of the first 16. What is unknown in them may be anything."""
+    m.vectors |= {i: value[:4] + (0,) * 12 for i, value in m.vectors.items() if i < 16}
 
 
 def sigma(x, *rotations, shift=32):
