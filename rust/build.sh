@@ -66,18 +66,8 @@ case ${1:-} in
       "$CC" -std=gnu99 -O2 -Wall -Wextra -fPIE -ffunction-sections -fstack-protector-strong -U_FORTIFY_SOURCE -D_FORTIFY_SOURCE=2 \
         -I"$room" -I"$top/bindings/c" -c "$top/bindings/$it.c" -o "$room/${it#*/}.o"
     done
-    std=''
-    if ! [ -e "$(rustc --print sysroot)/lib/rustlib/$target" ]; then # std is compiled too, from Debian's rust-web-src
-      export RUSTC=/usr/bin/rustc RUSTC_BOOTSTRAP=1
-      sources=$($RUSTC --print sysroot)/lib/rustlib/src/rust/library
-      mkdir -p "$room/registry"
-      ln -sf "$registry"/* "$sources"/vendor/* "$room/registry"
-      # shellcheck disable=SC2089 # for cargo, not for the shell
-      std="-Zbuild-std=std,panic_abort --config source.debian.directory=\"$room/registry\""
-    fi
-    # shellcheck disable=SC2086,SC2090 # words without blanks
-    RUSTFLAGS=$PROVED cargo rustc $std -p scrypt_tool --release --features program --target "$target" -- \
-      -C linker="$CC" -C link-args="$room/terminal.o $room/blocks.o $room/linux.o"
+    RUSTFLAGS=$PROVED "$top/rust/sysroot.sh" "$target" cargo rustc -p scrypt_tool --release --features program \
+      --target "$target" -- -C linker="$CC" -C link-args="$room/terminal.o $room/blocks.o $room/linux.o -lc -lgcc"
     install -D "$CARGO_TARGET_DIR/$target/release/scrypt_tool" "$output"
     exit ;;
 esac

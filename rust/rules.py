@@ -52,6 +52,7 @@ REPLACED = [
     ("std::alloc::{AllocError, Global}", "support::AllocError", "not stable"),
     ("std::alloc::AllocError", "support::AllocError", "not stable"),
     ("vec![in alloc;", "support::checked_vec![", "std's vec! aborts if memory is exhausted"),
+    ("std::io", "support::io", "std has it only over an operating system, and its errors allocate"),
     ("std::test::Fail", "support::Fail", "the error of the kit's tests"),
     ("base64::engine", "support::base64", "its tables show secrets; base64ct has none"),
     ("fmt<W: fmt::Write>(&self, f: &mut fmt::Formatter<W>)", "fmt(&self, f: &mut fmt::Formatter<'_>)",
@@ -108,10 +109,11 @@ REPLACED = [
      "the same: `hash_password` draws the salt, as in the crate scrypt"),
 ]
 # Crates that need no operating system: `std` is `core` in them, and what allocates is the crate alloc's.
-NO_STD = {"scrypt_kernel", "password_hash", "scrypt", "scrypt_c"}
+NO_STD = {"scrypt_kernel", "password_hash", "scrypt", "scrypt_commands", "scrypt_tool", "scrypt_c"}
 ROOTS = {
     **{f"{name}/src/lib.rt": "#![no_std]\n\nextern crate alloc;\n\n" for name in NO_STD},
-    "scrypt_tool/src/main.rt": "#![cfg_attr(not(test), no_main)]\n\n",
+    "scrypt_tool/src/main.rt":
+        "#![cfg_attr(not(test), no_main)]\n#![cfg_attr(feature = \"program\", no_std)]\n\nextern crate alloc;\n\n",
     # An example in README needs the feature, so that README is no test without it.
     "scrypt/src/lib.rt":
         "#![no_std]\n"

@@ -3,16 +3,17 @@
 #![no_std]
 
 extern crate alloc;
-#[cfg(any(test, feature = "std"))]
+#[cfg(test)]
 extern crate std;
 
 pub mod ascii;
 pub mod base64;
-#[cfg(feature = "c_heap")]
+#[cfg(feature = "c_library")]
 mod c_heap;
 #[cfg(feature = "c_library")]
 mod c_library;
 mod grow;
+pub mod io;
 #[cfg(feature = "js_module")]
 mod js_module;
 pub mod level;
@@ -50,13 +51,6 @@ impl core::error::Error for AllocError {}
 impl From<alloc::collections::TryReserveError> for AllocError {
     fn from(_: alloc::collections::TryReserveError) -> AllocError {
         AllocError
-    }
-}
-
-#[cfg(feature = "std")]
-impl From<AllocError> for std::io::Error {
-    fn from(_: AllocError) -> std::io::Error {
-        std::io::Error::from(std::io::ErrorKind::OutOfMemory)
     }
 }
 
