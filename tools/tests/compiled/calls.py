@@ -281,7 +281,9 @@ class Case:
         [at] = call.buffer("progress", 24)[:1]
         expect(call.run("proved_scrypt_key_begin", *password, *salt, *params, *chunks, *buffers, at) == OK, "begin")
         done = lambda: number_of(call.memory.load(at, 8))
-        while done() != p:
+        for _ in range(p << self.params[0] + 1):
+            if done() == p:
+                break
             status = call.run("proved_scrypt_key_step", *params, count, *chunks, *buffers, at)
             expect(status == OK, "a step")
         it.name, it.given = "proved_scrypt_key_finish", (*password, *params, *chunks, at, *output)

@@ -16,6 +16,7 @@ RAX, RCX, RDX, RBX, RSP, RBP, RSI, RDI = range(8)
 ARGUMENTS = (RDI, RSI, RDX, RCX, 8, 9)
 KEPT = (RBX, RSP, RBP, 12, 13, 14, 15)  # the registers that a call preserves
 RETURN = 0x0FEE_0000  # what a call returns to
+MAX_RUN = 500_000  # instructions of a run, which otherwise does not end
 CLOBBERED = 1024  # bytes below the stack pointer that a call may have changed
 
 # For the name of an instruction a function of the machine, the instruction and its operands, which returns the address
@@ -223,8 +224,11 @@ class Machine:
 
     def run(self, at):
         """Runs until the code at this address returns."""
-        self.at = at
+        self.at, left = at, MAX_RUN
         while self.at != RETURN:
+            left -= 1
+            if not left:
+                raise Unknown("no end")
             if self.at in self.cuts or self.at in self.program.externals:
                 name = self.program.externals.get(self.at)
                 if self.at not in self.cuts and name not in EXTERNALS:
