@@ -130,5 +130,6 @@ program-arm64: $(call built,erased)
 	$(TASK) $(call FOR,arm64) rust/build.sh program $(shell $(PY) tools.presets target arm64) build/arm64/bin/scrypt_tool
 answers-arm64: $(call built,arm64 program-arm64)
 	$(TASK) $(call FOR,arm64) env PRESET=arm64 tools/gate/program.sh
+migration: linked
 answers oracle migration: $(call built,program)
 	$(TASK) $(PY) tools.tests.$(@:answers=program) $(PROGRAM)
