@@ -11,7 +11,8 @@ use core::sync::atomic::{AtomicU8, Ordering};
 
 /// The level that code of the type is for: 0 is the least one.
 ///
-/// # Safety The kernel's traits `Lanes` and `OrderedBlocks`, which have this one, read and write words without a check
+/// # Safety
+/// The kernel's traits `Lanes` and `OrderedBlocks`, which have this one, read and write words without a check
 /// of bounds. A type that implements them reads and writes only blocks that it was asked for; and if its level is not
 /// 0, its values exist only where the processor has that level.
 ///
