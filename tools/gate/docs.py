@@ -240,7 +240,7 @@ def compared():
     yield "docs/PARAMETERS.md", f"each of four guesses at log_n = 17 takes {guess} ms"
     days, hours = milliseconds / 86.4, guess / 3.6  # of a million
     yield "docs/PARAMETERS.md", f"takes one CPU {days:.0f} days, or {hours:.0f} hours in batches"
-    core = int(text_of("docs/BENCHMARKS.md", r"v2 \| \|---\|---\|---\| \| 1 \| \d+, \d+, ", " "))
+    core = int(text_of("docs/BENCHMARKS.md", r"AVX2 \| SSE2 \| \|---\|---\|---\| \| 1 \| \d+, \d+, ", " "))
     yield "docs/BENCHMARKS.md", f"65,536 cores, which take {65536e-6 * core:.1f} ms at [{core} ns each]"
     node, *plain = zip(*(it.split(" | ") for it in re.findall(r", \d\d \| (0.*)  ?\|", read("docs/BENCHMARKS.md"))))
     node, plain = (spread(it for row in rows for it in row if it) for rows in ([node], plain))
