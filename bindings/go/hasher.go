@@ -60,9 +60,9 @@ type Options struct {
 
 // A Hasher makes password hashes, and verifies passwords against hashes of either format. It is
 // safe for concurrent use by multiple goroutines. Calls wait in FIFO order for one of Processors
-// slots, and return ErrBusy if MaxWaiting calls wait already. Waiting verifications with the same LogN, R and P are derived in one batch if there are
-// tables for them, which takes less time on some CPUs. An error or a context of one call does
-// not affect the others.
+// slots, and return ErrBusy if MaxWaiting calls wait already. Waiting verifications with the same
+// LogN, R and P are derived in one batch if there are tables for them, which takes less time on some
+// CPUs. An error or a context of one call does not affect the others.
 //
 // A call whose context is done returns the context's error immediately. If it has entered C, as up
 // to eight calls for each slot have, its derivation may still run, on a copy of the password that is
@@ -157,40 +157,6 @@ func (h *Hasher) Options() Options {
 		MaxWaiting: int(h.shared.waiting),
 		MaxMem:     uint64(with.max_mem), MaxWork: uint64(with.max_work), MinKeyLen: int(with.min_key_len),
 	}
-}
-
-// Stats are the statistics of a Hasher.
-type Stats struct {
-	Waiting, Deriving int    // how many calls wait for a slot, and derive, now
-	Failed            uint64 // how many calls ran out of memory or returned ErrBusy, or whose context ended
-}
-
-// Stats returns the current statistics, for metrics; it cannot fail. For the zero value of a Hasher
-// all are zero.
-func (h *Hasher) Stats() Stats {
-	if h.shared == nil {
-		return Stats{}
-	}
-	deriving := h.shared.deriving()
-	waiting := h.shared.calls.Load() - deriving // includes calls that are not in C
-	if waiting < 0 {
-		waiting = 0
-	}
-	return Stats{int(waiting), int(deriving), h.shared.refused.Load()}
-}
-
-// deriving returns how many calls derive.
-func (h *hasher) deriving() int64 {
-	now := C.scrypt_stats{size: C.sizeof_scrypt_stats}
-	_ = C.scrypt_hasher_stats(h.c, &now) // its only errors are for NULL, and for the size
-	runtime.KeepAlive(h)
-	return int64(now.deriving)
-}
-
-// isFull returns whether the last of this number of calls may not wait. While a slot is free, some of them are about to
-// derive.
-func (h *hasher) isFull(calls int64) bool {
-	return calls-h.slots > h.waiting && calls-h.deriving() > h.waiting
 }
 
 // Close frees the memory that the Hasher keeps; the memory of a running derivation is freed when it
