@@ -38,7 +38,8 @@ case ${1:-} in
   erase) exit ;;
   '')
     (cd "$top" && python3 -B -m rust.test_check > /dev/null)
-    cargo clippy --all-targets --features proved-scrypt/getrandom -- -D warnings
+    if command -v cargo-clippy > /dev/null; then cargo clippy --all-targets --features proved-scrypt/getrandom -- -D warnings
+    else "$top/tools/lacks" 'cargo clippy' rust-web-clippy; fi
     RUSTDOCFLAGS="-D warnings" cargo doc --no-deps --package 'proved-scrypt*' --features proved-scrypt/getrandom
     # Some tests take all memory that the process may have. One reads the peak of the process's memory, in which a second
     # arena of glibc's malloc would have a part: libtest runs each test in a thread.
