@@ -21,10 +21,11 @@ function status([name, ...args]) {
   }
 }
 
-function answer({ written, calls }) {
+function answer({ written, calls, unspecified }) {
   memory.fill(0);
   for (const [at, hex] of written) memory.write(hex, at, 'hex');
   const statuses = calls.map(status);
+  memory.fill(0, ...unspecified);
   return [statuses, createHash('sha1').update(memory).digest('hex')];
 }
 

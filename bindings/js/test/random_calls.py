@@ -130,7 +130,10 @@ def case():
                 pick(0, 0, 1, 2 << params[0] & MAX, 2**32, MAX - 2**40)]
     written = {PASSWORD: rng.randbytes(300), SALT: rng.randbytes(300), KEY: rng.randbytes(100), TEXT: text,
                PROGRESS: b"".join(it.to_bytes(8, "little") for it in progress)}
-    return {"written": [[at, it.hex()] for at, it in written.items()], "calls": calls}
+    # A damaged text can ask for smaller tables than the buffers are for: then the object fills up to four, and the
+    # module two.
+    unspecified = [TABLE, SCRATCH] if calls[0][0] == "scrypt_verify_limited_with_buffers" else [0, 0]
+    return {"written": [[at, it.hex()] for at, it in written.items()], "calls": calls, "unspecified": unspecified}
 
 
 class Native:
@@ -158,6 +161,8 @@ class Native:
         if self.prefix:
             self.library.proved_force_level(rng.choice([0, 1, 2]) if level is None else level)
         statuses = [self.status(*call) for call in it["calls"]]
+        begin, end = it.get("unspecified", (0, 0))
+        self.memory[begin:end] = bytes(end - begin)
         return [statuses, hashlib.sha1(self.memory).hexdigest()]
 
 
