@@ -1,0 +1,136 @@
+"""Compares the numbers of the pages with the code and the measurements. A page has to state each number that a row of
+numbers.txt gives it, in any words, and no other number with a unit.
+
+To state a number on another page, add the page to the row that has it, or add a row. A number that nothing in this
+repository decides, such as one of a standard, belongs to the end of numbers.txt.
+"""
+
+import builtins
+import fractions
+import glob
+import math
+import os
+import re
+
+from tools.generate import header
+from tools.generate.sources import read
+
+TABLE = "tools/gate/numbers.txt"
+WORDS = "no one two three four five six seven eight nine ten eleven twelve".split()
+ONE = rf"(?:\d[\d,]*\.\d+|\d[\d,]*\d|\d|(?i:{'|'.join(WORDS[1:])}))"
+BLANK = r"[\s*/!#]+"  # also in comments
+UNITS = ("[KMG]iB|bytes|(?:ASCII )?characters|ms|ns|seconds|hours|days|times|GHz|rounds|lines|a second|of the time|"
+         "of the memory|calls for each").replace(" ", BLANK)
+# A number with its unit, two with one unit (`1 to 64 bytes`), a number after a name, or a part of something (`0.69`).
+QUANTITY = re.compile(
+    rf"(?<![\w.,/^*-])(?:(?P<first>(?:\d/)?{ONE})(?:{BLANK}(?:to|or|and){BLANK}(?P<last>{ONE}))?{BLANK}(?P<unit>{UNITS})\b"
+    rf"|(?P<name>Python|Node|Rust|CMake|by{BLANK}default){BLANK}(?P<named>\d[\d.]*\d|\d)(?!,?\w)"
+    rf"|(?P<count>\d+){BLANK}(?P<counted>tables|CPUs|logins)\b|(?P<part>0\.\d+)(?![.\w]))")
+
+
+def quantities(text):
+    """The numbers of a text with their units, each with its place. A part, such as 0.69, has no unit."""
+    made = {}
+    for found in QUANTITY.finditer(text):
+        unit = re.sub(BLANK, " ", found["unit"] or found["name"] or found["counted"] or "")
+        for it in filter(None, map(found.group, ("first", "last", "named", "count", "part"))):
+            number = WORDS.index(it.lower()) if it.lower() in WORDS else fractions.Fraction(it.replace(",", ""))
+            made[float(number), "" if it.startswith("0.") else unit] = found.start()
+    return made
+
+
+class Names(dict):
+    """What the Python of a row names: the numbers of the C header, the methods, and the constants of the row's file."""
+
+    def __init__(self, path):
+        self.path, self.text = path, read(path) if os.path.isfile(path) else ""
+        super().__init__(header.NUMBERS, MIB=1 << 20, words=WORDS, ceil=math.ceil, glob=glob.glob, Names=Names)
+
+    def __missing__(self, name):
+        owner = next((it for it in (self, builtins) if hasattr(it, name)), None)
+        return getattr(owner, name) if owner else self.find(rf"\b{name.replace('_', '.')}")
+
+    def value(self, found):
+        """What stands for the braces of a row."""
+        return format(eval(found[1], self), found[2] or "")
+
+    def find(self, before):
+        """The number after a regular expression, as C, Rattle, JavaScript and the others define a constant."""
+        value = r"(?:: usize)?[^\w\n]*(?:size_t\))?((?:DEFAULT_MAX_MEM|\d)[\d *<+.n]*)"
+        if not (found := re.search(before + value, self.text, re.M)):
+            raise LookupError(f"{self.path} has no number after {before}")
+        text = found[1].replace("n", "").strip(" <")
+        return text if "." in text else eval(text, dict(header.NUMBERS))
+
+    def lines(self, part):
+        """The lines of a part of all crates, to hundreds, without the crates of tests."""
+        files = (it for it in glob.glob(f"crates/*/{part}/**/*.*t", recursive=True) if "_tests/" not in it)
+        return round(sum(read(it).count("\n") for it in files), -2)
+
+    def column(self, *names):
+        """The cells of columns, by the beginnings of their names, each with the beginning of its line."""
+        for table in re.findall(r"(?:^\|.*\n)+", self.text, re.M):
+            head, _, *lines = ([cell.strip() for cell in line.split("|")[1:-1]] for line in table.splitlines())
+            for place in (place for place, it in enumerate(head) if it.startswith(names)):
+                for line in filter(lambda it: it[place], lines):
+                    yield f"{' | '.join(line)} |", float(line[place].replace(",", ""))
+
+    def cell(self, row, name="milliseconds"):
+        """A cell, by the beginnings of its line and of its column's name."""
+        return next(cell for line, cell in self.column(name) if line.startswith(f"{row} |"))
+
+    def growth(self, few, many):
+        """How many times as many logins `many` tables for each CPU serve as `few`."""
+        served = (lambda log_n, tables: self.cell(f"{log_n} | {tables}", "logins"))
+        return spread([served(log_n, many) / served(log_n, few) for log_n in range(14, 19)])
+
+    def spread(self, *names):
+        """The least and the greatest number of columns."""
+        return spread([cell for _, cell in self.column(*names)])
+
+
+def spread(numbers):
+    return f"{min(numbers):.1f} to {max(numbers):.1f}"
+
+
+def rows():
+    """The rows of the table: the file that has a number, the number, and the pages, or none."""
+    names = Names("")
+    for line in re.sub(r"\n +", " ", re.sub(r"^(#.*)?\n", "", read(TABLE), flags=re.M)).splitlines():
+        file, number, *pages = line.split(" : ")
+        names = names if file == '"' else Names(file)
+        number = re.sub(r"\{(.+?)(?::([.\d]*[fg,]))?\}", names.value, number)
+        yield names.path, number, [page_of(it) for it in " ".join(pages).split()]
+
+
+def page_of(name):
+    """The path of a page, of which a row can leave out the folder and the ending."""
+    folders = "", "docs/", "bindings/", "crates/", "examples/"
+    paths = (folder + name + end for end in ("", ".md", "/README.md") for folder in folders)
+    return next(filter(os.path.isfile, paths), name)
+
+
+def stands_in(number, text):
+    """Whether a text has a number of a row: with its unit, in any words; without one, as it stands in the row."""
+    if wanted := quantities(number):
+        return wanted.keys() <= quantities(text).keys()
+    words = BLANK.join(map(re.escape, number.split())).replace(r"\.\.", ".{,30}?")
+    return re.search(rf"(?<!\d){words}(?!\d|[.,]\d)", text)
+
+
+def wrong_numbers(pages):
+    """The numbers that a page has to state, and those that it has without a row."""
+    table = list(rows())
+    for file, number, named in table:
+        yield from (f"{it} has to state {number}, as {file}" for it in named if not stands_in(number, read(it)))
+    elsewhere = {it for _, number, named in table if not named for it in quantities(number)}
+    for path in pages:
+        known = {it: file for file, number, named in table if path in named for it in quantities(number)}
+        text = read(path)
+        if path in ("docs/BENCHMARKS.md", "docs/DECISIONS.md", "docs/PARAMETERS.md"):  # their tables are measurements
+            text = re.sub(r"^\|.*", "", text, flags=re.M)
+        for (number, unit), place in quantities(text).items():
+            if (number, unit) not in known.keys() | elsewhere:
+                right = "; ".join(f"{it[0]:g} is that of {file}" for it, file in known.items() if it[1] == unit)
+                line = text.count("\n", 0, place) + 1
+                yield f"{path}:{line}: {TABLE} doesn't give this page {number:g} {unit}; {right}"
