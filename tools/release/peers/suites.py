@@ -19,6 +19,8 @@ calls = []
 def recorded(*args, **options):
     """Calls scrypt, and keeps its key, or that it was rejected."""
     try:
+        if OURS and options.get("maxmem", 0) is None:
+            raise TypeError("the one difference: here None, the default, is no limit")
         key = scrypt(*args, **options)
     except Exception:
         calls.append("rejected")
