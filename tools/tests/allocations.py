@@ -8,6 +8,7 @@ scratch.
 """
 
 import functools
+import shlex
 
 from tools.tests import runs
 from tools.tests.known import HASHLIB as PHC
@@ -81,9 +82,9 @@ def run_with(library, words, password, **settings):
 def cases(program):
     with runs.failing_calls() as library:
         for words, password, status, allocations in RUNS:
-            run = functools.partial(run_with, library, [*program, *words.split(" ")], password)
+            run = functools.partial(run_with, library, [*program, *shlex.split(words)], password)
             yield words, (run()[0], refused(run)), (status, allocations)
         for words, wanted in BUFFERS:
-            made = sizes(functools.partial(run_with, library, [*program, *words.split(" ")], b"password"))
+            made = sizes(functools.partial(run_with, library, [*program, *shlex.split(words)], b"password"))
             found = [it for it in (made[at : at + len(wanted)] for at in range(len(made))) if it == wanted]
             yield f"{words}, of which these are the sizes", found or made, [wanted]

@@ -1,6 +1,7 @@
 """Runs of the program on hashes in files, and on names of files."""
 
 import os
+import shlex
 import tempfile
 
 from tools.tests.known import EMPTY, EMPTY_OF_64
@@ -16,7 +17,7 @@ HASH_FILES = [
     (f"{EMPTY}\n", "--hash-file={} verify", 0, "ok", "the newline at its end is not of the hash"),
     (f"{EMPTY}\n\n", "--hash-file={} verify", 2, "hash refused: EncodingInvalid", "only one is cut off"),
     (EMPTY, "--hash-file=/ --hash-file={} --default-limits verify", 0, "ok", "the last of two files, and another option"),
-    (EMPTY, "--hash-file={} rehash mcf 4 1 1 64 ", 0, EMPTY_OF_64, "a new hash"),
+    (EMPTY, "--hash-file={} rehash mcf 4 1 1 64 ''", 0, EMPTY_OF_64, "a new hash"),
     (EMPTY, f"--hash-file={{}} verify {EMPTY}", 2, USAGE, "HASH is left out"),
     (EMPTY, "verify --hash-file={}", 2, "hash refused: EncodingInvalid", "an option after the command is HASH"),
     ("", "--hash-file={} verify", 2, "hash refused: EncodingInvalid", "no text"),
@@ -44,7 +45,7 @@ def hash_files(program):
             with open(file, "wb") as it:
                 it.write(os.fsencode(text))
             lines = f"{printed.format(file)}\n", ""
-            words = [word.format(file) for word in line.split(" ")]
+            words = [word.format(file) for word in shlex.split(line)]
             yield f"{line!r} ({reason})", run([*program, *words]), (status, *(lines if status < 2 else lines[::-1]))
         for name, printed, reason in NAMES:
             fault = f"{room}/{printed}: No such file or directory (os error 2)\n"

@@ -12,6 +12,7 @@ usage: python3 -m tools.tests.program PROGRAM
 import hashlib
 import itertools
 import re
+import shlex
 import sys
 
 from tools.generate import header
@@ -63,26 +64,26 @@ LONG_HASHES = [(form, salt.hex(), *(reference.hash_of(form, LONG.encode(), salt,
 LONG_KEY = key_of(b"", b"", 90_000)
 RIGHT, WRONG = (crypt64.text("", LONG_KEY[:-1] + bytes([LONG_KEY[-1] ^ bit]), 4, 1, 1) for bit in (0, 1))
 
-# Each row has the arguments between single blanks, the input, the status, the line, and the reason
+# Each row has the arguments as a shell splits them, the input, the status, the line, and the reason
 # for the row.
 ANSWERS = [
-    ("key 4 1 1 64 ", "", 0, FIRST_KEY, "the first key of RFC 7914"),
+    ("key 4 1 1 64 ''", "", 0, FIRST_KEY, "the first key of RFC 7914"),
     ("key 10 8 16 64 4e61436c", "password", 0, SECOND_KEY, "the second, whose sixteen chunks share a table"),
     ("key 14 8 1 64 536f6469756d43686c6f72696465", "pleaseletmein", 0, THIRD_KEY, "the third"),
-    ("key 4 1 1 1 ", "", 0, FIRST_KEY[:2], "the shortest key"),
-    ("key 4 1 1 33 ", "", 0, FIRST_KEY[:66], "a byte of a second block of PBKDF2"),
-    ("key 0 1 1 32 ", "", 0, reference.scrypt(b"", b"", 0, 1, 1, 32).hex(), "N = 1"),
+    ("key 4 1 1 1 ''", "", 0, FIRST_KEY[:2], "the shortest key"),
+    ("key 4 1 1 33 ''", "", 0, FIRST_KEY[:66], "a byte of a second block of PBKDF2"),
+    ("key 0 1 1 32 ''", "", 0, reference.scrypt(b"", b"", 0, 1, 1, 32).hex(), "N = 1"),
     ("key 4 3 2 33 0a0bFF", "password", 0, "16b7ca20bc71b047b152bb150c62dd9e14d23f698eeaade5d0ed74a8e355acd2da",
      "all parameters differ, and the salt has digits of either case"),
-    *((f"key 4 1 1 {it} ", "", 0, key_of(b"", b"", it).hex(), "a long key") for it in (4096, 1_000_000)),
-    ("key 4 1 1 16 ", "x" * 5000, 0, "19e0dd858b21a85d5233e34f8025c066", "more than one read of the input"),
-    ("key 4 1 1 16 ", "pass\nword\n", 0, "704d1995acb73578bcb377b08d0d622c", "newlines belong to the password"),
+    *((f"key 4 1 1 {it} ''", "", 0, key_of(b"", b"", it).hex(), "a long key") for it in (4096, 1_000_000)),
+    ("key 4 1 1 16 ''", "x" * 5000, 0, "19e0dd858b21a85d5233e34f8025c066", "more than one read of the input"),
+    ("key 4 1 1 16 ''", "pass\nword\n", 0, "704d1995acb73578bcb377b08d0d622c", "newlines belong to the password"),
     ("hash phc 16 8 1 68cd79ef5debdd7b2fc5b8b7d65aabd5", "password", 0, PASSLIB, "passlib's hash"),
     ("hash phc 14 8 1 536f6469756d43686c6f72696465", "pleaseletmein", 0, RFC, "the third key of RFC 7914"),
     ("hash phc 14 8 1 536f6469756d43686c6f72696465 10", "pleaseletmein", 0, SHORT, "the last argument is the length of the key"),
-    ("hash mcf 4 1 1 ", "", 0, EMPTY, "the empty password and salt"),
-    ("hash mcf 4 1 1  64", "", 0, EMPTY_OF_64, "a longer key"),
-    ("hash mcf 4 1 1  10", "", 0, "$7$2/..../....$rNxJWVHNv/mCN.", "the shortest key"),
+    ("hash mcf 4 1 1 ''", "", 0, EMPTY, "the empty password and salt"),
+    ("hash mcf 4 1 1 '' 64", "", 0, EMPTY_OF_64, "a longer key"),
+    ("hash mcf 4 1 1 '' 10", "", 0, "$7$2/..../....$rNxJWVHNv/mCN.", "the shortest key"),
     ("hash mcf 14 32 1 986d90d343e07e4f7e00864f03040bf3", "pleaseletmein", 0, CRYPT, "libxcrypt's hash"),
     ("hash mcf 14 32 1 986d90d343e07e4f7e00864f03040bf3 10", "pleaseletmein", 0,
      "$7$CU..../....Mq4YHD2syxYT.MsH1Ek0n1$JyHIxez0DOwm01", "with the shortest key"),
@@ -103,8 +104,8 @@ ANSWERS = [
 
 # Lines that are not commands, by error.
 NO_COMMANDS = {
-    "no command": ["", "help", "Key 4 1 1 64 ", "--default-limits", "--max-work=1 help"],
-    "-h, --help and --version take no other argument": [f"{asked} {it}" for asked in ("-h", "--help", "--version") for it in ("", "x", "key 4 1 1 64 ")],
+    "no command": ["''", "help", "Key 4 1 1 64 ", "--default-limits", "--max-work=1 help"],
+    "-h, --help and --version take no other argument": [f"{asked} {it}" for asked in ("-h", "--help", "--version") for it in ("''", "x", "key 4 1 1 64 ''")],
     "-h, --help and --version come first": [*(f"{it} {asked}" for it in ("--raw", "--hash-file=x") for asked in ("-h", "--help", "--version")), "key -h"],
     "one minus does not begin an option": ["-", "-help", "-key 4 1 1 64 "],
     "too few arguments": ["key 4 1 1 16", "hash phc 4 1 1", "--generate-salt hash phc 4 1", "verify", "rehash phc 4 1 1 32 00"],
@@ -115,14 +116,14 @@ NO_COMMANDS = {
 # Options after the command, which are wrong words there.
 OPTIONS_AFTER = [f"verify --default-limits {EMPTY}", f"verify {EMPTY} --default-limits", "key --help", "key --version", "hash phc --recommended",
                  f"rehash phc 4 1 1 --generate-salt 32 {EMPTY}", "key 4 1 1 64 00 --raw", f"verify -- {EMPTY}",
-                 "key -- 4 1 1 64 "]
+                 "key -- 4 1 1 64 ''"]
 
 # Texts that are not numbers, and each argument that is a number.
-NO_NUMBERS = {"": "nothing", "04": "a leading zero", "00": "two digits for 0", "+4": "a plus", "-4": "a minus", "4.": "a dot",
+NO_NUMBERS = {"''": "nothing", "04": "a leading zero", "00": "two digits for 0", "+4": "a plus", "-4": "a minus", "4.": "a dot",
               "0x4": "hexadecimal", "\u0664": "a digit that is not ASCII"}
-NUMBER_PLACES = ["key {} 1 1 64 ", "key 4 {} 1 64 ", "key 4 1 {} 64 ", "key 4 1 1 {} ", "hash mcf {} 1 1 ", "hash phc 4 {} 1 00",
-                 "hash mcf 4 1 {} ", "hash mcf 4 1 1  {}", "rehash mcf {} 1 1 32  " + EMPTY, "rehash mcf 4 {} 1 32  " + EMPTY,
-                 "rehash phc 4 1 {} 32 00 " + EMPTY, "rehash mcf 4 1 1 {}  " + EMPTY]
+NUMBER_PLACES = ["key {} 1 1 64 ''", "key 4 {} 1 64 ''", "key 4 1 {} 64 ''", "key 4 1 1 {} ''", "hash mcf {} 1 1 ''", "hash phc 4 {} 1 00",
+                 "hash mcf 4 1 {} ''", "hash mcf 4 1 1 '' {}", "rehash mcf {} 1 1 32 '' " + EMPTY, "rehash mcf 4 {} 1 32 '' " + EMPTY,
+                 "rehash phc 4 1 {} 32 00 " + EMPTY, "rehash mcf 4 1 1 {} '' " + EMPTY]
 
 # The maximum of each number, which is read and then not accepted. One more is a usage error.
 GREATEST = list(zip(NUMBER_PLACES, itertools.cycle((255, 2**32 - 1, 2**32 - 1, 2**64 - 1))))
@@ -138,12 +139,12 @@ FAULTS = [
     *((place.format(it), "", 2, USAGE, reason) for place in NUMBER_PLACES for it, reason in NO_NUMBERS.items()),
     *((place.format(greatest + 1), "", 2, USAGE, "a number above its range") for place, greatest in GREATEST),
     *((place.format(greatest), "", 2, "invalid scrypt parameters", "the maximum number")
-      for place, greatest in GREATEST if place != "key 4 1 1 {} "),
-    *((f"key {params} 64 ", "", 2, "invalid scrypt parameters", reason) for params, reason in NOT_ACCEPTED.items()),
+      for place, greatest in GREATEST if place != "key 4 1 1 {} ''"),
+    *((f"key {params} 64 ''", "", 2, "invalid scrypt parameters", reason) for params, reason in NOT_ACCEPTED.items()),
     *((f"hash {form} {it}", "", 2, "invalid scrypt parameters", "a stored key has 10 to 64 bytes")
-      for form in ("phc 4 1 1 00", "mcf 4 1 1 ") for it in (0, 9, 65)),
-    *((f"rehash mcf 4 1 1 {it}  {EMPTY}", "", 2, "invalid scrypt parameters", "the same") for it in (0, 9, 65)),
-    *((f"key 4 1 1 {it} ", "", 2, "invalid output buffer length", "a key has 1 to 137438953440 bytes")
+      for form in ("phc 4 1 1 00", "mcf 4 1 1 ''") for it in (0, 9, 65)),
+    *((f"rehash mcf 4 1 1 {it} '' {EMPTY}", "", 2, "invalid scrypt parameters", "the same") for it in (0, 9, 65)),
+    *((f"key 4 1 1 {it} ''", "", 2, "invalid output buffer length", "a key has 1 to 137438953440 bytes")
       for it in (0, 137438953441, 137438953471, 18446744073709551615)),
     (f"--max-work=01 verify {EMPTY}", "", 2, USAGE, "a number with a leading zero in an option"),
     (f"--max-work= verify {EMPTY}", "", 2, USAGE, "no number"),
@@ -156,7 +157,7 @@ FAULTS = [
     ("key 4 1 1 64 0", "", 2, "salt is not hexadecimal", "half a byte of salt"),
     ("key 4 1 1 64 0g", "", 2, "salt is not hexadecimal", "no digit"),
     ("key 4 0 1 64 0", "", 2, "salt is not hexadecimal", "the salt before the parameters"),
-    ("key 4 0 1 0 ", "", 2, "invalid scrypt parameters", "the parameters before the length of a key"),
+    ("key 4 0 1 0 ''", "", 2, "invalid scrypt parameters", "the parameters before the length of a key"),
     ("hash phc 04 1 1 0", "", 2, USAGE, "numbers before the salt of a hash"),
     ("hash phc 57 1 1 0", "", 2, "salt is not hexadecimal", "this salt before the parameters"),
     ("hash phc 4 1 1 --generate-salt", "", 2, "salt is not hexadecimal", "a salt like an option is a salt"),
@@ -166,21 +167,21 @@ FAULTS = [
     ("verify --version", "", 2, "hash refused: EncodingInvalid", "a text like an option is a text"),
     *((f"verify {PASSLIB.replace(old, f'{name}={above}')}", "", 2, f"hash refused: ParamInvalid {name}", "a number above its range")
       for old, name, above in (("ln=16", "ln", 256), ("r=8", "r", 1 << 32), ("p=1", "p", 1 << 32))),
-    ("hash phc 4 1 1 ", "password", 2, "hash refused: SaltInvalid", "a PHC hash has a salt"),
+    ("hash phc 4 1 1 ''", "password", 2, "hash refused: SaltInvalid", "a PHC hash has a salt"),
     ("hash phc 56 1 1 " + "00" * 65, "", 2, "hash refused: SaltInvalid", "a salt of 65 bytes, before memory"),
-    ("key 56 1 1 32 ", "", 3, "out of memory", "a table of 2^63 bytes"),
+    ("key 56 1 1 32 ''", "", 3, "out of memory", "a table of 2^63 bytes"),
     ("hash phc 56 1 1 00", "", 3, "out of memory", "the same for a hash"),
     ("verify $7$s/..../....$r/", "", 3, "out of memory", "the same for a verdict"),
-    (f"rehash mcf 56 1 1 32  {EMPTY}", "", 3, "out of memory", "the same for a new hash"),
+    (f"rehash mcf 56 1 1 32 '' {EMPTY}", "", 3, "out of memory", "the same for a new hash"),
 ]
 
 REHASHES = [
-    (f"rehash mcf 4 1 1 64  {EMPTY}", "", 0, EMPTY_OF_64, "a longer key is wanted"),
-    (f"rehash mcf 4 1 1 32  {EMPTY}", "", 0, "ok", "the hash is as wanted"),
-    (f"rehash phc 4 1 1 32  {EMPTY}", "", 0, "ok", "as wanted: the other format and its salt do not matter"),
-    (f"rehash phc 4 1 1 64  {EMPTY}", "", 2, "hash refused: SaltInvalid", "a PHC hash takes no empty salt"),
-    (f"rehash phc 4 1 1 64  {EMPTY}", "x", 1, "no", "a wrong password comes before a salt that the new hash rejects"),
-    (f"rehash mcf 56 1 1 32  {EMPTY}", "x", 1, "no", "and before memory that the new hash needs"),
+    (f"rehash mcf 4 1 1 64 '' {EMPTY}", "", 0, EMPTY_OF_64, "a longer key is wanted"),
+    (f"rehash mcf 4 1 1 32 '' {EMPTY}", "", 0, "ok", "the hash is as wanted"),
+    (f"rehash phc 4 1 1 32 '' {EMPTY}", "", 0, "ok", "as wanted: the other format and its salt do not matter"),
+    (f"rehash phc 4 1 1 64 '' {EMPTY}", "", 2, "hash refused: SaltInvalid", "a PHC hash takes no empty salt"),
+    (f"rehash phc 4 1 1 64 '' {EMPTY}", "x", 1, "no", "a wrong password comes before a salt that the new hash rejects"),
+    (f"rehash mcf 56 1 1 32 '' {EMPTY}", "x", 1, "no", "and before memory that the new hash needs"),
     (f"rehash phc 14 8 1 32 536f6469756d43686c6f72696465 {SHORT}", "pleaseletmein", 0, RFC,
      "a key of 10 bytes is replaced by one of 32"),
     (f"rehash mcf 5 1 1 32 abcd {HASHLIB}", "password", 0,
@@ -218,19 +219,19 @@ LIMITS = [
 OPTIONS = [
     *((f"{limit} {command}", "", 2, USAGE, "limits are those of verify and rehash")
       for limit in ("--default-limits", "--max-mem=1", "--max-work=1", "--min-key-len=1")
-      for command in ("key 4 1 1 16 ", "hash phc 4 1 1 00")),
+      for command in ("key 4 1 1 16 ''", "hash phc 4 1 1 00")),
     ("--generate-salt key 4 1 1 16", "", 2, USAGE, "the salt of a key is named"),
     (f"--generate-salt verify {EMPTY}", "", 2, USAGE, "a verdict has no salt"),
     ("--recommended key 16", "", 2, USAGE, "the recommended parameters are those of a hash"),
     (f"--recommended rehash phc 32 {EMPTY}", "", 2, USAGE, "the same"),
     ("--recommended hash phc 17 8 1", "", 2, USAGE, "they are not named"),
     *((f"--hash-file=/nowhere{command}", "", 2, USAGE, "no file is read without a command") for command in ("", " foo", " --")),
-    ("--hash-file=/nowhere key 4 1 1 16 ", "", 2, USAGE, "nor for a command without HASH"),
+    ("--hash-file=/nowhere key 4 1 1 16 ''", "", 2, USAGE, "nor for a command without HASH"),
     ("--hash-file=/nowhere hash phc 4 1 1 00", "", 2, USAGE, "the same"),
     ("--hash-file=/nowhere verify", "", 4, "/nowhere: No such file or directory (os error 2)", "no file"),
     *((f"{option} {command}", "", 2, USAGE, "only a key is written raw, and has a bar")
       for option in ("--raw", "--progress") for command in ("hash phc 4 1 1 00", f"verify {EMPTY}", f"rehash phc 4 1 1 32 00 {EMPTY}")),
-    ("--raw key 4 1 1 0 ", "", 2, "invalid output buffer length", "a raw key of no bytes"),
+    ("--raw key 4 1 1 0 ''", "", 2, "invalid output buffer length", "a raw key of no bytes"),
     (f"--default-limits --generate-salt --strip-newline rehash phc 4 1 1 32 {EMPTY}", "\n", 0, "ok", "three options"),
     (f"--default-limits rehash phc 14 8 1 32 536f6469756d43686c6f72696465 {SHORT}", "pleaseletmein", 0, RFC,
      "rehash accepts a short key"),
@@ -238,8 +239,8 @@ OPTIONS = [
      too_costly(134224896, 20976640), "rehash rejects a costly hash"),
     *((f"--strip-newline verify {EMPTY}", text, status, line, "one newline is cut off")
       for text, status, line in (("", 0, "ok"), ("\n", 0, "ok"), ("\r\n", 0, "ok"), ("\n\n", 1, "no"), ("\r", 1, "no"))),
-    ("--strip-newline key 4 1 1 64 ", "\n", 0, FIRST_KEY, "the same for a key"),
-    (f"--strip-newline rehash mcf 4 1 1 64  {EMPTY}", "\n", 0, EMPTY_OF_64, "and for a new hash"),
+    ("--strip-newline key 4 1 1 64 ''", "\n", 0, FIRST_KEY, "the same for a key"),
+    (f"--strip-newline rehash mcf 4 1 1 64 '' {EMPTY}", "\n", 0, EMPTY_OF_64, "and for a new hash"),
 ]
 
 # Lines that make a hash with a salt of their own, and how the hash begins.
@@ -250,25 +251,25 @@ SALTED += [("--recommended --generate-salt hash mcf", crypt64.params(*RECOMMENDE
 
 # Lines, and whether each draws a salt.
 DRAWN = [(line, True) for line in ("--generate-salt hash phc 4 1 1", f"--generate-salt rehash phc 5 1 1 32 {EMPTY}")]
-DRAWN += [(line, False) for line in ("key 4 1 1 16 ", "hash phc 4 1 1 00", f"verify {EMPTY}", f"rehash phc 5 1 1 32 00 {EMPTY}")]
+DRAWN += [(line, False) for line in ("key 4 1 1 16 ''", "hash phc 4 1 1 00", f"verify {EMPTY}", f"rehash phc 5 1 1 32 00 {EMPTY}")]
 DRAWN += [(f"--generate-salt {line}", False) for line in ("key 4 1 1 16", f"verify {EMPTY}", "--help", "--version", "foo")]
 
 
 def rows(program):
     for line, text, status, printed, reason in ANSWERS + FAULTS + REHASHES + LIMITS + OPTIONS:
         wanted = (status, f"{printed}\n", "") if status < 2 else (status, "", f"{printed}\n")
-        yield f"{line[:100]!r} ({reason})", run([*program, *line.split(" ")], text.encode()), wanted
+        yield f"{line[:100]!r} ({reason})", run([*program, *shlex.split(line)], text.encode()), wanted
     yield "no words", run(program), (2, "", f"{USAGE}\n")
     # Python passes this character as the byte ff.
     for words in ("\udcff", "verify \udcff", "key 4 1 1 \udcff"):
-        yield f"{words!r} (an argument is not UTF-8)", run([*program, *words.split(" ")]), (3, "", "the arguments can't be read\n")
+        yield f"{words!r} (an argument is not UTF-8)", run([*program, *shlex.split(words)]), (3, "", "the arguments can't be read\n")
 
 
 def long_passwords(program):
     """The input is read whole, however long it is."""
     for length in (1_000_001, (1 << 28) + 1)[: 1 if len(program) > 1 else None]:
         wanted = key_of(bytes(length), b"", 16).hex()
-        yield f"a password of {length} bytes", run([*program, *"key 4 1 1 16 ".split(" ")], bytes(length)), (0, f"{wanted}\n", "")
+        yield f"a password of {length} bytes", run([*program, *"key 4 1 1 16".split(), ""], bytes(length)), (0, f"{wanted}\n", "")
 
 
 def verdicts(program):
@@ -287,7 +288,7 @@ def salts(program):
     is made."""
     drawn = set()
     for line, start in SALTED:
-        status, text, _ = run([*program, *line.split()], b"password")
+        status, text, _ = run([*program, *shlex.split(line)], b"password")
         salt = text.removeprefix(start).split("$")[0]
         drawn.add(salt)
         verified = run([*program, "verify", text.strip()], b"password")
@@ -297,7 +298,7 @@ def salts(program):
         hashed = run([*program, "--generate-salt", "hash", "phc", "4", "1", "1"], env={"LD_PRELOAD": library})
         yield "no salt can be drawn", hashed, (3, "", "no salt can be drawn\n")
         for line, is_drawn in DRAWN:
-            status, _, printed = run([*program, *line.split(" ")], env={"LD_PRELOAD": library, "SIZES": "1"})
+            status, _, printed = run([*program, *shlex.split(line)], env={"LD_PRELOAD": library, "SIZES": "1"})
             yield f"whether {line!r} draws a salt, and needs it", ("drawn\n" in printed, status == 3), (is_drawn, is_drawn)
 
 

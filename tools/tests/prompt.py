@@ -2,6 +2,7 @@
 
 import hashlib
 import re
+import shlex
 import signal
 
 from tools.generate import header
@@ -10,7 +11,7 @@ from tools.tests.runs import run
 from tools.tests.terminal import session
 
 VERSION = f"scrypt_tool {header.VERSION}"
-KEY, HASH, VERIFY = "key 4 1 1 16 ", "hash phc 4 1 1 4e61436c", f"verify {HASHLIB}"
+KEY, HASH, VERIFY = "key 4 1 1 16 ''", "hash phc 4 1 1 4e61436c", f"verify {HASHLIB}"
 ONCE, TWICE = ["Password: "], ["Password: ", "The same again: "]
 
 # The signals that end a program by default, but SIGKILL; the program ignores SIGPIPE.
@@ -77,14 +78,14 @@ def prompts(program):
     """Each row. The echo is off at each prompt, and then on again."""
     for words, typed, status, lines, reason in ROWS:
         answers = [it.encode() if isinstance(it, str) else it for it in typed]
-        ended, shown, echo = session([program, *words.split(" ")], answers)
+        ended, shown, echo = session([program, *shlex.split(words)], answers)
         written = shown.decode().removesuffix("\r\n").split("\r\n")
         yield f"on a terminal, {words!r} ({reason})", (ended, written, echo), (status, lines, [False] * len(typed) + [True])
 
 
 def jobs(program):
     for shell, typed, lines, reason in JOBS:
-        ended, shown, echo = session(["bash", "-mc", shell, "bash", program, *VERIFY.split(" ")], typed)
+        ended, shown, echo = session(["bash", "-mc", shell, "bash", program, *shlex.split(VERIFY)], typed)
         written = [it for it in shown.decode().split("\r\n") if it and it[0] != "["]
         yield f"{shell} ({reason})", (ended, written, echo), (0, lines, [False] * len(typed) + [True])
 
@@ -100,13 +101,13 @@ def bars(program):
     """Each row with and without --progress, a run without a terminal, and Ctrl-C."""
     for shell, words, percentages, reason in BARS:
         with_bar, without = (
-            shown_by(["sh", "-c", shell, "sh", program, *option, *words.split(" ")], [b"pass\n"] if shell == TYPED else [])
+            shown_by(["sh", "-c", shell, "sh", program, *option, *shlex.split(words)], [b"pass\n"] if shell == TYPED else [])
             for option in (["--progress"], [])
         )
         yield f"--progress {words} by {shell} ({reason})", with_bar, (without[0], percentages)
-    ran = [run([program, *words.split(" ")], b"pass") for words in (f"--progress {SHORT}", SHORT)]
+    ran = [run([program, *shlex.split(words)], b"pass") for words in (f"--progress {SHORT}", SHORT)]
     yield "no bar if the standard error is no terminal", *ran
-    ended, _ = shown_by([program, *"--progress key 18 8 16 32 00".split(" ")], [b"pass\n", b"\x03"])
+    ended, _ = shown_by([program, *"--progress key 18 8 16 32 00".split()], [b"pass\n", b"\x03"])
     yield "Ctrl-C at the bar", ended, (-signal.SIGINT, b"Password: \r\n", [False, True, True])
 
 

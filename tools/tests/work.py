@@ -5,6 +5,7 @@ counts C's calls.
 """
 
 import re
+import shlex
 import shutil
 import subprocess
 import tempfile
@@ -32,7 +33,7 @@ RUNS = [
 def instructions(words, line):
     with tempfile.NamedTemporaryFile("r", encoding="ascii") as file:
         valgrind = ["valgrind", "-q", "--tool=callgrind", f"--callgrind-out-file={file.name}"]
-        subprocess.run([*valgrind, *words, *line.split()], input=PASSWORD, capture_output=True)
+        subprocess.run([*valgrind, *words, *shlex.split(line)], input=PASSWORD, capture_output=True)
         return int(re.search(r"^totals: (\d+)$", file.read(), re.M)[1])
 
 
