@@ -3,7 +3,6 @@
 set(CMAKE_INSTALL_DEFAULT_COMPONENT_NAME programs)
 install(TARGETS scrypt_c scrypt_c_static EXPORT scrypt_c-targets COMPONENT dev
         LIBRARY COMPONENT runtime RUNTIME COMPONENT runtime)
-install(TARGETS scrypt_calibrate)
 set(cmake_files ${CMAKE_INSTALL_LIBDIR}/cmake/scrypt_c)
 install(EXPORT scrypt_c-targets FILE scrypt_c-config.cmake NAMESPACE scrypt_c:: DESTINATION ${cmake_files} COMPONENT dev)
 write_basic_package_version_file(scrypt_c-config-version.cmake COMPATIBILITY SameMajorVersion)
@@ -28,7 +27,6 @@ else()
     file(CREATE_LINK libscrypt_c.so.${PROJECT_VERSION_MAJOR} \"\$ENV{DESTDIR}\${link}\" SYMBOLIC)
     list(APPEND CMAKE_INSTALL_MANIFEST_FILES \"\${link}\")" COMPONENT dev)
   set(cli ${TOP}/bindings/cli)
-  install(FILES ${cli}/scrypt_tool.1 DESTINATION ${CMAKE_INSTALL_MANDIR}/man1 RENAME scrypt_calibrate.1)
   # The program is there after `make run`.
   install(CODE "if(EXISTS \"${BUILT}/bin/scrypt_tool\")
       execute_process(COMMAND \"${cli}/install.sh\" \"${BUILT}/bin/scrypt_tool\" \"\${CMAKE_INSTALL_PREFIX}\"
@@ -75,7 +73,7 @@ set(same "${runtime} (= ${PROJECT_VERSION})")
 debian_package(runtime ${runtime} libs "libc6 (>= 2.17)" "The shared library.")
 debian_package(dev libscrypt-c-dev libdevel "${same}" "The header, the static library, and files for pkg-config and CMake.")
 debian_package(programs scrypt-proved utils "libc6 (>= 2.34), ${same}"
-               "The programs, the Python package, the drop-in library and the documents.")
+               "The program, the Python package, the drop-in library and the documents.")
 file(WRITE ${control}/triggers "activate-noawait ldconfig\n")
 file(WRITE ${control}/prerm "#!/bin/sh\nrm -rf /usr/${PYTHONDIR}/scrypt_c/__pycache__\n")
 set(CPACK_DEBIAN_RUNTIME_PACKAGE_CONTROL_EXTRA ${control}/triggers)

@@ -1,7 +1,7 @@
 #!/bin/sh
-# Fails unless each library and program binds its names when it is loaded and is read-only after that (BIND_NOW, RELRO), has
-# no stack that can be run and no code that is changed by the loader, and was compiled with stack protection; and unless
-# each library has its name inside (SONAME) and calls its own functions (SYMBOLIC).
+# Fails unless each library binds its names when it is loaded and is read-only after that (BIND_NOW, RELRO), has no stack that
+# can be run and no code that is changed by the loader, was compiled with stack protection, has its name inside (SONAME), and
+# calls its own functions (SYMBOLIC).
 set -eu
 for file in "$@"; do
   readelf -dlW "$file" > /dev/null # or its error ends this
@@ -13,12 +13,7 @@ for file in "$@"; do
   says 'GNU_STACK.* RW +0' || missing "a stack that can be run"
   if says 'TEXTREL|\((RPATH|RUNPATH)\)'; then missing "code that is changed when it is loaded, or a path of libraries"; fi
   { nm "$file" 2> /dev/null; nm -D "$file"; } | grep -q __stack_chk_fail || missing "no stack protection"
-  case $file in
-    *.so | *.so.*)
-      name=$(basename "$(readlink -f "$file")" | sed 's/\(\.so\.[0-9]*\)\..*/\1/')
-      says "SONAME.*\[$name\]" || missing "no SONAME $name"
-      says '\(SYMBOLIC\)' || missing "not bound to itself"
-      ;;
-    *) says 'file type is DYN' || missing "not position independent" ;;
-  esac
+  name=$(basename "$(readlink -f "$file")" | sed 's/\(\.so\.[0-9]*\)\..*/\1/')
+  says "SONAME.*\[$name\]" || missing "no SONAME $name"
+  says '\(SYMBOLIC\)' || missing "not bound to itself"
 done

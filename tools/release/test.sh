@@ -53,7 +53,7 @@ expect "$(inside "/opt/moved/bin/$tool")" "the program of the archive, moved"
 expect "$(inside "$moved $by_pkg_config")" "C by pkg-config, with the archive"
 expect "$(inside "$moved $by_cmake && /tmp/b/shared")" "C by CMake, with the archive"
 
-inside "cd /tmp && $(lines Python) > /dev/null && venv/bin/python -m scrypt_c -n 1"
+inside "cd /tmp && $(lines Python) > /dev/null && venv/bin/python -c 'import scrypt_c; scrypt_c.PasswordHasher().hash(str())'"
 expect "$(inside "mkdir -p /tmp/go/client && cd /tmp/go/client && cp /tmp/scrypt-go-* /tmp/check.go . &&
   go mod init example.com/client 2> /dev/null; $(lines Go); go run check.go")" "Go, with the module"
 expect "$(inside "mkdir -p /tmp/rust/client && cd /tmp/rust/client &&

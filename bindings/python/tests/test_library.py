@@ -1,4 +1,4 @@
-"""The search for the library, the names that the package exports, and its command."""
+"""The search for the library, and the names that the package exports."""
 
 import os
 import pathlib
@@ -14,12 +14,11 @@ FOLDER = os.environ["SCRYPT_C_LIBRARY"]
 FILE = os.path.join(FOLDER, library.FILE)
 PLACE = "from scrypt_c import library; print(library._place())"
 
-# Imitates Windows, where the library has another name, and the interpreter's functions are in a
-# DLL. Only the names are from Windows.
+# Imitates Windows, where the library has another name.
 ON_WINDOWS = """
 import ctypes, sys
 opened, load, library = [], ctypes.CDLL, sys.argv[1]
-sys.platform, sys.dllhandle = "win32", load(None)._handle
+sys.platform = "win32"
 ctypes.CDLL = lambda name: opened.append(name) or load(library)
 import scrypt_c
 hasher = scrypt_c.PasswordHasher(log_n=4)
@@ -50,15 +49,3 @@ class Library(unittest.TestCase):
         self.assertEqual(typing.get_args(scrypt_c.Password), (str, *typing.get_args(scrypt_c.Bytes)))
         version = (pathlib.Path(__file__).parents[3] / "VERSION").read_text("ascii")
         self.assertEqual(scrypt_c.__version__, version.strip())
-
-    def test_module_command(self):
-        """`python -m scrypt_c` prints a hash, its cost and the time to verify it, or an error."""
-        measured = "7680 bytes\na hash: .scrypt.ln=4,r=3,p=2.{51}\n.+ ms for a verification, of 2\n$"
-        for arguments, code, words in [
-            ("-n 2 --log-n 4 -r 3 -p 2 -l 20", 0, f"^log_n=4, r=3, p=2, key_len=20: {measured}"),
-            ("-n 2 --seconds 0.1", 0, r"^log_n=\d+, r=8, p=\d+, key_len=32: \d+ bytes\na hash: "),
-            ("--log-n 131072", 1, "^python -m scrypt_c: invalid scrypt parameters"),
-            ("--seconds nan", 1, "^python -m scrypt_c: seconds must"),
-            ("-n 0", 2, "-n must be at least 1: 0"),
-        ]:
-            self.runs(code, words, "-m", "scrypt_c", *arguments.split())
