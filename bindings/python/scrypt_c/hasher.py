@@ -115,7 +115,8 @@ class PasswordHasher:
         for name, limit in limits.items():
             if limit is not None:
                 setattr(options, name, in_64_bits(limit, name))
-        status, self._c = library.hasher_new(options)
+        self._c = library.Hasher()
+        status = lib.scrypt_hasher_new(options, self._c)
         check_costs(status, cost_of(self._params)[1], max_mem, max_work)
 
     @property

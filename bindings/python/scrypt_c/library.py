@@ -5,7 +5,7 @@ from __future__ import annotations
 import ctypes
 import os
 import sys
-from typing import Any, Optional
+from typing import Any
 
 from . import declared
 
@@ -54,21 +54,6 @@ class Derivation(ctypes.c_void_p):
 for _name, (_arguments, _result) in declared.calls(Derivation, Hasher).items():
     _call = getattr(lib, _name)
     _call.argtypes, _call.restype = _arguments, _result
-
-if sys.implementation.name == "cpython":
-    # The interpreter's own functions: on Windows they are in a DLL, elsewhere in the program.
-    _untrack = ctypes.PyDLL(None, handle=getattr(sys, "dllhandle", None)).PyObject_GC_UnTrack
-    _untrack.argtypes, _untrack.restype = [ctypes.py_object], None
-
-
-def hasher_new(options: Optional[declared.Options]) -> tuple[int, Hasher]:
-    """Creates a hasher, and returns the status and it. The garbage collector finalizes the objects
-    of a cycle in any order, so it could free a hasher that other objects still use. A hasher refers
-    to nothing, so it is untracked: it is freed when its last reference is gone."""
-    hasher = Hasher()
-    if sys.implementation.name == "cpython":
-        _untrack(hasher)
-    return lib.scrypt_hasher_new(options, hasher), hasher
 
 
 def explained(

@@ -52,26 +52,6 @@ if child == 0:
 assert os.waitpid(child, 0)[1] == 0
 """
 
-# A program whose garbage is a cycle: a hasher, and finalizers, older and younger, that still use it.
-FINALIZERS = """
-import gc, scrypt_c
-gc.disable()
-text = scrypt_c.PasswordHasher(log_n=4).hash("pw")
-class Login:
-    def __del__(self):
-        assert self.hasher.verify(text, "pw")
-def in_a_generator(hasher):
-    with hasher:
-        yield
-first, hasher, last = Login(), scrypt_c.PasswordHasher(log_n=4), Login()
-for login in (first, last):
-    login.hasher, login.both = hasher, [first, last]
-first.generator = in_a_generator(hasher)
-next(first.generator)
-del first, hasher, last, login
-gc.collect()
-"""
-
 
 class Threads(unittest.TestCase):
     def test_timeouts_signals_and_stats(self):
@@ -159,9 +139,9 @@ class Threads(unittest.TestCase):
             used, _ = growth(lambda: list(pool.map(key, 24 * [b"salt"])))
         self.assertLess(used, 3 << 25)
 
-    def test_exit_and_garbage(self):
-        """A program with daemon threads exits; in a cycle of garbage a hasher is freed last."""
-        for program in 3 * [DAEMONS] + [FINALIZERS]:
-            command = [sys.executable, "-W", "ignore", "-c", program]  # Python 3.12 warns of forks
+    def test_exit(self):
+        """A program with daemon threads exits."""
+        for _ in range(3):
+            command = [sys.executable, "-W", "ignore", "-c", DAEMONS]  # Python 3.12 warns of forks
             run = subprocess.run(command, capture_output=True, timeout=600)
             self.assertEqual((run.stderr, run.returncode), (b"", 0))
