@@ -49,16 +49,10 @@ class Keys(unittest.TestCase):
         self.assertEqual(key(password=bytearray(b"pw"), salt=memoryview(b"salt"), **most), key())
 
     def test_memory(self):
-        """The tables fit in maxmem, or without it in 129 MiB, so that each of these derivations has
-        one, and all are freed. Steps take about 10 ms."""
-        seen = []
-        for log_n, p, options in [
-            (15, 4, {"maxmem": Params(15, 8, 4).memory}), (17, 2, {}), (17, 2, {"progress": seen.append}),
-        ]:
-            used, left = growth(lambda: key(n=1 << log_n, p=p, **options))
-            self.assertLess(used, 1.25 * (1024 << log_n), options)
-            self.assertLess(left, 256 << log_n, options)
-        self.assertTrue(10 < len(seen) < 1000, len(seen))
+        """The memory of a derivation in steps is at most maxmem, and is freed."""
+        used, left = growth(lambda: key(n=1 << 15, p=4, maxmem=Params(15, 8, 4).memory))
+        self.assertLess(used, 40 << 20)
+        self.assertLess(left, 8 << 20)
 
     def test_interrupts(self):
         """Ctrl-C ends a derivation that takes seconds at the end of a step, and so does an
@@ -72,9 +66,8 @@ class Keys(unittest.TestCase):
             key(n=1 << 20, progress=lambda done: 1 // (done < 0.1))
 
     def test_calibrate(self):
-        """log_n is the largest whose table fits, and a smaller one if the time is short."""
-        for seconds, max_mem, log_n in [(60, 16 << 20, 14), (60, (16 << 20) - 1, 13), (1e9, 1 << 20, 10)]:
-            params = calibrate(seconds, max_mem)
-            self.assertEqual((params.log_n, params.r), (log_n, 8))
-            self.assertEqual(scrypt_c.PasswordHasher(*params, max_work=B64).params, params)
+        """Seconds and bytes are passed as they are, and what is found makes a hasher."""
+        params = calibrate(1e9, 1 << 20)
+        self.assertEqual((params.log_n, params.r), (10, 8))
+        self.assertEqual(scrypt_c.PasswordHasher(*params, max_work=B64).params, params)
         self.assertLess(calibrate(0.02, 1 << 30).log_n, 17)

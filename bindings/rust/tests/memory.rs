@@ -13,8 +13,7 @@ fn resident() -> usize {
 }
 
 /// A hasher has `max_tables` tables, whatever p and the processors are, and frees them when its
-/// last clone is dropped. A derivation in steps frees its table too, and has one if two do not fit
-/// into 129 MiB.
+/// last clone is dropped. A derivation in steps frees its tables too.
 #[test]
 fn memory() {
     let params = Params::new(16, 8, 4).unwrap();
@@ -27,14 +26,8 @@ fn memory() {
     }
     let held = resident().saturating_sub(before);
     drop(hashers);
-    let (params, mut used, mut steps) = (Params::new(17, 8, 2).unwrap(), 0, 0);
-    let progress = |_| {
-        (used, steps) = (used.max(resident().saturating_sub(before)), steps + 1);
-        ControlFlow::Continue(())
-    };
+    let progress = |_| ControlFlow::Continue(());
     scrypt_in_steps(b"", b"", &params, &mut [0], progress).unwrap();
-    assert!((100 << 10..160 << 10).contains(&used), "{used} KiB");
-    assert!(steps > 10, "{steps} steps, of about 10 ms each");
     let left = resident().saturating_sub(before);
     let (most, few) = (260 << 10, 4 << 10);
     assert!(held < most && held > most - 2 * few && left < few, "{held} KiB, then {left}");
