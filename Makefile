@@ -68,7 +68,7 @@ test: needs-test; @tools/gate/run.sh
 
 kit:
 	@command -v rt > /dev/null || { echo "The Rattle kit's command rt isn't here: nothing is proved." >&2; exit 1; }
-prove: kit; @EACH=600 tools/gate/step.sh proofs tools/gate/prove.sh
+prove: kit; @EACH=600 tools/gate/step.sh proofs tools/kit/prove.sh
 check: kit documents
 	@$(STEP) what-changed env RT_SECONDS=300 rt all test
 	@tools/gate/run.sh answers

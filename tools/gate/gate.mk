@@ -47,24 +47,24 @@ tasks: # of the targets OF
 proofs: private export EACH = 600
 proofs: private LIMIT = 6h
 proofs:
-	+$(TASK) tools/gate/prove.sh
+	+$(TASK) tools/kit/prove.sh
 # A task that needs a proved crate begins when `rt ci` has proved it: what follows there, tests and edits, takes
 # about as long as all of these tasks.
 proved-scrypt:
-	@tools/gate/prove.sh scrypt
+	@tools/kit/prove.sh scrypt
 
 # ---- What the kit builds, code that must not compile, and counts ----
 kit-library must-not-compile new-user: $(call built,proved-scrypt)
 kit-library:
-	$(TASK) $(PY) tools.tests.same build
+	$(TASK) $(PY) tools.kit.same build
 same: $(call built,library kit-library)
-	$(TASK) $(PY) tools.tests.same $(or $(CALLS),200000)
+	$(TASK) $(PY) tools.kit.same $(or $(CALLS),200000)
 must-not-compile:
-	$(TASK) $(PY) tools.gate.must_not_compile edits
+	$(TASK) $(PY) tools.kit.must_not_compile edits
 new-user:
-	$(TASK) tools/gate/new_user.sh
+	$(TASK) tools/kit/new_user.sh
 cores:
-	$(TASK) $(PY) tools.gate.must_not_compile sources
+	$(TASK) $(PY) tools.kit.must_not_compile sources
 
 # ---- The documents and the scripts ----
 lint:

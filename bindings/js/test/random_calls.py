@@ -137,7 +137,7 @@ def case():
 
 
 class Native:
-    """The calls of the object, on a memory as the module's, or those of another one (tools/tests/same.py)."""
+    """The calls of the object, on a memory as the module's, or those of another one (tools/kit/same.py)."""
 
     def __init__(self, *linked, prefix="proved_"):
         self.prefix = prefix

@@ -10,7 +10,7 @@ cd "$room"
 sed -n '/^    touch crates.txt/,/^    END$/s/^    //p' "$top/docs/RATTLE.md" | sed "s|SCRYPT|$top|g" > start.sh
 sh -eu start.sh > start.log 2>&1 || { cat start.log; exit 1; }
 export PROVED_LIBRARIES="${PROVED_LIBRARIES:-$top/crates}" PYTHONPATH="$top"
-check=$(python3 -B -c 'from tools import prover_command; print(*prover_command.of("check", "app"))')
+check=$(python3 -B -c 'from tools.kit import rattle; print(*rattle.of("check", "app"))')
 cd crates/app
 awk '/^```/ { if (code) exit; code = $0 == "```rust"; next } code' "$top/docs/RATTLE.md" > src/hash.rt # as the page prints it
 # shellcheck disable=SC2086 # words without blanks

@@ -1,9 +1,9 @@
 """Compares the proved calls that the kit builds with those of the erased crates, at each level of the processor, by random
 calls: the statuses, and all bytes that they leave. It sees what erasing, rustc or the crates below change.
 
-usage: python3 -m tools.tests.same build          proves and builds crates/scrypt_c by the kit, over the libraries that
+usage: python3 -m tools.kit.same build          proves and builds crates/scrypt_c by the kit, over the libraries that
                                                   `rt ci` has proved: crates/scrypt_c/out/libscrypt_c.a
-       python3 -m tools.tests.same CALLS [SEED]   compares it with what `rust/build.sh c` has left
+       python3 -m tools.kit.same CALLS [SEED]   compares it with what `rust/build.sh c` has left
 """
 
 import subprocess
@@ -13,7 +13,7 @@ from pathlib import Path
 
 from bindings.js.test import random_calls
 from bindings.js.test.random_calls import KEY, PASSWORD, SALT, TEXT, WORDS, Native, below, pick, slice_of
-from tools import prover_command
+from tools.kit import rattle
 
 KIT = Path("crates/scrypt_c/out/libscrypt_c.a")
 NEVER = "scrypt_verify_batch_with_buffers", "scrypt_wipe" # return nothing
@@ -22,9 +22,9 @@ NEVER = "scrypt_verify_batch_with_buffers", "scrypt_wipe" # return nothing
 def build():
     """The library of the kit, for the processors that it calls x86-64-v3."""
     KIT.parent.mkdir(exist_ok=True)
-    options = ["--cpu", "x86-64-v3", "--jobs", "2", "--toolchain", f"{prover_command.kit()}/toolchain", "-o", KIT.resolve()]
+    options = ["--cpu", "x86-64-v3", "--jobs", "2", "--toolchain", f"{rattle.kit()}/toolchain", "-o", KIT.resolve()]
     print("== scrypt_c", flush=True)
-    return subprocess.run([*prover_command.of("build", "scrypt_c"), *options], cwd="crates/scrypt_c", check=False).returncode
+    return subprocess.run([*rattle.of("build", "scrypt_c"), *options], cwd="crates/scrypt_c", check=False).returncode
 
 
 def others():
@@ -55,7 +55,7 @@ def others():
 
 def main(calls, seed=7914):
     random_calls.rng.seed(int(seed))
-    kit = Native("-Wl,--whole-archive", KIT, "-Wl,--no-whole-archive", f"{prover_command.kit()}/c/liblibc_c.a", prefix="")
+    kit = Native("-Wl,--whole-archive", KIT, "-Wl,--no-whole-archive", f"{rattle.kit()}/c/liblibc_c.a", prefix="")
     erased, counts = Native(), Counter()
     levels = sorted({erased.library.proved_force_level(it) for it in range(3)})
     while counts.total() < int(calls):

@@ -17,8 +17,8 @@ An impl of `PartialEq` chooses its own relation, and the contract of `Clone` doe
 to be equal. Therefore `Clone` is always derived, and `PartialEq` is derived or its clause compares
 the whole values.
 
-usage: python3 -m tools.gate.must_not_compile sources   errors that no clause can exclude
-       python3 -m tools.gate.must_not_compile edits     tries RAISED; the libraries below a crate have to be built
+usage: python3 -m tools.kit.must_not_compile sources   errors that no clause can exclude
+       python3 -m tools.kit.must_not_compile edits     tries RAISED; the libraries below a crate have to be built
 """
 
 import glob
@@ -29,7 +29,7 @@ import sys
 import tempfile
 from pathlib import Path
 
-from tools import prover_command
+from tools.kit import rattle
 from tools.generate import sources
 
 # Crate, file, what is replaced by what, and the error.
@@ -124,7 +124,7 @@ def wrong_edits():
             path = Path(copy, "src", file)
             text = path.read_text("utf-8")
             path.write_text(text.replace(old, new), "utf-8")
-            ran = subprocess.run([*prover_command.of("check", name), "--only", ""], cwd=copy, capture_output=True, text=True)
+            ran = subprocess.run([*rattle.of("check", name), "--only", ""], cwd=copy, capture_output=True, text=True)
         errors = re.findall(r"^src/\S+ error\[(.*)", ran.stdout + ran.stderr, re.M)
         if text.count(old) != 1 or ran.returncode == 0 or not errors or not all(error in it for it in errors):
             yield f"{name}, {file}: not rejected as it has to be: {new}\n{ran.stdout[-500:]}"
