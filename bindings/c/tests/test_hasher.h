@@ -97,12 +97,13 @@ static int test_random(uint8_t *bytes, size_t len) {
 static int windows_last, in_windows, windows_ahead;
 static __thread int had_window, late_waits;
 static __thread int64_t last_deadline;
+static int64_t longest_window(void);
 static void test_wait(condition *it, mutex *with, int64_t deadline_ns) {
   /* A slow thread can be late for each window; one that spins waits for the same time again. */
   late_waits = deadline_ns == last_deadline && deadline_ns <= now_ns() ? late_waits + 1 : 0;
   last_deadline = deadline_ns;
   expect(late_waits < 100, "a thread spins in place of sleeping");
-  if (deadline_ns - now_ns() <= 1000000) {
+  if (deadline_ns - now_ns() <= longest_window()) {
     had_window = 1;
     (void)ADD(windows_ahead, deadline_ns > now_ns());
     (void)ADD(in_windows, 1);
@@ -188,6 +189,7 @@ static int watched_key(const void *password, size_t password_len, const void *sa
 #include "hasher.c"
 #undef scrypt_verify_batch_with_buffers
 #undef scrypt_key_with_buffers
+static int64_t longest_window(void) { return MAX_LINGER_NS; }
 #include "options.c"
 #define now now_seconds
 #include "calibrate.c"
