@@ -2,6 +2,8 @@
 
 -- the errors, by their values
 pub mod Refusal
+-- what is accepted and refused
+pub mod Verifying
 -- lists of bytes of a limited length
 pub mod ShortBytes
 -- the letters of identifiers, names and values

@@ -1,7 +1,8 @@
 //! The traits of making and verifying password hashes.
-ghost use Rattle.std.specs.Prelude.{◌≡◌, ◌⊎◌, List, ℕ, Bool, Option, None, Result, Err, IfOk, IfErr, ⊤};
+ghost use Rattle.std.specs.Prelude.{◌≡◌, ◌⊎◌, ◌↔◌, List, ℕ, Bool, Option, None, Result, Err, IfOk, IfErr, IsErrOf, IsTrue, OnOk, ⊤};
 ghost use Rattle.std.specs.Option.{option_map};
-ghost use Rattle.password_hash.specs.Refusal.{Refusal, refusal, with_refusal, OutOfMemory};
+ghost use Rattle.password_hash.specs.Refusal.{Refusal, refusal, with_refusal, OutOfMemory, PasswordInvalid};
+ghost use Rattle.password_hash.specs.Verifying.{Accepts, IsWeaker, Refuses, RefusesCheck};
 
 use crate::{Result, Version};
 use std::alloc::Global;
@@ -82,7 +83,10 @@ pub trait PasswordVerifier<H> {
     /// Verifies `password` against `hash`. Returns the verdict, or `OutOfMemory`.
     fn verify_password(&self, alloc: Global, password: &[u8], hash: &H) -> Result<()>
         ensures verdict { (with_refusal result ≡ verdict password.now hash.now)
-            ⊎ (needs_memory hash.now × (with_refusal result ≡ Err OutOfMemory)) };
+            ⊎ (needs_memory hash.now × (with_refusal result ≡ Err OutOfMemory)) }
+        ensures ok { OnOk result (Accepts verdict password.now hash.now) }
+        ensures wrong { IsErrOf (with_refusal result) PasswordInvalid → ¬ Accepts verdict password.now hash.now }
+        ensures err { IfErr result (λ e. Refuses verdict needs_memory password.now hash.now (refusal e)) };
 }
 
 /// Checks whether hashes of type `H` are weaker than the parameters of this value. A login service
@@ -93,5 +97,7 @@ pub trait RehashCheck<H> {
 
     /// Returns whether `hash` is weaker than wanted. Does not allocate.
     fn needs_rehash(&self, hash: &H) -> Result<bool>
-        ensures weaker { with_refusal result ≡ weaker self.now hash.now };
+        ensures weaker { with_refusal result ≡ weaker self.now hash.now }
+        ensures ok { IfOk result (λ is. IsTrue is ↔ IsWeaker weaker self.now hash.now) }
+        ensures err { IfErr result (λ e. RefusesCheck weaker self.now hash.now (refusal e)) };
 }
