@@ -85,6 +85,8 @@ pub fn texts_have_one_reading()
         → IsMcfText text other more → (one ≡ other) × (fields ≡ more) }
     ensures modular_text { (id one other : List ℕ) (fields : List (List ℕ)) → IsMcfText one id fields
         → IsMcfText other id fields → one ≡ other }
+    ensures mcf_reading { (text : List ℕ) (one other : Stored) → IsMcfHashText text one
+        → IsMcfHashText text other → one ≡ other }
     ensures mcf_text { (one other : List ℕ) (s : Stored) → read_mcf one ≡ Ok s → read_mcf other ≡ Ok s → one ≡ other }
     ensures crypt64_reading { (letters one other : List ℕ) → Crypt64 one letters → Crypt64 other letters → one ≡ other }
     ensures crypt64_text { (bytes one other : List ℕ) → Crypt64 bytes one → Crypt64 bytes other → one ≡ other }

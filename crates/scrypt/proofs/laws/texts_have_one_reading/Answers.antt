@@ -3,6 +3,7 @@ use Rattle.password_hash.proofs.McfFacts.{IsMcfText-one}
 use Rattle.password_hash.proofs.GroupFacts.{Crypt64-one}
 use Rattle.password_hash.proofs.PhcReadingFacts.{one_reading}
 use Rattle.scrypt.proofs.McfHashFacts.{text_of}
+use Rattle.scrypt.proofs.McfTextFacts.{text_read}
 use Rattle.scrypt.proofs.laws.texts_have_one_reading.Goals as goal
 
 pub returns-clause-phc_reading : goal.returns-clause-phc_reading
@@ -13,6 +14,10 @@ returns-clause-modular_reading c text one other fields more is again =
     let first = IsMcfText-one text one fields is in
     let second = IsMcfText-one text other more again in
     (sym first.0 ∙ second.0, sym first.1 ∙ second.1)
+
+pub returns-clause-mcf_reading : goal.returns-clause-mcf_reading
+returns-clause-mcf_reading c text one other is again =
+    let both = sym (text_read text one is) ∙ text_read text other again in cc
 
 pub returns-clause-mcf_text : goal.returns-clause-mcf_text
 returns-clause-mcf_text c one other s is again = text_of is ∙ sym (text_of again)
