@@ -63,10 +63,15 @@ class Library:
         passed_on = self.modules[module].imports.get(name) if module in self.modules else None
         return found or passed_on and self.target(*passed_on)
 
+    def origin(self, module, name):
+        """The module that a name comes from, through those that pass it on."""
+        passed_on = self.modules[module].imports.get(name) if module in self.modules else None
+        return self.origin(*passed_on) if passed_on else module
+
     def unknown(self, file):
         """The words that a file imports from these crates and that stand for nothing."""
         own = tuple(f"Rattle.{it}." for it in self.uses)
-        imported = ((word, *place) for word, place in file.imports.items() if place[0].startswith(own))
+        imported = ((word, *place) for word, place in file.imports.items() if self.origin(*place).startswith(own))
         return [word for word, module, name in imported if name and not self.target(module, name)]
 
     def rust(self, path):

@@ -1,5 +1,5 @@
 -- Base64 of bytes, and the bytes that letters decode to.
-use Rattle.std.proofs.Common.{◌≡◌, ℕ, suc, ◌+◌, ◌*◌, ◌/◌, ◌%◌, ◌<◌, ◌==◌, false, List, [], ◌∷◌, length, slice_index, ap, arith, ◌∙◌, refl}
+use Rattle.std.proofs.Common.{◌≡◌, ℕ, zero, suc, ◌+◌, ◌*◌, ◌/◌, ◌%◌, ◌<◌, ◌==◌, false, List, [], ◌∷◌, ◌++◌, take, drop, length, slice_index, ap, arith, ◌∙◌, refl}
 use Rattle.std.specs.Prelude.{All, IsTrue, Ok}
 use Rattle.std.specs.List.{AllByRecursion as ByRecursion}
 use Rattle.std.proofs.lemmas.List.{append-nil}
@@ -13,6 +13,29 @@ use Rattle.base64.proofs.RoundTrip.{length-encode_symbols}
 use Rattle.password_hash.specs.Letters.{is_base64_letter, is_value_letter}
 use Rattle.password_hash.specs.Phc.{base64}
 use Rattle.password_hash.proofs.ParamsFacts.{Lacks, letters_lack}
+
+-- lists of bytes
+
+pub IsBytes-cons : (byte : ℕ) (bytes : List ℕ) → byte < 256 → IsBytes bytes → IsBytes (byte ∷ bytes)
+IsBytes-cons byte bytes first rest zero = first
+IsBytes-cons byte bytes first rest (suc i) = rest i
+
+pub IsBytes-append : (xs ys : List ℕ) → IsBytes xs → IsBytes ys → IsBytes (xs ++ ys)
+IsBytes-append [] ys first second = second
+IsBytes-append (x ∷ xs) ys first second =
+    IsBytes-cons x (xs ++ ys) (first 0) (IsBytes-append xs ys (λ i. first (suc i)) second)
+
+pub IsBytes-take : (n : ℕ) (xs : List ℕ) → IsBytes xs → IsBytes (take n xs)
+IsBytes-take zero xs are = λ i. omega arith
+IsBytes-take (suc n) [] are = λ i. omega arith
+IsBytes-take (suc n) (x ∷ xs) are = IsBytes-cons x (take n xs) (are 0) (IsBytes-take n xs (λ i. are (suc i)))
+
+pub IsBytes-drop : (n : ℕ) (xs : List ℕ) → IsBytes xs → IsBytes (drop n xs)
+IsBytes-drop zero xs are = are
+IsBytes-drop (suc n) [] are = are
+IsBytes-drop (suc n) (x ∷ xs) are = IsBytes-drop n xs (λ i. are (suc i))
+
+-- Base64
 
 pub length-base64 : (bytes : List ℕ) → length (base64 bytes) ≡ (4 * length bytes + 2) / 3
 length-base64 bytes = rw append-nil (length-encode_symbols standard_no_pad.encode_table bytes)

@@ -61,9 +61,6 @@ letter-ascii value below =
 -- the ranges that a byte is in determine its value
 pub ruleset byte_values = (value_of_byte, nat_tests)
 
-abbrev pub AreBytes : List ℕ → Type 0
-AreBytes bytes = All (λ byte. byte < 256) bytes
-
 -- numbers and their letters
 
 pub length-letters_of : (count number : ℕ) → length (letters_of count number) ≡ count
@@ -82,7 +79,7 @@ number_of-letters_of (suc count) number below =
     rw (letter_value-letter (number % 64) digit, number_of-letters_of count (number / 64) above) (ap Some whole)
 
 -- the parts of a number that letters say
-pub with_digit-Some : (value above : Option ℕ) (number : ℕ) → with_digit value above ≡ Some number
+with_digit-Some : (value above : Option ℕ) (number : ℕ) → with_digit value above ≡ Some number
     → (low : ℕ) × (high : ℕ) × (value ≡ Some low) × (above ≡ Some high) × (number ≡ low + 64 * high)
 with_digit-Some None above number h = absurd (cc)
 with_digit-Some (Some low) None number h = absurd (cc)

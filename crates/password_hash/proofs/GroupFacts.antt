@@ -3,13 +3,13 @@ use Rattle.std.proofs.Common.{◌≡◌, ◌∙◌, sym, ap, refl, arith, ℕ, z
 use Rattle.std.proofs.Common.{◌++◌, take, drop, replicate, append_assoc, length-append, length-drop}
 use Rattle.std.specs.Int.{to_le_bytes, from_le_bytes, w32}
 use Rattle.std.proofs.lemmas.List.{append-nil, take_at, drop_at, take_min, drop_min, take-append-drop, length-take, length-take-le}
-use Rattle.std.proofs.lemmas.List.Elements.{All-nil, All-append, All-take, All-drop, All-from_recursion, All-cons, All-head, All-tail}
 use Rattle.std.specs.Prelude.{Option, unwrap_or}
 use Rattle.std.specs.Str.{bytes_eq}
 use Rattle.std.proofs.lemmas.Option.{cond_some}
 use Rattle.std.proofs.lemmas.Slice.Eq.{bytes_eq-Decides}
-use Rattle.password_hash.specs.Crypt64.{letters_of, number_of, crypt64_of, Crypt64, IsCrypt64, encoded_len, Begins, bytes_of_number, decoded}
-use Rattle.password_hash.proofs.Crypt64Facts.{letter_value-letter, AreBytes, length-letters_of, number_of-letters_of, letters_of-number_of}
+use Rattle.password_hash.specs.Crypt64.{letters_of, number_of, crypt64_of, Crypt64, IsBytes, IsCrypt64, encoded_len, Begins, bytes_of_number, decoded}
+use Rattle.password_hash.proofs.Base64Facts.{IsBytes-append, IsBytes-cons, IsBytes-drop, IsBytes-take}
+use Rattle.password_hash.proofs.Crypt64Facts.{letter_value-letter, length-letters_of, number_of-letters_of, letters_of-number_of}
 
 -- the number of letters is the one that is stated
 pub length-crypt64_of : (bytes : List ℕ) → length (crypt64_of bytes) ≡ encoded_len (length bytes)
@@ -87,25 +87,25 @@ number_of-front number above rest below is =
     rw (digit number, digit (number / 64), digit (number / 64 / 64), digit (number / 64 / 64 / 64), is) (ap Some whole)
 
 -- the letters of bytes are those of their number
-pub number_of-crypt64_of : (bytes : List ℕ) → AreBytes bytes → number_of (crypt64_of bytes) ≡ Some (le_number bytes)
+number_of-crypt64_of : (bytes : List ℕ) → IsBytes bytes → number_of (crypt64_of bytes) ≡ Some (le_number bytes)
 unfolding crypt64_of number_of
 number_of-crypt64_of [] are = refl
 number_of-crypt64_of (a ∷ []) are =
-    number_of-letters_of 2 a (omega (arith, are 0 0 (omega arith))) ∙ ap Some (omega arith)
+    number_of-letters_of 2 a (omega (arith, are 0)) ∙ ap Some (omega arith)
 number_of-crypt64_of (a ∷ b ∷ []) are =
-    number_of-letters_of 3 (a + 256 * b) (omega (arith, are 0 0 (omega arith), are 1 0 (omega arith))) ∙ ap Some (omega arith)
+    number_of-letters_of 3 (a + 256 * b) (omega (arith, are 0, are 1)) ∙ ap Some (omega arith)
 number_of-crypt64_of (a ∷ b ∷ c ∷ rest) are =
     number_of-front (a + 256 * b + 65536 * c) (le_number rest) (crypt64_of rest)
-    (omega (arith, are 0 0 (omega arith), are 1 0 (omega arith), are 2 0 (omega arith)))
-    (number_of-crypt64_of rest (All-drop (λ b. b < 256) 3 (a ∷ b ∷ c ∷ rest) are))
+    (omega (arith, are 0, are 1, are 2))
+    (number_of-crypt64_of rest (λ i. are (suc (suc (suc i)))))
     ∙ ap Some (omega arith)
 
 -- the number of one to three bytes fits into as many
-le_number-fits : (bytes : List ℕ) → AreBytes bytes → length bytes ≤ 3 → le_number bytes / 2 ^ (8 * length bytes) ≡ 0
+le_number-fits : (bytes : List ℕ) → IsBytes bytes → length bytes ≤ 3 → le_number bytes / 2 ^ (8 * length bytes) ≡ 0
 le_number-fits [] are most = omega arith
-le_number-fits (a ∷ []) are most = omega (arith, are 0 0 (omega arith))
-le_number-fits (a ∷ b ∷ []) are most = omega (arith, are 0 0 (omega arith), are 1 0 (omega arith))
-le_number-fits (a ∷ b ∷ c ∷ []) are most = omega (arith, are 0 0 (omega arith), are 1 0 (omega arith), are 2 0 (omega arith))
+le_number-fits (a ∷ []) are most = omega (arith, are 0)
+le_number-fits (a ∷ b ∷ []) are most = omega (arith, are 0, are 1)
+le_number-fits (a ∷ b ∷ c ∷ []) are most = omega (arith, are 0, are 1, are 2)
 le_number-fits (a ∷ b ∷ c ∷ d ∷ bytes) are most = absurd (omega arith)
 
 -- the letters of a number that fits into one to three bytes are those of its bytes
@@ -140,7 +140,7 @@ no_group (letter ∷ letters) none (bytes, is) =
     let most : length first ≤ 3 = omega (arith, length-take 3 bytes) in
     let some : 0 < length first = omega (arith, length-take 3 bytes, ap length is.encoding, length-crypt64_of bytes) in
     let count : length (crypt64_of first) - 1 ≡ length first = omega (arith, length-crypt64_of first) in
-    let are : AreBytes first = All-take (λ b. b < 256) 3 bytes is.are_bytes in
+    let are : IsBytes first = IsBytes-take 3 bytes is.are_bytes in
     absurd (none (le_number first) (rw group (record {
       some = omega (arith, length-crypt64_of first);
       read = number_of-crypt64_of first are;
@@ -157,18 +157,24 @@ begins_with_group letters number is =
     let as_many : length (take len bytes) ≡ len = length-take-le len bytes (omega (arith, length-take 4 letters)) in
     let group : letters_of (suc len) number ≡ take 4 letters = rw (← count) (letters_of-number_of (take 4 letters) number is.read).0 in
     record {
-      are_bytes = All-take (λ b. b < 256) len bytes
-          (All-from_recursion (λ b. b < 256) bytes (omega arith, (omega arith, (omega arith, (omega arith, tt)))));
+      are_bytes = IsBytes-take len bytes small;
       whole = sym (take-append-drop 4 letters) ∙ ap (λ first. first ++ drop 4 letters)
           (sym group ∙ letters_of_bytes len number (omega (arith, is.some)) (omega (arith, length-take 4 letters)) is.fits);
       groups = λ some. omega (arith, as_many, length-take 4 letters, length-drop 4 letters);
     }
+  where
+    small : IsBytes (to_le_bytes w32 number)
+    small zero = omega arith
+    small (suc zero) = omega arith
+    small (suc (suc zero)) = omega arith
+    small (suc (suc (suc zero))) = omega arith
+    small (suc (suc (suc (suc i)))) = omega arith
 
 -- letters that are read group by group
 
 pub begins_none : (letters : List ℕ) → Begins letters [] letters
 unfolding crypt64_of
-begins_none letters = record { are_bytes = All-nil (λ b. b < 256); whole = refl; groups = λ some. refl }
+begins_none letters = record { are_bytes = λ i. omega arith; whole = refl; groups = λ some. refl }
 
 pub begins_more : (letters bytes rest front after : List ℕ) → Begins letters bytes rest → Begins rest front after
     → Begins letters (bytes ++ front) after
@@ -177,7 +183,7 @@ begins_more letters bytes rest front after first second =
     ap length second.whole ∙ length-append (crypt64_of front) after ∙ ap (λ n. n + length after) (length-crypt64_of front) in
     let joined = crypt64_of-append bytes front (λ some. first.groups (omega arith)) in
     record {
-      are_bytes = All-append (λ b. b < 256) bytes front first.are_bytes second.are_bytes;
+      are_bytes = IsBytes-append bytes front first.are_bytes second.are_bytes;
       whole = first.whole ∙ rw (second.whole, joined) (sym (append_assoc (crypt64_of bytes) (crypt64_of front) after));
       groups = λ some. omega (arith, first.groups (omega arith), second.groups some, length-append bytes front);
     }
@@ -199,26 +205,26 @@ begins-stuck letters bytes rest begins stuck (all, is) =
     stuck (
       drop n all,
       record {
-        are_bytes = All-drop (λ b. b < 256) n all is.are_bytes;
+        are_bytes = IsBytes-drop n all is.are_bytes;
         encoding = sym (drop_at (crypt64_of bytes) rest (encoded_len n) (length-crypt64_of bytes)) ∙ ap (drop (encoded_len n)) left ∙ cut.1;
       },
     )
 
 -- bytes are those of their number
-bytes_of-le_number : (bytes : List ℕ) → AreBytes bytes → bytes_of_number (length bytes) (le_number bytes) ≡ bytes
+bytes_of-le_number : (bytes : List ℕ) → IsBytes bytes → bytes_of_number (length bytes) (le_number bytes) ≡ bytes
 unfolding bytes_of_number
 bytes_of-le_number [] are = refl
 bytes_of-le_number (byte ∷ bytes) are =
-    let small : byte < 256 = All-head (λ b. b < 256) byte bytes are in
+    let small : byte < 256 = are 0 in
     let low : (byte + 256 * le_number bytes) % 256 ≡ byte = omega arith in
     let high : (byte + 256 * le_number bytes) / 256 ≡ le_number bytes = omega arith in
-    rw (low, high, bytes_of-le_number bytes (All-tail (λ b. b < 256) byte bytes are)) refl
+    rw (low, high, bytes_of-le_number bytes (λ i. are (suc i))) refl
 
-bytes_of_number-are_bytes : (count number : ℕ) → AreBytes (bytes_of_number count number)
+bytes_of_number-are_bytes : (count number : ℕ) → IsBytes (bytes_of_number count number)
 unfolding bytes_of_number
-bytes_of_number-are_bytes zero number = All-nil (λ b. b < 256)
+bytes_of_number-are_bytes zero number = λ i. omega arith
 bytes_of_number-are_bytes (suc count) number =
-    All-cons (λ b. b < 256) (number % 256) _ (omega arith) (bytes_of_number-are_bytes count (number / 256))
+    IsBytes-cons (number % 256) _ (omega arith) (bytes_of_number-are_bytes count (number / 256))
 
 -- letters that encode bytes are decoded as these
 pub decoded_is : (bytes letters : List ℕ) → Crypt64 bytes letters → decoded letters ≡ Some bytes

@@ -58,21 +58,21 @@ pair_is pair is =
     }
 
 -- a pair is determined by its text
-pub pair_of-pair_text : (pair : List ℕ × List ℕ) → IsPair pair → pair_of (pair_text pair) ≡ pair
+pair_of-pair_text : (pair : List ℕ × List ℕ) → IsPair pair → pair_of (pair_text pair) ≡ pair
 pair_of-pair_text pair h =
     let none : Lacks 61 pair.0 = letters_lack is_identifier_letter 61 refl pair.0 (pair_is pair h).name in
     let both = cut_at_first 61 pair.0 pair.1 none in
     λ i. (both.0 i, both.1 i)
 
 -- the text of a pair has no `,`
-pub pair_text_lacks : (c : ℕ) → is_identifier_letter c ≡ false → is_value_letter c ≡ false → (61 == c) ≡ false
+pair_text_lacks : (c : ℕ) → is_identifier_letter c ≡ false → is_value_letter c ≡ false → (61 == c) ≡ false
     → (pair : List ℕ × List ℕ) → IsPair pair → Lacks c (pair_text pair)
 pair_text_lacks c name value equals pair h =
     All-append (λ b. (b == c) ≡ false) pair.0 (61 ∷ pair.1) (letters_lack is_identifier_letter c name pair.0 (pair_is pair h).name)
     (All-cons (λ b. (b == c) ≡ false) 61 pair.1 equals (letters_lack is_value_letter c value pair.1 (pair_is pair h).value))
 
 -- pieces that lack c are determined by their row
-pub slice_split-join : (c : ℕ) (piece : List ℕ) (pieces : List (List ℕ)) → All (Lacks c) (piece ∷ pieces)
+slice_split-join : (c : ℕ) (piece : List ℕ) (pieces : List (List ℕ)) → All (Lacks c) (piece ∷ pieces)
     → slice_split (λ b. b == c) (join_with_byte c (piece ∷ pieces)) ≡ piece ∷ pieces
 slice_split-join c piece [] none = slice_split_none (λ b. b == c) piece (All-head (Lacks c) piece [] none)
 slice_split-join c piece (next ∷ pieces) none =
@@ -86,18 +86,18 @@ texts_lack c name value equals pairs h =
     All-map (Lacks c) pair_text pairs (All-weaker IsPair (λ pair. Lacks c (pair_text pair)) (pair_text_lacks c name value equals) pairs h)
 
 -- the pairs are determined by their texts
-pub map-pair_of : (pairs : List (List ℕ × List ℕ)) → All IsPair pairs → map pair_of (map pair_text pairs) ≡ pairs
+map-pair_of : (pairs : List (List ℕ × List ℕ)) → All IsPair pairs → map pair_of (map pair_text pairs) ≡ pairs
 map-pair_of [] h = refl
 map-pair_of (pair ∷ pairs) h =
     rw (pair_of-pair_text pair (All-head IsPair pair pairs h), map-pair_of pairs (All-tail IsPair pair pairs h)) refl
 
 -- the pieces of a text of pairs
-pub pieces_of_pairs : (pair : List ℕ × List ℕ) (pairs : List (List ℕ × List ℕ)) → All IsPair (pair ∷ pairs)
+pieces_of_pairs : (pair : List ℕ × List ℕ) (pairs : List (List ℕ × List ℕ)) → All IsPair (pair ∷ pairs)
     → slice_split (λ b. b == 44) (pairs_text (pair ∷ pairs)) ≡ map pair_text (pair ∷ pairs)
 pieces_of_pairs pair pairs h =
     slice_split-join 44 (pair_text pair) (map pair_text pairs) (texts_lack 44 refl refl refl (pair ∷ pairs) h)
 
-pub pairs_of_some : (text : List ℕ) → 0 < length text → pairs_of text ≡ map pair_of (slice_split (λ b. b == 44) text)
+pairs_of_some : (text : List ℕ) → 0 < length text → pairs_of text ≡ map pair_of (slice_split (λ b. b == 44) text)
 pairs_of_some [] some = absurd (omega arith)
 pairs_of_some (byte ∷ text) some = refl
 
@@ -109,7 +109,7 @@ equals_of_pairs pair (next ∷ pairs) =
     (pair.1 ++ (44 ∷ pairs_text (next ∷ pairs)), append_assoc pair.0 (61 ∷ pair.1) (44 ∷ pairs_text (next ∷ pairs)))
 
 -- so it is not empty
-pub length_pairs_text : (pair : List ℕ × List ℕ) (pairs : List (List ℕ × List ℕ)) → 0 < length (pairs_text (pair ∷ pairs))
+length_pairs_text : (pair : List ℕ × List ℕ) (pairs : List (List ℕ × List ℕ)) → 0 < length (pairs_text (pair ∷ pairs))
 length_pairs_text pair pairs =
     let equals = equals_of_pairs pair pairs in
     omega (arith, ap length equals.1, length-append pair.0 (61 ∷ equals.0))
@@ -127,7 +127,7 @@ pair_eq-Decides first second =
     (Decides-and _ _ (bytes_eq-Decides first.0 second.0) (bytes_eq-Decides first.1 second.1))
 
 -- the test of lists of pairs decides
-pub pairs_eq-Decides : (xs ys : List (List ℕ × List ℕ)) → Decides (pointwise pair_eq xs ys) (xs ≡ ys)
+pairs_eq-Decides : (xs ys : List (List ℕ × List ℕ)) → Decides (pointwise pair_eq xs ys) (xs ≡ ys)
 pairs_eq-Decides xs ys = slice_eq-Decides pair_eq-Decides xs ys (pointwise pair_eq xs ys) refl
 
 -- two rows of pieces in a row
@@ -143,7 +143,7 @@ with_pair_some [] pair some = absurd (omega arith)
 with_pair_some (byte ∷ text) pair some = refl
 
 -- the text of one pair more
-pub with_pair-pairs_text : (pairs : List (List ℕ × List ℕ)) (pair : List ℕ × List ℕ)
+with_pair-pairs_text : (pairs : List (List ℕ × List ℕ)) (pair : List ℕ × List ℕ)
     → with_pair (pairs_text pairs) pair ≡ pairs_text (pairs ++ pair ∷ [])
 with_pair-pairs_text [] pair = refl
 with_pair-pairs_text (first ∷ pairs) pair =
@@ -188,7 +188,7 @@ ArePairs-front front back h =
     }
 
 -- a piece with something after its first `=` is the text of its pair
-pub pair_text-pair_of : (piece : List ℕ) → 0 < length (after_first (λ b. b == 61) piece) → pair_text (pair_of piece) ≡ piece
+pair_text-pair_of : (piece : List ℕ) → 0 < length (after_first (λ b. b == 61) piece) → pair_text (pair_of piece) ≡ piece
 pair_text-pair_of piece some =
     let at : ℕ = position_or_len (λ b. b == 61) piece in
     let within : at < length piece = omega (arith, some, length-drop (at + 1) piece) in
@@ -197,7 +197,7 @@ pair_text-pair_of piece some =
     sym (rw equals at split)
 
 -- pieces whose pairs are allowed are the texts of these
-pub texts_of_pairs : (pieces : List (List ℕ)) → All IsPair (map pair_of pieces) → map pair_text (map pair_of pieces) ≡ pieces
+texts_of_pairs : (pieces : List (List ℕ)) → All IsPair (map pair_of pieces) → map pair_text (map pair_of pieces) ≡ pieces
 texts_of_pairs [] each = refl
 texts_of_pairs (piece ∷ pieces) each =
     rw (

@@ -1,5 +1,5 @@
 -- A hash and the parts of its text: PHC strings are read as the hashes that they are printed of.
-use Rattle.std.proofs.Common.{◌≡◌, ◌≢◌, ◌↔◌, ◌^◌, ◌<◌, ◌≤◌, ◌==◌, ℕ, zero, suc, false, true, not, List, [], ◌∷◌, ◌++◌, map, codes, refl, sym, ap, subst, ◌∙◌, arith}
+use Rattle.std.proofs.Common.{◌≡◌, ◌≢◌, ◌↔◌, ◌^◌, ◌<◌, ◌≤◌, ◌==◌, ℕ, suc, false, true, not, List, [], ◌∷◌, ◌++◌, map, codes, refl, sym, ap, subst, ◌∙◌, arith}
 use Rattle.std.proofs.Common.{length, drop, Option, None, Some, inl, inr}
 use Rattle.std.specs.Borrow.{Bor}
 use Rattle.std.specs.Prelude.{All, AllPairs, IfSome, IsSome, OnSome, decimal, is_some, nat_eq, nat_le, nat_lt}
@@ -27,17 +27,17 @@ use Rattle.password_hash.specs.PhcReading.{names_differ, params_and_rest, parsed
 use Rattle.password_hash.specs.ShortBytes.{AreBytesFromTo}
 use Rattle.password_hash.specs.declared.phc.hash.PasswordHash.{PasswordHash}
 use Rattle.base64.proofs.Streams.{decoded_of-ok}
-use Rattle.password_hash.proofs.Base64Facts.{decode_of-base64, base64_lacks}
+use Rattle.password_hash.proofs.Base64Facts.{IsBytes-cons, decode_of-base64, base64_lacks}
 use Rattle.password_hash.proofs.DecimalFacts.{decimal_exact, is_value-decimal}
 use Rattle.password_hash.proofs.ParamsFacts.{text_of_pairs, pair_is, Lacks, equals_of_pairs, pairs_of-pairs_text, letters_lack, texts_lack, cut_at_first}
 use Rattle.password_hash.proofs.ParamsFacts.{parts_of-parts_text, text_of_parts}
 
 -- a version below 2 ^ 32, or none
-abbrev pub IsVersion : Option ℕ → Type 0
+abbrev IsVersion : Option ℕ → Type 0
 IsVersion version = IfSome version (λ number. number < 2 ^ 32)
 
 -- a part that does not begin with `v=`
-abbrev pub LacksVersion : List ℕ → Type 0
+abbrev LacksVersion : List ℕ → Type 0
 LacksVersion part = (rest : List ℕ) → part ≢ codes "v=" ++ rest
 
 -- a row of pieces that lack a byte lacks it, unless it separates them
@@ -65,7 +65,7 @@ params_lack (pair ∷ params) h =
     All-from_recursion (Lacks 36) (pairs_text (pair ∷ params) ∷ []) (texts, tt)
 
 -- neither a salt nor a key has a byte that is not a letter of values
-pub salt_and_key_lack : (c : ℕ) → is_value_letter c ≡ false → (salt key : Option (List ℕ)) → IfSome salt IsSalt → IfSome key IsKey
+salt_and_key_lack : (c : ℕ) → is_value_letter c ≡ false → (salt key : Option (List ℕ)) → IfSome salt IsSalt → IfSome key IsKey
     → All (Lacks c) (salt_and_key_parts salt key)
 salt_and_key_lack c other None key hs hk = All-nil (Lacks c)
 salt_and_key_lack c other (Some salt) None hs hk =
@@ -75,7 +75,7 @@ salt_and_key_lack c other (Some salt) (Some key) hs hk =
     (base64_lacks c other salt hs.are_bytes, (base64_lacks c other key hk.are_bytes, tt))
 
 -- no part of a hash has a `$`
-pub parts_lack : (text : List ℕ) (hash : PasswordHash) → IsHashText text hash → All (Lacks 36) (hash_parts hash)
+parts_lack : (text : List ℕ) (hash : PasswordHash) → IsHashText text hash → All (Lacks 36) (hash_parts hash)
 parts_lack text hash h =
     All-cons (Lacks 36) hash.algorithm _ (letters_lack is_identifier_letter 36 refl hash.algorithm (and_parts _ _ (and_parts _ _ h.algorithm).1).1)
     (All-append (Lacks 36) (version_part hash.version) _ (version_lacks hash.version h.version)
@@ -83,7 +83,7 @@ parts_lack text hash h =
     (salt_and_key_lack 36 refl hash.salt hash.hash h.salt h.key)))
 
 -- the text of parameters does not begin with `v=`, since no name is `v`
-pub params_no_version : (params : List (List ℕ × List ℕ)) → ArePairs params → All LacksVersion (params_part params)
+params_no_version : (params : List (List ℕ × List ℕ)) → ArePairs params → All LacksVersion (params_part params)
 params_no_version [] h = All-nil LacksVersion
 params_no_version (pair ∷ params) h =
     let is = pair_is pair (All-head IsPair pair params h.each) in
@@ -95,7 +95,7 @@ params_no_version (pair ∷ params) h =
     All-from_recursion LacksVersion (pairs_text (pair ∷ params) ∷ []) (text, tt)
 
 -- nor does what has no `=`
-pub lacking_no_version : (parts : List (List ℕ)) → All (Lacks 61) parts → All LacksVersion parts
+lacking_no_version : (parts : List (List ℕ)) → All (Lacks 61) parts → All LacksVersion parts
 lacking_no_version parts h = λ k d below rest e.
     let equals = subst (Lacks 61) e (h k d below) in
     false≢true (sym (All-get_or (λ b. (b == 61) ≡ false) (codes "v=" ++ rest) 1 0 (omega arith) equals))
@@ -105,9 +105,6 @@ lacking_no_version parts h = λ k d below rest e.
 pub leb_decided : (m n : ℕ) → Decides (nat_le m n) (m ≤ n)
 leb_decided m n = grind (arith, nat_tests)
 
-differ_decided : (xs ys : List ℕ) → Decides (not (bytes_eq xs ys)) (xs ≢ ys)
-differ_decided xs ys = Decides-not (bytes_eq xs ys) (bytes_eq-Decides xs ys)
-
 abbrev Differ : List ℕ × List ℕ → List ℕ × List ℕ → Type 0
 Differ first second = first.0 ≢ second.0
 
@@ -115,7 +112,7 @@ names_decided : (pairs : List (List ℕ × List ℕ)) → Decides (names_differ 
 names_decided [] = (λ _ i j d before inside. absurd (omega arith), λ _. refl)
 names_decided (pair ∷ pairs) =
     let first = Decides-by_and _ (Differ pair) (list_all (λ (other : List ℕ × List ℕ). not (bytes_eq pair.0 other.0)))
-    (λ other. differ_decided pair.0 other.0) refl (λ _ _. refl) pairs in
+    (λ other. Decides-not _ (bytes_eq-Decides pair.0 other.0)) refl (λ _ _. refl) pairs in
     Decides-like (names_differ (pair ∷ pairs)) (λ h. AllPairs-cons Differ pair pairs h.0 h.1)
     (λ (h : AllPairs Differ (pair ∷ pairs)). (
       λ k d below. h 0 (suc k) d (omega arith) (omega arith),
@@ -132,12 +129,9 @@ pairs_decided pairs = Decides-like (are_pairs pairs)
 
 bytes_decided : (xs : List ℕ) → Decides (list_all (λ byte. nat_lt byte 256) xs) (IsBytes xs)
 bytes_decided [] = (λ _ i. omega arith, λ _. refl)
-bytes_decided (x ∷ xs) = Decides-like (list_all (λ byte. nat_lt byte 256) (x ∷ xs)) each
+bytes_decided (x ∷ xs) =
+    Decides-like (list_all (λ byte. nat_lt byte 256) (x ∷ xs)) (λ (h : (x < 256) × IsBytes xs). IsBytes-cons x xs h.0 h.1)
     (λ (h : IsBytes (x ∷ xs)). (h 0, λ i. h (suc i))) (Decides-and _ _ (Decides-ltb x 256) (bytes_decided xs))
-  where
-    each : (x < 256) × IsBytes xs → IsBytes (x ∷ xs)
-    each h zero = h.0
-    each h (suc i) = h.1 i
 
 pub within_decided : (least most : ℕ) (xs : List ℕ) → Decides (are_bytes_from_to least most xs) (AreBytesFromTo least most xs)
 within_decided least most xs = Decides-like (are_bytes_from_to least most xs)
@@ -145,7 +139,7 @@ within_decided least most xs = Decides-like (are_bytes_from_to least most xs)
     (λ (are : AreBytesFromTo least most xs). (are.enough, (are.fits, are.are_bytes)))
     (Decides-and _ _ (leb_decided _ _) (Decides-and _ _ (leb_decided _ _) (bytes_decided xs)))
 
-pub pairs_exact : (text : List ℕ) (pairs : List (List ℕ × List ℕ))
+pairs_exact : (text : List ℕ) (pairs : List (List ℕ × List ℕ))
     → (parsed_pairs text ≡ Some pairs) ↔ (ArePairs pairs × (text ≡ pairs_text pairs))
 unfolding parsed_pairs
 pairs_exact text pairs = (

@@ -1,7 +1,8 @@
 -- Crypt Base64: the encoding of bytes in the letters of crypt(5).
 use Rattle.std.specs.Prelude.{◌≡◌, ◌==◌, ℕ, zero, suc, ◌+◌, ◌*◌, ◌/◌, ◌%◌, ◌<◌, ◌≤◌, List, [], ◌∷◌, ◌++◌, Option, Some}
-use Rattle.std.specs.Prelude.{None, All, codes, if◌then◌else◌, length, position, slice_index, unwrap_or}
+use Rattle.std.specs.Prelude.{None, codes, if◌then◌else◌, length, position, slice_index, unwrap_or}
 use Rattle.std.specs.Str.{bytes_eq}
+pub use Rattle.base64.specs.GeneralPurpose.{IsBytes}
 
 -- the alphabet: the letter of each value from 0 to 63
 abbrev pub alphabet : List ℕ
@@ -43,7 +44,7 @@ crypt64_of (a ∷ b ∷ c ∷ rest) = letters_of 4 (a + 256 * b + 65536 * c) ++ 
 
 -- these letters are the encoding of these bytes
 pub record Crypt64 (bytes letters : List ℕ) : Type 0 where
-  pub are_bytes : All (λ byte. byte < 256) bytes
+  pub are_bytes : IsBytes bytes
   pub encoding : letters ≡ crypt64_of bytes
 
 -- these letters are the encoding of some bytes
@@ -74,6 +75,6 @@ pub record IsPiece (at n all : ℕ) : Type 0 where
 
 -- the letters begin with the encoding of these bytes, followed by the rest
 pub record Begins (letters bytes rest : List ℕ) : Type 0 where
-  pub are_bytes : All (λ byte. byte < 256) bytes
+  pub are_bytes : IsBytes bytes
   pub whole : letters ≡ crypt64_of bytes ++ rest
   pub groups : 0 < length rest → length bytes % 3 ≡ 0

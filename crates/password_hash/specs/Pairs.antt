@@ -7,6 +7,14 @@ use Rattle.std.specs.Str.{bytes_eq}
 use Rattle.password_hash.specs.Letters.{is_identifier, is_value}
 use Rattle.password_hash.specs.Parts.{pieces_left}
 
+-- the byte between a name and its value
+abbrev pub equals : ℕ
+equals = 61
+
+-- the byte between two pairs
+abbrev pub comma : ℕ
+comma = 44
+
 -- a name, which is an identifier and is not `v`, and a value
 abbrev pub is_pair : List ℕ × List ℕ → Bool
 is_pair pair = is_identifier pair.0 && (not (bytes_eq pair.0 (codes "v")) && is_value pair.1)
@@ -17,11 +25,11 @@ IsPair pair = IsTrue (is_pair pair)
 
 -- `name=value`
 abbrev pub pair_text : List ℕ × List ℕ → List ℕ
-pair_text pair = pair.0 ++ (codes "=" ++ pair.1)
+pair_text pair = pair.0 ++ (equals ∷ pair.1)
 
 -- the pairs, separated by `,`
 abbrev pub pairs_text : List (List ℕ × List ℕ) → List ℕ
-pairs_text pairs = join_with_byte 44 (map pair_text pairs)
+pairs_text pairs = join_with_byte comma (map pair_text pairs)
 
 -- the parameters of one hash: no name occurs twice, and the text has at most 127 bytes
 pub record ArePairs (pairs : List (List ℕ × List ℕ)) : Type 0 where
@@ -36,17 +44,17 @@ pair_eq first second = pointwise nat_eq first.0 second.0 && pointwise nat_eq fir
 -- the text with one more pair at its end
 abbrev pub with_pair : List ℕ → List ℕ × List ℕ → List ℕ
 with_pair [] pair = pair_text pair
-with_pair (byte ∷ text) pair = (byte ∷ text) ++ (codes "," ++ pair_text pair)
+with_pair (byte ∷ text) pair = (byte ∷ text) ++ (comma ∷ pair_text pair)
 
 -- the text before the first `=`, and the text after it
 abbrev pub pair_of : List ℕ → List ℕ × List ℕ
-pair_of text = (before_first (λ b. b == 61) text, after_first (λ b. b == 61) text)
+pair_of text = (before_first (λ b. b == equals) text, after_first (λ b. b == equals) text)
 
 -- the pairs that a text encodes
 abbrev pub pairs_of : List ℕ → List (List ℕ × List ℕ)
 pairs_of [] = []
-pairs_of (byte ∷ text) = map pair_of (slice_split (λ b. b == 44) (byte ∷ text))
+pairs_of (byte ∷ text) = map pair_of (slice_split (λ b. b == comma) (byte ∷ text))
 
 -- the pairs of the rest of a text of pairs, if there is a rest
 abbrev pub pairs_left : Option (Bor (List ℕ)) → List (List ℕ × List ℕ)
-pairs_left left = map pair_of (pieces_left 44 left)
+pairs_left left = map pair_of (pieces_left comma left)

@@ -7,7 +7,7 @@ use Rattle.base64.specs.Engines.{standard_no_pad}
 use Rattle.base64.specs.GeneralPurpose.{decoded_of}
 use Rattle.password_hash.specs.Decimal.{decimal_below}
 use Rattle.password_hash.specs.Letters.{is_identifier}
-use Rattle.password_hash.specs.Pairs.{is_pair, pairs_of, pairs_text}
+use Rattle.password_hash.specs.Pairs.{equals, is_pair, pairs_of, pairs_text}
 use Rattle.password_hash.specs.Parts.{parts_of}
 use Rattle.password_hash.specs.Phc.{base64}
 use Rattle.password_hash.specs.declared.phc.hash.PasswordHash.{PasswordHash}
@@ -45,14 +45,14 @@ abbrev pub version_and_rest : List (List ℕ) → Option (Option ℕ × List (Li
 version_and_rest [] = Some (None, [])
 version_and_rest (part ∷ after) =
     if starts_with nat_eq part (codes "v=")
-    then decimal_below (2 ^ 32) (after_first (λ byte. byte == 61) part) >>= (λ version. Some (Some version, after))
+    then decimal_below (2 ^ 32) (after_first (λ byte. byte == equals) part) >>= (λ version. Some (Some version, after))
     else Some (None, part ∷ after)
 
 -- the parameters, if the first part has a `=`, and the parts after them
 abbrev pub params_and_rest : List (List ℕ) → Option (List (List ℕ × List ℕ) × List (List ℕ))
 params_and_rest [] = Some ([], [])
 params_and_rest (part ∷ after) =
-    if list_any (λ byte. byte == 61) part then parsed_pairs part >>= (λ pairs. Some (pairs, after)) else Some ([], part ∷ after)
+    if list_any (λ byte. byte == equals) part then parsed_pairs part >>= (λ pairs. Some (pairs, after)) else Some ([], part ∷ after)
 
 -- the salt and the key after it, if they are there; no part may follow
 abbrev pub salt_and_key : List (List ℕ) → Option (Option (List ℕ) × Option (List ℕ))

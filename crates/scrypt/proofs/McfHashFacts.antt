@@ -1,10 +1,9 @@
 use Rattle.std.proofs.Common.{◌≡◌, ◌≢◌, false, ℕ, List, [], ◌∷◌, ◌++◌, length, drop, Some, None, Ok, Err, refl, rules, ap, ap₂, ◌∙◌, append_assoc, lit<, IfErr, Option, codes, if◌then◌else◌, ok_or, IsTrue, bytes_eq, append-nil}
 use Rattle.std.proofs.lemmas.Slice.Eq.{bytes_eq-Decides}
-use Rattle.password_hash.specs.Crypt64.{Crypt64, IsCrypt64, crypt64_of, decoded}
+use Rattle.password_hash.specs.Crypt64.{IsBytes, Crypt64, IsCrypt64, crypt64_of, decoded}
 use Rattle.password_hash.specs.Mcf.{IsMcfText}
 use Rattle.password_hash.specs.Parts.{dollar, parts_of, parts_text}
 use Rattle.password_hash.specs.Refusal.{Algorithm, EncodingInvalid, OutputSize}
-use Rattle.password_hash.proofs.Crypt64Facts.{AreBytes}
 use Rattle.password_hash.proofs.McfFacts.{IsMcfText-from_parts, parts_of-IsMcfText}
 use Rattle.scrypt.specs.Accepted.{Parameters, are_accepted, is_output_len}
 use Rattle.scrypt.specs.McfParams.{params_letters, params_text, field_params}
@@ -70,7 +69,7 @@ pub record AreFields (s : Stored) (fields : List (List ℕ)) : Type 0 where
   pub written : fields ≡ (params_letters s.params.log_n s.params.r s.params.p ++ s.salt) ∷ crypt64_of s.key ∷ []
   pub params : IsTrue (are_accepted s.params.log_n s.params.r s.params.p)
   pub no_len : s.params.output_len ≡ None
-  pub key : AreBytes s.key
+  pub key : IsBytes s.key
   pub key_len : IsTrue (is_output_len (length s.key))
 
 pub fields_read : (fields : List (List ℕ)) (s : Stored) → read_fields fields ≡ Ok s → AreFields s fields

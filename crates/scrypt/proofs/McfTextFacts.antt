@@ -2,7 +2,7 @@ use Rattle.std.proofs.Common.{◌≡◌, ◌≢◌, ℕ, ◌^◌, ◌%◌, ◌<�
 use Rattle.std.proofs.lemmas.Str.{IsUtf8-from_ascii}
 use Rattle.std.proofs.lemmas.Str.Ascii.{IsAscii-from_all}
 use Rattle.std.proofs.lemmas.List.{append-nil, drop_all, drop_at}
-use Rattle.std.proofs.lemmas.List.Elements.{All-nil, All-cons, All-append, All-drop, All-from_get_or, All-from_recursion, All-head, All-weaker}
+use Rattle.std.proofs.lemmas.List.Elements.{All-nil, All-cons, All-append, All-drop, All-from_recursion, All-head, All-weaker}
 use Rattle.password_hash.specs.Crypt64.{letter, letters_of, crypt64_of, encoded_len}
 use Rattle.password_hash.specs.Mcf.{IsField, IsMcf, IsMcfText}
 use Rattle.password_hash.specs.Parts.{dollar}
@@ -118,7 +118,7 @@ made_text c password salt good fits =
       params = good;
       no_len = refl;
       salt = IsField-crypt64_of salt;
-      key = All-from_get_or (λ byte. byte < 256) key 0 (λ i below. key_by-are_bytes c password letters (key_len_or_default c) i);
+      key = key_by-are_bytes c password letters (key_len_or_default c);
       key_len = rw long fits;
     })
 

@@ -3,7 +3,7 @@ use Rattle.std.proofs.lemmas.Str.{IsUtf8-append, IsUtf8-from_ascii}
 use Rattle.std.proofs.lemmas.Str.Ascii.{IsAscii-from_all}
 use Rattle.std.proofs.lemmas.List.Elements.{All-cons, All-append, All-from_recursion, All-weaker}
 use Rattle.std.specs.Str.{IsUtf8}
-use Rattle.password_hash.specs.Crypt64.{crypt64_of, encoded_len, letter, letters_of}
+use Rattle.password_hash.specs.Crypt64.{IsBytes, crypt64_of, encoded_len, letter, letters_of}
 use Rattle.password_hash.specs.Mcf.{IsField}
 use Rattle.password_hash.specs.Parts.{dollar}
 use Rattle.password_hash.specs.Phc.{IsKey, IsSalt, hash_text}
@@ -40,7 +40,7 @@ phc_of_key c salt key fits salted keyed =
 -- a `$7$` hash
 
 pub mcf_of_key : (c : Parameters) (salt key : List ℕ) → IsTrue (are_accepted c.log_n c.r c.p) → IsField salt
-    → All (λ byte. byte < 256) key → IsTrue (is_output_len (length key)) → IsTextOfKey true c salt key (mcf_text (parts_of_key c salt key))
+    → IsBytes key → IsTrue (is_output_len (length key)) → IsTextOfKey true c salt key (mcf_text (parts_of_key c salt key))
 mcf_of_key c salt key fits field bytes len =
     let s = parts_of_key c salt key in
     let read = text_read (mcf_text s) s (record { whole = refl; params = fits; no_len = refl; salt = field; key = bytes; key_len = len }) in

@@ -1,6 +1,6 @@
 -- `$7$` hashes of crypt(5): how they are read and made.
-use Rattle.std.specs.Prelude.{◌≡◌, ℕ, ◌+◌, ◌<◌, List, [], ◌∷◌, ◌++◌, All, length, drop, codes, if◌then◌else◌, IsTrue, None, ok_or, Result, Ok, Err, bytes_eq}
-use Rattle.password_hash.specs.Crypt64.{crypt64_of, decoded, encoded_len}
+use Rattle.std.specs.Prelude.{◌≡◌, ℕ, ◌+◌, List, [], ◌∷◌, ◌++◌, length, drop, codes, if◌then◌else◌, IsTrue, None, ok_or, Result, Ok, Err, bytes_eq}
+use Rattle.password_hash.specs.Crypt64.{IsBytes, crypt64_of, decoded, encoded_len}
 use Rattle.password_hash.specs.Mcf.{IsField}
 use Rattle.password_hash.specs.Parts.{dollar, parts_of}
 use Rattle.password_hash.specs.Refusal.{Refusal, Algorithm, EncodingInvalid, OutputSize}
@@ -47,7 +47,7 @@ pub record IsMcfHashText (text : List ℕ) (s : Stored) : Type 0 where
   pub params : IsTrue (are_accepted s.params.log_n s.params.r s.params.p)
   pub no_len : s.params.output_len ≡ None
   pub salt : IsField s.salt
-  pub key : All (λ byte. byte < 256) s.key
+  pub key : IsBytes s.key
   pub key_len : IsTrue (is_output_len (length s.key))
 
 -- the key that these parameters make of a password and a salt: the salt of its derivation is the

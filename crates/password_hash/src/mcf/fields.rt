@@ -64,7 +64,7 @@ impl<'a> Field<'a> {
         ensures exact { (all : List ℕ) → Crypt64 all (field_text self.now)
             → IsTrue result ↔ (bytes.now ≡ take (length bytes.now) (drop at all)) }
     {
-        is_encoding(letters_of(self.text.as_bytes(), at, bytes.len()), bytes)
+        is_encoding(letters_at(self.text.as_bytes(), at, bytes.len()), bytes)
     }
 }
 
@@ -100,7 +100,7 @@ pub(super) fn is_field(text: &str) -> bool
 }
 
 /// Returns the part of `letters` that encodes `n` bytes from byte `at` on.
-fn letters_of(letters: &[u8], at: usize, n: usize) -> &[u8]
+fn letters_at(letters: &[u8], at: usize, n: usize) -> &[u8]
     requires { at / 3 * 4 + encoded_len n ≤ length letters.now }
     ensures { result.now ≡ take (encoded_len n) (drop (at / 3 * 4) letters.now) }
 {

@@ -1,5 +1,5 @@
-use Rattle.std.proofs.Common.{All, IsTrue, arith, length, rules, ◌<◌}
-use Rattle.std.proofs.lemmas.List.Elements.{All-from_get_or}
+use Rattle.std.proofs.Common.{IsTrue, arith, length, rules}
+use Rattle.password_hash.specs.Crypt64.{IsBytes}
 use Rattle.password_hash.specs.Mcf.{IsField}
 use Rattle.scrypt.specs.Accepted.{is_output_len}
 use Rattle.scrypt.specs.McfHash.{mcf_text}
@@ -11,7 +11,7 @@ pub returns-then-len-text-clause-short : goal.returns-then-len-text-clause-short
 returns-then-len-text-clause-short c is =
     let s = parts_of_key c.args.params.now c.args.salt.now c.args.key.now in
     let field : IsField c.args.salt.now = search rules in
-    let bytes : All (λ byte. byte < 256) c.args.key.now = All-from_get_or (λ byte. byte < 256) c.args.key.now 0 (λ i below. search rules) in
+    let bytes : IsBytes c.args.key.now = λ i. search rules in
     let len : IsTrue (is_output_len (length c.args.key.now)) = search rules in
     let made = mcf_of_key c.args.params.now c.args.salt.now c.args.key.now c.expose_invariant.ensures.accepted field bytes len in
     (mcf_text s, made, grind (arith, length-mcf_of_key c.args.params.now c.args.salt.now c.args.key.now))
@@ -20,7 +20,7 @@ pub returns-clause-read : goal.returns-clause-read
 returns-clause-read c =
     let s = parts_of_key c.args.params.now c.args.salt.now c.args.key.now in
     let field : IsField c.args.salt.now = search rules in
-    let bytes : All (λ byte. byte < 256) c.args.key.now = All-from_get_or (λ byte. byte < 256) c.args.key.now 0 (λ i below. search rules) in
+    let bytes : IsBytes c.args.key.now = λ i. search rules in
     let len : IsTrue (is_output_len (length c.args.key.now)) = search rules in
     let accepted = c.expose_invariant.ensures.accepted in
     let made = mcf_of_key c.args.params.now c.args.salt.now c.args.key.now accepted field bytes len in
