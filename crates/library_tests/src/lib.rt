@@ -5,8 +5,8 @@
 //! verifies.
 //!
 //! A function that returns no error does exactly what its contract states, and its definition is
-//! evaluated on the standards' vectors in `proofs/StandardFacts.antt` of its crate. The tables here
-//! test the compiled code on the same vectors, and on texts at the limits of each format.
+//! evaluated on vectors of the standards in `proofs/StandardFacts.antt` of its crate. The tables here
+//! run the compiled code on others, and on texts at the limits of each format.
 #![tactic(auto)]
 
 #[cfg(test)]

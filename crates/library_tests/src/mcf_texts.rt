@@ -94,7 +94,7 @@ fn ids_and_fields() -> Result<(), Fail> {
         }
         holds(is(hash.id(), id) && left.next().is_none(), text)?;
     }
-    for &text in &["", "$", "7", "$A$a", "$$a"] {
+    for &text in &["", "$", "7", "$A$a", "$$a", "$7a_$"] {
         let refused = PasswordHashRef::new(text).err();
         holds(refused == Some(mcf::Error::EncodingInvalid), text)?;
     }

@@ -1,23 +1,17 @@
 -- Texts, read and printed by the definitions alone, so that a wrong letter, order or bound in a
--- definition does not check.
-use Rattle.std.proofs.Common.{◌≡◌, ◌+◌, ◌*◌, ◌%◌, ℕ, Option, List, [], ◌∷◌, ◌++◌, map, replicate, codes, None, Some, refl, arith, lit<}
-use Rattle.std.specs.Prelude.{All}
+-- definition does not check. `library_tests` has those that the functions are called with, too.
+use Rattle.std.proofs.Common.{◌≡◌, ◌+◌, ◌*◌, ◌%◌, ℕ, Option, List, [], ◌∷◌, ◌++◌, map, replicate, codes, None, Some, refl}
 use Rattle.std.specs.Char.{digit_value}
 use Rattle.std.specs.Fmt.{digits}
 use Rattle.std.specs.List.{range_with_len}
-use Rattle.std.proofs.lemmas.Bool.{false≢true}
-use Rattle.std.proofs.lemmas.List.Elements.{All-from_recursion, All-weaker}
 unfoldable pub use Rattle.base64.specs.Decode.{groups_bytes, groups_error, scan_steps}
 unfoldable pub use Rattle.base64.specs.GeneralPurpose.{decoded_of}
 unfoldable pub use Rattle.base64.specs.Rfc4648.{encode_symbols}
 use Rattle.password_hash.specs.Crypt64.{bytes_of_number, crypt64_of, decoded, letter, letter_value, letters_of, number_of}
 use Rattle.password_hash.specs.Decimal.{decimal_below, has_plus_or_leading_zero}
-use Rattle.password_hash.specs.Mcf.{IsId, IsMcf, IsMcfText, id_of}
 use Rattle.password_hash.specs.Phc.{hash_text}
-use Rattle.password_hash.specs.Parts.{parts_of}
 use Rattle.password_hash.specs.PhcReading.{decoded_bytes, parsed_pairs, read_hash}
 use Rattle.password_hash.specs.declared.phc.hash.PasswordHash.{PasswordHash}
-use Rattle.password_hash.proofs.McfFacts.{IsMcfText-from_parts, IsMcfText-read}
 
 -- the bytes that hexadecimal digits spell, two for each
 abbrev bytes : List ℕ → List ℕ
@@ -37,13 +31,8 @@ read_as text algorithm version params salt key =
 -- texts, and the hashes that they are read as and printed of
 abbrev hash_texts : List (List ℕ × PasswordHash)
 hash_texts =
-    -- `passlib`'s hash of `password`
-    read_as (codes "$scrypt$ln=16,r=8,p=1$aM15713r3Xsvxbi31lqr1Q$nFNh2CVHVjNldFVKDHDlm4CbdRSCdEBsjjJxD+iCs5E")
-    (codes "scrypt") None ((codes "ln", codes "16") ∷ (codes "r", codes "8") ∷ (codes "p", codes "1") ∷ [])
-    (Some (bytes (codes "68cd79ef5debdd7b2fc5b8b7d65aabd5")))
-    (Some (bytes (codes "9c5361d8254756336574554a0c70e59b809b75148274406c8e32710fe882b391")))
     -- the hash of the PHC documents, by another algorithm
-    ∷ read_as (codes "$argon2id$v=19$m=65536,t=2,p=1$gZiV/M1gPc22ElAH/Jh1Hw$CWOrkoo7oJBQ/iyh7uJ0LO2aLEfrHwTWllSAxT0zRno")
+    read_as (codes "$argon2id$v=19$m=65536,t=2,p=1$gZiV/M1gPc22ElAH/Jh1Hw$CWOrkoo7oJBQ/iyh7uJ0LO2aLEfrHwTWllSAxT0zRno")
     (codes "argon2id") (Some 19) ((codes "m", codes "65536") ∷ (codes "t", codes "2") ∷ (codes "p", codes "1") ∷ [])
     (Some (bytes (codes "819895fccd603dcdb6125007fc98751f")))
     (Some (bytes (codes "0963ab928a3ba09050fe2ca1eee2742ced9a2c47eb1f04d6965480c53d33467a")))
@@ -73,17 +62,16 @@ hash_texts_read = refl
 -- texts that are not read
 abbrev refused_hash_texts : List (List ℕ)
 refused_hash_texts =
-    -- no algorithm, none after a `$`, a capital letter, a text before the first `$`, 33 letters
-    codes "" ∷ codes "$" ∷ codes "scrypt" ∷ codes "$Scrypt" ∷ codes "a$a" ∷ (36 ∷ replicate 33 97)
-    -- versions: none, a leading zero, a plus, 2 ^ 32, two, one after the parameters
-    ∷ codes "$a$v=" ∷ codes "$a$v=01" ∷ codes "$a$v=+1" ∷ codes "$a$v=4294967296" ∷ codes "$a$v=1$v=2" ∷ codes "$a$b=1$v=2"
-    -- parameters: no name, no value, no pair after a `,`, one name twice, the name `v`, another letter, two parts, 128 bytes
-    ∷ codes "$a$=1" ∷ codes "$a$b=" ∷ codes "$a$b=1," ∷ codes "$a$b=1,b=2" ∷ codes "$a$b=1,v=2" ∷ codes "$a$b=1=2" ∷ codes "$a$b=1$c=2"
-    ∷ (codes "$a$b=" ++ replicate 126 48)
-    -- salts: empty, a letter alone, a bit above the last byte, padding, 65 bytes
-    ∷ codes "$a$" ∷ codes "$a$a" ∷ codes "$a$aB" ∷ codes "$a$aA==" ∷ (codes "$a$" ++ replicate 87 65)
-    -- keys: empty, 9 bytes, a bit above the last byte, and a part after the key
-    ∷ codes "$a$aA$" ∷ codes "$a$aA$AAAAAAAAAAAA" ∷ codes "$a$aA$AAAAAAAAAAAAAB" ∷ codes "$a$aA$AAAAAAAAAAAAAA$aA"
+    -- a text before the first `$`
+    codes "a$a"
+    -- versions: none, a plus, two, one after the parameters
+    ∷ codes "$a$v=" ∷ codes "$a$v=+1" ∷ codes "$a$v=1$v=2" ∷ codes "$a$b=1$v=2"
+    -- parameters: no name, no pair after a `,`, the name `v`, another letter, two parts
+    ∷ codes "$a$=1" ∷ codes "$a$b=1," ∷ codes "$a$b=1,v=2" ∷ codes "$a$b=1=2" ∷ codes "$a$b=1$c=2"
+    -- salts: a letter alone, 65 bytes
+    ∷ codes "$a$a" ∷ (codes "$a$" ++ replicate 87 65)
+    -- keys: empty, a bit above the last byte, and a part after the key
+    ∷ codes "$a$aA$" ∷ codes "$a$aA$AAAAAAAAAAAAAB" ∷ codes "$a$aA$AAAAAAAAAAAAAA$aA"
     ∷ []
 
 pub hash_texts_refused : map read_hash refused_hash_texts ≡ map (λ text. None) refused_hash_texts
@@ -117,19 +105,10 @@ stepped n = map (λ i. (11 + 37 * i) % 256) (range_with_len 0 n)
 
 -- bytes and their letters
 abbrev crypt64_letters : List (List ℕ × List ℕ)
-crypt64_letters =
-    (bytes (codes ""), codes "")
-    ∷ (bytes (codes "ff"), codes "z1")
-    ∷ (bytes (codes "ffff"), codes "zzD")
-    ∷ (bytes (codes "ffffff"), codes "zzzz")
-    ∷ (bytes (codes "01"), codes "/.")
-    ∷ (bytes (codes "000000"), codes "....")
-    ∷ (bytes (codes "010203"), codes "/6k.")
-    ∷ (bytes (codes "986d90d343e07e4f7e00864f03040bf3"), codes "Mq4YHD2syxYT.MsH1Ek0n1")
-    ∷ (
-      bytes (codes "77d6576238657b203b19ca42c18a0497f16b4844e3074ae8dfdffa3fede21442"),
-      codes "rNxJWVHNv/mCNcgE/f6/L4zO6Fos5c2uTzhyzoisI62",
-    )
+crypt64_letters = (
+  bytes (codes "77d6576238657b203b19ca42c18a0497f16b4844e3074ae8dfdffa3fede21442"),
+  codes "rNxJWVHNv/mCNcgE/f6/L4zO6Fos5c2uTzhyzoisI62",
+)
     ∷ (stepped 64, codes "9.HJux7ldvkAMpbc5nS2qg3UZewvIYXL1WOnmT/DVNseELj4zEKWiCByR6oNA4fpv1GFex6hNvz66paYrmR.a.")
     ∷ (stepped 63, codes "9.HJux7ldvkAMpbc5nS2qg3UZewvIYXL1WOnmT/DVNseELj4zEKWiCByR6oNA4fpv1GFex6hNvz66paYrmR.")
     ∷ (stepped 62, codes "9.HJux7ldvkAMpbc5nS2qg3UZewvIYXL1WOnmT/DVNseELj4zEKWiCByR6oNA4fpv1GFex6hNvz66paYrmB")
@@ -143,45 +122,3 @@ bytes_encoded = refl
 pub letters_decoded : map (λ row. decoded row.1) crypt64_letters ≡ map (λ row. Some row.0) crypt64_letters
 unfolding bytes_of_number crypt64_of decoded letters_of letter letter_value number_of
 letters_decoded = refl
-
--- a letter alone, a bit above the last byte of one and of two, and padding, which is not a letter
-pub other_letters_are_not_decoded : map decoded (codes "z" ∷ codes "z2" ∷ codes "zzE" ∷ codes "zz=" ∷ []) ≡ None ∷ None ∷ None ∷ None ∷ []
-unfolding bytes_of_number crypt64_of decoded letters_of letter letter_value number_of
-other_letters_are_not_decoded = refl
-
--- MCF strings
-
--- texts, and their ids and fields
-abbrev mcf_texts : List (List ℕ × (List ℕ × List (List ℕ)))
-mcf_texts =
-    (codes "$7$a$$b", (codes "7", codes "a" ∷ [] ∷ codes "b" ∷ []))
-    ∷ (codes "$7$", (codes "7", [] ∷ []))
-    ∷ (codes "$7", (codes "7", []))
-    -- `libxcrypt`'s hash
-    ∷ (
-      codes "$7$CU..../....Mq4YHD2syxYT.MsH1Ek0n1$JyHIxez0DOwm0r6.kAIohc8UFBOLU4xX8a1wGBpLrw7",
-      (codes "7", codes "CU..../....Mq4YHD2syxYT.MsH1Ek0n1" ∷ codes "JyHIxez0DOwm0r6.kAIohc8UFBOLU4xX8a1wGBpLrw7" ∷ []),
-    )
-    ∷ []
-
-pub mcf_texts_read : All (λ (row : List ℕ × (List ℕ × List (List ℕ))). IsMcfText row.0 row.1.0 row.1.1) mcf_texts
-mcf_texts_read =
-    let read = λ (row : List ℕ × (List ℕ × List (List ℕ))). (parts_of row.0 ≡ [] ∷ row.1.0 ∷ row.1.1) × IsId row.1.0 in
-    All-weaker read _ (λ row is. IsMcfText-from_parts row.0 row.1.0 row.1.1 is.0 is.1) mcf_texts (All-from_recursion read mcf_texts (
-      (refl, (lit< tt, refl)),
-      ((refl, (lit< tt, refl)), ((refl, (lit< tt, refl)), ((refl, (lit< tt, refl)), tt))),
-    ))
-
--- texts without an id
-abbrev refused_mcf_texts : List (List ℕ)
-refused_mcf_texts = codes "" ∷ codes "$" ∷ codes "7" ∷ codes "$A$a" ∷ codes "$$a" ∷ codes "$7a_$" ∷ []
-
-pub mcf_texts_refused : All (λ text. ¬ IsMcf text) refused_mcf_texts
-unfolding id_of
-mcf_texts_refused =
-    let empty = λ (id : IsId []). absurd (omega (arith, id.0)) in
-    All-weaker (λ text. ¬ IsId (id_of text)) (λ text. ¬ IsMcf text) (λ text none is. none (IsMcfText-read text is).is_id) refused_mcf_texts
-    (All-from_recursion (λ text. ¬ IsId (id_of text)) refused_mcf_texts (
-      empty,
-      (empty, (empty, (λ id. false≢true id.1, (empty, (λ id. false≢true id.1, tt))))),
-    ))
