@@ -114,7 +114,7 @@ class Pages:
         """The first page, and the definitions that the headline and a verification depend on."""
         phrases, verifying = self.phrases(promises.ROWS["headline"]), self.phrases(promises.ROWS["verifying"])
         headline = self.reading("reading.html", "the headline", [clause for it in phrases for clause in it["clauses"]])
-        verdict = self.reading("verdict.html", "a verification", self.proof.clauses(promises.VERDICT))
+        verdict = self.reading("verdict.html", "a verification in your buffers", self.proof.clauses(promises.IN_BUFFERS))
         docs = {it: markup.first_sentence(self.proof.library.sources[it][""].doc) for it in self.proof.crates}
         self.write("index.html", "index.html", title="scrypt, proved", phrases=phrases, verifying=verifying, headline=headline,
                    verdict=verdict, crates=[(f"{it}.html", it, f"{docs[it]} {self.uses(it)}") for it in docs])

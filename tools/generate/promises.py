@@ -13,10 +13,17 @@ PAGE = "docs/PROMISES.md"
 ROWS = json.loads((Path(__file__).parent / "headline.json").read_text("utf-8"))
 GENERATED = re.compile(r"(<!-- generated: (.*?)(?:: (.*?))? -->\n\n).*?(\n\n<!-- end -->)", re.S)
 
-# The clauses of each of the two promises.
-KEY = ["scrypt::Params::new accepted", *(f"scrypt::scrypt_counted {it}" for it in ("length", "value", "counted"))]
-VERDICT = [f"scrypt::StoredHash::verify_with_buffers {it}" for it in ("verdict", "left", "counted")]
-VERDICT += ["scrypt::StoredHash::read reading"]
+# The clauses of the key, and with them those of its count, of a verification, and of one in the caller's buffers.
+KEY = ["scrypt::Params::new accepted", "scrypt::scrypt length", "scrypt::scrypt value"]
+COUNT = [*KEY, "scrypt::scrypt_counted counted"]
+VERDICT = [*KEY, "scrypt::StoredHash::verify verdict", "scrypt::StoredHash::read reading"]
+IN_BUFFERS = [*COUNT, *VERDICT, *(f"scrypt::StoredHash::verify_with_buffers {it}" for it in ("verdict", "left", "counted"))]
+LISTS = {
+    "For the key": KEY,
+    "For its count of `4*N*r*p` cores, with those of the key": COUNT,
+    "For a verification, with those of the key": VERDICT,
+    "For a verification in your own buffers, wiped, after exactly the cores of the hash, with all of these": IN_BUFFERS,
+}
 
 
 def quoted_function(source, name):
@@ -39,9 +46,9 @@ def quoted(library, path, names):
 
 
 def reading(proof):
-    """The definitions to read for the two promises, in reading order, with the lines of each file."""
+    """The definitions to read for each promise, in reading order, with the lines of each file."""
     known = set()
-    for title, clauses in (("For the key", KEY), ("For a verification, with those of the key", VERDICT)):
+    for title, clauses in LISTS.items():
         modules = proof.reading(proof.clauses(clauses))
         every = [it for _, those in modules for it in those]
         yield filled(f"{title}: {len(every)} definitions of {sum(it.lines for it in every)} lines.", "- ")
@@ -62,8 +69,8 @@ def headline(proof):
     """The headline as a quotation, and how much its clauses depend on; headline.json has the clauses of each phrase."""
     phrases = [(*row, [])[:2] for row in ROWS["headline"]]
     every = [it for _, those in proof.reading(proof.clauses([name for _, names in phrases for name in names])) for it in those]
-    more = sum(it.lines for it in every) - lines(proof, KEY)
-    depends = f"It depends on {len(every)} definitions: those of a key, [below](#what-to-review), and {more} more lines."
+    more = sum(it.lines for it in every) - lines(proof, COUNT)
+    depends = f"It depends on {len(every)} definitions: those of a key and its cores, [below](#what-to-review), and {more} more lines."
     return filled("".join(text for text, _ in phrases), "> ", "> ") + "\n\n" + filled(depends)
 
 
@@ -87,7 +94,7 @@ def wrong(proof):
     """The errors in PROMISES, and in the numbers of lines to read that other pages state."""
     found = [] if read(PAGE) == page(proof) else [f"{PAGE} differs from the sources: make promises"]
     key, verdict = lines(proof, KEY), lines(proof, VERDICT)
-    stated = {"docs/TRUST.md": f"{key} lines for the key, {verdict} for a verification", "README.md": f"[{verdict} lines]",
+    stated = {"docs/TRUST.md": f"{key} lines for the key, {verdict} for a verification, which include the {key}", "README.md": f"[{verdict} lines]",
               "docs/EVIDENCE.md": f"a reviewer of the key reads {key} |"}
     for path, words in stated.items():
         if words not in " ".join(read(path).split()):
