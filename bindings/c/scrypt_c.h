@@ -194,8 +194,9 @@ void scrypt_wipe(const scrypt_buffers *buffers);
 
 /* ---- Keys in steps, to show the progress of a derivation or to abandon it ---- */
 
-/* A derivation in steps of a given time, for callers that do something between the steps. The first
- * call and the last read the password, and it is not kept.
+/* A derivation in steps of a given time, for callers that do something between the steps. It has a
+ * copy of the password, because the last step needs it too: the caller may wipe its own after
+ * scrypt_derivation_new, and cannot finish with another one, whose key would be wrong.
  *
  *   scrypt_derivation *steps = NULL;
  *   double done = 0;
@@ -205,12 +206,12 @@ void scrypt_wipe(const scrypt_buffers *buffers);
  *     status = scrypt_derivation_run(steps, SCRYPT_STEP_MS, &done);
  *     show(done);
  *   }
- *   if (status == SCRYPT_OK) status = scrypt_derivation_finish(steps, password, password_len, key, 32);
+ *   if (status == SCRYPT_OK) status = scrypt_derivation_finish(steps, key, 32);
  *   scrypt_derivation_free(&steps);
  *
  * Threads: any thread may make the next call, but only one at a time.
  * fork: the child has its own copy, which it continues or frees.
- * Memory: until a derivation is freed, passwords can be guessed from its memory at little cost. */
+ * Memory: until a derivation is freed, its memory has the password. */
 typedef struct scrypt_derivation scrypt_derivation;
 
 /* Begins to derive the key of password and salt, output_len bytes long, and writes the derivation,
@@ -235,12 +236,10 @@ int scrypt_derivation_new(const void *password, size_t password_len, const void 
 SCRYPT_NODISCARD
 int scrypt_derivation_run(scrypt_derivation *derivation, uint32_t milliseconds, double *done);
 
-/* Writes the key after all chunks are mixed. The password and output_len must be those of
- * scrypt_derivation_new; with another password the key is wrong.
+/* Writes the key after all chunks are mixed. The output_len must be that of scrypt_derivation_new.
  * SCRYPT_E_NULL_POINTER, SCRYPT_E_UNFINISHED, SCRYPT_E_INVALID_OUTPUT_LEN. */
 SCRYPT_NODISCARD
-int scrypt_derivation_finish(const scrypt_derivation *derivation, const void *password, size_t password_len,
-                             uint8_t *output, size_t output_len);
+int scrypt_derivation_finish(const scrypt_derivation *derivation, uint8_t *output, size_t output_len);
 
 /* Wipes and frees a derivation, finished or not, and sets it to NULL. Does nothing if it is NULL. */
 void scrypt_derivation_free(scrypt_derivation **derivation);

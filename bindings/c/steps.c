@@ -2,6 +2,8 @@
 #include "groups.h"
 #include "system.h"
 
+#include <string.h>
+
 /* From blocks.c: freed memory is wiped, or unmapped. */
 void *clearing_malloc(size_t len);
 void clearing_free(void *block);
@@ -17,6 +19,8 @@ struct scrypt_derivation {
   size_t output_len;
   size_t max_mixes; /* of the next proved step: twice as many as any before */
   double mix_ns;    /* the time of a block mix in the last proved step; 0 before the first */
+  size_t password_len;
+  uint8_t password[]; /* the caller's: with another one at the end the key would be wrong */
 };
 
 #define PARAMS_OF(it) (it)->log_n, (it)->r, (it)->p
@@ -66,15 +70,16 @@ int scrypt_derivation_new(const void *password, size_t password_len, const void 
   if (output_len == 0 || output_len > SCRYPT_MAX_OUTPUT_LEN) return SCRYPT_E_INVALID_OUTPUT_LEN;
   tables = cost.tables < max_interleave() ? cost.tables : max_interleave();
   if (cost.table_len < MIN_INTERLEAVED_WORDS) tables = 1;
-  it = (scrypt_derivation *)clearing_malloc(sizeof *it);
+  it = (scrypt_derivation *)clearing_malloc(sizeof *it + password_len);
   if (it == NULL) return SCRYPT_E_OUT_OF_MEMORY;
   *it = (scrypt_derivation){.log_n = (uint8_t)log_n, .r = r, .p = p, .output_len = output_len,
-                            .max_mixes = FIRST_CORES / r + 1};
+                            .max_mixes = FIRST_CORES / r + 1, .password_len = password_len};
+  memcpy(it->password, bytes_of(password), password_len);
   if (!take_buffers(&it->buffers, &cost, tables) && (tables == 1 || !take_buffers(&it->buffers, &cost, 1))) {
     clearing_free(it);
     return SCRYPT_E_OUT_OF_MEMORY;
   }
-  status = cleared_scrypt_key_begin(bytes_of(password), password_len, bytes_of(salt), salt_len, PARAMS_OF(it),
+  status = cleared_scrypt_key_begin(it->password, password_len, bytes_of(salt), salt_len, PARAMS_OF(it),
                                     PARTS_OF(&it->buffers), &it->at);
   if (status != SCRYPT_OK) scrypt_derivation_free(&it);
   else *derivation = it;
@@ -120,11 +125,10 @@ int scrypt_derivation_run(scrypt_derivation *it, uint32_t milliseconds, double *
   return SCRYPT_OK;
 }
 
-int scrypt_derivation_finish(const scrypt_derivation *it, const void *password, size_t password_len, uint8_t *output,
-                             size_t output_len) {
-  if (it == NULL || is_null(password, password_len) || is_null(output, output_len)) return SCRYPT_E_NULL_POINTER;
+int scrypt_derivation_finish(const scrypt_derivation *it, uint8_t *output, size_t output_len) {
+  if (it == NULL || is_null(output, output_len)) return SCRYPT_E_NULL_POINTER;
   if (is_mixed(it) && output_len != it->output_len) return SCRYPT_E_INVALID_OUTPUT_LEN;
-  return cleared_scrypt_key_finish(bytes_of(password), password_len, PARAMS_OF(it), it->buffers.chunks,
+  return cleared_scrypt_key_finish(it->password, it->password_len, PARAMS_OF(it), it->buffers.chunks,
                                    it->buffers.chunks_len, &it->at, output != NULL ? output : it->buffers.chunks,
                                    output_len);
 }

@@ -30,7 +30,7 @@ static int derive_key(const uint8_t *password, size_t password_len, const uint8_
   if (status == SCRYPT_OK)
     status = scrypt_derivation_new(password, password_len, salt, salt_len, log_n, r, p, cost.bytes, len, &it);
   while (status == SCRYPT_OK && done < 1) status = scrypt_derivation_run(it, UINT32_MAX, &done);
-  if (status == SCRYPT_OK) status = scrypt_derivation_finish(it, password, password_len, key, len);
+  if (status == SCRYPT_OK) status = scrypt_derivation_finish(it, key, len);
   scrypt_derivation_free(&it);
   if (status == SCRYPT_OK && output_len > 0) memcpy(output, key, output_len);
   if (key != NULL) explicit_bzero(key, len);

@@ -45,7 +45,7 @@ func KeyContext(ctx context.Context, password, salt []byte, N, r, p, keyLen int,
 			}
 		}
 		if status == C.SCRYPT_OK {
-			status = C.scrypt_derivation_finish(derivation, pointer(password), size(password), bytes(key), size(key))
+			status = C.scrypt_derivation_finish(derivation, bytes(key), size(key))
 		}
 		return failed(status)
 	})

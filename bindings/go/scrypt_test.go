@@ -216,6 +216,10 @@ func TestKeyContextAndCalibrate(t *testing.T) {
 		}
 	})
 	check(t, err == context.DeadlineExceeded && key == nil && late < 2 && steps < 100, err, late, steps)
+	secret := []byte("pw")
+	key, err = KeyContext(context.Background(), secret, nil, 16, 8, 1, 32, func(float64) { wipe(secret) })
+	want, _ := Key([]byte("pw"), nil, 16, 8, 1, 32)
+	check(t, err == nil && string(key) == string(want), "a password that changes between the steps", key, want)
 	found, err := Calibrate(50*time.Millisecond, 32<<20)
 	check(t, err == nil && found.LogN >= 10 && found.LogN <= 15 && found.P >= 1 && found.KeyLen == 32, found, err)
 }

@@ -89,7 +89,7 @@ static int derive(uint32_t log_n, uint32_t p, size_t max_mem) {
   double done = 0;
   int status = scrypt_derivation_new(SECRETS, log_n, R, p, max_mem, sizeof key, &it);
   while (status == SCRYPT_OK && done < 1) status = scrypt_derivation_run(it, 10, &done);
-  if (status == SCRYPT_OK) status = scrypt_derivation_finish(it, "password", 8, key, sizeof key);
+  if (status == SCRYPT_OK) status = scrypt_derivation_finish(it, key, sizeof key);
   scrypt_derivation_free(&it);
   return status;
 }

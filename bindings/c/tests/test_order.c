@@ -28,9 +28,9 @@ static int a_key(void) { return memcmp(made.output, KEY, sizeof KEY) == 0; }
 static int is_all_done(void) { return *made.done == 1; }
 static int is_new(void) {
   double done = 0;
-  int status = scrypt_derivation_finish(*made.derivation, "pw", 2, made.output, 20) == SCRYPT_E_UNFINISHED ? SCRYPT_OK : -1;
+  int status = scrypt_derivation_finish(*made.derivation, made.output, 20) == SCRYPT_E_UNFINISHED ? SCRYPT_OK : -1;
   if (status == SCRYPT_OK) status = scrypt_derivation_run(*made.derivation, 60000, &done);
-  if (status == SCRYPT_OK) status = scrypt_derivation_finish(*made.derivation, "pw", 2, made.output, 20);
+  if (status == SCRYPT_OK) status = scrypt_derivation_finish(*made.derivation, made.output, 20);
   scrypt_derivation_free(made.derivation);
   return status == SCRYPT_OK && done == 1 && *made.derivation == NULL && a_key();
 }
@@ -227,10 +227,10 @@ TEST(derivations) {
   meets("derivation: memory", NEW(SECRETS, HUGE, 1, 1, SCRYPT_AUTO, 20), SCRYPT_E_OUT_OF_MEMORY);
   check(it == NULL, "no derivation");
   check(NEW(SECRETS, PARAMS, 5376, 20) == SCRYPT_OK, "a derivation in its bytes");
-  meets("derivation: unfinished, output", scrypt_derivation_finish(it, "pw", 2, key, 19), SCRYPT_E_UNFINISHED);
+  meets("derivation: unfinished, output", scrypt_derivation_finish(it, key, 19), SCRYPT_E_UNFINISHED);
   check(scrypt_derivation_run(it, 60000, &done) == SCRYPT_OK && done == 1, "all is mixed");
-  meets("derivation: a shorter output", scrypt_derivation_finish(it, "pw", 2, key, 19), SCRYPT_E_INVALID_OUTPUT_LEN);
-  meets("derivation: no output", scrypt_derivation_finish(it, "pw", 2, NULL, 0), SCRYPT_E_INVALID_OUTPUT_LEN);
+  meets("derivation: a shorter output", scrypt_derivation_finish(it, key, 19), SCRYPT_E_INVALID_OUTPUT_LEN);
+  meets("derivation: no output", scrypt_derivation_finish(it, NULL, 0), SCRYPT_E_INVALID_OUTPUT_LEN);
   scrypt_derivation_free(&it);
 }
 

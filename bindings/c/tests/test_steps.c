@@ -29,17 +29,20 @@ TEST(by_time) {
     scrypt_derivation *it = NULL;
     double done = 0, last = 0;
     size_t runs = 0;
-    int status = scrypt_derivation_new("pw", 2, "salt", 4, log_n, r, p, SCRYPT_AUTO, 32, &it);
+    char password[] = "pw";
+    int status = scrypt_derivation_new(password, 2, "salt", 4, log_n, r, p, SCRYPT_AUTO, 32, &it);
+    memset(password, 0, sizeof password); /* the derivation has its own */
     for (; status == SCRYPT_OK && done < 1; runs++, last = done) {
-      check(scrypt_derivation_finish(it, "pw", 2, key, 32) == SCRYPT_E_UNFINISHED, ROWS[i].why);
+      check(scrypt_derivation_finish(it, key, 32) == SCRYPT_E_UNFINISHED, ROWS[i].why);
       status = scrypt_derivation_run(it, ROWS[i].milliseconds, &done);
       check(done > last && done <= 1, ROWS[i].why);
     }
     check(status == SCRYPT_OK && runs <= max_runs, ROWS[i].why);
     check(scrypt_derivation_run(it, 10, &done) == SCRYPT_OK && done == 1, "a run after the last");
     check(scrypt_key("pw", 2, "salt", 4, log_n, r, p, wanted, 32) == SCRYPT_OK, ROWS[i].why);
-    check(scrypt_derivation_finish(it, "pw", 2, key, 32) == SCRYPT_OK && memcmp(key, wanted, 32) == 0, ROWS[i].why);
-    check(scrypt_derivation_finish(it, "PW", 2, key, 32) == SCRYPT_OK && memcmp(key, wanted, 32) != 0, "another password");
+    check(scrypt_derivation_finish(it, key, 32) == SCRYPT_OK && memcmp(key, wanted, 32) == 0, ROWS[i].why);
+    memset(key, 0, sizeof key);
+    check(scrypt_derivation_finish(it, key, 32) == SCRYPT_OK && memcmp(key, wanted, 32) == 0, "the same key again");
     scrypt_derivation_free(&it);
     scrypt_derivation_free(&it);
     check(it == NULL, "freed");
@@ -54,7 +57,7 @@ static int is_derived(void) {
   double done = 0;
   int status = SCRYPT_OK;
   while (status == SCRYPT_OK && done < 1) status = scrypt_derivation_run(shared, 1, &done);
-  if (status == SCRYPT_OK) status = scrypt_derivation_finish(shared, "pw", 2, key, 32);
+  if (status == SCRYPT_OK) status = scrypt_derivation_finish(shared, key, 32);
   scrypt_derivation_free(&shared);
   return status != SCRYPT_OK || memcmp(key, its_key, 32) != 0;
 }

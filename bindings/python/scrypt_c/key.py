@@ -91,8 +91,7 @@ def derived(
                 status = lib.scrypt_derivation_run(derivation, STEP_MS, done)
                 if progress is not None:
                     progress(done.value)
-            finish = lib.scrypt_derivation_finish
-            status = status or finish(derivation, password, len(password), key, dklen)
+            status = status or lib.scrypt_derivation_finish(derivation, key, dklen)
         finally:
             lib.scrypt_derivation_free(derivation)
     if status:

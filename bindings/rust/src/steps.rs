@@ -54,9 +54,7 @@ pub fn scrypt_in_steps(
         }
     }
     // SAFETY: as above.
-    DeriveError::check(unsafe {
-        scrypt_derivation_finish(derivation.0, password_at, password.len(), at, len)
-    })
+    DeriveError::check(unsafe { scrypt_derivation_finish(derivation.0, at, len) })
 }
 
 // Dropping it wipes and frees what the library keeps of a derivation.
