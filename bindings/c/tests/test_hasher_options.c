@@ -23,6 +23,7 @@ static const struct {
     {"no salt in a $7$ hash", OF(4, 8, 1, .mcf = 1, .salt_len = 0), SCRYPT_E_SALT_INVALID},
     {"a salt of 65 bytes, and then the memory", OF(4, 8, 1, .salt_len = 65, .max_mem = 1), SCRYPT_E_SALT_INVALID},
     {"no bytes", OF(4, 8, 1, .max_mem = 0), SCRYPT_E_TOO_COSTLY},
+    {"no bytes, and as many tables as fit", OF(4, 8, 1, .max_mem = 0, .max_tables = SCRYPT_AUTO), SCRYPT_E_TOO_COSTLY},
     {"too few bytes", OF(14, 8, 1, .max_mem = 1 << 20), SCRYPT_E_TOO_COSTLY},
     {"no work", OF(4, 8, 1, .max_work = 0), SCRYPT_E_TOO_COSTLY},
     {"too little work", OF(14, 8, 1, .max_work = 1 << 10), SCRYPT_E_TOO_COSTLY},

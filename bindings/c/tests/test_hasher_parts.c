@@ -25,6 +25,14 @@ TEST(refused_verifications) {
   scrypt_hasher_free(&hasher);
 }
 
+/* The buffers take 2^64 - 9216 bytes, which with a huge page is more than 2^64. */
+TEST(all_addresses) {
+  const scrypt_options with = OF(4, 8, 1, .max_mem = SIZE_MAX, .max_work = UINT64_MAX);
+  scrypt_hasher *hasher = made_of(&with);
+  IS(verify(hasher, TEXT_OF("27,r=1073741800,p=1", "AA"), "", -1), SCRYPT_E_OUT_OF_MEMORY);
+  scrypt_hasher_free(&hasher);
+}
+
 TEST(refused_hashes) {
   char text[SCRYPT_PHC_CAPACITY], mcf[SCRYPT_MCF_CAPACITY(3)], salt[65] = "";
   scrypt_options with = OF(4, 8, 2, .mcf = 1);

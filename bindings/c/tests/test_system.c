@@ -1,11 +1,26 @@
 /* Tests the promises of system.h, on the included sources for this system. test_salt.c tests the
- * random bytes. */
+ * random bytes too. */
 #define _GNU_SOURCE
+#include <stdint.h>
 #ifdef _WIN32
 #include "windows.c"
 enum { HAS_FORKS = 0 };
 #else
+#include <errno.h>
+#include <sys/syscall.h>
+#include <unistd.h>
+
+/* getrandom is interrupted, and gives no more than this number of bytes, in turns. */
+static size_t max_drawn = SIZE_MAX, draws;
+static long drawn_in_pieces(void *bytes, size_t len, unsigned flags) {
+  if (max_drawn < SIZE_MAX && draws++ % 2 == 0) return errno = EINTR, -1;
+  return (syscall)(SYS_getrandom, bytes, len < max_drawn ? len : max_drawn, flags);
+}
+#define CALL_SYS_futex(...) (syscall)(SYS_futex, __VA_ARGS__)
+#define CALL_SYS_getrandom drawn_in_pieces
+#define syscall(number, ...) CALL_##number(__VA_ARGS__)
 #include "linux.c"
+#undef syscall
 enum { HAS_FORKS = 1 };
 #endif
 

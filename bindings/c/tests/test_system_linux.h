@@ -19,6 +19,18 @@ static void while_mapped(void) {
   in_a_child(child_finds_zeros, "a child");
 }
 
+/* ---- Random bytes ---- */
+
+TEST(random_bytes_in_pieces) {
+  uint8_t bytes[24] = {0};
+  max_drawn = 5;
+  check(random_bytes(bytes, 16) && draws == 8, "16 bytes, by fives");
+  check(is_all(0, bytes + 16, 8), "no byte behind them");
+  max_drawn = 0;
+  check(!random_bytes(bytes, 16), "none at all");
+  max_drawn = SIZE_MAX;
+}
+
 /* ---- Control groups ---- */
 
 /* Files of control groups in the folder of this test, instead of the system's. */
@@ -27,7 +39,7 @@ static void set_group(const char *line, const char *folder, const char *file) {
   snprintf(command, sizeof command,
            "set -e; rm -rf '%s'; g='%s/sys/fs/cgroup%s'; mkdir -p '%s/proc/self' \"$g\"; "
            "printf '%s\n' > '%s/proc/self/cgroup'; "
-           "set -- %s; f=$1; shift; echo \"$@\" > \"$g/$f\"; echo 100000 > \"$g/cpu.cfs_period_us\"",
+           "set -- %s; echo \"$2 $3\" > \"$g/$1\"; echo \"${3:-100000}\" > \"$g/cpu.cfs_period_us\"",
            ROOT, ROOT, folder, ROOT, line, ROOT, file);
   check(system(command) == 0, "a control group");
 }
@@ -42,6 +54,9 @@ TEST(processors_of_groups) {
                 {"0::/x/y", "", "cpu.max 200000 100000", 2},   /* in a container, with the path of the host */
                 {"0::/", "", "cpu.max 1000 100000", 1},
                 {"0::/", "", "cpu.max", 64},
+                {"0::/", "", "cpu.max 200000 0", 64},
+                {"4:cpu:/a", "/cpu", "cpu.cfs_quota_us 2 0", 2},
+                {"no colon\none:colon\n0::/a", "/a", "cpu.max 100000 100000", 1},
                 {"4:cpu,cpuacct:/a", "/cpu", "cpu.cfs_quota_us -1", 64},
                 {"9:memory:/m\n4:cpu,cpuacct:/a", "/cpu", "cpu.cfs_quota_us 150000", 2}, /* of version 1, in a container */
                 {"4:cpuacct,cpu:/a/b\n0::/x", "/cpu/a/b", "cpu.cfs_quota_us 150000", 2}, /* and outside of one */
