@@ -272,7 +272,7 @@ static int run(scrypt_hasher *hasher, struct call *call, int64_t timeout_ms) {
   struct queue *queue = hasher->queue;
   mutex_lock(&queue->lock);
   enter(hasher, call);
-  await(queue, call, timeout_ms);
+  await(queue, call, timeout_ms >= 0 ? timeout_ms : hasher->options.timeout_ms);
   if (call->state == LEADING) lead(hasher, call);
   queue->stats.failed +=
       call->status == SCRYPT_E_OUT_OF_MEMORY || call->status == SCRYPT_E_TIMEOUT || call->status == SCRYPT_E_BUSY;

@@ -52,6 +52,7 @@ void scrypt_options_init(scrypt_options *options) {
       .max_tables = SCRYPT_AUTO,
       .processors = SCRYPT_AUTO,
       .max_waiting = SCRYPT_AUTO,
+      .timeout_ms = -1,
   };
 }
 

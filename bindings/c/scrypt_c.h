@@ -475,6 +475,8 @@ typedef struct scrypt_options {
   size_t processors;        /* maximum number of slots: the CPUs that this process may use, */
                             /* by its affinity and CPU quota; one or more */
   size_t max_waiting;       /* maximum number of calls that wait for a slot: 1000; with 0 none */
+  /* -1: */
+  int64_t timeout_ms;       /* of calls whose own is negative; no limit if this is negative too */
 } scrypt_options;
 
 /* Writes the size and the defaults. Does nothing for NULL. */
@@ -495,8 +497,9 @@ const scrypt_options *scrypt_hasher_options(const scrypt_hasher *hasher);
  * hasher. If the password is right and needs_rehash is not NULL, *needs_rehash becomes 1 if the hash
  * is weaker than new hashes, so that a new one should be stored, and otherwise 0.
  * This and the next two calls wait for a slot of the hasher for up to timeout_ms milliseconds, or
- * without a limit if that is negative, and then return SCRYPT_E_TIMEOUT; the timeout doesn't end a
- * derivation. If max_waiting calls wait already, they return SCRYPT_E_BUSY immediately.
+ * if that is negative the hasher's timeout_ms, which is no limit by default, and then return
+ * SCRYPT_E_TIMEOUT; the timeout doesn't end a derivation. INT64_MAX is no limit. If max_waiting
+ * calls wait already, they return SCRYPT_E_BUSY immediately.
  * For an unknown user, pass NULL with text_len 0: the call verifies a decoy with
  * the parameters and lengths of new hashes, like scrypt_verify_batch_with_buffers, and returns
  * SCRYPT_MISMATCH after the work of a wrong password for such a hash, so that a timing attack

@@ -56,6 +56,11 @@ type Options struct {
 	// The maximum number of calls that wait for a slot: by default 1000. The next one returns ErrBusy
 	// immediately.
 	MaxWaiting int
+
+	// The maximum time that a call waits for a slot, unless its context has a deadline: by default
+	// no limit. Then it returns context.DeadlineExceeded, as at a deadline; but its derivation, once
+	// begun, does not end.
+	Timeout time.Duration
 }
 
 // A Hasher makes password hashes, and verifies passwords against hashes of either format. It is
@@ -84,6 +89,7 @@ type hasher struct {
 	refused atomic.Uint64 // how many calls failed: out of memory, too many waiting, or their context ended
 	slots   int64
 	waiting int64 // the maximum number of calls that wait
+	timeout time.Duration
 }
 
 // NewHasher returns a Hasher. Its errors show the options, and match (errors.Is) ErrInvalidParams,
@@ -94,7 +100,8 @@ func NewHasher(options Options) (*Hasher, error) {
 	options.LogN = orDefault(options.LogN, usual.LogN)
 	options.R = orDefault(options.R, usual.R)
 	options.P = orDefault(options.P, usual.P)
-	if options.MaxTables < 0 || options.Processors < 0 || options.MinKeyLen < 0 || options.MaxWaiting < 0 {
+	if options.MaxTables < 0 || options.Processors < 0 || options.MinKeyLen < 0 || options.MaxWaiting < 0 ||
+		options.Timeout < 0 {
 		return nil, fmt.Errorf("%w: %+v", ErrInvalidOption, options)
 	}
 	var with C.scrypt_options
@@ -117,7 +124,7 @@ func NewHasher(options Options) (*Hasher, error) {
 	if options.MCF {
 		with.mcf = 1
 	}
-	shared := &hasher{waiting: int64(orDefault(options.MaxWaiting, 1000))}
+	shared := &hasher{waiting: int64(orDefault(options.MaxWaiting, 1000)), timeout: options.Timeout}
 	with.max_waiting = ^C.size_t(0) // run counts those that wait in Go and in C
 	status := C.scrypt_hasher_new(&with, &shared.c)
 	most := C.size_t(runtime.GOMAXPROCS(0))
@@ -156,6 +163,7 @@ func (h *Hasher) Options() Options {
 		SaltLen: int(with.salt_len), MaxTables: int(with.max_tables), Processors: int(with.processors),
 		MaxWaiting: int(h.shared.waiting),
 		MaxMem:     uint64(with.max_mem), MaxWork: uint64(with.max_work), MinKeyLen: int(with.min_key_len),
+		Timeout: h.shared.timeout,
 	}
 }
 
@@ -288,8 +296,9 @@ func (h *Hasher) NeedsRehash(text string) (bool, error) {
 	return false, failed(status)
 }
 
-// run acquires the semaphore and makes a call in C, which waits until the deadline of the context.
-// When the context is done, run returns, and the call continues with its own copy of the password.
+// run acquires the semaphore and makes a call in C, which waits until the deadline of the context, or
+// that of Timeout if it has none. When the context is done, run returns, and the call continues with
+// its own copy of the password.
 func (h *Hasher) run(ctx context.Context, password []byte,
 	call func(password []byte, ms milliseconds) status) error {
 	if h.shared == nil {
@@ -301,29 +310,26 @@ func (h *Hasher) run(ctx context.Context, password []byte,
 	// The context's methods, which can panic, are called before anything is acquired.
 	shared, done := h.shared, ctx.Done()
 	end, isBounded := ctx.Deadline()
+	var late <-chan time.Time
+	if !isBounded && shared.timeout > 0 {
+		end, isBounded = time.Now().Add(shared.timeout), true
+		timer := time.NewTimer(shared.timeout)
+		defer timer.Stop()
+		late = timer.C
+	}
 	if shared.isFull(shared.calls.Add(1)) {
 		shared.calls.Add(-1)
 		shared.refused.Add(1)
 		return ErrBusy
 	}
-	isInside := false
-	leave := func() {
-		if isInside {
-			<-shared.inside
-		}
-		shared.calls.Add(-1) // also keeps it alive
-	}
-	select {
-	case shared.inside <- struct{}{}:
-		isInside = true
-	case <-done:
-	}
-	select {
-	case <-done:
-		leave()
+	if err := shared.acquire(ctx, done, late); err != nil {
+		shared.calls.Add(-1)
 		shared.refused.Add(1)
-		return endOf(ctx)
-	default:
+		return err
+	}
+	leave := func() {
+		<-shared.inside
+		shared.calls.Add(-1) // also keeps it alive
 	}
 	ended := make(chan status, 1)
 	go func(password []byte, ms milliseconds) {
@@ -343,6 +349,24 @@ func (h *Hasher) run(ctx context.Context, password []byte,
 	case <-done:
 		shared.refused.Add(1)
 		return endOf(ctx)
+	}
+}
+
+// acquire acquires the semaphore, until the context is done, or it is late.
+func (h *hasher) acquire(ctx context.Context, done <-chan struct{}, late <-chan time.Time) error {
+	select {
+	case h.inside <- struct{}{}:
+	case <-done:
+		return endOf(ctx)
+	case <-late:
+		return context.DeadlineExceeded
+	}
+	select {
+	case <-done:
+		<-h.inside
+		return endOf(ctx)
+	default:
+		return nil
 	}
 }
 

@@ -91,13 +91,13 @@ func TestOptions(t *testing.T) {
 	usual, large := newHasher(t, Options{}).Options(), newHasher(t, Options{Params: Params{LogN: 19, P: 2}}).Options()
 	tables, processors := usual.MaxTables, usual.Processors
 	maxMem, maxWork, minKeyLen := DefaultLimits()
-	check(t, usual == Options{Recommended(), false, 16, tables, processors, maxMem, maxWork, minKeyLen, 1000}, usual)
+	check(t, usual == Options{Recommended(), false, 16, tables, processors, maxMem, maxWork, minKeyLen, 1000, 0}, usual)
 	check(t, tables >= 1 && tables <= 2*processors && processors <= runtime.NumCPU(), usual)
 	check(t, large.MaxMem == 536875008 && large.MaxWork == 33556480, large)
 	for given, inside := range map[Options]int{
-		{Params{5, 3, 2, 20}, true, 1, 2, 3, 1 << 20, 1 << 16, 20, 1}:                                                     2 * perSlot,
-		{Params{5, 3, 2, 20}, true, 64, 3, 2, 1 << 20, 1 << 16, 1, 7}:                                                     2 * perSlot,
-		{Params{4, 8, 1, 32}, false, 16, math.MaxInt64, math.MaxInt64, math.MaxUint64, math.MaxUint64, 16, math.MaxInt64}: 4096,
+		{Params{5, 3, 2, 20}, true, 1, 2, 3, 1 << 20, 1 << 16, 20, 1, time.Second}:                                                       2 * perSlot,
+		{Params{5, 3, 2, 20}, true, 64, 3, 2, 1 << 20, 1 << 16, 1, 7, 0}:                                                                 2 * perSlot,
+		{Params{4, 8, 1, 32}, false, 16, math.MaxInt64, math.MaxInt64, math.MaxUint64, math.MaxUint64, 16, math.MaxInt64, math.MaxInt64}: 4096,
 	} {
 		hasher := newHasher(t, given)
 		check(t, hasher.Options() == given && cap(hasher.shared.inside) == inside, given, cap(hasher.shared.inside))
@@ -271,6 +271,29 @@ func TestContexts(t *testing.T) {
 	}
 }
 
+// A call waits for Timeout, outside of C and in it, unless its context has a deadline; a derivation
+// that has begun runs on.
+func TestTimeout(t *testing.T) {
+	far, cancel := context.WithTimeout(ctx, time.Hour)
+	defer cancel()
+	for _, isFull := range []bool{true, false} {
+		hasher := newHasher(t, Options{Params: small.Params, MaxTables: 1, Timeout: 20 * time.Millisecond})
+		inside, filled := hasher.shared.inside, 0
+		derived := make(chan error)
+		go func() { derived <- hasher.Verify(ctx, costly, nil) }()
+		wait(func() bool { return hasher.Stats().Deriving > 0 })
+		for ; isFull && len(inside) < cap(inside); filled++ {
+			inside <- struct{}{}
+		}
+		err := hasher.Verify(ctx, noHash, nil)
+		check(t, err == context.DeadlineExceeded && hasher.Stats() == Stats{0, 1, 1}, isFull, err, hasher.Stats())
+		for ; filled > 0; filled-- {
+			<-inside
+		}
+		check(t, hasher.Verify(far, noHash, nil) == ErrMismatch && <-derived == ErrMismatch, "a deadline wins, and it derives on")
+	}
+}
+
 // A call has its own copy of the password, which is wiped. In C it waits until its deadline.
 func TestRun(t *testing.T) {
 	hasher, password, own := newHasher(t, small), []byte("pw"), []byte{}
@@ -308,7 +331,7 @@ func TestDoneWithoutError(t *testing.T) {
 
 // Stats counts calls that wait, derive and fail. Close ends the calls that wait.
 func TestStats(t *testing.T) {
-	hasher := newHasher(t, Options{Params{LogN: 4}, false, 0, 1, 0, math.MaxUint64, math.MaxUint64, 0, 0})
+	hasher := newHasher(t, Options{Params{LogN: 4}, false, 0, 1, 0, math.MaxUint64, math.MaxUint64, 0, 0, 0})
 	check(t, hasher.Verify(ctx, huge, nil) == ErrOutOfMemory && hasher.Verify(ctx, "$7$", nil) == ErrEncodingInvalid)
 	busy(t, hasher)
 	canceled, cancel := context.WithCancel(ctx)

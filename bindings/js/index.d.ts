@@ -84,8 +84,8 @@ export interface CallOptions {
    */
   signal?: AbortSignal | undefined;
   /**
-   * The maximum milliseconds that the call waits for a worker, which may have to start. Default: no
-   * limit.
+   * The maximum milliseconds that the call waits for a worker, which may have to start. Default: the
+   * `timeout` of `configure`. `Infinity` is no limit.
    */
   timeout?: number | undefined;
 }
@@ -206,12 +206,14 @@ export function storedText(
   salt: Bytes, key: Bytes, options: { N: number; r: number; p: number },
 ): Promise<string>;
 /**
- * Sets the maximum number of workers, and of calls that wait for one. Defaults: one worker for each
- * CPU, up to four and, in Node, up to the number that fits into 7/8 of the memory of the
- * machine or the container; and 1000 calls.
+ * Sets the maximum number of workers, and of calls that wait for one, and the `timeout` of calls
+ * without their own. Defaults: one worker for each CPU, up to four and, in Node, up to the number
+ * that fits into 7/8 of the memory of the machine or the container; 1000 calls; and no limit.
  */
 export function configure(
-  options: { maxWorkers?: number | undefined; maxWaiting?: number | undefined },
+  options: {
+    maxWorkers?: number | undefined; maxWaiting?: number | undefined; timeout?: number | undefined;
+  },
 ): void;
 /** Whether this engine has WebAssembly with SIMD. */
 export function isSupported(): boolean;

@@ -8,19 +8,20 @@ import { MAX_WORKERS } from './machine.js';
 const IDLE_MS = 5000; // an idle worker ends after this time, and its memory is freed
 const MAX_TIMER = 2 ** 31 - 1; // milliseconds: a longer timer fires immediately
 
-let [maxWorkers, maxWaiting] = [MAX_WORKERS, 1000];
+let [maxWorkers, maxWaiting, usualTimeout] = [MAX_WORKERS, 1000, Infinity];
 
 const workers = new Set(); // all workers that have not ended
 const idle = [];
 const waiting = []; // the wait queue: calls that no worker has yet, oldest first
 let isFull = false; // a further worker could not start
 
-/** Sets the maximum number of workers, and of calls that wait for one. */
+/** Sets the maximum number of workers, and of calls that wait for one, and how long they do. */
 export function configure(given) {
   const options = optionsOf(given, 'configure');
   const most = count(options.maxWorkers, 'maxWorkers', maxWorkers, 1);
-  maxWaiting = count(options.maxWaiting, 'maxWaiting', maxWaiting);
-  maxWorkers = most;
+  const waits = count(options.maxWaiting, 'maxWaiting', maxWaiting);
+  usualTimeout = amount(options.timeout, 'timeout', usualTimeout);
+  [maxWorkers, maxWaiting] = [most, waits];
 }
 
 function start() {
@@ -193,11 +194,11 @@ function unlisten(signal, call) {
 // call waits for a worker.
 async function answer(call, signal, timeout) {
   const answered = new Promise((resolve, reject) => { Object.assign(call, { resolve, reject }); });
-  call.isEndedBySignal = signal !== undefined && timeout === undefined;
+  call.isEndedBySignal = signal !== undefined && timeout === Infinity;
   const message = `no worker was free within ${timeout} ms (timeout)`;
   const onTimeout = () => leave(call, new ScryptError('TIMEOUT', message));
   if (signal) listen(signal, call);
-  if (timeout !== undefined) call.timer = setTimeout(onTimeout, Math.min(timeout, MAX_TIMER));
+  if (timeout < Infinity) call.timer = setTimeout(onTimeout, Math.min(timeout, MAX_TIMER));
   compile().then((module) => {
     if (!call.isOver) enqueue(Object.assign(call, { module }));
   }, call.reject);
@@ -214,7 +215,7 @@ export async function call(name, args, { signal, timeout, onProgress }) {
   try {
     signal?.throwIfAborted();
     const request = { name, args, onProgress, isOver: false };
-    return await answer(request, signal, amount(timeout, 'timeout'));
+    return await answer(request, signal, amount(timeout, 'timeout', usualTimeout));
   } finally {
     for (const bytes of bytesAmong(args)) if (bytes.length > 0) bytes.fill(0); // that no worker got
   }

@@ -194,6 +194,18 @@ TEST(busy) {
   end("0");
 }
 
+/* A call's own timeout wins: only a negative one is that of the hasher. */
+TEST(timeout_of_the_hasher) {
+  begin("a timeout of the hasher", 1, 1);
+  hasher->options.timeout_ms = 200;
+  play("a");
+  timeouts = 3;
+  start('a', -1, SCRYPT_E_TIMEOUT), start('k', INT64_MIN, SCRYPT_E_TIMEOUT), start('a', 0, SCRYPT_E_TIMEOUT);
+  start('a', 600000, SCRYPT_OK), start('k', INT64_MAX, SCRYPT_OK);
+  play("!");
+  end("0 4 5");
+}
+
 TEST(calls_that_lead_or_follow_do_not_time_out) {
   begin("timeouts after the derivation has begun", 1, 2);
   start('a', 10000, SCRYPT_OK); /* also on a busy machine all have begun by then */

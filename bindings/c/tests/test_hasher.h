@@ -210,7 +210,8 @@ static int64_t longest_window(void) { return MAX_LINGER_NS; }
 #define OF(n, its_r, its_p, ...)                                                                          \
   {.size = sizeof(scrypt_options), .log_n = n, .r = its_r, .p = its_p, .key_len = SCRYPT_KEY_LEN,         \
    .salt_len = SCRYPT_SALT_LEN, .max_mem = SCRYPT_AUTO, .max_work = SCRYPT_AUTO,                          \
-   .min_key_len = SCRYPT_AUTO, .max_tables = 1, .processors = 1, .max_waiting = SCRYPT_AUTO, __VA_ARGS__}
+   .min_key_len = SCRYPT_AUTO, .max_tables = 1, .processors = 1, .max_waiting = SCRYPT_AUTO,           \
+   .timeout_ms = -1, __VA_ARGS__}
 static scrypt_hasher *made_of(const scrypt_options *options) {
   scrypt_hasher *hasher = NULL;
   IS(scrypt_hasher_new(options, &hasher), SCRYPT_OK);

@@ -107,10 +107,23 @@ const endings = {
     await answer(KEY);
     await Promise.all([first, ...others]);
     equal(answers.join(), '0,1,2,TIMEOUT,3', 'FIFO');
-    for (const timeout of [-1, NaN]) await refused('INVALID_LIMIT', () => call({ timeout }));
+    for (const timeout of [-1, NaN]) {
+      await refused('INVALID_LIMIT', () => call({ timeout }));
+      await refused('INVALID_LIMIT', () => configure({ timeout, maxWorkers: 3 }));
+    }
     for (const maxWorkers of [0, 2.5]) await refused('INVALID_LIMIT', () => configure({ maxWorkers }));
     for (const maxWaiting of [NaN, 0.5]) await refused('INVALID_LIMIT', () => configure({ maxWaiting }));
     configure({ maxWaiting: Infinity });
+  }),
+  'a timeout that is configured, and the one of a call, which wins': withWorkers(async (call, made, busy, answer, configure) => {
+    configure({ timeout: 20 });
+    const [first, soon] = [call({ timeout: Infinity }), refused('TIMEOUT', () => call(), '20 ms')];
+    await busy();
+    const late = [call({ timeout: 60000 }), call({ timeout: Infinity })];
+    await soon;
+    await refused('TIMEOUT', () => call({ timeout: 1 }), '1 ms');
+    for (let i = 0; i < 3; i++) await answer(KEY);
+    equal((await Promise.all([first, ...late])).join(), '1,1,1', 'answers');
   }),
   'bytes that no worker got are wiped': withWorkers(async (call, made, busy, answer, configure) => {
     configure({ maxWaiting: 2 });

@@ -54,7 +54,8 @@ class PasswordHasher:
 
     `mcf` makes `$7$` hashes of crypt(5) instead of PHC hashes. A hasher is thread-safe. It has
     `processors` slots, by default one for each CPU that this process may use, and calls
-    derive in slots; the others wait in FIFO order, and raise TimeoutError after `timeout` seconds.
+    derive in slots; the others wait in FIFO order, and raise TimeoutError after `timeout` seconds:
+    those of the call or, if they are None, of the hasher. math.inf is no limit.
     If `max_waiting` calls wait, by default 1000, the next one raises BusyError immediately.
     Waiting verifications with the same N, r and p are derived in one batch, which takes less time
     on some CPUs. An error, timeout or exception of one call does not affect the others.
@@ -158,17 +159,21 @@ class PasswordHasher:
     def __exit__(self, *_: object) -> None:
         self.close()
 
-    def hash(self, password: Password, *, salt: Optional[Bytes] = None) -> str:
+    def hash(
+        self, password: Password, *, salt: Optional[Bytes] = None, timeout: Optional[float] = None
+    ) -> str:
         """Returns a new hash, with this salt or with a random salt from the system."""
         secret = raw_password(password)
         raw_salt = None if salt is None else raw_bytes(salt, "a salt")
         salt_len = len(raw_salt or b"")
         text = ctypes.create_string_buffer(declared.PHC_CAPACITY + 2 * salt_len)
         arguments = secret, len(secret), raw_salt, salt_len, text, len(text)
-        self._check(self._run(lib.scrypt_hasher_hash, *arguments))
+        self._check(self._run(lib.scrypt_hasher_hash, timeout, *arguments), timeout)
         return text.value.decode("ascii")
 
-    def key(self, password: Password, *, salt: Bytes, key_len: int) -> bytes:
+    def key(
+        self, password: Password, *, salt: Bytes, key_len: int, timeout: Optional[float] = None
+    ) -> bytes:
         """Returns the key of a password and a salt, with the parameters of new hashes. It waits for
         a slot, as the other calls do."""
         secret, raw_salt = raw_password(password), raw_bytes(salt, "a salt")
@@ -176,7 +181,7 @@ class PasswordHasher:
             check(Status.INVALID_OUTPUT_LEN, f"key_len={key_len}")
         key = ctypes.create_string_buffer(key_len)
         arguments = secret, len(secret), raw_salt, len(raw_salt), key, key_len
-        self._check(self._run(lib.scrypt_hasher_key, *arguments))
+        self._check(self._run(lib.scrypt_hasher_key, timeout, *arguments), timeout)
         made = key.raw
         ctypes.memset(key, 0, key_len)
         return made
@@ -189,13 +194,15 @@ class PasswordHasher:
         if (log_n, r, p) == self._params[:3]:
             return self.key(password, salt=salt, key_len=key_len)
         limits = {"max_mem": self.options.max_mem, "max_work": self.options.max_work}
-        other = PasswordHasher(log_n, r, p, **self._options | limits)
+        other = PasswordHasher(log_n, r, p, **{**self._options, **limits})
         # In one statement: between an acquire and a try, a signal handler's exception would leave
         # the lock taken.
         with _OTHERS, other:
             return other.key(password, salt=salt, key_len=key_len)
 
-    def verify(self, hash: Union[str, bytes, None], password: Password) -> Literal[True]:
+    def verify(
+        self, hash: Union[str, bytes, None], password: Password, *, timeout: Optional[float] = None
+    ) -> Literal[True]:
         """Returns True if the password matches the hash, in either format.
 
         Otherwise raises VerifyMismatchError. If the hash is rejected, raises a RefusedHashError
@@ -206,53 +213,61 @@ class PasswordHasher:
         exists: see docs/HASHER.md of the repository.
         """
         raw, secret = None if hash is None else raw_text(hash), raw_password(password)
-        status = self._run(lib.scrypt_hasher_verify, secret, len(secret), raw, len(raw or b""), None)
+        arguments = secret, len(secret), raw, len(raw or b""), None
+        status = self._run(lib.scrypt_hasher_verify, timeout, *arguments)
         if lib.scrypt_status_is_invalid_hash(status) and secret.startswith((b"$scrypt$", b"$7$")):
             check(status, "the hash comes first, and then the password")
-        self._check(status, raw)
+        self._check(status, timeout, raw)
         return True
 
     def verify_and_update(
-        self, hash: Union[str, bytes, None], password: Password
+        self, hash: Union[str, bytes, None], password: Password, *, timeout: Optional[float] = None
     ) -> tuple[bool, Optional[str]]:
         """Returns whether the password matches the hash, and a new hash to store in its place if
         the password matches and the hash is weaker than new hashes, otherwise None. Raises the
         exceptions of `verify`, except VerifyMismatchError."""
         try:
-            self.verify(hash, password)
+            self.verify(hash, password, timeout=timeout)
         except VerifyMismatchError:
             return False, None
         assert hash is not None  # None matches no password
-        return True, self.hash(password) if self.check_needs_rehash(hash) else None
+        is_weak = self.check_needs_rehash(hash)
+        return True, self.hash(password, timeout=timeout) if is_weak else None
 
     def check_needs_rehash(self, hash: Union[str, bytes]) -> bool:
         """Returns whether a parameter of the hash, or the length of its key, is smaller than in new
         hashes."""
         raw = raw_text(hash)
-        status = lib.scrypt_hasher_needs_rehash(self._c, raw, len(raw))
+        status: int = lib.scrypt_hasher_needs_rehash(self._c, raw, len(raw))
         if status != Status.NEEDS_REHASH:
             check(status)
         return status == Status.NEEDS_REHASH
 
-    def _run(self, call: Callable[..., int], *arguments: object) -> int:
-        """Makes a call, which waits for at most `timeout` seconds, and returns its status. Python
-        runs signal handlers after it has returned."""
-        timeout = threading.TIMEOUT_MAX if self._timeout is None else self._timeout
-        return call(self._c, *arguments, math.ceil(1000 * timeout))
+    def _limit(self, timeout: Optional[float]) -> Optional[float]:
+        """Returns how long a call with this timeout waits."""
+        return self._timeout if timeout is None else seconds(timeout, "timeout")
+
+    def _run(self, call: Callable[..., int], timeout: Optional[float], *arguments: object) -> int:
+        """Makes a call, and returns its status. Python runs signal handlers after it has returned."""
+        limit = self._limit(timeout)
+        most = threading.TIMEOUT_MAX if limit is None else limit
+        return call(self._c, *arguments, math.ceil(1000 * most))
 
     def _judge(self, hash: str) -> None:
         """Raises the RefusedHashError of `verify` for this hash, without deriving."""
         raw, options = raw_text(hash), self.options
         limits = options.max_mem, options.max_work, options.min_key_len
-        self._check(lib.scrypt_hash_cost(raw, len(raw), *limits, declared.Cost()), raw)
+        self._check(lib.scrypt_hash_cost(raw, len(raw), *limits, declared.Cost()), text=raw)
 
-    def _check(self, status: int, text: Optional[bytes] = None) -> None:
+    def _check(
+        self, status: int, timeout: Optional[float] = None, text: Optional[bytes] = None
+    ) -> None:
         """Raises the error of a status for this hash, or for a new one. The hash is only read for a
         message that has its parameters."""
         if status not in (Status.KEY_TOO_SHORT, Status.OUT_OF_MEMORY, Status.TOO_COSTLY):
-            option = {Status.TIMEOUT: "timeout", Status.BUSY: "max_waiting"}.get(status)
-            values = {"timeout": self._timeout, "max_waiting": self.options.max_waiting}
-            check(status, f"{option}={values[option]}" if option else "")
+            limit, most = self._limit(timeout), self.options.max_waiting
+            about = {int(Status.TIMEOUT): f"timeout={limit}", int(Status.BUSY): f"max_waiting={most}"}
+            check(status, about.get(status, ""))
             return
         options = self.options
         limits = options.max_mem, options.max_work, options.min_key_len

@@ -69,16 +69,19 @@ class Threads(unittest.TestCase):
             other = threads.submit(hasher.verify, TEXT, "pw")
             until_waiting(hasher, 1)
             self.assertEqual(hasher.stats(), (1, 1, 0))
-            hasher._timeout = 0.1
-            with self.assertRaises(TimeoutError) as caught:
-                hasher.verify(TEXT, "pw")
-            self.assertIs(type(caught.exception), TimeoutError)
-            self.assertEqual(hasher.stats(), (1, 1, 1))
-            hasher._timeout = None
+            hasher._timeout = 60
+            for call in (hasher.verify, hasher.verify_and_update, lambda _, *of, **to: hasher.hash(*of, **to)):
+                with self.assertRaisesRegex(TimeoutError, "timeout=0.03$") as caught:
+                    call(TEXT, "pw", timeout=0.03)
+                self.assertIs(type(caught.exception), TimeoutError)
+            hasher._timeout = 0.01
+            with self.assertRaisesRegex(TimeoutError, "timeout=0.01$"):
+                hasher.key("pw", salt=b"", key_len=32)
+            self.assertEqual(hasher.stats(), (1, 1, 4))
             threads.submit(interrupt, 2)
-            self.assertRaises(KeyboardInterrupt, hasher.verify, TEXT, "pw")
+            self.assertRaises(KeyboardInterrupt, hasher.verify, TEXT, "pw", timeout=math.inf)
             self.assertIs(type(other.exception()), VerifyMismatchError)
-            self.assertEqual(hasher.stats(), (0, 0, 1))
+            self.assertEqual(hasher.stats(), (0, 0, 4))
 
     def test_a_bounded_queue(self):
         """If max_waiting calls wait, the next one returns at once, whatever it is."""
@@ -120,8 +123,9 @@ class Threads(unittest.TestCase):
     def test_timeout_in_milliseconds(self):
         """A timeout is rounded up to milliseconds, and limited to the maximum of threading."""
         longest = math.ceil(1000 * threading.TIMEOUT_MAX)
-        for timeout, wanted in [(0, 0), (0.1201, 121), (None, longest), (1e300, longest)]:
-            self.assertEqual(PasswordHasher(4, timeout=timeout)._run(lambda _, ms: ms), wanted)
+        for timeout, wanted in [(0, 0), (0.1201, 121), (None, longest), (1e300, longest), (math.inf, longest)]:
+            for hasher, of_call in ((PasswordHasher(4, timeout=timeout), None), (PasswordHasher(4), timeout)):
+                self.assertEqual(hasher._run(lambda _, ms: ms, of_call), wanted)
 
     def test_memory_is_freed(self):
         """A hasher frees its memory when it is closed or deleted."""

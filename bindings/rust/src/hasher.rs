@@ -37,7 +37,8 @@ pub struct Options {
     /// `None`, the default, means 1000.
     pub max_waiting: Option<usize>,
     /// How long a call waits for a slot before it returns `Timeout`, rounded up to milliseconds.
-    /// The time of the derivation does not count. `None`, the default, means no timeout.
+    /// The time of the derivation does not count. `None`, the default, means no timeout. The calls of
+    /// [`Hasher::with_timeout`] have another.
     pub timeout: Option<Duration>,
     /// The limits above which a hash is rejected: by default [`Limits::DEFAULT`], with 7/8 of the
     /// memory if that is less, or the cost of new hashes if that is more.
@@ -78,8 +79,8 @@ pub struct Stats {
 /// Makes password hashes, and verifies passwords against hashes of either format.
 ///
 /// A hasher is thread-safe, and a clone is the same hasher. Calls wait in FIFO order for one of
-/// [`Options::processors`] slots, and return `Timeout` after [`Options::timeout`], or `Busy` if
-/// [`Options::max_waiting`] calls wait already. Waiting
+/// [`Options::processors`] slots, and return `Timeout` after [`Options::timeout`] or that of
+/// [`Hasher::with_timeout`], or `Busy` if [`Options::max_waiting`] calls wait already. Waiting
 /// verifications with the same N, r and p are derived in one batch if there are tables for them,
 /// which takes less time on some CPUs. An error of one call does not affect the others.
 ///
@@ -89,7 +90,10 @@ pub struct Stats {
 ///
 /// A hasher is fork-safe: the child can use it, without the calls and the memory of the parent.
 #[derive(Clone, Debug)]
-pub struct Hasher(Arc<Inner>);
+pub struct Hasher {
+    inner: Arc<Inner>,
+    timeout: Option<Duration>, // of its calls
+}
 
 #[derive(Debug)]
 struct Inner {
@@ -148,7 +152,10 @@ impl Hasher {
         // SAFETY: both pointers are to local variables.
         let status = unsafe { scrypt_hasher_new(&raw, &mut hasher) };
         match NonNull::new(hasher) {
-            Some(raw) => Ok(Hasher(Arc::new(Inner { raw, options }))),
+            Some(raw) => {
+                let inner = Arc::new(Inner { raw, options });
+                Ok(Hasher { inner, timeout: options.timeout })
+            }
             None if status == TOO_COSTLY => {
                 let limits = options.limits.unwrap_or_default();
                 Err(Error::TooCostly(Cost::of(params, limits)))
@@ -157,14 +164,30 @@ impl Hasher {
         }
     }
 
+    /// Returns the same hasher, whose calls wait for up to this time, whatever [`Options::timeout`]
+    /// is; `None` means no timeout.
+    ///
+    /// ```
+    /// # fn main() -> Result<(), scrypt_c::Error> {
+    /// # let (hasher, text) = (scrypt_c::Hasher::default(), "$scrypt$ln=4,r=8,p=1$c2FsdA$fM2nCXqY+gxR4Ec9eLkeHw");
+    /// let login = hasher.with_timeout(Some(std::time::Duration::from_secs(10)));
+    /// let status = login.verify(b"hunter42", text);
+    /// # assert!(status.is_err());
+    /// # Ok(())
+    /// # }
+    /// ```
+    pub fn with_timeout(&self, timeout: Option<Duration>) -> Hasher {
+        Hasher { inner: self.inner.clone(), timeout }
+    }
+
     fn raw(&self) -> *mut RawHasher {
-        self.0.raw.as_ptr()
+        self.inner.raw.as_ptr()
     }
 
     // The timeout in milliseconds; -1 means no timeout.
     fn timeout_ms(&self) -> i64 {
         let ms = |time: Duration| (time.as_nanos() + 999_999) / 1_000_000;
-        self.0.options.timeout.map_or(-1, |time| i64::try_from(ms(time)).unwrap_or(i64::MAX))
+        self.timeout.map_or(-1, |time| i64::try_from(ms(time)).unwrap_or(i64::MAX))
     }
 
     /// Returns the options, with each default replaced by its value.
@@ -177,7 +200,8 @@ impl Hasher {
             max_waiting: Some(raw.max_waiting),
             limits: Some(Limits { max_mem: raw.max_mem, max_work: raw.max_work }),
             min_key_len: Some(raw.min_key_len),
-            ..self.0.options
+            timeout: self.timeout,
+            ..self.inner.options
         }
     }
 

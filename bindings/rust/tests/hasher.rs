@@ -171,18 +171,27 @@ fn a_bounded_queue() {
     });
 }
 
-/// While another call derives, a call waits until the timeout of its options.
+/// While another call derives, a call waits until its timeout, or that of the options.
 #[test]
 fn timeouts() {
     let costly = format!("$scrypt$ln=17,r=8,p=4$c2FsdHNhbHQ${}", "A".repeat(43));
-    for (timeout, min_ms) in [
-        (Duration::ZERO, 0),
-        (Duration::from_nanos(1), 1),
-        (Duration::from_millis(50), 50),
-        (Duration::MAX, u128::MAX),
+    const NOW: Option<Duration> = Some(Duration::ZERO);
+    const LONG: Option<Duration> = Some(Duration::MAX);
+    for (of_options, of_call, min_ms) in [
+        (NOW, None, 0),
+        (Some(Duration::from_nanos(1)), None, 1),
+        (Some(Duration::from_millis(50)), None, 50),
+        (LONG, None, u128::MAX),
+        (LONG, Some(NOW), 0),
+        (None, Some(Some(Duration::from_millis(50))), 50),
+        (NOW, Some(LONG), u128::MAX),
+        (NOW, Some(None), u128::MAX),
     ] {
-        let options = Options { max_tables: Some(1), timeout: Some(timeout), ..small() };
-        let hasher = Hasher::new(options).unwrap();
+        let options = Options { max_tables: Some(1), timeout: of_options, ..small() };
+        let of_all = Hasher::new(options).unwrap();
+        let hasher = of_call.map_or(of_all.clone(), |timeout| of_all.with_timeout(timeout));
+        assert_eq!(hasher.options().timeout, of_call.unwrap_or(of_options));
+        assert_eq!(of_all.options().timeout, of_options);
         thread::scope(|scope| {
             let deriving = scope.spawn(|| hasher.verify(b"pw", &costly));
             while hasher.stats().deriving == 0 {
