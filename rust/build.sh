@@ -80,6 +80,7 @@ RUSTFLAGS="-C relocation-model=pic $PROVED" "$top/rust/sysroot.sh" "$target" car
   --features c_library --target "$target" --crate-type staticlib -- --emit=obj="$PWD/$to/all.o"
 case $target in *-apple-*) exec mv "$to/all.o" "$to/scrypt_c.o" ;; esac # with all its names: the library is not built for it
 "${tools}nm" "$to/all.o" | awk '$NF ~ /^_+[ZR]/ { print $NF }' | sort -u > "$to/names"
+# shellcheck disable=SC2094 # it is read twice
 c++filt < "$to/names" | sed -E 's/::h([0-9a-f]{16})$/::<#\1>/; s/ /_/g' | paste -d= "$to/names" - | sed 's/^/--redefine-sym=/' > "$to/renamed"
 "${tools}objcopy" -w -g -G 'proved_*' -R .llvmbc -R .llvmcmd "@$to/renamed" "$to/all.o" "$to/scrypt_c.o"
 rm "$to/all.o" "$to/names" "$to/renamed"

@@ -48,8 +48,9 @@ if [ "$1" = install ]; then
   shift
   absent=$(absent $(for it; do rows "$it" | grep -v "($it).*|"; done | cut -d'|' -f2))
   if [ -z "$absent" ]; then echo "Every package is installed that make $* needs."; exit; fi
-  command -v apt-get > /dev/null && command -v dpkg-query > /dev/null && [ "$(id -u)" = 0 ] ||
+  if ! command -v apt-get > /dev/null || ! command -v dpkg-query > /dev/null || [ "$(id -u)" != 0 ]; then
     end "setup installs packages only as root on Debian; missing for make $* are:$absent"
+  fi
   echo "Installs these packages of Debian, in some minutes:$absent"
   mkdir -p build
   export DEBIAN_FRONTEND=noninteractive
@@ -63,7 +64,7 @@ name=$1 rows=$(rows "$1")
 if [ $# = 2 ]; then
   place=${DESTDIR:-}$2
   while ! [ -e "$place" ]; do place=$(dirname "$place"); done
-  [ -d "$place" ] && [ -w "$place" ] || end "install cannot write to $place: prefix=\$HOME/.local?"
+  if ! [ -d "$place" ] || ! [ -w "$place" ]; then end "install cannot write to $place: prefix=\$HOME/.local?"; fi
 fi
 # shellcheck disable=SC2046 # names without blanks
 absent=$(absent $(sed -n 's/.*|\(.*\)|$/\1/p' <<< "$rows"))

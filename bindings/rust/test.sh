@@ -37,6 +37,7 @@ fi
 crate cargo test --quiet
 crate cargo doc --quiet --no-deps
 if has rustfmt rustfmt; then crate cargo fmt --check; fi
+if has cargo-clippy rust-web-clippy; then crate cargo clippy --quiet --all-targets -- -D warnings; fi
 
 # The package, built elsewhere with its own library; without one the build prints what is missing.
 cp tools/release/NOTICES bindings/rust/

@@ -1,14 +1,16 @@
 #!/bin/sh
 # Runs the installed linters and formatters over everything except build output, and names the missing ones.
 set -eu
-failed=0
+failed=0 room=$(mktemp -d)
+trap 'rm -rf "$room"' EXIT
+python3 -B -m tools.generate.declarations "$room" # which mypy and gcc read
 
 # The files of a kind, except Rust's in rust/, which rust/build.sh formats, the Debian package of the linter, and its command, which prints nothing if all is well.
 lint() {
   kind=$1 package=$2
   shift 2
   if ! command -v "$1" > /dev/null; then
-    tools/lacks "$1" $package
+    tools/lacks "$1" "$package"
     return
   fi
   wrong=$(find bindings crates examples rust tools -name "$kind" -not -path '*/out/*' \
@@ -17,9 +19,16 @@ lint() {
 }
 
 lint '*.py' pyflakes3 pyflakes3
-# Not: what a sourced file assigns, or reads.
-lint '*.sh' shellcheck shellcheck --severity=warning --exclude=SC1090,SC2034,SC2154
+# Not: what a sourced file assigns, or reads; and the code of other languages, in single quotes.
+lint '*.sh' shellcheck shellcheck --exclude=SC1090,SC2034,SC2154,SC2016
+export MYPYPATH=bindings/python
+lint pyproject.toml mypy mypy --no-error-summary --cache-dir=/dev/null --package scrypt_c --config-file
 lint '*.c' cppcheck cppcheck --quiet --error-exitcode=1 --enable=warning,performance,portability --suppress='*:*/tests/*'
+# library.c includes most of the others.
+for it in bindings/c/library.c bindings/cli/terminal.c bindings/drop_in/drop_in.c; do
+  gcc -std=gnu99 -O2 -Wall -Wextra -Werror -fanalyzer '-DLIBRARY_VERSION="1"' -I"$room" -Ibindings/c -c "$it" \
+    -o "$room/made" && echo "ok gcc -fanalyzer $it" || failed=1
+done
 lint '*.go' golang-go gofmt -l
 lint '*.rs' rustfmt rustfmt --check --edition 2021 --config-path bindings/rust
 rattle=$(dirname "$(rt doc 2> /dev/null)")/bin/rattle

@@ -38,8 +38,8 @@ for PRESET in $presets; do
   generators=TGZ\;DEB
   if [ "$system" = windows ]; then generators=ZIP; fi
   (cd "build/$PRESET" && rm -rf packages && cpack -G "$generators" > "$parts/log") || { cat "$parts/log"; exit 1; }
-  cp build/$PRESET/packages/*scrypt-* "$dist"
-  cmake --install build/$PRESET --strip --prefix "$parts/$PRESET" > "$parts/log"
+  cp "build/$PRESET/packages/"*scrypt-* "$dist"
+  cmake --install "build/$PRESET" --strip --prefix "$parts/$PRESET" > "$parts/log"
   library=$(find "$parts/$PRESET" -name 'libscrypt_c.so.[0-9]*' -o -name scrypt_c.dll)
   (cd bindings/python && SCRYPT_C_LIBRARY=$library SCRYPT_C_MACHINE=$machine /usr/bin/python3 -B -m hatchling build -t wheel -d "$dist")
 done > /dev/null
@@ -56,7 +56,7 @@ cp "$@" bindings/go/*.go bindings/go/*.h bindings/go/libscrypt_c_*.a bindings/go
   "$parts/$module"
 packed "$module" "$module.tar.gz"
 files=$(python3 -c 'import json; print(*json.load(open("bindings/js/package.json"))["files"])')
-# shellcheck disable=SC2046 # names without blanks
+# shellcheck disable=SC2046,SC2086 # names without blanks
 (cd bindings/js && cp package.json README.md $(ls $files 2> /dev/null) "$parts/package")
 cp "$@" "$parts/package"
 packed package "$name.tgz"

@@ -22,4 +22,4 @@ build() {
 }
 (set -e; build "$@") > "$room/log" 2>&1 || { cat "$room/log"; exit 1; }
 diff -r build/dist "$again/build/dist"
-echo "the same byte by byte: $(ls build/dist | wc -l) files"
+echo "the same byte by byte: $(find build/dist -type f | wc -l) files"

@@ -19,6 +19,7 @@ by_esbuild() {
   mkdir -p "$package"
   # A release adds the files whose names are in capitals.
   files=$(node -p 'require("./bindings/js/package.json").files.join(" ")' | sed 's/ [A-Z].*//')
+  # shellcheck disable=SC2086 # names without blanks
   (cd bindings/js && cp package.json $files "$package")
   sed -n '/^```sh$/,/^```$/{/^```/d; p}' bindings/js/README.md > "$app/lines"
   sed -n '/^```javascript$/,/^```$/{/^```/d; p}' bindings/js/README.md > "$app/page.js"

@@ -94,7 +94,9 @@ def _check_column(*parts: object, key_len: int, padded: bool = False) -> None:
     try:
         users = get_user_model()
     except ImproperlyConfigured:  # of other users than Django's, or of none
-        from django.contrib.auth.base_user import AbstractBaseUser as users
+        from django.contrib.auth.base_user import AbstractBaseUser
+
+        users = AbstractBaseUser
     room = users._meta.get_field("password").max_length
     letters = _letters(key_len) + (-_letters(key_len) % 4 if padded else 0)
     size = sum(len(str(it)) + 1 for it in parts) + letters

@@ -3,6 +3,8 @@ type, ValueError for a closed hasher, TimeoutError, and OSError if there are no 
 
 from __future__ import annotations
 
+from typing import Union
+
 from .declared import Status
 from .library import lib
 
@@ -11,11 +13,11 @@ class ScryptError(Exception):
     """An error of this package. `status` is its `Status`; one that only a newer library has is an
     int."""
 
-    def __init__(self, status: Status, words: str) -> None:
+    def __init__(self, status: Union[Status, int], words: str) -> None:
         super().__init__(words)
         self.status = status
 
-    def __reduce__(self) -> tuple[type, tuple[Status, str]]:
+    def __reduce__(self) -> tuple[type, tuple[Union[Status, int], str]]:
         return type(self), (self.status, str(self))
 
 
@@ -63,13 +65,14 @@ class HashTooLongError(ScryptError, ValueError):
     """The hash is longer than Django's column for it. Nothing was derived."""
 
 
-# The exceptions of the statuses that a call of this package can return, except the statuses of an
-# invalid hash.
+# The exceptions of the statuses that a call of this package can return. Those of an invalid hash have
+# one.
 KINDS: dict[int, type[Exception]] = {
     Status.MISMATCH: VerifyMismatchError,
     Status.INVALID_PARAMS: InvalidParamsError,
     Status.INVALID_OUTPUT_LEN: InvalidOutputLenError,
     Status.OUT_OF_MEMORY: MemoryError,
+    Status.ENCODING_INVALID: InvalidHashError,
     Status.SALT_INVALID: InvalidSaltError,
     Status.TOO_COSTLY: TooCostlyError,
     Status.NO_RANDOM_BYTES: OSError,
@@ -86,7 +89,7 @@ def check(status: int, about: str = "") -> None:
     if status == 0:
         return
     is_invalid = lib.scrypt_status_is_invalid_hash(status)
-    kind = InvalidHashError if is_invalid else KINDS.get(status, ScryptError)
+    kind = KINDS[Status.ENCODING_INVALID] if is_invalid else KINDS.get(status, ScryptError)
     message = f"{lib.scrypt_strerror(status).decode()}{about and ': '}{about}"
     if not issubclass(kind, ScryptError):
         raise kind(message)
