@@ -3,7 +3,7 @@ import {
   NO_LIMIT, attempt, bytesOf, copiesOf, copyOf, isNone, lengthOf, limit, optionsOf, parameters,
   withDefaults, wrong,
 } from './arguments.js';
-import { MAX_KEY_LEN, SALT_LEN } from './declared.js';
+import { MAX_KEY_LEN, PHC_CAPACITY, SALT_LEN } from './declared.js';
 import { ScryptError, errorFor, errorOfHash } from './errors.js';
 import { host } from './host.js';
 import { Instance, places } from './instance.js';
@@ -13,7 +13,6 @@ import { keyInSteps, turn, verdictInSteps } from './steps.js';
 // Default limits on memory do not exceed the memory there is.
 const ofMachine = (bytes) => (bytes < MEMORY ? bytes : BigInt(MEMORY));
 const MAX_MEMORY = ofMachine(2n ** 30n + 2n ** 20n); // N = 2^20 with r = 8
-const TEXT_CAPACITY = 512; // the longest text of a hash, without its salt
 
 /** The calls, which block the thread. In a page's thread use them for small N. */
 export class Scrypt {
@@ -69,7 +68,7 @@ export class Scrypt {
     const keyLen = BigInt(lengthOf(options.dkLen));
     const maxMem = limit(options.maxmem, 'maxmem', MAX_MEMORY);
     return this.#run({ password, salt }, (instance, ...slices) => {
-      const text = instance.take(TEXT_CAPACITY + 2 * slices[1].length);
+      const text = instance.take(PHC_CAPACITY + 2 * slices[1].length);
       const [textLen] = instance.words(1);
       const buffers = instance.buffersFor(params, maxMem, NO_LIMIT);
       const places = [text, textLen.at, ...buffers];
@@ -153,7 +152,7 @@ export class Scrypt {
     if (N >= 1 && N < 64) wrong(hint, 'INVALID_PARAMS');
     const params = parameters(options);
     return this.#run({ salt, key }, (it, ...slices) => {
-      const text = it.take(TEXT_CAPACITY + 2 * (slices[0].length + slices[1].length));
+      const text = it.take(PHC_CAPACITY + 2 * (slices[0].length + slices[1].length));
       const [textLen] = it.words(1);
       const places = [...params, text, textLen.at];
       const [saltSlice, { at, length }] = slices;

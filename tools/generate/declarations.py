@@ -139,7 +139,8 @@ def javascript():
             sys.exit(f"crates/scrypt_c/src/statuses.rt: {name} is {number}, and {STATUSES.get(name)} in the header")
     yield f"// {NOTE}bindings/c: numbers, structures, the statuses and their words. DO NOT EDIT."
     yield from (f"export const {name} = {NUMBERS[name]};" for name in
-                ("RECOMMENDED_LOG_N", "RECOMMENDED_R", "RECOMMENDED_P", "SALT_LEN", "KEY_LEN", "MAX_KEY_LEN", "STEP_MS", *header.LIMITS))
+                ("RECOMMENDED_LOG_N", "RECOMMENDED_R", "RECOMMENDED_P", "SALT_LEN", "KEY_LEN", "MAX_KEY_LEN", "PHC_CAPACITY", "STEP_MS",
+                 *header.LIMITS))
     left_free = re.search(r"^#define LEFT_FREE (\d+)", read("bindings/c/options.c"), re.M)[1]
     yield from ("", "/** One part in this many of the memory is left to the program. */", f"export const LEFT_FREE = {left_free};")
     structures = STRUCTURES | header.structures_of(read("bindings/c/groups.h"))
