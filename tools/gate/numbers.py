@@ -6,7 +6,6 @@ repository decides, such as one of a standard, belongs to the end of numbers.txt
 """
 
 import builtins
-import fractions
 import glob
 import math
 import os
@@ -23,7 +22,7 @@ UNITS = ("[KMG]iB|bytes|(?:ASCII )?characters|ms|ns|seconds|hours|days|times|GHz
          "of the memory|calls for each").replace(" ", BLANK)
 # A number with its unit, two with one unit (`1 to 64 bytes`), a number after a name, or a part of something (`0.69`).
 QUANTITY = re.compile(
-    rf"(?<![\w.,/^*-])(?:(?P<first>(?:\d/)?{ONE})(?:{BLANK}(?:to|or|and){BLANK}(?P<last>{ONE}))?{BLANK}(?P<unit>{UNITS})\b"
+    rf"(?<![\w.,/^*-])(?:(?P<first>(?:\d+/)?{ONE})(?:{BLANK}(?:to|or|and){BLANK}(?P<last>{ONE}))?{BLANK}(?P<unit>{UNITS})\b"
     rf"|(?P<name>Python|Node|Rust|CMake|by{BLANK}default){BLANK}(?P<named>\d[\d.]*\d|\d)(?!,?\w)"
     rf"|(?P<count>\d+){BLANK}(?P<counted>tables|CPUs|logins)\b|(?P<part>0\.\d+)(?![.\w]))")
 
@@ -34,8 +33,10 @@ def quantities(text):
     for found in QUANTITY.finditer(text):
         unit = re.sub(BLANK, " ", found["unit"] or found["name"] or found["counted"] or "")
         for it in filter(None, map(found.group, ("first", "last", "named", "count", "part"))):
-            number = WORDS.index(it.lower()) if it.lower() in WORDS else fractions.Fraction(it.replace(",", ""))
-            made[float(number), "" if it.startswith("0.") else unit] = found.start()
+            number = str(WORDS.index(it.lower())) if it.lower() in WORDS else it.replace(",", "")
+            if not found["name"] and "/" not in number:
+                number = f"{float(number):.15g}"
+            made[number, "" if it.startswith("0.") else unit] = found.start()
     return made
 
 
@@ -131,6 +132,6 @@ def wrong_numbers(pages):
             text = re.sub(r"^\|.*", "", text, flags=re.M)
         for (number, unit), place in quantities(text).items():
             if (number, unit) not in known.keys() | elsewhere:
-                right = "; ".join(f"{it[0]:g} is that of {file}" for it, file in known.items() if it[1] == unit)
+                right = "; ".join(f"{it[0]} is that of {file}" for it, file in known.items() if it[1] == unit)
                 line = text.count("\n", 0, place) + 1
-                yield f"{path}:{line}: {TABLE} doesn't give this page {number:g} {unit}; {right}"
+                yield f"{path}:{line}: {TABLE} doesn't give this page {number} {unit}; {right}"
