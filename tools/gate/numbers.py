@@ -44,7 +44,7 @@ class Names(dict):
     """What the Python of a row names: the numbers of the C header, the methods, and the constants of the row's file."""
 
     def __init__(self, path):
-        self.path, self.text = path, read(path) if os.path.isfile(path) else ""
+        self.path, self.text = path, text_of(path)
         super().__init__(header.NUMBERS, MIB=1 << 20, words=WORDS, ceil=math.ceil, glob=glob.glob, Names=Names)
 
     def __missing__(self, name):
@@ -59,7 +59,7 @@ class Names(dict):
         """The number after a regular expression, as C, Rattle, JavaScript and the others define a constant."""
         value = r"(?:: usize)?[^\w\n]*(?:size_t\))?((?:DEFAULT_MAX_MEM|\d)[\d *<+.n]*)"
         if not (found := re.search(before + value, self.text, re.M)):
-            raise LookupError(f"{self.path} has no number after {before}")
+            raise LookupError(f"{self.path} has no number after {before}, as {TABLE} wants")
         text = found[1].replace("n", "").strip(" <")
         return text if "." in text else eval(text, dict(header.NUMBERS))
 
@@ -78,7 +78,10 @@ class Names(dict):
 
     def cell(self, row, name="milliseconds"):
         """A cell, by the beginnings of its line and of its column's name."""
-        return next(cell for line, cell in self.column(name) if line.startswith(f"{row} |"))
+        found = [cell for line, cell in self.column(name) if line.startswith(f"{row} |")]
+        if not found:
+            raise LookupError(f"{self.path} has no table with a line {row} and a column {name}, as {TABLE} wants")
+        return found[0]
 
     def growth(self, few, many):
         """How many times as many logins `many` tables for each CPU serve as `few`."""
@@ -104,6 +107,11 @@ def rows():
         yield names.path, number, [page_of(it) for it in " ".join(pages).split()]
 
 
+def text_of(path):
+    """A file, if there is one."""
+    return read(path) if os.path.isfile(path) else ""
+
+
 def page_of(name):
     """The path of a page, of which a row can leave out the folder and the ending."""
     folders = "", "docs/", "bindings/", "crates/", "examples/"
@@ -123,7 +131,7 @@ def wrong_numbers(pages):
     """The numbers that a page has to state, and those that it has without a row."""
     table = list(rows())
     for file, number, named in table:
-        yield from (f"{it} has to state {number}, as {file}" for it in named if not stands_in(number, read(it)))
+        yield from (f"{it} has to state {number}, as {file}" for it in named if not stands_in(number, text_of(it)))
     elsewhere = {it for _, number, named in table if not named for it in quantities(number)}
     for path in pages:
         known = {it: file for file, number, named in table if path in named for it in quantities(number)}
