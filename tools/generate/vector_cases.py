@@ -71,8 +71,7 @@ def accepted_keys():
         yield "Parameters", VALID, *numbers(*costs)
     for costs in [(2, 8, 1), (4, 1, 1), (8, 2, 3), (64, 1, 2), (4096, 1, 1), (4096, 3, 1)]:
         yield "ThinTable", VALID, *numbers(*costs)
-    for costs in [(1, 1, 1), (1, 8, 2), (1, 1, 100)]:
-        yield "CostOne", OPEN, *numbers(*costs)
+    yield from (("CostOne", OPEN, *numbers(*costs)) for costs in [(1, 1, 1), (1, 8, 2), (1, 1, 100)])
 
 
 def rejected_keys():
@@ -80,8 +79,7 @@ def rejected_keys():
     yield "EmptyOutput", OPEN, "0 bytes", {"dkLen": 0}
     for n in (0, 3, 15, 17, 1000, (1 << 32) + 16):
         yield "NotAPowerOfTwo", INVALID, *numbers(n)
-    for name in ("r", "p"):
-        yield "Zero", INVALID, f"{name} = 0", {name: 0}
+    yield from (("Zero", INVALID, f"{name} = 0", {name: 0}) for name in ("r", "p"))
     for r, p in [(1 << 15, 1 << 15), (1, TOP + 1), (TOP + 1, 1), (1, TOP + 2), (TOP + 2, 1), (TOP, 2), (2, TOP),
                  (TOP, TOP), (1 << 16, 1 << 16), (641, 6700417), (1 << 31, 2), ((1 << 32) - 1, (1 << 32) - 1),
                  (1 << 31, 1 << 26), ((1 << 32) + 1, 1), (1, (1 << 32) + 1), (8, 1 << 32)]:
@@ -90,8 +88,8 @@ def rejected_keys():
     for log_n, r in [(40, 8), (52, 32), (52, 33), (52, 8), (47, 1024), (24, 1 << 29), (28, TOP), (57, 1), (64, 8)]:
         about = f"N = 2^{log_n}, r = {r}: {(128 * r << log_n) % (1 << 64)} in 64 bits"
         yield "TableTooLarge", INVALID, about, {"N": 1 << log_n, "r": r}
-    for size in ((1 << 37) - 31, (1 << 37) + 32):
-        yield "OutputTooLong", INVALID, f"{size} bytes: {size % (1 << 32)} in 32 bits", {"dkLen": size}
+    for it in ((1 << 37) - 31, (1 << 37) + 32):
+        yield "OutputTooLong", INVALID, f"{it} bytes: {it % (1 << 32)} in 32 bits", {"dkLen": it}
 
 
 def phc_text(costs=(4, 1, 1), shown=None, salt=PHC_SALT, length=32, password=PASSWORD, key=None):
@@ -167,13 +165,12 @@ def syntax(text):
     usual = text()
     fields, _, letters = usual.rpartition("$")
     for tail in ("\n", " ", "\0", "\0\0\0", "\0x", "\r\n"):
-        yield "EndOfLine", OPEN, repr(tail), usual + tail
+        yield "Surrounded", OPEN, repr(tail), usual + tail
     for tail in ("$", "$x", "$$"):
         yield "ExtraField", INVALID, tail, usual + tail
     for mark in "=!-_ \t":
         yield "NotInAlphabet", INVALID, f"{mark!r} within the key", usual[:-8] + mark + usual[-8:]
-    for mark in "!*\n":
-        yield "NotInAlphabet", INVALID, f"{mark!r} for the last letter but one", usual[:-2] + mark + usual[-1]
+    yield from (("NotInAlphabet", INVALID, f"{it!r} as the last but one", usual[:-2] + it + usual[-1]) for it in "!*\n")
     yield "NotInAlphabet", INVALID, "a byte above 127 after the key", usual.encode() + b"\xff"
     above = usual[:-2].encode() + bytes([ord(usual[-2]) | 128]) + usual[-1:].encode()
     yield "NotInAlphabet", INVALID, "the eighth bit of a letter of the key", above
@@ -182,8 +179,9 @@ def syntax(text):
     for about, changed in [("empty key", text(key=b"")), ("no key", fields), ("a name", usual[: usual.index("$", 1)]),
                            ("no text", ""), ("a zero before the key", f"{fields}$\0{letters}")]:
         yield from (("MissingPart", INVALID, about, changed, password) for password in (PASSWORD, b""))
-    for about, changed in ("no dollar", usual[1:]), ("two dollars", "$" + usual), ("a blank", " " + usual):
-        yield "Malformed", INVALID, about, changed
+    yield "Surrounded", OPEN, "a blank first", " " + usual
+    yield "Malformed", INVALID, "no dollar", usual[1:]
+    yield "Malformed", INVALID, "two dollars", "$" + usual
     for name in ("argon2id", "yscrypt", "8", ""):
         yield "OtherScheme", INVALID, f"${name}$", f"${name}" + usual[usual.index("$", 1) :]
 
@@ -216,10 +214,13 @@ def phc_parameters(by):
 
 
 def phc_numbers(by):
-    for value in ("+4", "-4", " 4", "4 ", "\t4", "\n4", "4.0", "4e0", "0x4", "0b100", "0_4", "4_", "\u0664", "\uff14",
+    for flag, result, sign in ("PlusSign", OPEN, "+"), ("Negative", INVALID, "-"):
+        for params, r in (f"ln={sign}4,r=1,p=1", 1), (f"ln=4,r={sign}8,p=1", 8):
+            yield flag, result, params, by((4, r, 1), params)
+    for value in (" 4", "4 ", "\t4", "\n4", "4.0", "4e0", "0x4", "0b100", "0_4", "4_", "\u0664", "\uff14",
                   "4\0", "", "4;"):
         yield "NotADecimal", INVALID, f"ln={value!r}", by((4, 1, 1), f"ln={value},r=1,p=1")
-    for value in ("+8", " 8", "8 ", "0x8", "-8", "\u0668", "8.0"):
+    for value in (" 8", "8 ", "0x8", "\u0668", "8.0"):
         yield "NotADecimal", INVALID, f"r={value!r}", by((4, 8, 1), f"ln=4,r={value},p=1")
     yield "NotADecimal", INVALID, "r=1_6", by((4, 16, 1), "ln=4,r=1_6,p=1")
     for value in (36, 68, 100, 132, 260, 516, 65540, (1 << 32) + 4, (1 << 63) + 4, (1 << 64) + 4, -252, (1 << 128) + 4):
@@ -269,8 +270,8 @@ def mcf_syntax(text):
     yield "WrongKey", INVALID, "r and p exchanged", text((4, 2, 1), (4, 1, 2))
     yield "WrongKey", INVALID, "r with the highest digit first", text(shown="2..../" + "/....")
     for bits in (16, 32, 48):
-        letter = crypt64.ALPHABET[crypt64.ALPHABET.index(usual[-1]) | bits]
-        yield "NonCanonical", OPEN, f"bits {bits} of the last letter", usual[:-1] + letter
+        last = crypt64.ALPHABET[crypt64.ALPHABET.index(usual[-1]) | bits]
+        yield "NonCanonical", OPEN, f"bits {bits} of the last letter", usual[:-1] + last
     for params in ("!/..../....", "-/..../....", "\0/..../....", "2/.!../....", "2/.-../....", "2/...+/....",
                    "2/..../...!", "2/..../..=.", "2/..../.\0.."):
         yield "NotInAlphabet", INVALID, f"the parameters {params!r}", text(shown=params)

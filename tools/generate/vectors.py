@@ -5,8 +5,8 @@ usage: python3 -m tools.generate.vectors LIBRARY           writes the files
 
 The cases are those of vector_cases.py. Keys are hashlib's, or reference.py's where OpenSSL rejects the parameters, and
 verdicts are those of the independent reader (tools/tests/hostile.py). Nothing is written if LIBRARY, libscrypt_c.so,
-derives another key or returns another status, or if a file does not fit its schema. `check` leaves out the cases with
-1 GiB or more, which take minutes.
+derives another key, also in a smaller table, or returns another status, or if a file does not fit its schema. `check`
+leaves out the cases with 1 GiB or more, which take minutes.
 """
 
 import ctypes
@@ -24,7 +24,7 @@ except ImportError:
 
 from tools.generate import header
 from tools.generate.vector_cases import INVALID, OPEN, PASSWORD, SALT, VALID, all_cases, derived
-from tools.shared_library import loaded
+from tools.shared_library import buffers, declared, loaded
 from tools.tests import hostile
 
 FOLDER = header.TOP / "vectors"
@@ -43,7 +43,7 @@ NOTES = {
     "AnyBytes": ("EDGE_CASE", "RFC 7914, section 6: a password and a salt are octet strings, so they may have zeros, "
                  "and need not be UTF-8."),
     "Parameters": ("EDGE_CASE", "N, r and p that are odd, large, or as small as RFC 7914, section 2, allows."),
-    "ThinTable": ("EDGE_CASE", "The key is the same if only a part of the table is stored, and the rest derived again."),
+    "ThinTable": ("EDGE_CASE", "The key is the same if a part of the table is stored, and the rest derived again."),
     "EquivalentPassword": ("DEFINED", "RFC 2104, section 2: HMAC pads a key of up to 64 bytes with zeros, and replaces "
                            "a longer one by its digest. So these passwords have one key."),
     "LargeMemory": ("FUNCTIONALITY", "The table, the password, the salt or the key has 1 GiB or more. There may be a "
@@ -65,30 +65,35 @@ NOTES = {
     "WrongPassword": ("AUTH_BYPASS", "The password is another, so its key is not the stored one."),
     "WrongKey": ("AUTH_BYPASS", "The key, the salt or a parameter was changed, so the derived key is another."),
     "MissingPart": ("AUTH_BYPASS", "Without a key there is nothing to compare, so no password matches."),
-    "Malformed": ("AUTH_BYPASS", "The text is cut or changed, so that a part which the key needs cannot be read."),
+    "Negative": ("MODIFIED_PARAMETER", "RFC 7914, section 2: N, r and p are positive. The key is that of the number "
+                 "without its sign."),
+    "Malformed": ("AUTH_BYPASS", "Neither $scrypt$, pairs name=value between commas, $, a salt, $ and a key, nor $7$, "
+                  "eleven letters, a salt, $ and a key."),
     "CostBeforeSyntax": ("FUNCTIONALITY", "The text cannot be read, and its parameters need more memory than a machine "
                          "has: a reader that derives before it has read the whole text does not return."),
-    "KeyLength": ("DEFINED", "No format sets the length: 32 bytes are usual, and 43 letters in crypt(5)."),
-    "ShortKey": ("WEAK_PARAMS", "One password in 256 has this key of one byte. No format excludes it."),
-    "Duplicate": ("CAN_OF_WORMS", f"{PHC} have each parameter once. With two values the text has two keys."),
-    "SameDuplicate": ("DEFINED", f"{PHC} have each parameter once. Here both values are the same."),
-    "ParameterOrder": ("DEFINED", f"{PHC} leave the order of parameters to the function."),
+    "KeyLength": ("DEFINED", f"{PHC} have a key of 10 bytes or more, 32 by default; crypt(5) has 43 letters."),
+    "ShortKey": ("WEAK_PARAMS", f"One password in 256 has this key of one byte. {PHC} should not have it."),
+    "Duplicate": ("CAN_OF_WORMS", "A parameter has two values: a reader of the first and one of the last differ."),
+    "SameDuplicate": ("DEFINED", "A parameter stands twice, with the same value."),
+    "ParameterOrder": ("DEFINED", f"{PHC} leave the parameters to the function; nothing sets scrypt's order."),
     "MissingParameter": ("DEFINED", f"{PHC} may leave out a parameter with a default: ln=17, r=8 and p=1, or none."),
     "UnknownParameter": ("MODIFIED_PARAMETER", "scrypt has no such parameter, so the key is another function's."),
     "Version": ("DEFINED", f"{PHC} may have a version, which is not defined for scrypt."),
     "LeadingZero": ("DEFINED", f"Decimals in {PHC} have no leading zeros; the number is clear without that."),
+    "PlusSign": ("DEFINED", f"Decimals in {PHC} have no plus sign; the number is clear without that."),
     "Octal": ("MODIFIED_PARAMETER", f"The key is that of the number in octal. {PHC} have only decimals."),
-    "NotADecimal": ("MODIFIED_PARAMETER", f"A decimal in {PHC} has only ASCII digits."),
+    "NotADecimal": ("MODIFIED_PARAMETER", f"Values in {PHC} have a-zA-Z0-9/+.- and no other character, and a decimal "
+                    "has only ASCII digits. scrypt has no other numbers."),
     "UpperCase": ("MODIFIED_PARAMETER", f"Names in {PHC} have lower case letters, digits and -. In $7$ the case of a "
                   "letter is part of its value."),
     "Padding": ("DEFINED", f"Base64 in {PHC} has no padding. RFC 4648, section 3.2, leaves that to each format."),
     "NonCanonical": ("DEFINED", "Unused bits of the last letter are not 0, so the key has two texts. RFC 4648, section "
                      "3.5: decoders may reject them."),
     "NotInAlphabet": ("MALLEABILITY", "RFC 4648, section 3.3: decoders reject letters outside the alphabet, which is "
-                      "./0-9A-Za-z in $7$. If they were ignored, a key would have any number of texts."),
+                      "./0-9A-Za-z in crypt(5). If they were ignored, a key would have any number of texts."),
     "ImpossibleLength": ("MALLEABILITY", "One letter after groups of four encodes no byte. If ignored, it may be any."),
     "ExtraField": ("MALLEABILITY", "A field follows the key, and no format has one."),
-    "EndOfLine": ("DEFINED", "Blanks or zeros follow the text. A string in C ends at the zero."),
+    "Surrounded": ("DEFINED", "A blank comes first, or blanks or zeros follow. A string in C ends at the zero."),
     "OtherScheme": ("WRONG_PRIMITIVE", "The name is not that of scrypt."),
     "SmallCost": ("DEFINED", "RFC 7914 allows N = 2. A reader may require more."),
     "SaltCharacters": ("DEFINED", "Salts in crypt(5) have ./0-9A-Za-z. The salt of the derivation is the text itself."),
@@ -101,6 +106,16 @@ def described(data):
         return data.hex()
     runs = re.finditer(rb"(.)\1{499,}|(?s:.)+?(?=(.)\2{499}|\Z)", data, re.S)
     return [[it[1].hex(), len(it[0])] if it[1] else [it[0].hex(), 1] for it in runs]
+
+
+def thin_key(library, s, password, salt, log_n, r, p, length):
+    """The key by a table that keeps one row in 2^s."""
+    lens, out = declared.Buffers(), ctypes.create_string_buffer(length)
+    assert library.scrypt_buffer_lens(log_n, r, p, s, lens) == 0
+    sizes = lens.chunks_len, lens.table_len, lens.scratch_len
+    room = buffers([(ctypes.c_uint32 * it)() for it in sizes], sizes)
+    assert library.scrypt_key_thin(password, len(password), salt, len(salt), log_n, r, p, s, out, length, room) == 0
+    return out.raw.hex()
 
 
 def key_test(library, flags, about, result, changes):
@@ -117,6 +132,9 @@ def key_test(library, flags, about, result, changes):
         status = library.scrypt_key(password, len(password), salt, len(salt), log_n, r, p, out, length)
         last = out[len(out) - len(known) // 2 :].hex()
         assert (status == 0, last) == (known != "", known) and (known or not any(out.raw)), (flags, about, status)
+        if flags == "ThinTable":
+            for s in range(log_n + 1):
+                assert thin_key(library, s, password, salt, log_n, r, p, length) == known, (about, s)
     shown = {name: described(it) if isinstance(it, bytes) else it for name, it in inputs.items()}
     return shown | {"dk": known}
 

@@ -2,8 +2,8 @@
 once.
 
 A run writes one line, to standard output for the statuses 0 and 1, and otherwise to standard error;
-the other stream stays empty. The keys are from RFC 7914, section 12, and from Python's hashlib; the
-hashes are from tools/tests/known.py and bindings/cases.tsv.
+the other stream stays empty. The keys and the verdicts are those of vectors/,
+Python's hashlib, tools/tests/known.py and bindings/cases.tsv.
 
 usage: python3 -m tools.tests.program PROGRAM
        python3 -m tools.tests.program EMULATOR.. PROGRAM    without the longest password, terminals and the counts of work
@@ -11,6 +11,7 @@ usage: python3 -m tools.tests.program PROGRAM
 
 import hashlib
 import itertools
+import json
 import re
 import shlex
 import sys
@@ -18,21 +19,13 @@ import sys
 from tools.generate import header
 from tools.tests import allocations, crypt64, prompt, reference, runs, work
 from tools.tests.hash_files import hash_files
-from tools.tests.known import CRYPT, EMPTY, EMPTY_OF_64, EMPTY_PHC, HASHLIB, PASSLIB, PLAIN, RFC, SHORT
+from tools.tests.known import CRYPT, EMPTY, EMPTY_OF_64, EMPTY_PHC, HASHLIB, PASSLIB, RFC, SHORT
 from tools.tests.runs import USAGE, run
 from tools.tests.streams import memory, streams
 
 FIRST_KEY = (
     "77d6576238657b203b19ca42c18a0497f16b4844e3074ae8dfdffa3fede21442"
     "fcd0069ded0948f8326a753a0fc81f17e8d3e0fb2e0d3628cf35e20c38d18906"
-)
-SECOND_KEY = (
-    "fdbabe1c9d3472007856e7190d01e9fe7c6ad7cbc8237830e77376634b373162"
-    "2eaf30d92e22a3886ff109279d9830dac727afb94a83ee6d8360cbdfa2cc0640"
-)
-THIRD_KEY = (
-    "7023bdcb3afd7348461c06cd81fd38ebfda8fbba904f8e3ea9b543f6545da1f2"
-    "d5432955613f0fcf62d49705242a9af9e61e85dc0d651e40dfcf017b45575887"
 )
 MAX_MEM, MAX_WORK, MIN_KEY_LEN = (header.NUMBERS[f"DEFAULT_{it}"] for it in ("MAX_MEM", "MAX_WORK", "MIN_KEY_LEN"))
 
@@ -64,20 +57,15 @@ LONG_HASHES = [(form, salt.hex(), *(reference.hash_of(form, LONG.encode(), salt,
 LONG_KEY = key_of(b"", b"", 90_000)
 RIGHT, WRONG = (crypt64.text("", LONG_KEY[:-1] + bytes([LONG_KEY[-1] ^ bit]), 4, 1, 1) for bit in (0, 1))
 
+LONGEST = 1 << 17  # of an argument
+
 # Each row has the arguments as a shell splits them, the input, the status, the line, and the reason
 # for the row.
 ANSWERS = [
-    ("key 4 1 1 64 ''", "", 0, FIRST_KEY, "the first key of RFC 7914"),
-    ("key 10 8 16 64 4e61436c", "password", 0, SECOND_KEY, "the second, whose sixteen chunks share a table"),
-    ("key 14 8 1 64 536f6469756d43686c6f72696465", "pleaseletmein", 0, THIRD_KEY, "the third"),
-    ("key 4 1 1 1 ''", "", 0, FIRST_KEY[:2], "the shortest key"),
-    ("key 4 1 1 33 ''", "", 0, FIRST_KEY[:66], "a byte of a second block of PBKDF2"),
     ("key 0 1 1 32 ''", "", 0, reference.scrypt(b"", b"", 0, 1, 1, 32).hex(), "N = 1"),
     ("key 4 3 2 33 0a0bFF", "password", 0, "16b7ca20bc71b047b152bb150c62dd9e14d23f698eeaade5d0ed74a8e355acd2da",
      "all parameters differ, and the salt has digits of either case"),
     *((f"key 4 1 1 {it} ''", "", 0, key_of(b"", b"", it).hex(), "a long key") for it in (4096, 1_000_000)),
-    ("key 4 1 1 16 ''", "x" * 5000, 0, "19e0dd858b21a85d5233e34f8025c066", "more than one read of the input"),
-    ("key 4 1 1 16 ''", "pass\nword\n", 0, "704d1995acb73578bcb377b08d0d622c", "newlines belong to the password"),
     ("hash phc 16 8 1 68cd79ef5debdd7b2fc5b8b7d65aabd5", "password", 0, PASSLIB, "passlib's hash"),
     ("hash phc 14 8 1 536f6469756d43686c6f72696465", "pleaseletmein", 0, RFC, "the third key of RFC 7914"),
     ("hash phc 14 8 1 536f6469756d43686c6f72696465 10", "pleaseletmein", 0, SHORT, "the last argument is the length of the key"),
@@ -88,13 +76,9 @@ ANSWERS = [
     ("hash mcf 14 32 1 986d90d343e07e4f7e00864f03040bf3 10", "pleaseletmein", 0,
      "$7$CU..../....Mq4YHD2syxYT.MsH1Ek0n1$JyHIxez0DOwm01", "with the shortest key"),
     (f"verify {PASSLIB}", "password", 0, "ok", "the password of a PHC hash"),
-    (f"verify {PASSLIB}", "invalid", 1, "no", "another password"),
-    (f"verify {SHORT}", "pleaseletmein\n", 1, "no", "the password and a newline"),
-    (f"verify {EMPTY}", "", 0, "ok", "the password of a `$7$` hash"),
     ("verify $7$86..../....sålt-ключ-塩$JBBPPL5zOCwvCfq6A/PJLkQvgCyERPLs/BfvPFtvhT4", "pässword", 0, "ok",
      "a salt that is not ASCII, by Python's hashlib"),
     ("verify $7$2/..../....$r/", "", 0, "ok", "a shorter key is the beginning of a longer one"),
-    (f"verify {PLAIN}", "pleaseletmein", 0, "ok", "a salt may be a plain text"),
     (f"verify {RIGHT}", "", 0, "ok", "a long key"),
     (f"verify {WRONG}", "", 1, "no", "its last byte is compared too"),
     *((f"hash {form} 4 1 1 {salt}", LONG, 0, text, "a long password and a long salt") for form, salt, text, _ in LONG_HASHES),
@@ -283,6 +267,37 @@ def verdicts(program):
             yield f"{text} (cases.tsv)", found, {"OK": runs.OK, "MISMATCH": runs.NO}.get(status, refused)
 
 
+def vectors(program):
+    """The tests of vectors/, except what needs 1 GiB, and texts that no argument can have."""
+    for test in read_tests("kdf"):
+        n, numbers = test["N"], [test[it] for it in ("r", "p", "dkLen")]
+        words = ["key", n.bit_length() - 1, *numbers, bytes_of(test["salt"]).hex()]
+        if n and n == 1 << words[1] and len(words[-1]) < LONGEST:
+            yield from judged("kdf", test, run([*program, *map(str, words)], bytes_of(test["password"])), (0, f"{test['dk']}\n", ""))
+    for name in ("phc", "mcf"):
+        for test in read_tests(name):
+            text = bytes_of(test["hash"])
+            if b"\0" not in text and len(text) < LONGEST:
+                limits = f"--max-mem={MAX_MEM}", "--min-key-len=1"
+                yield from judged(name, test, run([*program, *limits, "verify", text], bytes_of(test["password"])), runs.OK)
+
+
+def judged(name, test, found, right):
+    is_right = found == right
+    is_refused = found[0] in (2, 3) or found == runs.NO and "hash" in test
+    about = f"{name} {test['tcId']} of vectors/: {test['comment']}, {found}"
+    yield about, (is_right and test["result"] != "invalid") or (is_refused and test["result"] != "valid"), True
+
+
+def read_tests(name):
+    groups = json.loads((header.TOP / f"vectors/scrypt_{name}_test.json").read_text("utf-8"))["testGroups"]
+    return [test for group in groups for test in group["tests"] if "LargeMemory" not in test["flags"]]
+
+
+def bytes_of(part):
+    return bytes.fromhex(part) if isinstance(part, str) else b"".join(bytes.fromhex(one) * times for one, times in part)
+
+
 def salts(program):
     """Hashes with a drawn salt have different salts of 16 bytes, and accept their passwords; without random bytes, no hash
     is made."""
@@ -328,7 +343,7 @@ def raw_keys(program):
 
 
 def main():
-    parts = [memory, rows, verdicts, long_passwords, raw_keys, salts, hash_files, information, streams, allocations.cases, prompt.cases,
+    parts = [memory, rows, verdicts, vectors, long_passwords, raw_keys, salts, hash_files, information, streams, allocations.cases, prompt.cases,
              work.cases]
     sys.exit(not runs.report("program", itertools.chain(*(part(sys.argv[1:]) for part in parts))))
 
