@@ -37,7 +37,7 @@ RAISED = [
     ("scrypt", "derivation.rt", "    derived.ok_or(",
      "*cores = CoreCount::after_core(cores, &[0u32; 16], &[0u32; 16]); derived.ok_or(",
      "no function or constant named `after_core` found for struct `CoreCount`"),
-    ("scrypt", "hashing.rt", "CoreCount::new()", "CoreCount { seal: () }", "private-"),
+    ("scrypt", "derivation.rt", "CoreCount::new()", "CoreCount { seal: () }", "private-"),
     ("scrypt_kernel", "order/standard.rt", "salsa::core(&mut words, cores);",
      "let from = words; salsa::core(&mut words, cores); *cores = CoreCount::after_core(cores, &from, &words);", "private-"),
 ]

@@ -1,4 +1,4 @@
-use Rattle.std.proofs.Common.{◌≡◌, ℕ, ◌^◌, ◌<◌, ◌≤◌, List, [], ◌∷◌, refl, rules, arith, Ok, Some, None, ◌≢◌, false, length, codes, sym, ◌∙◌, lit<, length-append, IfErr, Option, decimal, ok_or, IsTrue, bytes_eq, IfOk}
+use Rattle.std.proofs.Common.{◌≡◌, ℕ, ◌+◌, ◌*◌, ◌/◌, ◌++◌, ap, ◌^◌, ◌<◌, ◌≤◌, List, [], ◌∷◌, refl, rules, arith, Ok, Some, None, ◌≢◌, false, length, codes, sym, ◌∙◌, lit<, length-append, IfErr, Option, decimal, ok_or, IsTrue, bytes_eq, IfOk}
 use Rattle.std.proofs.lemmas.Bool.Decides.{nat_tests}
 use Rattle.password_hash.specs.Decimal.{decimal_below}
 use Rattle.password_hash.proofs.DecimalFacts.{decimal_exact, is_value-decimal}
@@ -11,15 +11,18 @@ use Rattle.std.proofs.lemmas.Fmt.{length-decimal-le}
 use Rattle.std.proofs.lemmas.List.Elements.{All-from_recursion, All-nil}
 use Rattle.std.proofs.lemmas.List.Kept.{AllPairs-cons}
 use Rattle.std.proofs.lemmas.Slice.Eq.{bytes_eq-Decides}
-use Rattle.password_hash.specs.Pairs.{ArePairs, IsPair}
+use Rattle.password_hash.proofs.Base64Facts.{length-base64}
+use Rattle.password_hash.specs.Pairs.{ArePairs, IsPair, pairs_text}
+use Rattle.password_hash.specs.Parts.{parts_text}
 use Rattle.password_hash.proofs.ParamsFacts.{ArePairs-front}
-use Rattle.password_hash.specs.Phc.{IsHashText, IsKey, IsSalt, hash_text}
+use Rattle.password_hash.specs.Phc.{IsHashText, IsKey, IsSalt, base64, hash_text}
 use Rattle.password_hash.specs.declared.phc.hash.PasswordHash.{PasswordHash}
 use Rattle.scrypt.specs.PhcHash.{is_salt_len, made_phc, phc_hash, phc_params, read_phc, salt_refusal}
 use Rattle.password_hash.specs.Refusal.{OutOfMemory, refusal}
 use Rattle.password_hash.specs.declared.error.Error.{Error}
 use Rattle.password_hash.specs.declared.error.Error.TheVariants.{OutOfMemory as NoMemory}
 use Rattle.scrypt.specs.Hashing.{key_len_or_default}
+use Rattle.scrypt.specs.KeyOfParams.{key_by}
 use Rattle.scrypt.specs.Reading.{NamesNoPassword, made_stored}
 use Rattle.scrypt.proofs.KeyFacts.{key_by-are_bytes, length-key_by}
 
@@ -153,3 +156,20 @@ pub made_read : (c : Parameters) (password salt : List ℕ) → IsTrue (are_acce
     → read_phc (made_phc c password salt) ≡ Ok (made_stored c password salt)
 unfolding made_phc phc_params
 made_read c password salt fits = rw (written_read c fits) refl
+
+-- texts that differ in a last part of the same length have one length
+same_joined : (one other : List ℕ) → length one ≡ length other → (parts : List (List ℕ))
+    → length (parts_text (parts ++ one ∷ [])) ≡ length (parts_text (parts ++ other ∷ []))
+same_joined one other same [] = simp length-append (omega (arith, same))
+same_joined one other same (part ∷ parts) =
+    let rest = same_joined one other same parts in simp length-append (omega (arith, rest))
+
+-- so a hash that is made has a text as long as with any key of its length
+pub same_lengths : (c : Parameters) (password salt key : List ℕ) → length key ≡ key_len_or_default c
+    → length (hash_text (made_phc c password salt)) ≡ length (hash_text (phc_hash c salt key))
+unfolding made_phc
+same_lengths c password salt key is =
+    let made = key_by c password salt (key_len_or_default c) in
+    let letters : length (base64 made) ≡ length (base64 key) = length-base64 made
+    ∙ ap (λ n. (4 * n + 2) / 3) (length-key_by c password salt (key_len_or_default c) ∙ sym is) ∙ sym (length-base64 key) in
+    same_joined (base64 made) (base64 key) letters (codes "scrypt" ∷ pairs_text (written_pairs c) ∷ base64 salt ∷ [])

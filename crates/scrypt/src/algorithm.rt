@@ -142,7 +142,7 @@ impl CustomizedPasswordHasher<PasswordHash> for Scrypt {
         params: Params,
     ) -> Result<PasswordHash> {
         check_call(phc::ALG_ID.as_str(), alg_id, version)?;
-        phc::hash::<Simd>(alloc, password, salt, &params)
+        phc::hash::<Simd>(alloc, password, salt, &params, &mut CoreCount::new())
     }
 }
 
@@ -189,7 +189,7 @@ impl CustomizedPasswordHasher<mcf::PasswordHash> for Scrypt {
         params: Params,
     ) -> Result<mcf::PasswordHash> {
         check_call("7", alg_id, version)?;
-        mcf::hash::<Simd>(alloc, password, salt, &params)
+        mcf::hash::<Simd>(alloc, password, salt, &params, &mut CoreCount::new())
     }
 }
 

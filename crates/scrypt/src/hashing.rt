@@ -1,6 +1,6 @@
 // Hashing, in every format, with any source of memory.
 
-ghost use Rattle.std.specs.Prelude.{◌≡◌, length, IfErr, IfOk};
+ghost use Rattle.std.specs.Prelude.{◌≡◌, length, IfErr, IfOk, OnErr, OnOk};
 ghost use Rattle.scrypt.specs.Cost.{AreCounted, hash_cost};
 ghost use Rattle.scrypt.specs.Hashing.{key_len_or_default};
 ghost use Rattle.scrypt.specs.KeyOfParams.{cost_by, key_by};
@@ -18,19 +18,23 @@ use std::alloc::Global;
 /// Derives the key that hashing with these parameters stores, in three buffers that it allocates in
 /// this order and before the first core: the chunks, the table and the scratch.
 ///
-/// Returns `OutOfMemory` if an allocation fails.
+/// Returns `OutOfMemory` if an allocation fails, and then counts nothing.
 pub(crate) fn key_allocating<W: Backend>(
     alloc: Global,
     password: &[u8],
     salt: &[u8],
     params: &Params,
+    cores: &mut CoreCount,
 ) -> Result<Output>
     ensures value { IfOk result (λ key. key ≡ key_by params.now password.now salt.now (key_len_or_default params.now)) }
+    ensures counted { OnOk result (AreCounted (cost_by params.now)
+        (hash_cost (length password.now) (length salt.now) params.now.r params.now.p (key_len_or_default params.now))
+        cores.old cores.new) }
     ensures memory { IfErr result (λ e. e ≡ OutOfMemory) }
+    ensures uncounted { OnErr result (cores.new ≡ cores.old) }
 {
     // A limit of 0 bytes selects one table.
     let (w, mut own) = Allocation::allocate_within(alloc, params, 0)?;
-    let cores = &mut CoreCount::new();
     let mut used = ActiveBuffers::new(w, &mut own.chunks, &mut own.table, &mut own.scratch, cores);
     Ok(stored_key::<Allocated, W>(password, salt, params, &mut used))
 }

@@ -58,7 +58,7 @@ pub extern "C" fn scrypt_hash_phc(
     let Ok(params) = Params::new_with_output_len(log_n, r, p, key_len) else {
         return INVALID_PARAMS;
     };
-    let made = phc::hash::<Target>(alloc, password, salt, &params);
+    let made = phc::hash::<Target>(alloc, password, salt, &params, &mut CoreCount::new());
     match made {
         Ok(hash) => copy_to(hash.to_array_string().as_str(), text, text_len),
         Err(error) => status_of(error),
@@ -96,7 +96,7 @@ pub extern "C" fn scrypt_hash_mcf(
     let Ok(params) = Params::new_with_output_len(log_n, r, p, key_len) else {
         return INVALID_PARAMS;
     };
-    let made = mcf::hash::<Target>(alloc, password, salt, &params);
+    let made = mcf::hash::<Target>(alloc, password, salt, &params, &mut CoreCount::new());
     match made {
         Ok(hash) => copy_to(hash.as_str(), text, text_len),
         Err(error) => status_of(error),

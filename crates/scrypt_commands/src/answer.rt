@@ -187,11 +187,11 @@ fn make_hash<M: Backend>(
 {
     match format {
         Format::Phc => {
-            let hash = phc::hash::<M>(alloc, password, salt, params)?;
+            let hash = phc::hash::<M>(alloc, password, salt, params, &mut CoreCount::new())?;
             Ok(hash.to_string(alloc)?)
         }
         Format::Mcf => {
-            let hash = mcf::hash::<M>(alloc, password, salt, params)?;
+            let hash = mcf::hash::<M>(alloc, password, salt, params, &mut CoreCount::new())?;
             Ok(hash.into_string())
         }
     }

@@ -33,21 +33,26 @@ use std::alloc::Global;
 const PARAMS_LEN: usize = 14;
 
 /// Hashes `password` as [`Scrypt`](crate::Scrypt) does with these parameters, by the backend `W`.
+/// Counts the `4 * N * r * p` cores and the blocks that SHA-256 compresses.
 ///
-/// Returns `OutOfMemory` if an allocation fails.
+/// Returns `OutOfMemory` if an allocation fails, and then the count is unchanged.
 #[tactic(auto, using(crate::proofs::KeyFacts::lengths))]
 pub fn hash<W: Backend>(
     alloc: Global,
     password: &[u8],
     salt: &[u8],
     params: &Params,
+    cores: &mut CoreCount,
 ) -> Result<PasswordHash>
     ensures value { IfOk result (λ text. text ≡ made_mcf params.now password.now salt.now) }
+    ensures counted { OnOk result (AreCounted (cost_by params.now) (hash_cost (length password.now)
+        (length (crypt64_of salt.now)) params.now.r params.now.p (key_len_or_default params.now)) cores.old cores.new) }
     ensures memory { IfErr result (λ e. e ≡ OutOfMemory) }
+    ensures uncounted { OnErr result (cores.new ≡ cores.old) }
 {
     // The whole text is allocated before the buffers of the derivation.
     let mut text = vec![in alloc; 0u8; hash_len(params, salt)]?;
-    let key = match key_by_letters::<W>(alloc, password, salt, params, &mut text) {
+    let key = match key_by_letters::<W>(alloc, password, salt, params, &mut text, cores) {
         Ok(key) => key,
         Err(error) => return Err(error),
     };
@@ -64,14 +69,18 @@ fn key_by_letters<W: Backend>(
     salt: &[u8],
     params: &Params,
     text: &mut [u8],
+    cores: &mut CoreCount,
 ) -> Result<Output>
     requires { encoded_len (length salt.now) ≤ length text.old }
     ensures value { IfOk result (λ key. key ≡ made_key params.now password.now salt.now) }
+    ensures counted { OnOk result (AreCounted (cost_by params.now) (hash_cost (length password.now)
+        (length (crypt64_of salt.now)) params.now.r params.now.p (key_len_or_default params.now)) cores.old cores.new) }
     ensures memory { IfErr result (λ e. e ≡ OutOfMemory) }
+    ensures uncounted { OnErr result (cores.new ≡ cores.old) }
 {
     let letters = &mut text[..Base64::Crypt.encoded_len(salt.len())];
     encode(salt, letters);
-    key_allocating::<W>(alloc, password, letters, params)
+    key_allocating::<W>(alloc, password, letters, params, cores)
 }
 
 /// Returns the length in bytes of the text that hashing with these parameters and this salt makes.

@@ -1,6 +1,6 @@
 // Making PHC hashes.
 
-ghost use Rattle.std.specs.Prelude.{◌≡◌, ◌↔◌, ◌⊎◌, length, if◌then◌else◌, Some, Ok, Err, false, IfErr, IfOk, IsErrOf, OnErr, OnOk, IsTrue};
+ghost use Rattle.std.specs.Prelude.{◌≡◌, ◌↔◌, ◌⊎◌, ℕ, List, length, if◌then◌else◌, Some, Ok, Err, false, IfErr, IfOk, IsErrOf, IsOk, OnErr, OnOk, IsTrue};
 ghost use Rattle.scrypt.specs.Cost.{AreCounted, hash_cost};
 ghost use Rattle.scrypt.specs.Hashing.{key_len_or_default};
 ghost use Rattle.scrypt.specs.KeyOfParams.{cost_by};
@@ -24,23 +24,30 @@ use std::alloc::Global;
 
 /// Hashes `password` as [`Scrypt`](crate::Scrypt) does with these parameters, by the backend `W`.
 ///
+/// Counts the `4 * N * r * p` cores and the blocks that SHA-256 compresses.
+///
 /// Returns `SaltInvalid` if `salt` does not have 1 to 64 bytes, and otherwise `OutOfMemory` if an
-/// allocation fails.
+/// allocation fails. On an error the count is unchanged.
 #[tactic(auto, using(std::proofs::lemmas::Bool::Decides::nat_tests), unfolding(crate::specs::PhcHash::is_salt_len, crate::specs::PhcHash::made_phc))]
 pub fn hash<W: Backend>(
     alloc: Global,
     password: &[u8],
     salt: &[u8],
     params: &Params,
+    cores: &mut CoreCount,
 ) -> Result<PasswordHash>
     ensures made { IfOk result (λ hash. IsTrue (is_salt_len (length salt.now))
         × (hash ≡ made_phc params.now password.now salt.now)) }
+    ensures counted { OnOk result (AreCounted (cost_by params.now)
+        (hash_cost (length password.now) (length salt.now) params.now.r params.now.p (key_len_or_default params.now))
+        cores.old cores.new) }
     ensures err { IfErr result (λ e. refusal e ≡ salt_refusal salt.now) }
+    ensures uncounted { OnErr result (cores.new ≡ cores.old) }
 {
     let Ok(salt) = Salt::new(salt) else {
         return Err(Error::SaltInvalid);
     };
-    match key_allocating::<W>(alloc, password, salt.as_bytes(), params) {
+    match key_allocating::<W>(alloc, password, salt.as_bytes(), params, cores) {
         Ok(key) => Ok(hash_of(params, salt, key)),
         Err(error) => Err(error),
     }
@@ -57,6 +64,29 @@ fn hash_of(params: &Params, salt: Salt, key: Output) -> PasswordHash
         salt: Some(salt),
         hash: Some(key),
     }
+}
+
+/// Returns the length in bytes of the text of the hash that hashing with these parameters and this
+/// salt makes.
+///
+/// Returns `SaltInvalid` if `salt` does not have 1 to 64 bytes.
+#[tactic(auto, using(std::proofs::lemmas::Bool::Decides::nat_tests), unfolding(crate::specs::PhcHash::is_salt_len))]
+pub fn hash_len(params: &Params, salt: &[u8]) -> Result<usize>
+    ensures salt { IsOk result ↔ IsTrue (is_salt_len (length salt.now)) }
+    ensures made { IfOk result (λ len. (password : List ℕ)
+        → length (hash_text (made_phc params.now password salt.now)) ≡ len) }
+    ensures err { IfErr result (λ e. e ≡ SaltInvalid) }
+{
+    let Ok(salt) = Salt::new(salt) else {
+        return Err(Error::SaltInvalid);
+    };
+    params.expose_invariant();
+    // A key of zeros has as many letters as any other key of its length.
+    let places = [0u8; Output::MAX_LENGTH];
+    let Ok(key) = Output::new(&places[..params.key_len_or_default()]) else {
+        unreachable!();
+    };
+    Ok(hash_of(params, salt, key).to_array_string().len())
 }
 
 /// Returns the hash of this salt and this key, which any program has derived with these parameters.
