@@ -308,7 +308,7 @@ int scrypt_hasher_hash(scrypt_hasher *hasher, const void *password, size_t passw
   call.cost = hasher->cost;
   if (salt == NULL) call.salt = random_salt, call.salt_len = options->salt_len;
   if (!options->mcf && (call.salt_len == 0 || call.salt_len > SCRYPT_MAX_SALT_LEN)) return SCRYPT_E_SALT_INVALID;
-  /* Otherwise a PHC string that doesn't fit would be detected only after the derivation. */
+  /* A text that doesn't fit is detected before the call waits. */
   if (call.salt_len > capacity ||
       capacity < (options->mcf ? SCRYPT_MCF_CAPACITY(call.salt_len) : SCRYPT_PHC_CAPACITY))
     return SCRYPT_E_BUFFER_SIZE;

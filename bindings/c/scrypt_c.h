@@ -269,8 +269,7 @@ int scrypt_hash_with_salt(const void *password, size_t password_len, const void 
  * otherwise all buffers are unchanged. With a table and a scratch of w times that length, up to w
  * chunks are interleaved, but no more than four. Nothing is allocated.
  * SCRYPT_E_NULL_POINTER, SCRYPT_E_INVALID_PARAMS (also for key_len), SCRYPT_E_SALT_INVALID,
- * SCRYPT_E_BUFFER_SIZE if a buffer is too short, or if the text does not fit, which for a PHC string
- * is detected only after the derivation. */
+ * SCRYPT_E_BUFFER_SIZE if the text does not fit, or if a buffer is too short. */
 SCRYPT_NODISCARD
 int scrypt_hash_with_buffers(const void *password, size_t password_len, const void *salt, size_t salt_len, uint32_t log_n,
                              uint32_t r, uint32_t p, size_t key_len, int mcf, char *text, size_t capacity,

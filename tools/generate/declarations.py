@@ -32,7 +32,7 @@ IN_CRATES = {
     "crates/password_hash/src/traits.rt": {"SALT_LEN": r"drawn: \[u8; (\d+)\]"},
     "crates/scrypt_commands/src/invocation.rt": {"SALT_LEN": r"fn draw_salt\(&self\) -> io::Result<\[u8; (\d+)\]>"},
     "crates/scrypt/src/derivation.rt": {"MAX_OUTPUT_LEN": r"const MAX_OUTPUT_LEN: Size = (.*);"},
-    "crates/scrypt_c/src/with_buffers.rt": {"MAX_LOGINS": r"statuses: &mut \[i32; (\d+)\]"},
+    "crates/scrypt_c/src/logins.rt": {"MAX_LOGINS": r"statuses: &mut \[i32; (\d+)\]"},
 }
 
 

@@ -42,7 +42,7 @@ RAISED = [
      "let from = words; salsa::core(&mut words, cores); *cores = CoreCount::after_core(cores, &from, &words);", "private-"),
 ]
 
-LIBRARIES = ["crates/scrypt_kernel", "crates/scrypt"]
+LIBRARIES = ["crates/scrypt_kernel", "crates/scrypt", "crates/scrypt_c"]
 NEW = re.compile(r"\bCoreCount\s*>?\s*::\s*new\b")
 PASSED = re.compile(r"\b(?:CoreCount|ActiveBuffers)\b")
 # A call by its last name, `f(..)` or `x.f::<T>(..)`, or a path to a function or a method, `x::f`.

@@ -5,10 +5,10 @@
 set -eu
 # They have a copy of interleaved_chunks (crates/scrypt/src/buffers/lens.rt), with two divisions of 64 bits, or of 32 if
 # that is enough: the lengths of buffers, by those of a table and a scratch.
-of_lengths='interleaved_chunks verify_in_buffers scrypt_verify_begin scrypt_verify_batch_with_buffers scrypt_kdf_with_buffers
-  scrypt_hash_phc_with_buffers scrypt_hash_mcf_with_buffers scrypt_key_begin scrypt_key_step'
+of_lengths='interleaved_chunks verify_in_buffers verify_begin verify_batch_with_buffers kdf_with_buffers
+  hash_phc_with_buffers hash_mcf_with_buffers key_begin key_step'
 # Of BufferLens::tables_within, there: the limit on memory, by the bytes of a table.
-of_limits='allocate_within scrypt_kdf scrypt_hash_cost scrypt_params_cost'
+of_limits='allocate_within kdf hash_cost params_cost'
 
 for object in "$@"; do
   "$OBJDUMP" -dr --no-show-raw-insn "$object" | awk -v object="$object" -v lengths="$of_lengths" -v limits="$of_limits" '
@@ -20,7 +20,7 @@ for object in "$@"; do
       name = $2
       gsub(/^<|>:$|::<#[0-9a-f]*>/, "", name)
       sub(/.*::/, "", name)
-      sub(/^proved_/, "", name)
+      sub(/^(proved_)?(scrypt_)?/, "", name) # a call and the function that it only calls have one name
     }
     $2 ~ /^[a-z]*(div|sqrt)/ || /R_.*(div|mod)[a-z]*3/ { count[name]++ }
     END {

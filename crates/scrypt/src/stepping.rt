@@ -101,6 +101,10 @@ pub fn step<W: Backend>(
         → IsUnderWay password salt params.now at chunks.old table.old scratch.old
         → IsUnderWay password salt params.now result chunks.new table.new scratch.new }
     ensures ended { at.chunks ≡ params.now.p → result ≡ at }
+    ensures going_on { at.chunks < params.now.p → count < lacking params.now at
+        → result ≡ record at { mixes = at.mixes + count } }
+    ensures next { at.chunks < params.now.p → lacking params.now at ≤ count
+        → (result.chunks ≡ at.chunks + at.interleaved) × (result.mixes ≡ 0) }
     ensures same_group { result.chunks ≡ at.chunks → result.interleaved ≡ at.interleaved }
     ensures interleaved { at.chunks < result.chunks → result.chunks < params.now.p
         → result.interleaved ≡ group_by W.most W.scalar (interleaved_chunks params.now.log_n params.now.r params.now.p

@@ -1,11 +1,14 @@
 //! Hashes: making their texts, and verifying passwords against them.
 
-ghost use Rattle.std.specs.Prelude.{◌≡◌, ◌≢◌, ◌⊎◌, ◌↔◌, length, IsTrue};
+ghost use Rattle.std.specs.Prelude.{◌≡◌, ◌≢◌, ◌⊎◌, ◌↔◌, length, IfOk, IsTrue, OnErr};
+ghost use Rattle.password_hash.specs.Crypt64.{crypt64_of};
 ghost use Rattle.password_hash.specs.Phc.{hash_text};
 ghost use Rattle.password_hash.specs.Refusal.{with_refusal};
 ghost use Rattle.scrypt.specs.McfHash.{made_mcf};
 ghost use Rattle.scrypt.specs.PhcHash.{is_salt_len, made_phc};
-ghost use Rattle.scrypt.specs.Reading.{weaker};
+ghost use Rattle.scrypt.specs.Cost.{AreCounted, cost, hash_cost};
+ghost use Rattle.scrypt.specs.KeyOfParams.{cost_by};
+ghost use Rattle.scrypt.specs.Reading.{verify_cost, weaker};
 ghost use Rattle.scrypt.specs.StoredHash.{reading};
 ghost use Rattle.scrypt_c.specs.Limits.{limited_reading};
 ghost use Rattle.scrypt_c.specs.Made.{AreHashParams, IsTooLong, IsWritten, wanted};
@@ -55,11 +58,44 @@ pub extern "C" fn scrypt_hash_phc(
     ensures refused { result ≢ OK → text.new ≡ text.old }
     ensures unchanged { result ≢ OK → result ≢ BUFFER_SIZE → text_len.new ≡ text_len.old }
 {
+    let cores = &mut CoreCount::new();
+    hash_phc(
+        alloc, password, salt, log_n, r, p, key_len, text, text_len, cores,
+    )
+}
+
+/// Does what [`scrypt_hash_phc`] does, and counts its cores and the blocks that SHA-256 compresses.
+pub fn hash_phc(
+    alloc: Global,
+    password: &[u8],
+    salt: &[u8],
+    log_n: u8,
+    r: u32,
+    p: u32,
+    key_len: usize,
+    text: &mut [u8],
+    text_len: &mut usize,
+    cores: &mut CoreCount,
+) -> i32
+    ensures made { result ≡ OK
+        → IsWritten (hash_text (made_phc (wanted log_n r p key_len) password.now salt.now))
+        text.old text.new text_len.new }
+    ensures params { (result ≡ INVALID_PARAMS) ↔ (¬ AreHashParams log_n r p key_len) }
+    ensures salt { (result ≡ SALT_INVALID) ↔ (AreHashParams log_n r p key_len × ¬ IsTrue (is_salt_len (length salt.now))) }
+    ensures size { result ≡ BUFFER_SIZE
+        → IsTooLong (hash_text (made_phc (wanted log_n r p key_len) password.now salt.now)) text.old text_len.new }
+    ensures status { (result ≡ OK) ⊎ (result ≡ INVALID_PARAMS) ⊎ (result ≡ SALT_INVALID)
+        ⊎ (result ≡ OUT_OF_MEMORY) ⊎ (result ≡ BUFFER_SIZE) }
+    ensures counted { (result ≡ OK) ⊎ (result ≡ BUFFER_SIZE) → AreCounted (cost log_n r p)
+        (hash_cost (length password.now) (length salt.now) r p key_len) cores.old cores.new }
+    ensures refused { result ≢ OK → text.new ≡ text.old }
+    ensures unchanged { result ≢ OK → result ≢ BUFFER_SIZE → text_len.new ≡ text_len.old }
+    ensures uncounted { result ≢ OK → result ≢ BUFFER_SIZE → cores.new ≡ cores.old }
+{
     let Ok(params) = Params::new_with_output_len(log_n, r, p, key_len) else {
         return INVALID_PARAMS;
     };
-    let made = phc::hash::<Target>(alloc, password, salt, &params, &mut CoreCount::new());
-    match made {
+    match phc::hash::<Target>(alloc, password, salt, &params, cores) {
         Ok(hash) => copy_to(hash.to_array_string().as_str(), text, text_len),
         Err(error) => status_of(error),
     }
@@ -93,11 +129,41 @@ pub extern "C" fn scrypt_hash_mcf(
     ensures refused { result ≢ OK → text.new ≡ text.old }
     ensures unchanged { result ≢ OK → result ≢ BUFFER_SIZE → text_len.new ≡ text_len.old }
 {
+    let cores = &mut CoreCount::new();
+    hash_mcf(
+        alloc, password, salt, log_n, r, p, key_len, text, text_len, cores,
+    )
+}
+
+/// Does what [`scrypt_hash_mcf`] does, and counts its cores and the blocks that SHA-256 compresses.
+pub fn hash_mcf(
+    alloc: Global,
+    password: &[u8],
+    salt: &[u8],
+    log_n: u8,
+    r: u32,
+    p: u32,
+    key_len: usize,
+    text: &mut [u8],
+    text_len: &mut usize,
+    cores: &mut CoreCount,
+) -> i32
+    ensures made { result ≡ OK → IsWritten (made_mcf (wanted log_n r p key_len) password.now salt.now)
+        text.old text.new text_len.new }
+    ensures params { (result ≡ INVALID_PARAMS) ↔ (¬ AreHashParams log_n r p key_len) }
+    ensures size { result ≡ BUFFER_SIZE
+        → IsTooLong (made_mcf (wanted log_n r p key_len) password.now salt.now) text.old text_len.new }
+    ensures status { (result ≡ OK) ⊎ (result ≡ INVALID_PARAMS) ⊎ (result ≡ OUT_OF_MEMORY) ⊎ (result ≡ BUFFER_SIZE) }
+    ensures counted { (result ≡ OK) ⊎ (result ≡ BUFFER_SIZE) → AreCounted (cost log_n r p)
+        (hash_cost (length password.now) (length (crypt64_of salt.now)) r p key_len) cores.old cores.new }
+    ensures refused { result ≢ OK → text.new ≡ text.old }
+    ensures unchanged { result ≢ OK → result ≢ BUFFER_SIZE → text_len.new ≡ text_len.old }
+    ensures uncounted { result ≢ OK → result ≢ BUFFER_SIZE → cores.new ≡ cores.old }
+{
     let Ok(params) = Params::new_with_output_len(log_n, r, p, key_len) else {
         return INVALID_PARAMS;
     };
-    let made = mcf::hash::<Target>(alloc, password, salt, &params, &mut CoreCount::new());
-    match made {
+    match mcf::hash::<Target>(alloc, password, salt, &params, cores) {
         Ok(hash) => copy_to(hash.as_str(), text, text_len),
         Err(error) => status_of(error),
     }
@@ -161,8 +227,29 @@ pub extern "C" fn scrypt_verify_limited(
 ) -> i32
     ensures status { IsVerifyStatus password.now (limited_reading max_mem max_work min_key_len text.now) result }
 {
+    let cores = &mut CoreCount::new();
+    verify_limited(alloc, password, text, max_mem, max_work, min_key_len, cores)
+}
+
+/// Does what [`scrypt_verify_limited`] does, and counts its cores and the blocks that SHA-256
+/// compresses.
+pub fn verify_limited(
+    alloc: Global,
+    password: &[u8],
+    text: &[u8],
+    max_mem: Size,
+    max_work: u64,
+    min_key_len: usize,
+    cores: &mut CoreCount,
+) -> i32
+    ensures status { IsVerifyStatus password.now (limited_reading max_mem max_work min_key_len text.now) result }
+    ensures counted { IfOk (limited_reading max_mem max_work min_key_len text.now) (λ s. result ≢ OUT_OF_MEMORY
+        → AreCounted (cost_by s.params) (verify_cost password.now s) cores.old cores.new) }
+    ensures unread { OnErr (limited_reading max_mem max_work min_key_len text.now) (cores.new ≡ cores.old) }
+    ensures memory { result ≡ OUT_OF_MEMORY → cores.new ≡ cores.old }
+{
     match limited_hash(text, max_mem, max_work, min_key_len) {
-        Ok(hash) => verify_allocating(alloc, password, &hash),
+        Ok(hash) => verify_allocating(alloc, password, &hash, cores),
         Err(error) => limited_status_of(error),
     }
 }
@@ -190,11 +277,20 @@ pub extern "C" fn scrypt_needs_rehash(text: &[u8], log_n: u8, r: u32, p: u32, ke
 }
 
 // Verifies a password against a hash that was read.
-fn verify_allocating(alloc: Global, password: &[u8], hash: &StoredHash<'_>) -> i32
-    ensures { IsVerifyStatus password.now (reading hash.now) result }
+fn verify_allocating(
+    alloc: Global,
+    password: &[u8],
+    hash: &StoredHash<'_>,
+    cores: &mut CoreCount,
+) -> i32
+    ensures status { IsVerifyStatus password.now (reading hash.now) result }
+    ensures counted { IfOk (reading hash.now) (λ s. result ≢ OUT_OF_MEMORY
+        → AreCounted (cost_by s.params) (verify_cost password.now s) cores.old cores.new) }
+    ensures memory { result ≡ OUT_OF_MEMORY → cores.new ≡ cores.old }
 {
-    match hash.verify_counted::<Target>(alloc, password, &mut CoreCount::new()) {
+    match hash.verify_counted::<Target>(alloc, password, cores) {
         Ok(()) => OK,
+        Err(Error::OutOfMemory) => OUT_OF_MEMORY,
         Err(error) => status_of(error),
     }
 }

@@ -3,7 +3,7 @@
 ghost use Rattle.std.specs.Prelude.{◌≡◌, ◌≢◌, ◌⊎◌, ◌↔◌, length, take, IsSome, IfSome, IsTrue};
 ghost use Rattle.scrypt.specs.Accepted.{are_accepted, is_output_len};
 ghost use Rattle.scrypt.specs.InBuffers.{are_enough};
-ghost use Rattle.scrypt.specs.Cost.{chunks_bytes};
+ghost use Rattle.scrypt.specs.Cost.{AreCounted, chunks_bytes, cost, hash_cost, thin_cost};
 ghost use Rattle.scrypt.specs.Key.{derived_key, mixed_b};
 ghost use Rattle.scrypt.specs.Workspace.{IsRestKept, workspace_of};
 ghost use Rattle.scrypt_c.specs.Buffers.{AreBuffers, IsSpacing};
@@ -49,14 +49,41 @@ pub extern "C" fn scrypt_kdf(
         ⊎ (result ≡ OUT_OF_MEMORY) }
     ensures refused { result ≢ OK → output.new ≡ output.old }
 {
+    let cores = &mut CoreCount::new();
+    kdf(
+        alloc, password, salt, log_n, r, p, max_tables, max_mem, output, cores,
+    )
+}
+
+/// Does what [`scrypt_kdf`] does, and counts its cores and the blocks that SHA-256 compresses.
+pub fn kdf(
+    alloc: Global,
+    password: &[u8],
+    salt: &[u8],
+    log_n: u8,
+    r: u32,
+    p: u32,
+    max_tables: usize,
+    max_mem: Size,
+    output: &mut [u8],
+    cores: &mut CoreCount,
+) -> i32
+    ensures value { result ≡ OK → output.new ≡ derived_key password.now salt.now log_n r p (length output.old) }
+    ensures params { (result ≡ INVALID_PARAMS) ↔ (¬ IsTrue (are_accepted log_n r p)) }
+    ensures length { (result ≡ INVALID_OUTPUT_LEN)
+        ↔ (IsTrue (are_accepted log_n r p) × ¬ IsTrue (is_output_len (length output.old))) }
+    ensures status { (result ≡ OK) ⊎ (result ≡ INVALID_PARAMS) ⊎ (result ≡ INVALID_OUTPUT_LEN)
+        ⊎ (result ≡ OUT_OF_MEMORY) }
+    ensures counted { result ≡ OK → AreCounted (cost log_n r p)
+        (hash_cost (length password.now) (length salt.now) r p (length output.old)) cores.old cores.new }
+    ensures refused { result ≢ OK → output.new ≡ output.old }
+    ensures uncounted { result ≢ OK → cores.new ≡ cores.old }
+{
     let Ok(params) = Params::new(log_n, r, p) else {
         return INVALID_PARAMS;
     };
     let max_mem = bytes_that_pay(&params, max_tables, max_mem);
-    let mut cores = CoreCount::new();
-    match scrypt_with_max_mem::<Target>(
-        alloc, password, salt, &params, max_mem, output, &mut cores,
-    ) {
+    match scrypt_with_max_mem::<Target>(alloc, password, salt, &params, max_mem, output, cores) {
         Ok(()) => OK,
         Err(DeriveError::InvalidOutputLen) => INVALID_OUTPUT_LEN,
         Err(DeriveError::OutOfMemory) => OUT_OF_MEMORY,
@@ -144,12 +171,45 @@ pub extern "C" fn scrypt_kdf_with_buffers(
     ensures unchanged { result ≢ OK
         → (chunks.new ≡ chunks.old) × (table.new ≡ table.old) × (scratch.new ≡ scratch.old) }
 {
+    let cores = &mut CoreCount::new();
+    kdf_with_buffers(
+        password, salt, log_n, r, p, output, chunks, table, scratch, cores,
+    )
+}
+
+/// Does what [`scrypt_kdf_with_buffers`] does, and counts its cores and the blocks that SHA-256
+/// compresses.
+pub fn kdf_with_buffers(
+    password: &[u8],
+    salt: &[u8],
+    log_n: u8,
+    r: u32,
+    p: u32,
+    output: &mut [u8],
+    chunks: &mut [u8],
+    table: &mut [u32],
+    scratch: &mut [u32],
+    cores: &mut CoreCount,
+) -> i32
+    ensures status { IsKeyStatus (IsTrue (are_accepted log_n r p))
+        (IsTrue (are_enough (params_of log_n r p) chunks.old table.old scratch.old)) (length output.old) result }
+    ensures value { result ≡ OK → output.new ≡ derived_key password.now salt.now log_n r p (length output.old) }
+    ensures mixed { result ≡ OK → take (chunks_bytes r p) chunks.new ≡ mixed_b password.now salt.now log_n r p }
+    ensures rest { result ≡ OK
+        → IsRestKept (params_of log_n r p) (workspace_of chunks.old table.old scratch.old)
+        (workspace_of chunks.new table.new scratch.new) }
+    ensures counted { result ≡ OK → AreCounted (cost log_n r p)
+        (hash_cost (length password.now) (length salt.now) r p (length output.old)) cores.old cores.new }
+    ensures refused { result ≢ OK → output.new ≡ output.old }
+    ensures unchanged { result ≢ OK
+        → (chunks.new ≡ chunks.old) × (table.new ≡ table.old) × (scratch.new ≡ scratch.old) }
+    ensures uncounted { result ≢ OK → cores.new ≡ cores.old }
+{
     let Ok(params) = Params::new(log_n, r, p) else {
         return INVALID_PARAMS;
     };
-    let mut cores = CoreCount::new();
     let derived = scrypt_in_prefix::<Target>(
-        password, salt, &params, chunks, table, scratch, output, &mut cores,
+        password, salt, &params, chunks, table, scratch, output, cores,
     );
     match derived {
         Ok(()) => OK,
@@ -188,6 +248,37 @@ pub extern "C" fn scrypt_kdf_thin(
     ensures unchanged { result ≢ OK
         → (chunks.new ≡ chunks.old) × (table.new ≡ table.old) × (scratch.new ≡ scratch.old) }
 {
+    let cores = &mut CoreCount::new();
+    kdf_thin(
+        password, salt, log_n, r, p, s, output, chunks, table, scratch, cores,
+    )
+}
+
+/// Does what [`scrypt_kdf_thin`] does, and counts its cores and the blocks that SHA-256 compresses.
+pub fn kdf_thin(
+    password: &[u8],
+    salt: &[u8],
+    log_n: u8,
+    r: u32,
+    p: u32,
+    s: u8,
+    output: &mut [u8],
+    chunks: &mut [u8],
+    table: &mut [u32],
+    scratch: &mut [u32],
+    cores: &mut CoreCount,
+) -> i32
+    ensures status { IsKeyStatus (IsTrue (are_accepted log_n r p) × IsSpacing log_n s)
+        (AreBuffers log_n r p s (length chunks.old) (length table.old) (length scratch.old)) (length output.old) result }
+    ensures value { result ≡ OK → output.new ≡ derived_key password.now salt.now log_n r p (length output.old) }
+    ensures mixed { result ≡ OK → chunks.new ≡ mixed_b password.now salt.now log_n r p }
+    ensures counted { result ≡ OK → AreCounted (thin_cost password.now salt.now log_n r p s)
+        (hash_cost (length password.now) (length salt.now) r p (length output.old)) cores.old cores.new }
+    ensures refused { result ≢ OK → output.new ≡ output.old }
+    ensures unchanged { result ≢ OK
+        → (chunks.new ≡ chunks.old) × (table.new ≡ table.old) × (scratch.new ≡ scratch.old) }
+    ensures uncounted { result ≢ OK → cores.new ≡ cores.old }
+{
     let Some((params, lens)) = params_and_lens(log_n, r, p, s) else {
         return INVALID_PARAMS;
     };
@@ -201,11 +292,12 @@ pub extern "C" fn scrypt_kdf_thin(
         return BUFFER_SIZE;
     }
     if s == 0 {
-        return scrypt_kdf_with_buffers(password, salt, log_n, r, p, output, chunks, table, scratch);
+        return kdf_with_buffers(
+            password, salt, log_n, r, p, output, chunks, table, scratch, cores,
+        );
     }
-    let mut cores = CoreCount::new();
     let derived = scrypt_thin_with_backend::<Target>(
-        password, salt, &params, s, chunks, table, scratch, output, &mut cores,
+        password, salt, &params, s, chunks, table, scratch, output, cores,
     );
     // The length of the output was checked above.
     derived.unwrap();

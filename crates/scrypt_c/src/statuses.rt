@@ -2,8 +2,8 @@
 
 ghost use Rattle.std.specs.Prelude.{◌≡◌};
 ghost use Rattle.password_hash.specs.Refusal.{refusal};
-ghost use Rattle.scrypt.specs.WithinLimits.{limited_refusal};
-ghost use Rattle.scrypt_c.specs.Statuses.{refusal_status, unread_status};
+ghost use Rattle.scrypt.specs.WithinLimits.{limited_refusal, with_limited_refusal};
+ghost use Rattle.scrypt_c.specs.Statuses.{buffers_status, refusal_status, short_status, unread_status};
 
 use password_hash::Error;
 use scrypt::LimitedError;
@@ -111,5 +111,26 @@ pub(crate) fn limited_status_of(error: LimitedError) -> i32
         LimitedError::Hash(error) => status_of(error),
         LimitedError::TooCostly { .. } => TOO_COSTLY,
         LimitedError::KeyTooShort { .. } => KEY_TOO_SHORT,
+    }
+}
+
+// Returns the status of a verdict in the caller's buffers.
+pub(crate) fn verdict_status(verdict: Result<(), LimitedError>) -> i32
+    ensures { result ≡ buffers_status (with_limited_refusal verdict) }
+{
+    match verdict {
+        Ok(()) => OK,
+        Err(LimitedError::Hash(error)) => short_status_of(error),
+        Err(error) => limited_status_of(error),
+    }
+}
+
+// Returns the status of an error in the caller's buffers.
+pub(crate) fn short_status_of(error: Error) -> i32
+    ensures { result ≡ short_status (refusal error) }
+{
+    match error {
+        Error::OutOfMemory => BUFFER_SIZE,
+        _ => status_of(error),
     }
 }

@@ -5,7 +5,7 @@ use Rattle.scrypt.specs.Stepping.{IsUnderWay}
 use Rattle.scrypt.specs.declared.stepping.Progress.{Progress}
 use Rattle.scrypt_c.specs.Statuses.{result_status}
 use Rattle.scrypt_c.specs.Limits.{params_of}
-use Rattle.scrypt_c.proofs.in_steps.scrypt_verify_finish.Goals as goal
+use Rattle.scrypt_c.proofs.verify_in_steps.verify_finish.Goals as goal
 
 -- the length that parameters may have does not matter
 under_way : (password : List ℕ) (at : Progress) (chunks table scratch : List ℕ) (read : Result Stored Refusal)

@@ -1,7 +1,8 @@
 use Rattle.std.proofs.Common.{length, refl, rules}
+use Rattle.scrypt.proofs.CostFacts.{whole_table_cost}
 use Rattle.scrypt_c.specs.Buffers.{AreBuffers}
 use Rattle.scrypt_c.proofs.InBuffersFacts.{enough_at_zero, kept_key_status}
-use Rattle.scrypt_c.proofs.keys.scrypt_kdf_thin.Goals as goal
+use Rattle.scrypt_c.proofs.keys.kdf_thin.Goals as goal
 
 -- the buffers of a whole table are long enough for the call with buffers
 pub returns-then-s-eq0-clause-status : goal.returns-then-s-eq0-clause-status
@@ -11,6 +12,11 @@ returns-then-s-eq0-clause-status c =
       table_is = search rules;
       scratch_is = search rules;
     } in
-    kept_key_status (length c.args.output.now) c.scrypt_kdf_with_buffers.result (search rules) (c.in-Some.ensures'.exact.0 refl)
+    kept_key_status (length c.args.output.now) c.kdf_with_buffers.result (search rules) (c.in-Some.ensures'.exact.0 refl)
     (enough_at_zero c.args.log_n c.args.r c.args.p c.args.s c.args.chunks.now c.args.table.now c.args.scratch.now are c.if-s-eq0.true)
-    are c.scrypt_kdf_with_buffers.ensures.status
+    are c.kdf_with_buffers.ensures.status
+
+-- no row is recomputed
+pub returns-then-s-eq0-clause-counted : goal.returns-then-s-eq0-clause-counted
+returns-then-s-eq0-clause-counted c done =
+    rw (c.if-s-eq0.true, whole_table_cost) (c.kdf_with_buffers.ensures.counted (search (rules, done)))

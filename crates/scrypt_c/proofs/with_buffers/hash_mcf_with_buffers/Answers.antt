@@ -1,10 +1,10 @@
-use Rattle.std.proofs.Common.{◌∙◌, arith, length, sym}
+use Rattle.std.proofs.Common.{◌∙◌, arith, length, refl, sym}
 use Rattle.scrypt.specs.McfHash.{made_text_len}
 use Rattle.scrypt.proofs.AcceptedFacts.{leb_decided}
 use Rattle.scrypt.proofs.McfTextFacts.{made_mcf_len}
 use Rattle.scrypt_c.proofs.MadeFacts.{len_is, written_ascii}
 use Rattle.scrypt_c.specs.Made.{wanted}
-use Rattle.scrypt_c.proofs.with_buffers.scrypt_hash_mcf_with_buffers.Goals as goal
+use Rattle.scrypt_c.proofs.with_buffers.hash_mcf_with_buffers.Goals as goal
 
 pub returns-in-Ok-hashed-clause-made : goal.returns-in-Ok-hashed-clause-made
 returns-in-Ok-hashed-clause-made c done =
@@ -16,15 +16,14 @@ pub returns-in-Err-clause-size : goal.returns-in-Err-clause-size
 returns-in-Err-clause-size c short =
     let wants = wanted c.args.log_n c.args.r c.args.p c.args.key_len in
     let exact = rw c.in-Ok.ensures.value at c.in-Err.ensures.len in
-    let len = rw c.in-Ok.ensures.value at c.hash_len.ensures.value in
-    let made = rw c.in-Ok.ensures.value at c.hash_len.ensures.made c.args.password.now in
-    let same = c.hash_with_buffers-hashed.auto.text in
-    let left = c.too_short.ensures in (
-      λ long. left.long (omega (arith, made, long, same)) ∙ sym made,
+    let len = rw c.in-Ok.ensures.value at c.hash_len-len.ensures.value in
+    let made = rw c.in-Ok.ensures.value at c.hash_len-len.ensures.made c.args.password.now in
+    let room = c.if-text-len.false in (
+      λ long. absurd (omega (arith, made, long, room)),
       λ fits. (
         (λ enough.
             let fit = (leb_decided (made_text_len wants (length c.args.salt.now)) (length c.args.text.now)).1 (omega (arith, made, len, fits)) in
             let wrong = rw (fit, enough) at exact in absurd cc),
-        left.fits (omega (arith, made, fits, same)),
+        refl,
       ),
     )

@@ -1,0 +1,195 @@
+//! Verifying in steps, in the caller's buffers. The steps are those of a key.
+
+ghost use Rattle.std.specs.Prelude.{◌≡◌, ◌≢◌, ◌⊎◌, ◌↔◌, List, ℕ, length, IfOk, OnErr};
+ghost use Rattle.scrypt.specs.Cost.{AreHashed, chunks_bytes, pbkdf2_cost};
+ghost use Rattle.scrypt.specs.Reading.{verdict};
+ghost use Rattle.scrypt.specs.Stepping.{IsUnderWay};
+ghost use Rattle.scrypt_c.specs.Limits.{limited_reading, params_of};
+ghost use Rattle.scrypt_c.specs.Statuses.{result_status};
+ghost use Rattle.scrypt_c.specs.Steps.{AreForSteps, IsBegun};
+ghost use Rattle.scrypt_c.specs.Texts.{bytes_reading};
+
+use crate::in_steps::are_for_steps;
+use crate::statuses::{BUFFER_SIZE, OK, UNFINISHED, limited_status_of, status_of};
+use crate::target::Target;
+use crate::texts::{limited_hash, stored_hash, whole_params};
+use scrypt::steps::begin;
+use scrypt::{Backend, BufferLens, CoreCount, Progress, Size};
+
+/// Begins verifying a password against the text of a hash, in steps, if the cost of the hash is
+/// within the limits. Continue with `scrypt_key_step`, with the parameters that this call writes;
+/// `scrypt_verify_finish` returns the verdict.
+///
+/// Returns `OK`, or the first of these, and then nothing has changed: the errors of
+/// `scrypt_verify_limited` before it derives, and `BUFFER_SIZE` as `scrypt_key_begin` does.
+#[unsafe(no_mangle)]
+pub extern "C" fn scrypt_verify_begin(
+    password: &[u8],
+    text: &[u8],
+    max_mem: Size,
+    max_work: u64,
+    min_key_len: usize,
+    log_n: &mut u8,
+    r: &mut u32,
+    p: &mut u32,
+    chunks: &mut [u8],
+    table: &mut [u32],
+    scratch: &mut [u32],
+    at: &mut Progress,
+) -> i32
+    ensures refused { OnErr (limited_reading max_mem max_work min_key_len text.now)
+        (result ≡ result_status (limited_reading max_mem max_work min_key_len text.now)) }
+    ensures status { IfOk (limited_reading max_mem max_work min_key_len text.now)
+        (λ s. (result ≡ OK) ⊎ (result ≡ BUFFER_SIZE)) }
+    ensures buffers { IfOk (limited_reading max_mem max_work min_key_len text.now)
+        (λ s. (result ≡ BUFFER_SIZE) ↔ ¬ AreForSteps s.params 1 chunks.old table.old scratch.old) }
+    ensures params { result ≡ OK → IfOk (bytes_reading text.now)
+        (λ s. (log_n.new ≡ s.params.log_n) × (r.new ≡ s.params.r) × (p.new ≡ s.params.p)) }
+    ensures begun { result ≡ OK → IfOk (bytes_reading text.now)
+        (λ s. IsBegun ⟦<Target as Backend>⟧.most ⟦<Target as Backend>⟧.scalar
+        password.now s.salt (params_of log_n.new r.new p.new) at.new chunks.new table.new scratch.new) }
+    ensures unchanged { result ≢ OK
+        → (chunks.new ≡ chunks.old) × (table.new ≡ table.old) × (scratch.new ≡ scratch.old)
+        × (at.new ≡ at.old) × (log_n.new ≡ log_n.old) × (r.new ≡ r.old) × (p.new ≡ p.old) }
+{
+    let cores = &mut CoreCount::new();
+    verify_begin(
+        password,
+        text,
+        max_mem,
+        max_work,
+        min_key_len,
+        log_n,
+        r,
+        p,
+        chunks,
+        table,
+        scratch,
+        at,
+        cores,
+    )
+}
+
+/// Does what [`scrypt_verify_begin`] does, and counts its cores and the blocks that SHA-256 compresses.
+pub fn verify_begin(
+    password: &[u8],
+    text: &[u8],
+    max_mem: Size,
+    max_work: u64,
+    min_key_len: usize,
+    log_n: &mut u8,
+    r: &mut u32,
+    p: &mut u32,
+    chunks: &mut [u8],
+    table: &mut [u32],
+    scratch: &mut [u32],
+    at: &mut Progress,
+    cores: &mut CoreCount,
+) -> i32
+    ensures refused { OnErr (limited_reading max_mem max_work min_key_len text.now)
+        (result ≡ result_status (limited_reading max_mem max_work min_key_len text.now)) }
+    ensures status { IfOk (limited_reading max_mem max_work min_key_len text.now)
+        (λ s. (result ≡ OK) ⊎ (result ≡ BUFFER_SIZE)) }
+    ensures buffers { IfOk (limited_reading max_mem max_work min_key_len text.now)
+        (λ s. (result ≡ BUFFER_SIZE) ↔ ¬ AreForSteps s.params 1 chunks.old table.old scratch.old) }
+    ensures params { result ≡ OK → IfOk (bytes_reading text.now)
+        (λ s. (log_n.new ≡ s.params.log_n) × (r.new ≡ s.params.r) × (p.new ≡ s.params.p)) }
+    ensures begun { result ≡ OK → IfOk (bytes_reading text.now)
+        (λ s. IsBegun ⟦<Target as Backend>⟧.most ⟦<Target as Backend>⟧.scalar
+        password.now s.salt (params_of log_n.new r.new p.new) at.new chunks.new table.new scratch.new) }
+    ensures unchanged { result ≢ OK
+        → (chunks.new ≡ chunks.old) × (table.new ≡ table.old) × (scratch.new ≡ scratch.old)
+        × (at.new ≡ at.old) × (log_n.new ≡ log_n.old) × (r.new ≡ r.old) × (p.new ≡ p.old) }
+    ensures counted { result ≡ OK → IfOk (bytes_reading text.now) (λ s. AreHashed
+        (pbkdf2_cost (length password.now) (length s.salt) (chunks_bytes s.params.r s.params.p)) cores.old cores.new) }
+    ensures uncounted { result ≢ OK → cores.new ≡ cores.old }
+{
+    let hash = match limited_hash(text, max_mem, max_work, min_key_len) {
+        Ok(hash) => hash,
+        Err(error) => return limited_status_of(error),
+    };
+    let Ok((params, _)) = whole_params(&hash) else {
+        unreachable!();
+    };
+    let Ok(salt) = hash.salt() else {
+        unreachable!();
+    };
+    if !are_for_steps(&params, 1, chunks, table, scratch) {
+        return BUFFER_SIZE;
+    }
+    *at = begin::<Target>(password, salt, &params, chunks, table, scratch, cores);
+    *log_n = params.log_n();
+    *r = params.r();
+    *p = params.p();
+    OK
+}
+
+/// Finishes verifying a password against the text of a hash: returns the verdict.
+///
+/// Returns `OK`, or the first of these: the errors of `scrypt_verify_limited` for a hash that cannot
+/// be read; `BUFFER_SIZE` unless the chunks have the length of `scrypt_buffer_lens`; `UNFINISHED`
+/// unless all chunks are mixed; and `MISMATCH`. The chunks are unchanged.
+#[unsafe(no_mangle)]
+pub extern "C" fn scrypt_verify_finish(
+    password: &[u8],
+    text: &[u8],
+    chunks: &mut [u8],
+    at: &Progress,
+) -> i32
+    ensures unread { OnErr (bytes_reading text.now) (result ≡ result_status (bytes_reading text.now)) }
+    ensures buffers { IfOk (bytes_reading text.now)
+        (λ s. (result ≡ BUFFER_SIZE) ↔ (length chunks.old ≢ chunks_bytes s.params.r s.params.p)) }
+    ensures unfinished { IfOk (bytes_reading text.now) (λ s. (result ≡ UNFINISHED)
+        ↔ ((length chunks.old ≡ chunks_bytes s.params.r s.params.p) × (at.now.chunks ≢ s.params.p))) }
+    ensures verdict { result ≢ BUFFER_SIZE → result ≢ UNFINISHED → (table scratch : List ℕ)
+        → IfOk (bytes_reading text.now) (λ s. IsUnderWay password.now s.salt
+        (params_of s.params.log_n s.params.r s.params.p) at.now chunks.old table scratch)
+        → result ≡ result_status (verdict password.now (bytes_reading text.now)) }
+    ensures kept { chunks.new ≡ chunks.old }
+{
+    let cores = &mut CoreCount::new();
+    verify_finish(password, text, chunks, at, cores)
+}
+
+/// Does what [`scrypt_verify_finish`] does, and counts its cores and the blocks that SHA-256 compresses.
+pub fn verify_finish(
+    password: &[u8],
+    text: &[u8],
+    chunks: &mut [u8],
+    at: &Progress,
+    cores: &mut CoreCount,
+) -> i32
+    ensures unread { OnErr (bytes_reading text.now) (result ≡ result_status (bytes_reading text.now)) }
+    ensures buffers { IfOk (bytes_reading text.now)
+        (λ s. (result ≡ BUFFER_SIZE) ↔ (length chunks.old ≢ chunks_bytes s.params.r s.params.p)) }
+    ensures unfinished { IfOk (bytes_reading text.now) (λ s. (result ≡ UNFINISHED)
+        ↔ ((length chunks.old ≡ chunks_bytes s.params.r s.params.p) × (at.now.chunks ≢ s.params.p))) }
+    ensures verdict { result ≢ BUFFER_SIZE → result ≢ UNFINISHED → (table scratch : List ℕ)
+        → IfOk (bytes_reading text.now) (λ s. IsUnderWay password.now s.salt
+        (params_of s.params.log_n s.params.r s.params.p) at.now chunks.old table scratch)
+        → result ≡ result_status (verdict password.now (bytes_reading text.now)) }
+    ensures kept { chunks.new ≡ chunks.old }
+    ensures counted { result ≢ BUFFER_SIZE → result ≢ UNFINISHED → IfOk (bytes_reading text.now) (λ s. AreHashed
+        (pbkdf2_cost (length password.now) (chunks_bytes s.params.r s.params.p) (length s.key)) cores.old cores.new) }
+    ensures unread_uncounted { OnErr (bytes_reading text.now) (cores.new ≡ cores.old) }
+    ensures uncounted { (result ≡ BUFFER_SIZE) ⊎ (result ≡ UNFINISHED) → cores.new ≡ cores.old }
+{
+    let hash = match stored_hash(text) {
+        Ok(hash) => hash,
+        Err(error) => return status_of(error),
+    };
+    let params = match whole_params(&hash) {
+        Ok((params, _)) => params,
+        Err(error) => return status_of(error),
+    };
+    if chunks.len() as Size != BufferLens::of(&params).chunks {
+        return BUFFER_SIZE;
+    }
+    if at.chunks != params.p() as usize {
+        return UNFINISHED;
+    }
+    match hash.finish_verify(password, *at, chunks, cores) {
+        Ok(()) => OK,
+        Err(error) => status_of(error),
+    }
+}
