@@ -5,7 +5,7 @@
  *   a key                                            scrypt_key                               yes
  *   a key with no allocation, in your own buffers    scrypt_key_with_buffers                  yes
  *   a key on a small device, with a smaller table    scrypt_key_thin                          yes
- *   a key in steps, with progress between them       scrypt_derivation_new; _run; ..          no
+ *   a key in steps, with progress between them       scrypt_derivation_new; _run; ..          steps
  *   the lengths of buffers; wiping them              scrypt_buffer_lens; scrypt_wipe          yes
  *   a password hash to store                         scrypt_hash_password                     no
  *   the same with your salt and parameters           scrypt_hash_with_salt; .._with_buffers   yes
@@ -28,9 +28,11 @@
  *   the numbers of a rejection, for a log            scrypt_explain                           no
  *
  * "yes" marks a proved function, with a few lines of C that check for NULL, reject N passed as
- * log_n, add the NUL to a text, and wipe the stack and the heap memory that the function used. The
- * other calls are written in C over the proved ones, which compute each key and result. All C code
- * is tested.
+ * log_n, add the NUL to a text, and wipe the stack and the heap memory that the function used.
+ * "steps" marks calls over proved steps, of which enough always end with the key: the C keeps the
+ * password, the buffers and the progress between them, and chooses how long each is. The other
+ * calls are written in C over the proved ones, which compute each key and result. All C code is
+ * tested.
  *
  * Parameters are accepted if r > 0, p > 0, 128 * r * 2^log_n < 2^64 and r * p < 2^30. log_n is the
  * base-2 logarithm of N; an N that is passed instead is rejected if it is 64 or more.

@@ -93,7 +93,7 @@ def unnamed_calls(path, library):
 
 def unlisted_calls():
     """The calls of the C header that its table doesn't name: `.._limited` and `_run` are ends of names, and `..` is any."""
-    rows = [it.split("; ") for it in re.findall(r"^ \*   .{48} (scrypt_.*?) +(?:yes|no)$", header.TEXT, re.M)]
+    rows = [it.split("; ") for it in re.findall(r"^ \*   .{48} (scrypt_.*?) +(?:yes|no|steps)$", header.TEXT, re.M)]
     for _, name, _ in header.CALLS:
         family = "_".join(name.split("_")[:2])
         ends = [it.lstrip(".") for first, *others in rows if first.startswith(family) for it in others if it[0] in "._"]

@@ -4,3 +4,7 @@ pub mod TextFacts
 pub mod InBuffersFacts
 -- New hashes, in the caller's buffer.
 pub mod MadeFacts
+-- A hash that was written, and is verified.
+pub mod RoundTripFacts
+-- Steps of a key, one after another.
+pub mod SessionFacts

@@ -1,5 +1,5 @@
 -- The status of a cost within limits.
-use Rattle.std.specs.Prelude.{◌≡◌, ◌⊎◌, ◌↔◌, ℕ, ℤ, ◌+◌, ◌*◌, ◌^◌, if◌then◌else◌, min, nat_lt, pos, IsTrue, List, None, Result}
+use Rattle.std.specs.Prelude.{◌≡◌, ◌⊎◌, ◌↔◌, ℕ, ℤ, ◌+◌, ◌*◌, ◌^◌, ◌≤◌, if◌then◌else◌, min, nat_lt, pos, IsTrue, List, None, Result}
 use Rattle.password_hash.specs.Refusal.{Refusal}
 use Rattle.scrypt.specs.Accepted.{are_accepted, Parameters}
 use Rattle.scrypt.specs.Cost.{chunks_bytes, scratch_words, table_words}
@@ -21,6 +21,11 @@ limited_reading max_mem max_work min_key_len bytes = within (limits_of max_mem m
 -- these parameters, without a length
 abbrev pub params_of : ℕ → ℕ → ℕ → Parameters
 params_of log_n r p = record { log_n = log_n; r = r; p = p; output_len = None }
+
+-- these limits admit hashes with these parameters and keys of this length
+abbrev pub Admit : ℕ → ℕ → ℕ → ℕ → ℕ → ℕ → ℕ → Type 0
+Admit max_mem max_work min_key_len log_n r p key_len =
+    IsTrue (are_within (limits_of max_mem max_work min_key_len) (params_of log_n r p)) × (min_key_len ≤ key_len)
 
 -- The size limit for the buffers of a key, in bytes: the size with all tables that fit into
 -- `max_mem`, up to `max_tables`. If a table has fewer than 2 ^ 14 words, interleaving is

@@ -1,5 +1,5 @@
 -- A key in steps, in the caller's buffers.
-use Rattle.std.specs.Prelude.{◌≡◌, ◌≢◌, ◌⊎◌, ◌↔◌, Bool, ℕ, ℤ, pos, ◌+◌, ◌*◌, ◌<◌, ◌≤◌, List, length, min, IsTrue}
+use Rattle.std.specs.Prelude.{◌≡◌, ◌≢◌, ◌⊎◌, ◌↔◌, Bool, ℕ, ℤ, pos, ◌+◌, ◌*◌, ◌<◌, ◌≤◌, List, [], ◌∷◌, length, min, IsTrue}
 use Rattle.scrypt.specs.Accepted.{Parameters, are_accepted, is_output_len}
 use Rattle.scrypt.specs.Cost.{chunks_bytes, scratch_words, table_words}
 use Rattle.scrypt.specs.Key.{derived_key}
@@ -84,3 +84,10 @@ pub record HasFinished (password : List ℕ) (log_n r p : ℕ) (chunks : List �
       → IsUnderWay password salt (params_of log_n r p) at chunks table scratch
       → new ≡ derived_key password salt log_n r p (length old)
   pub refused : status ≢ pos 0 → new ≡ old
+
+-- Steps one after another, each with its count and its status, and with the buffers and the progress
+-- as the step before it left them.
+abbrev pub Session : ℕ → Bool → ℕ → ℕ → ℕ → Kept → List (ℕ × ℤ) → Kept → Type 0
+Session most scalar log_n r p old [] new = new ≡ old
+Session most scalar log_n r p old (step ∷ steps) new = (mid : Kept)
+    × HasStepped most scalar log_n r p step.0 old mid step.1 × Session most scalar log_n r p mid steps new

@@ -9,6 +9,7 @@ pub mod cost;
 pub mod hashes;
 pub mod in_steps;
 pub mod keys;
+pub mod laws;
 pub mod logins;
 pub mod statuses;
 pub mod stored_text;
