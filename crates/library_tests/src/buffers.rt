@@ -1,7 +1,7 @@
 // Derivations in the caller's buffers, whose initial contents do not matter.
 
 use crate::holds;
-use crate::keys::FIRST;
+use crate::keys::{FIRST, SECOND};
 use scrypt::{
     BufferLens, Buffers, CoreCount, InvalidOutputLen, Params, StepsError, scrypt_thin,
     scrypt_with_buffers,
@@ -61,6 +61,39 @@ fn keys_in_steps(rt: HostRuntime) -> Result<(), Fail> {
     holds(is_so, "cancelled, with the output unchanged")?;
     let is_so = cancelled.seen == 10_20 && !cancelled.is_half;
     holds(is_so, "at once, after the second step")
+}
+
+// The key by a table that keeps one row in 2^s, in buffers with other contents.
+fn by_thin_table(
+    alloc: Global,
+    password: &[u8],
+    salt: &[u8],
+    params: &Params,
+    s: u8,
+) -> Result<[u8; 64], Fail> {
+    let Some(lens) = BufferLens::thin(params, s) else {
+        return Err("s is above log_n".into());
+    };
+    let (mut own, mut key) = (Buffers::allocate(alloc, &lens)?, [0; 64]);
+    let (b, v, t) = (&mut own.chunks, &mut own.table, &mut own.scratch);
+    b.fill(0xff);
+    v.fill(u32::MAX);
+    t.fill(u32::MAX);
+    let cores = &mut CoreCount::new();
+    scrypt_thin(password, salt, params, s, b, v, t, &mut key, cores)?;
+    Ok(key)
+}
+
+#[test]
+fn keys_by_thin_tables(rt: HostRuntime) -> Result<(), Fail> {
+    let params = Params::new(4, 1, 1)?;
+    for s in 0..=4 {
+        let key = by_thin_table(rt.alloc(), b"", b"", &params, s)?;
+        holds(key == FIRST, "from the whole table to one row")?;
+    }
+    let params = Params::new(10, 8, 16)?;
+    let key = by_thin_table(rt.alloc(), b"password", b"NaCl", &params, 3)?;
+    holds(key == SECOND, "one row in eight, for 16 chunks")
 }
 
 #[test]

@@ -125,6 +125,11 @@ fn decoded(alloc: Global, letters: &str) -> Result<mcf::Result<Vec<u8>>, Fail> {
     let bytes = Base64::Crypt.decode_vec(alloc, letters);
     let of_field = field.decode_base64(alloc, Base64::Crypt);
     holds(of_field == bytes, "the field has others")?;
+    let is_so = match &bytes {
+        Ok(bytes) => field.base64_matches(bytes) && !field.base64_matches(b"other"),
+        Err(_) => !field.base64_matches(b""),
+    };
+    holds(is_so, "it matches its bytes alone")?;
     Ok(bytes)
 }
 
