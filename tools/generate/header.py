@@ -61,6 +61,8 @@ CALLS = [(result, name, [" ".join(it.split()) for it in arguments.split(",") if 
 # statuses and numbers, by their names without SCRYPT_ and SCRYPT_E_; the crate proves that the default limits have these values
 STATUSES = {name: int(number) for name, number in re.findall(r"^  SCRYPT_(?:E_)?(\w+) = (\d+)", TEXT, re.M)}
 MEANINGS = dict(re.findall(r"^  SCRYPT_(?:E_)?(\w+) = \d+,? +/\* (.*) \*/$", TEXT, re.M)) | {"OK": "the call succeeded"}
+if unexplained := STATUSES.keys() - MEANINGS.keys():
+    sys.exit(f"bindings/c/scrypt_c.h: no comment beside it explains {', '.join(unexplained)}")
 NUMBERS = {name: int(number) for name, number in re.findall(r"^#define SCRYPT_(\w+) (?:UINT64_C\()?(\d+)\)?$", TEXT, re.M)}
 LIMITS = {f"DEFAULT_{name.upper()}": int(number) for name, number in
           re.findall(r"Limits::DEFAULT\.(\w+) == (\d+)", (TOP / "crates/scrypt/src/limits.rt").read_text("utf-8"))}
