@@ -3,7 +3,7 @@
 - a broken link, or a link whose words name a definition that its file doesn't have
 - a name that no source has: text between backquotes that is a path (`mcf::Base64`), a word with an
   underscore (`scrypt_ro_mix`), a call (`new()`, `.verify(&hash)`), or a file of the repository
-- a public function of the crate scrypt that docs/RATTLE.md doesn't name
+- a public function of the crate scrypt that neither docs/RATTLE.md nor crates/scrypt/DIFFERENCES.md names
 - a call of the C header that the table at its top doesn't name
 - a number with a unit that tools/gate/numbers.py doesn't find where it is from
 
@@ -83,11 +83,11 @@ def broken_links(path, text):
             yield from (f"{path}: {file} has no definition {name}" for name in missing)
 
 
-def unnamed_calls(path, library):
-    """The public functions of the crate scrypt that a document doesn't name."""
-    words = set(re.findall(r"\w+", read(path)))
+def unnamed_calls(paths, library):
+    """The public functions of the crate scrypt that none of these documents names."""
+    words = {word for path in paths for word in re.findall(r"\w+", read(path))}
     functions = (it for source in library.sources["scrypt"].values() for it in source.items if it.kind == "fn")
-    yield from (f"{path}: {it.path}:{it.line}: the public function {it.name} isn't named" for it in functions
+    yield from (f"{paths[0]}: {it.path}:{it.line}: the public function {it.name} isn't named" for it in functions
                 if it.name not in words and " for " not in it.owner and library.is_public(it))
 
 
@@ -107,7 +107,7 @@ def main():
     documents = {path: read(path) for path in paths if path.endswith(".md")}
     found = [it for path, text in documents.items() for it in (*unknown_names(path, text, names), *broken_links(path, text))]
     pages = [path for path in documents if path not in ("CHANGELOG.md", "docs/PROMISES.md")]  # made, and of former versions
-    found += [*unnamed_calls("docs/RATTLE.md", Library()), *unlisted_calls(), *wrong_numbers(pages)]
+    found += [*unnamed_calls(("docs/RATTLE.md", "crates/scrypt/DIFFERENCES.md"), Library()), *unlisted_calls(), *wrong_numbers(pages)]
     sys.exit("\n".join(found) or 0)
 
 

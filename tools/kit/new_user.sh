@@ -12,7 +12,6 @@ sh -eu start.sh > start.log 2>&1 || { cat start.log; exit 1; }
 export PROVED_LIBRARIES="${PROVED_LIBRARIES:-$top/crates}" PYTHONPATH="$top"
 check=$(python3 -B -c 'from tools.kit import rattle; print(*rattle.of("check", "app"))')
 cd crates/app
-awk '/^```/ { if (code) exit; code = $0 == "```rust"; next } code' "$top/docs/RATTLE.md" > src/hash.rt # as the page prints it
 # shellcheck disable=SC2086 # words without blanks
 $check > check.log 2>&1 || { cat check.log; exit 1; }
 grep '^logic=proved' check.log
