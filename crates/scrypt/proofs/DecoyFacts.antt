@@ -21,7 +21,7 @@ use Rattle.scrypt.proofs.ReadingFacts.{right_decided, within_decided, within_lim
 abbrev pub decoy_of : Parameters → List ℕ → Stored
 decoy_of c salt = record { params = without_len c; salt = salt; key = no_key (key_len_or_default c) }
 
-pub accepted_decoy : (c : Parameters) (salt : List ℕ) → IsTrue (are_accepted c.log_n c.r c.p) → IsTrue (is_stored_len c.output_len)
+accepted_decoy : (c : Parameters) (salt : List ℕ) → IsTrue (are_accepted c.log_n c.r c.p) → IsTrue (is_stored_len c.output_len)
     → decoy_reading c salt ≡ Ok (decoy_of c salt)
 accepted_decoy c salt fits len = rw (fits, len) refl
 

@@ -12,7 +12,7 @@ use Rattle.scrypt.proofs.AcceptedFacts.{checked_ok, ok_if, small_params}
 use Rattle.scrypt.proofs.ReadingFacts.{IsFault, faults}
 
 -- where there are five letters, they say the number
-pub five_letter_number-some : (text : List ℕ) → 5 ≤ length text → five_letter_number text ≡ number_of (take 5 text)
+five_letter_number-some : (text : List ℕ) → 5 ≤ length text → five_letter_number text ≡ number_of (take 5 text)
 five_letter_number-some text some = rw (le-ltb (length text) 5 some) refl
 
 -- the five letters of a number are those of what is left of it modulo 2^30
@@ -114,7 +114,7 @@ letter_said None number says small = absurd (omega arith)
 letter_said (Some value) number says small = ap Some says
 
 -- the numbers that parameters were made of
-pub made_of : (log_n : ℕ) (r p : Option ℕ) (c : Parameters) → of_numbers log_n r p ≡ Ok c
+made_of : (log_n : ℕ) (r p : Option ℕ) (c : Parameters) → of_numbers log_n r p ≡ Ok c
     → IsTrue (are_accepted c.log_n c.r c.p) × (log_n ≡ c.log_n) × (r ≡ Some c.r) × (p ≡ Some c.p) × (c.output_len ≡ None)
 made_of log_n None p c is = absurd cc
 made_of log_n (Some r) None c is = absurd cc

@@ -31,7 +31,7 @@ count_letters : (log_n r p : ℕ) → length (params_letters log_n r p) ≡ 11
 count_letters log_n r p = omega (arith, length-append (letters_of 5 r) (letters_of 5 p), length-letters_of 5 r, length-letters_of 5 p)
 
 -- the field that they begin is read as the parameters
-pub field_read : (c : Parameters) (salt : List ℕ) → IsTrue (are_accepted c.log_n c.r c.p)
+field_read : (c : Parameters) (salt : List ℕ) → IsTrue (are_accepted c.log_n c.r c.p)
     → field_params (params_letters c.log_n c.r c.p ++ salt) ≡ Ok (without_len c)
 unfolding field_params
 field_read c salt good =

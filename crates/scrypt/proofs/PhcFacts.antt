@@ -56,13 +56,13 @@ written_read c fits =
     let p = (decimal_exact (decimal c.p) c.p).1 (omega (arith, small.2), refl) in
     rw (ln, r, p) (checked_is c.log_n c.r c.p fits)
 
-pub pairs_fault : (log_n r p : ℕ) (pairs : List (List ℕ × List ℕ)) → IfErr (read_pairs log_n r p pairs) IsFault
+pairs_fault : (log_n r p : ℕ) (pairs : List (List ℕ × List ℕ)) → IfErr (read_pairs log_n r p pairs) IsFault
 unfolding read_pairs
 pairs_fault log_n r p [] = checked_fault log_n r p
 pairs_fault log_n r p (pair ∷ pairs) =
     let after = λ (log_n r p : ℕ). pairs_fault log_n r p pairs in search (rules, faults, after)
 
-pub pairs_good : (log_n r p : ℕ) (pairs : List (List ℕ × List ℕ)) → IfOk (read_pairs log_n r p pairs) AreGood
+pairs_good : (log_n r p : ℕ) (pairs : List (List ℕ × List ℕ)) → IfOk (read_pairs log_n r p pairs) AreGood
 unfolding read_pairs
 pairs_good log_n r p [] = checked_good log_n r p
 pairs_good log_n r p (pair ∷ pairs) =

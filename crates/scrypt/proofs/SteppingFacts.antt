@@ -62,7 +62,7 @@ pub all_mixes_cost : (log_n r p i n m : ℕ) → i ≡ p → m ≡ 0 → (i * al
 all_mixes_cost log_n r p i n m all none = rw (all, none) (omega arith)
 
 -- the chunks that are mixed, as the code counts their mixes
-pub mixes_of_chunks : (i n k r p : ℕ) → i + n ≤ p → 0 < r → r * p < 2 ^ 30 → k ≤ 56
+mixes_of_chunks : (i n k r p : ℕ) → i + n ≤ p → 0 < r → r * p < 2 ^ 30 → k ≤ 56
     → (i * 2 ^ (k + 1) ≤ 2 ^ 87) × (i * 2 ^ (k + 1) % 2 ^ 128 ≡ i * all_mixes k)
 mixes_of_chunks i n k r p inside some product small =
     let below : k + 1 ≤ 57 = omega (arith, small) in

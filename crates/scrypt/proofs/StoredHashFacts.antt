@@ -62,14 +62,17 @@ no_reading text none = at (formatted text) none
 
 -- the parameters and the whole of a hash
 
-phc_whole : (params : Result Parameters Refusal) (salt key : Option (List ℕ)) (s : Stored)
-    → (params and_then λ c. ok_or salt PasswordInvalid and_then λ salt. ok_or key PasswordInvalid
-    and_then λ key. Ok (record { params = c; salt = salt; key = key })) ≡ Ok s
-    → mapped {B = Parameters × ℕ} (λ c. (c, key_len_or_zero key)) params ≡ Ok (s.params, length s.key)
+-- the parts of a PHC hash
+abbrev phc_parts : Result Parameters Refusal → Option (List ℕ) → Option (List ℕ) → Result Stored Refusal
+phc_parts params salt key = params and_then λ c. ok_or salt PasswordInvalid and_then λ salt.
+    ok_or key PasswordInvalid and_then λ key. Ok (record { params = c; salt = salt; key = key })
+
+phc_whole : (params : Result Parameters Refusal) (salt key : Option (List ℕ)) (s : Stored) → phc_parts params salt key ≡ Ok s
+    → (params ≡ Ok s.params) × (key ≡ Some s.key)
 phc_whole (Ok c) (Some salt) (Some key) s is =
     let read : Stored = record { params = c; salt = salt; key = key } in
     let same : read ≡ s = cc in
-    ap (λ (z : Stored). let pair : Parameters × ℕ = (z.params, length z.key) in Ok pair) same
+    (ap (λ (z : Stored). Ok z.params) same, ap (λ (z : Stored). Some z.key) same)
 phc_whole (Ok c) (Some salt) None s is = absurd cc
 phc_whole (Ok c) None key s is = absurd cc
 phc_whole (Err why) salt key s is = absurd cc
@@ -81,7 +84,9 @@ params_of_whole text s is = at (formatted text) is
     at : (found : Option Formatted) → (ok_or found EncodingInvalid and_then whole) ≡ Ok s
         → (ok_or found EncodingInvalid and_then params_and_len) ≡ Ok (s.params, length s.key)
     at (Some (McfText text)) is = ap (mapped (λ z. (z.params, length z.key))) is
-    at (Some (PhcHash hash)) is = phc_whole (phc_params hash) hash.salt hash.hash s is
+    at (Some (PhcHash hash)) is =
+        let (params, key) = phc_whole (phc_params hash) hash.salt hash.hash s is in
+        rw (params, key) refl
     at None is = absurd cc
 
 pub params_refused : (text : List ℕ) (why : Refusal) → params_reading text ≡ Err why → reading text ≡ Err why
@@ -96,25 +101,13 @@ params_refused text why is = at (formatted text) is
 
 -- the parameters are accepted
 
-phc_good : (params : Result Parameters Refusal) (salt key : Option (List ℕ)) (s : Stored) → IfOk params AreGood
-    → (params and_then λ c. ok_or salt PasswordInvalid and_then λ salt. ok_or key PasswordInvalid
-    and_then λ key. Ok (record { params = c; salt = salt; key = key })) ≡ Ok s
-    → AreGood s.params
-phc_good (Ok c) (Some salt) (Some key) s good is =
-    let read : Stored = record { params = c; salt = salt; key = key } in
-    let same : read ≡ s = cc in
-    rw (← same) good
-phc_good (Ok c) (Some salt) None s good is = absurd cc
-phc_good (Ok c) None key s good is = absurd cc
-phc_good (Err why) salt key s good is = absurd cc
-
 pub reading_accepted : (text : List ℕ) (s : Stored) → reading text ≡ Ok s → IsTrue (are_accepted s.params.log_n s.params.r s.params.p)
 unfolding reading
 reading_accepted text s is = at (formatted text) is
   where
     at : (found : Option Formatted) → (ok_or found EncodingInvalid and_then whole) ≡ Ok s → AreGood s.params
     at (Some (McfText text)) is = (read_is_text text s is).params
-    at (Some (PhcHash hash)) is = phc_good (phc_params hash) hash.salt hash.hash s (params_good hash) is
+    at (Some (PhcHash hash)) is = rw (phc_whole (phc_params hash) hash.salt hash.hash s is).0 at (params_good hash)
     at None is = absurd cc
 
 pub some_read : (text : List ℕ) (s : Stored) → reading text ≡ Ok s → 0 < s.params.p
@@ -137,8 +130,7 @@ unfolding params_reading
 stored_none text = no_password _ (then_fault _ params_and_len (some_fault (formatted text) EncodingInvalid tt) params_and_len_fault)
 
 phc_of_text : (params : Result Parameters Refusal) (salt key : Option (List ℕ)) → IfErr params IsFault
-    → IsOfText {A = Stored} (params and_then λ c. ok_or salt PasswordInvalid and_then λ salt. ok_or key PasswordInvalid
-    and_then λ key. Ok (record { params = c; salt = salt; key = key }))
+    → IsOfText (phc_parts params salt key)
 phc_of_text (Ok c) (Some salt) (Some key) fault = (λ is. absurd cc, λ bytes work is. absurd cc, λ key_len is. absurd cc)
 phc_of_text (Ok c) (Some salt) None fault = (λ is. absurd cc, λ bytes work is. absurd cc, λ key_len is. absurd cc)
 phc_of_text (Ok c) None key fault = (λ is. absurd cc, λ bytes work is. absurd cc, λ key_len is. absurd cc)
