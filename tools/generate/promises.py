@@ -94,9 +94,7 @@ def wrong(proof):
     """The errors in PROMISES, and in the numbers of lines to read that other pages state."""
     found = [] if read(PAGE) == page(proof) else [f"{PAGE} differs from the sources: make promises"]
     key, verdict = lines(proof, KEY), lines(proof, VERDICT)
-    stated = {"docs/TRUST.md": f"{key} lines for the key, {verdict} for a verification, which include the {key}", "README.md": f"[{verdict} lines]",
-              "docs/EVIDENCE.md": f"a reviewer of the key reads {key} |"}
-    for path, words in stated.items():
-        if words not in " ".join(read(path).split()):
-            found.append(f"{path}: what to read is {words}")
+    stated = {"docs/TRUST.md": [key, verdict], "README.md": [verdict], "docs/EVIDENCE.md": [key]}
+    found += [f"{path} doesn't state {number}, the number of lines to read" for path, numbers in stated.items()
+              for number in numbers if str(number) not in re.findall(r"\d+", read(path))]
     return found
