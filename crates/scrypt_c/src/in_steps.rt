@@ -1,12 +1,10 @@
 //! Keys in steps, in the caller's buffers: between two steps the caller can show progress or cancel.
 
-ghost use Rattle.std.specs.Prelude.{◌≡◌, ◌≢◌, ◌⊎◌, ◌↔◌, true, ◌+◌, ◌*◌, ◌<◌, ◌≤◌, List, ℕ, length, min, IsTrue};
-ghost use Rattle.scrypt.specs.Accepted.{are_accepted, is_output_len};
+ghost use Rattle.std.specs.Prelude.{◌≡◌, ◌≢◌, ◌↔◌, true, ◌*◌, length, min, IsTrue};
 ghost use Rattle.scrypt.specs.Cost.{AreCountedAs, AreHashed, chunks_bytes, pbkdf2_cost};
-ghost use Rattle.scrypt.specs.Key.{derived_key};
-ghost use Rattle.scrypt.specs.Stepping.{IsUnderWay, lacking, mixes_done};
+ghost use Rattle.scrypt.specs.Stepping.{lacking};
 ghost use Rattle.scrypt_c.specs.Limits.{params_of};
-ghost use Rattle.scrypt_c.specs.Steps.{AreForSteps, CanBe, HasBegun, HasFinished, HasStepped, IsAt, IsBegun, kept_of};
+ghost use Rattle.scrypt_c.specs.Steps.{AreForSteps, HasBegun, HasFinished, HasStepped, kept_of};
 
 use crate::statuses::{
     BUFFER_SIZE, INVALID_OUTPUT_LEN, INVALID_PARAMS, INVALID_PROGRESS, OK, UNFINISHED,
@@ -58,15 +56,9 @@ pub fn key_begin(
     at: &mut Progress,
     cores: &mut CoreCount,
 ) -> i32
-    ensures params { (result ≡ INVALID_PARAMS) ↔ (¬ IsTrue (are_accepted log_n r p)) }
-    ensures buffers { (result ≡ BUFFER_SIZE) ↔ (IsTrue (are_accepted log_n r p)
-        × ¬ AreForSteps (params_of log_n r p) 1 chunks.old table.old scratch.old) }
-    ensures status { (result ≡ OK) ⊎ (result ≡ INVALID_PARAMS) ⊎ (result ≡ BUFFER_SIZE) }
-    ensures begun { result ≡ OK → IsBegun ⟦<Target as Backend>⟧.most ⟦<Target as Backend>⟧.scalar
-        password.now salt.now (params_of log_n r p) at.new chunks.new table.new scratch.new }
-    ensures unchanged { result ≢ OK
-        → (chunks.new ≡ chunks.old) × (table.new ≡ table.old) × (scratch.new ≡ scratch.old)
-        × (at.new ≡ at.old) }
+    ensures begun { HasBegun ⟦<Target as Backend>⟧.most ⟦<Target as Backend>⟧.scalar
+        password.now salt.now log_n r p (kept_of chunks.old table.old scratch.old at.old)
+        (kept_of chunks.new table.new scratch.new at.new) result }
     ensures counted { result ≡ OK
         → AreHashed (pbkdf2_cost (length password.now) (length salt.now) (chunks_bytes r p)) cores.old cores.new }
     ensures uncounted { result ≢ OK → cores.new ≡ cores.old }
@@ -120,31 +112,9 @@ pub fn key_step(
     at: &mut Progress,
     cores: &mut CoreCount,
 ) -> i32
-    ensures params { (result ≡ INVALID_PARAMS) ↔ (¬ IsTrue (are_accepted log_n r p)) }
-    ensures buffers { (result ≡ BUFFER_SIZE) ↔ (IsTrue (are_accepted log_n r p)
-        × ¬ AreForSteps (params_of log_n r p) at.old.interleaved chunks.old table.old scratch.old) }
-    ensures status { (result ≡ OK) ⊎ (result ≡ INVALID_PARAMS) ⊎ (result ≡ BUFFER_SIZE) ⊎ (result ≡ INVALID_PROGRESS) }
-    ensures before { result ≡ OK
-        → CanBe ⟦<Target as Backend>⟧.most ⟦<Target as Backend>⟧.scalar (params_of log_n r p) at.old }
-    ensures outside { result ≡ INVALID_PROGRESS
-        → ¬ CanBe ⟦<Target as Backend>⟧.most ⟦<Target as Backend>⟧.scalar (params_of log_n r p) at.old }
-    ensures after { result ≡ OK → IsAt ⟦<Target as Backend>⟧.most ⟦<Target as Backend>⟧.scalar
-        (params_of log_n r p) at.new chunks.new table.new scratch.new }
-    ensures under_way { result ≡ OK → (password salt : List ℕ)
-        → IsUnderWay password salt (params_of log_n r p) at.old chunks.old table.old scratch.old
-        → IsUnderWay password salt (params_of log_n r p) at.new chunks.new table.new scratch.new }
-    ensures exact { result ≡ OK
-        → mixes_done (params_of log_n r p) at.new
-        ≡ mixes_done (params_of log_n r p) at.old
-        + at.old.interleaved * min count (lacking (params_of log_n r p) at.old) }
-    ensures ended { result ≡ OK → at.old.chunks ≡ p → at.new ≡ at.old }
-    ensures going_on { result ≡ OK → at.old.chunks < p → count < lacking (params_of log_n r p) at.old
-        → at.new ≡ record at.old { mixes = at.old.mixes + count } }
-    ensures next { result ≡ OK → at.old.chunks < p → lacking (params_of log_n r p) at.old ≤ count
-        → (at.new.chunks ≡ at.old.chunks + at.old.interleaved) × (at.new.mixes ≡ 0) }
-    ensures unchanged { result ≢ OK
-        → (chunks.new ≡ chunks.old) × (table.new ≡ table.old) × (scratch.new ≡ scratch.old)
-        × (at.new ≡ at.old) }
+    ensures stepped { HasStepped ⟦<Target as Backend>⟧.most ⟦<Target as Backend>⟧.scalar
+        log_n r p count (kept_of chunks.old table.old scratch.old at.old)
+        (kept_of chunks.new table.new scratch.new at.new) result }
     ensures counted { result ≡ OK → AreCountedAs true
         (min count (lacking (params_of log_n r p) at.old) * (at.old.interleaved * (2 * r))) cores.old cores.new }
     ensures uncounted { result ≢ OK → cores.new ≡ cores.old }
@@ -195,22 +165,8 @@ pub fn key_finish(
     output: &mut [u8],
     cores: &mut CoreCount,
 ) -> i32
-    ensures params { (result ≡ INVALID_PARAMS) ↔ (¬ IsTrue (are_accepted log_n r p)) }
-    ensures buffers { (result ≡ BUFFER_SIZE)
-        ↔ (IsTrue (are_accepted log_n r p) × (length chunks.old ≢ chunks_bytes r p)) }
-    ensures status { (result ≡ OK) ⊎ (result ≡ INVALID_PARAMS) ⊎ (result ≡ BUFFER_SIZE)
-        ⊎ (result ≡ UNFINISHED) ⊎ (result ≡ INVALID_OUTPUT_LEN) }
-    ensures unfinished { (result ≡ UNFINISHED) ↔ (IsTrue (are_accepted log_n r p)
-        × (length chunks.old ≡ chunks_bytes r p) × (at.now.chunks ≢ p)) }
-    ensures length { (result ≡ INVALID_OUTPUT_LEN) ↔ (IsTrue (are_accepted log_n r p)
-        × (length chunks.old ≡ chunks_bytes r p) × (at.now.chunks ≡ p)
-        × ¬ IsTrue (is_output_len (length output.old))) }
-    ensures ended { result ≡ OK → (at.now.chunks ≡ p) × IsTrue (is_output_len (length output.old)) }
-    ensures value { result ≡ OK → (salt table scratch : List ℕ)
-        → IsUnderWay password.now salt (params_of log_n r p) at.now chunks.old table scratch
-        → output.new ≡ derived_key password.now salt log_n r p (length output.old) }
+    ensures finished { HasFinished password.now log_n r p chunks.old at.now output.old output.new result }
     ensures kept { chunks.new ≡ chunks.old }
-    ensures refused { result ≢ OK → output.new ≡ output.old }
     ensures counted { result ≡ OK
         → AreHashed (pbkdf2_cost (length password.now) (chunks_bytes r p) (length output.old)) cores.old cores.new }
     ensures uncounted { result ≢ OK → cores.new ≡ cores.old }
