@@ -1,6 +1,6 @@
 // Package scrypt derives keys with scrypt (RFC 7914), and makes and verifies scrypt password
-// hashes, on top of the library libscrypt_c. That library's calls that derive keys and read and
-// verify hashes are proved correct. Its hasher, which is C, and this package, which calls it
+// hashes, on top of the library libscrypt_c. The source of the library's calls that derive keys
+// and read and verify hashes is proved. Its hasher, which is C, and this package, which calls it
 // through cgo, are tested, not proved.
 //
 //	hasher, err := scrypt.NewHasher(scrypt.Options{})

@@ -1,6 +1,6 @@
 """scrypt (RFC 7914) and its password hashes, on top of the library libscrypt_c.
 
-That library's calls that derive keys and read and verify hashes are proved correct. Its hasher,
+The source of the library's calls that derive keys and read and verify hashes is proved. Its hasher,
 which is C, and this package are tested, not proved.
 
     from scrypt_c import PasswordHasher, VerifyMismatchError

@@ -1,5 +1,5 @@
-//! scrypt (RFC 7914) and its password hashes, on top of the library libscrypt_c. That library's
-//! calls that derive keys and read and verify hashes are proved correct. Its hasher, which is C,
+//! scrypt (RFC 7914) and its password hashes, on top of the library libscrypt_c. The source of the
+//! library's calls that derive keys and read and verify hashes is proved. Its hasher, which is C,
 //! and this crate are tested, not proved.
 //!
 //! ```
