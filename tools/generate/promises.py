@@ -70,8 +70,8 @@ def headline(proof):
     phrases = [(*row, [])[:2] for row in ROWS["headline"]]
     every = [it for _, those in proof.reading(proof.clauses([name for _, names in phrases for name in names])) for it in those]
     more = sum(it.lines for it in every) - lines(proof, COUNT)
-    depends = f"It depends on {len(every)} definitions: those of a key and its cores, [below](#what-to-review), and {more} more lines."
-    return filled("".join(text for text, _ in phrases), "> ", "> ") + "\n\n" + filled(depends)
+    depends = f"It depends on {len(every)} definitions: those of a key and its cores, [below](#what-to-review), "
+    return filled("".join(text for text, _ in phrases), "> ", "> ") + "\n\n" + filled(f"{depends}and {more} more lines.")
 
 
 def page(proof):
