@@ -22,7 +22,8 @@ UNITS = ("[KMG]iB|bytes|(?:ASCII )?characters|ms|ns|seconds|hours|days|times|GHz
          "of the memory|calls for each").replace(" ", BLANK)
 # A number with its unit, two with one unit (`1 to 64 bytes`), a number after a name, or a part of something (`0.69`).
 QUANTITY = re.compile(
-    rf"(?<![\w.,/^*-])(?:(?P<first>(?:\d+/)?{ONE})(?:{BLANK}(?:to|or|and){BLANK}(?P<last>{ONE}))?{BLANK}(?P<unit>{UNITS})\b"
+    rf"(?<![\w.,/^*-])(?:"
+    rf"(?P<first>(?:\d+/)?{ONE})(?:{BLANK}(?:to|or|and){BLANK}(?P<last>{ONE}))?{BLANK}(?P<unit>{UNITS})\b"
     rf"|(?P<name>Python|Node|Rust|CMake|by{BLANK}default){BLANK}(?P<named>\d[\d.]*\d|\d)(?!,?\w)"
     rf"|(?P<count>\d+){BLANK}(?P<counted>tables|CPUs|logins)\b|(?P<part>0\.\d+)(?![.\w]))")
 
@@ -85,8 +86,8 @@ class Names(dict):
 
     def growth(self, few, many):
         """How many times as many logins `many` tables for each CPU serve as `few`."""
-        served = (lambda log_n, tables: self.cell(f"{log_n} | {tables}", "logins"))
-        return spread([served(log_n, many) / served(log_n, few) for log_n in range(14, 19)])
+        few, many = ([self.cell(f"{log_n} | {it}", "logins") for log_n in range(14, 19)] for it in (few, many))
+        return spread([more / less for less, more in zip(few, many)])
 
     def spread(self, *names):
         """The least and the greatest number of columns."""
