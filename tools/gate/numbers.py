@@ -143,4 +143,4 @@ def wrong_numbers(pages):
             if (number, unit) not in known.keys() | elsewhere:
                 right = "; ".join(f"{it[0]} is that of {file}" for it, file in known.items() if it[1] == unit)
                 line = text.count("\n", 0, place) + 1
-                yield f"{path}:{line}: {TABLE} doesn't give this page {number} {unit}; {right}"
+                yield f"{path}:{line}: {number} {unit} has no row with this page in {TABLE}; {right or 'add one'}"
