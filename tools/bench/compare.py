@@ -1,6 +1,6 @@
 """Compares verifications by this library and by others.
 
-usage: python3 -m tools.bench.compare LIBRARY [NAME=WORKER..] [--params 14,8,1:17,8,1]
+usage: python3 -m tools.bench.compare LIBRARY [NAME=WORKER..] [--params 14,8,1:17,8,1] [--alike]
        python3 -m tools.bench.compare LIBRARY [NAME=WORKER..] --picture FILE
 
 It prints *Compared with other libraries* of docs/BENCHMARKS.md in Markdown, with, for p from 1 to 4, the nanoseconds of a core;
@@ -12,7 +12,8 @@ in memory is slow in each run; for the picture the median of one.
 
 All verify one hash, in each run in a new random order; if p is 1, this library verifies it also in batches of two and four.
 The processes of the picture run concurrently, each on its own CPU, and all with the same implementation. This library
-asks for pages of 2 MiB; with GLIBC_TUNABLES=glibc.malloc.hugetlb=1 malloc asks for them for the others too.
+keeps its tables, and asks for pages of 2 MiB; with --alike it allocates for each verification, as the others do, and nobody
+gets such pages.
 """
 
 import argparse
@@ -33,7 +34,8 @@ AGAIN = 3  # processes, one after another
 def measured(args, params, seed, cpu):
     """The nanoseconds of each verification by this process, each begun together with those of the others."""
     os.sched_setaffinity(0, {cpu})
-    made, orders, taken = verifications(args.library, args.workers, params), random.Random(seed), collections.defaultdict(list)
+    made = verifications(args.library, args.workers, params, args.alike)
+    orders, taken = random.Random(seed), collections.defaultdict(list)
     for _ in range(ours.RUNS):
         for name in orders.sample(list(made), len(made)):
             together.wait(PATIENCE)
@@ -85,6 +87,7 @@ if __name__ == "__main__":
     parser.add_argument("workers", nargs="*")
     parser.add_argument("--params", default="14,8,1:17,8,1:10,8,16:13,8,10:14,8,5:15,8,3:16,8,4")
     parser.add_argument("--picture")
+    parser.add_argument("--alike", action="store_true")
     arguments = parser.parse_args()
     print(ours.machine())
     (draw if arguments.picture else table)(arguments)

@@ -2,7 +2,8 @@
 it accepts the password.
 
 This library and libxcrypt verify by their own calls. The others derive the key, which is compared. This library keeps its
-tables between calls; the others allocate theirs.
+tables between calls, in pages of 2 MiB; the others allocate theirs. If all are to do alike, this library allocates too, and
+Linux gives each process pages of 4 KiB only.
 """
 
 import ctypes
@@ -19,6 +20,7 @@ from tools.tests.worker import Worker
 OURS, TWO, FOUR = "this library", "each of a batch of two", "each of a batch of four"
 PASSWORD, SALT = b"pleaseletmein", b"SodiumChloride"
 CRYPT_DATA = 32768  # the size of the structure crypt_data of crypt(3)
+PR_SET_THP_DISABLE = 41  # of prctl(2); children inherit it
 
 
 def timed(verify, count=1):
@@ -36,6 +38,11 @@ def in_hasher(library, params, text):
     """In up to four tables, on one processor."""
     hasher = ours.hasher(library, params, max_tables=4, processors=1)
     return lambda: library.scrypt_hasher_verify(hasher, PASSWORD, len(PASSWORD), text, len(text), None, -1) == 0
+
+
+def allocating(library, text):
+    """In a table of its own."""
+    return lambda: library.scrypt_verify_unlimited(PASSWORD, len(PASSWORD), text, len(text)) == 0
 
 
 def in_batch(library, params, text, count):
@@ -80,13 +87,15 @@ def by_worker(worker, params, key):
     return verification
 
 
-def verifications(path, workers, params):
+def verifications(path, workers, params, alike):
     """Each verification of a hash with these parameters, by its name: by this library at this path, by these workers (as
     NAME=WORKER), and by the libraries that are installed."""
     library, key = loaded(path), openssl(*params)
     text = crypt64.text(SALT.decode(), key, *params).encode()
-    made = {OURS: timed(in_hasher(library, params, text))}
-    if params[2] == 1:
+    made = {OURS: timed(allocating(library, text) if alike else in_hasher(library, params, text))}
+    if alike and ctypes.CDLL(None).prctl(PR_SET_THP_DISABLE, 1, 0, 0, 0):
+        raise OSError("Linux does not let a process do without pages of 2 MiB")
+    if params[2] == 1 and not alike:
         made |= {name: timed(in_batch(library, params, text, count), count) for name, count in ((TWO, 2), (FOUR, 4))}
     for name, worker in (it.split("=", 1) for it in workers):
         made[name] = by_worker(Worker(name, worker), params, key)
