@@ -4,7 +4,7 @@
 - a name that no source has: text between backquotes that is a path (`mcf::Base64`), a word with an
   underscore (`scrypt_ro_mix`), a call (`new()`, `.verify(&hash)`), or a file of the repository
 - a public function of the crate scrypt that neither docs/RATTLE.md nor crates/scrypt/DIFFERENCES.md names
-- a call of the C header that the table at its top doesn't name
+- a call of the C header that the table at its top doesn't name, or that C's page marks differently
 - a number with a unit that tools/gate/numbers.py doesn't find where it is from
 
 tools/generate/make.py compares docs/PROMISES.md, and bindings/readme_examples.py runs the examples.
@@ -101,13 +101,23 @@ def unlisted_calls():
             yield f"bindings/c/scrypt_c.h: the table doesn't name {name}"
 
 
+def wrong_marks(path):
+    """The calls that C's page marks as proved, or not, where the table of the header differs."""
+    rows = re.findall(r"^ \*   .{48} (scrypt_.*?) +(yes|no|steps)$", header.TEXT, re.M)
+    marks = {name: mark for names, mark in rows for name in re.findall(r"\bscrypt_\w+", names)}
+    for names, mark in re.findall(r"^\|.*\| (.*) \| (yes|no|steps) \|$", read(path), re.M):
+        yield from (f"{path}: the header marks {it} {marks[it]}" for it in re.findall(r"`(scrypt_\w+)`", names)
+                    if marks.get(it, mark) != mark)
+
+
 def main():
     paths = files()
     names = known_names(paths)
     documents = {path: read(path) for path in paths if path.endswith(".md")}
     found = [it for path, text in documents.items() for it in (*unknown_names(path, text, names), *broken_links(path, text))]
     pages = [path for path in documents if path not in ("CHANGELOG.md", "docs/PROMISES.md")]  # made, and of former versions
-    found += [*unnamed_calls(("docs/RATTLE.md", "crates/scrypt/DIFFERENCES.md"), Library()), *unlisted_calls(), *wrong_numbers(pages)]
+    found += [*unnamed_calls(("docs/RATTLE.md", "crates/scrypt/DIFFERENCES.md"), Library()), *unlisted_calls(),
+              *wrong_marks("bindings/c/README.md"), *wrong_numbers(pages)]
     sys.exit("\n".join(found) or 0)
 
 
