@@ -183,27 +183,6 @@ func TestRejectedArguments(t *testing.T) {
 	}
 }
 
-// Keys are hashlib's, in one call and in steps.
-func TestKeys(t *testing.T) {
-	for _, it := range []struct {
-		password, salt string
-		n, r, p        int
-		want           string
-	}{
-		{"", "", 16, 1, 1, "77d6576238657b20"},
-		{"pass\x00word", "saltsalt", 32, 3, 2, "24a79dcb7fe93c46"},
-		{"pleaseletmein", "SodiumChloride", 1 << 14, 8, 1, "7023bdcb3afd7348"},
-	} {
-		last := 0.0
-		key, err := Key([]byte(it.password), []byte(it.salt), it.n, it.r, it.p, 8)
-		inSteps, late := KeyContext(ctx, []byte(it.password), []byte(it.salt), it.n, it.r, it.p, 8, func(done float64) {
-			check(t, done > last && done <= 1, done, last)
-			last = done
-		})
-		check(t, fmt.Sprintf("%x", key) == it.want && string(inSteps) == string(key) && last == 1, it, key, err, inSteps, late, last)
-	}
-}
-
 // KeyContext returns when its context is done, after steps of about 10 ms; Calibrate finds parameters
 // below its target.
 func TestKeyContextAndCalibrate(t *testing.T) {

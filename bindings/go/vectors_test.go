@@ -30,7 +30,7 @@ func (h *hexBytes) UnmarshalJSON(it []byte) (err error) {
 	return err
 }
 
-// TestVectors runs the files of vectors/, but for what needs 1 GiB.
+// TestVectors runs the files of vectors/, but for what needs 1 GiB; keys also in steps.
 func TestVectors(t *testing.T) {
 	hasher := newHasher(t, Options{})
 	for _, name := range []string{"kdf", "phc", "mcf"} {
@@ -64,7 +64,13 @@ func TestVectors(t *testing.T) {
 				} else if name == "kdf" {
 					var key []byte
 					key, err = Key(it.Password, it.Salt, int(it.N), int(it.R), int(it.P), int(it.DkLen))
-					check(t, err != nil || b.Equal(key, it.Dk), name, it.TcID, it.Comment)
+					last := 0.0
+					inSteps, late := KeyContext(ctx, it.Password, it.Salt, int(it.N), int(it.R), int(it.P), int(it.DkLen), func(done float64) {
+						check(t, done > last && done <= 1, done, last)
+						last = done
+					})
+					check(t, err != nil || b.Equal(key, it.Dk) && last == 1, name, it.TcID, it.Comment, last)
+					check(t, b.Equal(inSteps, key) && (late == nil) == (err == nil), name, it.TcID, it.Comment, late)
 				} else {
 					err = hasher.Verify(ctx, string(it.Hash), it.Password)
 				}
