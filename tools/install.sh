@@ -41,6 +41,10 @@ if [ -e "$folder/cmake_install.cmake" ]; then
   cmake --install "$folder" --prefix "$1" > build/install.log
   cp "$folder/install_manifest.txt" $list
   echo "installed below ${DESTDIR:-}$1; programs find the library after ldconfig, or by LD_LIBRARY_PATH=$1/lib"
+  case $PRESET$1 in
+    windows* | */usr) ;;
+    *) echo "Python's package is installed only below /usr: elsewhere, in a venv, pip install bindings/python" ;;
+  esac
   if [ "$PRESET" != windows ] && ! [ -e "$program" ]; then echo "scrypt_tool is not installed: make run builds it"; fi
 elif [ -e "$program" ]; then
   bindings/cli/install.sh "$program" "$1" > $list
