@@ -22,10 +22,11 @@ export async function paramsOf(file) {
   return { N: 2 ** file[7], r: view.getUint32(8), p: view.getUint32(12) };
 }
 
+const TIMES = 4;
 // An untrusted file chooses its own cost: the limits are the memory, and N * r * p of memory / 32,
 // which is four times the value for (N, r, p) = (memory / 1024, 8, 1).
 async function deriveKeys(password, salt, params, { memory, signal, onProgress }) {
-  const limits = { maxmem: memory + 2 ** 20, maxwork: 4 * 4 * (memory / 1024 + 32) * 8 };
+  const limits = { maxmem: memory + 2 ** 20, maxwork: TIMES * 4 * (memory / 1024 + 32) * 8 };
   const options = { ...params, ...limits, dkLen: 64, signal, onProgress };
   const key = await scrypt(password, salt, options);
   const hmac = { name: 'HMAC', hash: 'SHA-256' };
