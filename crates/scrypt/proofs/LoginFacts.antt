@@ -149,15 +149,11 @@ unfolding are_enough
 same_hashed w v long (password, Ok s) = rw (long.chunks, long.table, long.scratch) refl
 same_hashed w v long (password, Err why) = refl
 
-each_alike : {X : Type 0} (f g : Attempt → X) → ((a : Attempt) → f a ≡ g a) → (these : List Attempt) → map f these ≡ map g these
-each_alike f g same [] = refl
-each_alike f g same (a ∷ rest) = ap₂ (λ out outs. out ∷ outs) (same a) (each_alike f g same rest)
-
 pub same_verdicts : (w v : Workspace) → AreAsLong w v → (these : List Attempt) → map (verdict_on w) these ≡ map (verdict_on v) these
-same_verdicts w v long these = each_alike _ _ (same_verdict w v long) these
+same_verdicts w v long these = λ i. map (λ a. same_verdict w v long a i) these
 
 pub same_costs : {f g : Attempt → ℕ} → ((a : Attempt) → f a ≡ g a) → (these : List Attempt) → sum_by f these ≡ sum_by g these
-same_costs same these = sums_alike _ _ these (each_alike _ _ same these)
+same_costs same these = λ i. sum_by (λ a. same a i) these
 
 -- the work of one, and then that of the others
 pub sum_more : (f : Attempt → ℕ) {these others : List Attempt} {a : Attempt} (n : ℕ) → these ≡ a ∷ others → n ≡ f a → n + sum_by f others ≡ sum_by f these

@@ -22,7 +22,7 @@ use Rattle.scrypt.proofs.McfHashFacts.{fields_read, is_mcf, key_read, read_seven
 
 -- the letters of the numbers
 
-plain_letters : (log_n r p : ℕ) → log_n < 64 → All IsPlain (params_letters log_n r p)
+pub plain_letters : (log_n r p : ℕ) → log_n < 64 → All IsPlain (params_letters log_n r p)
 plain_letters log_n r p small =
     All-cons IsPlain (letter log_n) (letters_of 5 r ++ letters_of 5 p) (letter-ascii log_n small)
     (All-append IsPlain (letters_of 5 r) (letters_of 5 p) (letters_of-plain 5 r) (letters_of-plain 5 p))

@@ -1,5 +1,6 @@
-use Rattle.std.proofs.Common.{◌≡◌, List, ℕ, [], ◌∷◌, Bool, true, false, Ok, Err, refl, sym, ap, arith, lit<, ◌||◌, IfErr, Option, Some, None, Result, codes, is_some, length, ok_or, IsTrue, ◌<◌}
+use Rattle.std.proofs.Common.{◌≡◌, List, ℕ, [], ◌∷◌, Bool, true, false, Ok, Err, refl, sym, ap, arith, lit<, IfErr, Option, Some, None, Result, codes, is_some, length, ok_or, IsTrue, ◌<◌}
 use Rattle.std.specs.Prelude.{IsOk}
+use Rattle.std.proofs.Math.Bool.{or-true}
 use Rattle.std.proofs.lemmas.Bool.{false≢true}
 use Rattle.std.proofs.lemmas.Bool.Decides.{nat_tests}
 use Rattle.password_hash.proofs.McfFacts.{IsMcfText-from_parts}
@@ -25,10 +26,6 @@ use Rattle.scrypt.proofs.AcceptedFacts.{bounds}
 use Rattle.scrypt.proofs.McfTextFacts.{made_text, read_is_text}
 use Rattle.scrypt.proofs.PhcFacts.{made_is_text, made_read, params_fault, params_good, params_none}
 use Rattle.scrypt.proofs.ReadingFacts.{AreGood, IsFault, enough_within, mapped_refused, no_password, part_fault, some_fault, then_fault}
-
-or_true : (b : Bool) → (b || true) ≡ true
-or_true true = refl
-or_true false = refl
 
 -- a text that is `$7`, or begins with `$7$`, is a `$7$` hash
 pub seven_is_mcf : (text : List ℕ) → is_mcf_text text ≡ true → IsMcfText text mcf_id (fields_of text)
@@ -149,7 +146,7 @@ whole_of_text text = at (formatted text)
 pub mcf_is_seven : {text : List ℕ} {fields : List (List ℕ)} → IsMcfText text mcf_id fields → is_mcf_text text ≡ true
 unfolding is_mcf_text
 mcf_is_seven {fields = []} is = rw is.written refl
-mcf_is_seven {fields = field ∷ fields} is = rw is.written (or_true _)
+mcf_is_seven {fields = field ∷ fields} is = rw is.written (or-true _)
 
 -- the text of a PHC hash of scrypt is read as a PHC string
 pub scrypt_is_phc : {text : List ℕ} {hash : PasswordHash} → IsHashText text hash → hash.algorithm ≡ codes "scrypt" → is_mcf_text text ≡ false

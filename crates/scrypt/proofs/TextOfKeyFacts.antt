@@ -3,11 +3,11 @@ use Rattle.std.proofs.lemmas.Str.{IsUtf8-append, IsUtf8-from_ascii}
 use Rattle.std.proofs.lemmas.Str.Ascii.{IsAscii-from_all}
 use Rattle.std.proofs.lemmas.List.Elements.{All-cons, All-append, All-from_recursion, All-weaker}
 use Rattle.std.specs.Str.{IsUtf8}
-use Rattle.password_hash.specs.Crypt64.{IsBytes, crypt64_of, encoded_len, letter, letters_of}
+use Rattle.password_hash.specs.Crypt64.{IsBytes, crypt64_of, encoded_len, letters_of}
 use Rattle.password_hash.specs.Mcf.{IsField}
 use Rattle.password_hash.specs.Parts.{dollar}
 use Rattle.password_hash.specs.Phc.{IsKey, IsSalt, hash_text}
-use Rattle.password_hash.proofs.Crypt64Facts.{IsPlain, crypt64_of-plain, length-letters_of, letter-ascii, letters_of-plain}
+use Rattle.password_hash.proofs.Crypt64Facts.{IsPlain, crypt64_of-plain, length-letters_of}
 use Rattle.password_hash.proofs.GroupFacts.{length-crypt64_of}
 use Rattle.password_hash.proofs.PhcReadingFacts.{hash_is_read}
 use Rattle.scrypt.specs.Accepted.{Parameters, are_accepted, is_output_len}
@@ -18,7 +18,7 @@ use Rattle.scrypt.specs.StoredHash.{formatted, reading}
 use Rattle.scrypt.specs.TextOfKey.{IsTextOfKey, parts_of_key}
 use Rattle.scrypt.proofs.AcceptedFacts.{small_params}
 use Rattle.scrypt.proofs.McfHashFacts.{is_mcf}
-use Rattle.scrypt.proofs.McfTextFacts.{text_read}
+use Rattle.scrypt.proofs.McfTextFacts.{plain_letters, text_read}
 use Rattle.scrypt.proofs.PhcFacts.{has_text, written_read}
 use Rattle.scrypt.proofs.StoredHashFacts.{mcf_is_seven, read_as_mcf, scrypt_is_phc}
 
@@ -67,12 +67,9 @@ mcf_of_key_is_utf8 c salt key good is =
     let small : c.log_n ≤ 56 = (small_params c.log_n c.r c.p good).0 in
     let front : All ascii (codes "$7$") = All-from_recursion ascii (codes "$7$") (lit< tt, (lit< tt, (lit< tt, tt))) in
     let letters = params_letters c.log_n c.r c.p in
-    let each : All IsPlain letters = All-cons IsPlain (letter c.log_n) (letters_of 5 c.r ++ letters_of 5 c.p)
-    (letter-ascii c.log_n (omega arith))
-    (All-append IsPlain (letters_of 5 c.r) (letters_of 5 c.p) (letters_of-plain 5 c.r) (letters_of-plain 5 c.p)) in
     let last = dollar ∷ crypt64_of key in
     let first = IsUtf8-from_ascii (params_text c)
-    (IsAscii-from_all (params_text c) (All-append ascii (codes "$7$") letters front (plain letters each))) in
+    (IsAscii-from_all (params_text c) (All-append ascii (codes "$7$") letters front (plain letters (plain_letters c.log_n c.r c.p (omega arith))))) in
     let end = IsUtf8-from_ascii last
     (IsAscii-from_all last (All-cons ascii dollar (crypt64_of key) (lit< tt) (plain (crypt64_of key) (crypt64_of-plain key)))) in
     IsUtf8-append (params_text c) (salt ++ last) first (IsUtf8-append salt last is end)
