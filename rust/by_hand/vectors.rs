@@ -19,7 +19,7 @@
 
 use crate::cores::simd::both::{Both, Half};
 use crate::cores::simd::scalars::Scalars;
-use crate::cores::simd::{Diagonal, Lanes};
+use crate::cores::simd::{FourVectors, Lanes};
 use crate::order::standard::Standard;
 use crate::parts::Parts;
 use support::level::AtLevel;
@@ -31,12 +31,12 @@ unsafe impl<A: AtLevel, B: AtLevel> AtLevel for Both<A, B> {
     const LEVEL: u8 = if A::LEVEL > B::LEVEL { A::LEVEL } else { B::LEVEL };
 }
 
-unsafe impl<V: AtLevel> AtLevel for Diagonal<V> {
+unsafe impl<V: AtLevel> AtLevel for FourVectors<V> {
     const LEVEL: u8 = V::LEVEL;
 
     #[inline(always)]
     fn kept(self) -> Self {
-        Diagonal {
+        FourVectors {
             a: self.a.kept(),
             b: self.b.kept(),
             c: self.c.kept(),
@@ -49,15 +49,9 @@ unsafe impl AtLevel for Scalars {}
 
 unsafe impl AtLevel for Standard {}
 
-impl<L: Level> Half for Four<L> {
-    #[inline(always)]
-    fn few() {}
-}
+impl<L: Level> Half for Four<L> {}
 
-impl<L: Level> Half for Eight<L> {
-    #[inline(always)]
-    fn few() {}
-}
+impl<L: Level> Half for Eight<L> {}
 
 impl<L: Level> Lanes for Four<L> {
     #[inline(always)]

@@ -7,7 +7,7 @@ use crate::invocation::Machine;
 use scrypt::{BufferLens, Buffers, CoreCount, DeriveError, Params, output_len_ok, scrypt_in_steps};
 use std::alloc::Global;
 
-// On x86-64-v2 three interleaved chunks take the least time.
+// With SSE2 three interleaved chunks take the least time.
 const MAX_TABLES: usize = 3;
 
 /// Derives a key of an allowed length in steps, each of about a hundredth of the work, and shows

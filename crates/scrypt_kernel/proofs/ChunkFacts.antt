@@ -85,12 +85,12 @@ module _ (p q : List ℕ) (inverse : AreInverse p q) (n r k log_n : ℕ) (b x : 
       chunk_out p q inverse n r k end b' _ below end_long written mixed_in_order ∙ ap (λ w. bytes_of (ro_mix w log_n)) chunk_words
 
 -- a chunk alone
-pub counted_alone : {simd : Bool} {before after : CoreCount} (b c : List ℕ) (log_n s r : ℕ) → b ≡ c
-    → AreCountedAs simd (1 * thin_ro_mix_cost (words_of b) log_n s r) before after
-    → AreCountedAs simd (thin_ro_mix_cost (words_of c) log_n s r) before after
-counted_alone {simd} {before} b c log_n s r is counted =
+pub counted_alone : {diagonal : Bool} {before after : CoreCount} (b c : List ℕ) (log_n s r : ℕ) → b ≡ c
+    → AreCountedAs diagonal (1 * thin_ro_mix_cost (words_of b) log_n s r) before after
+    → AreCountedAs diagonal (thin_ro_mix_cost (words_of c) log_n s r) before after
+counted_alone {diagonal} {before} b c log_n s r is counted =
     let cost : ℕ = thin_ro_mix_cost (words_of b) log_n s r in
-    let alone : AreCountedAs simd cost before _ = counted_both cost (counted_none simd 0 before refl) counted (omega arith) in
+    let alone : AreCountedAs diagonal cost before _ = counted_both cost (counted_none diagonal 0 before refl) counted (omega arith) in
     rw is at alone
 
 module _ (b : List ℕ) (whole : length b % 128 ≡ 0) where
@@ -103,9 +103,9 @@ module _ (b : List ℕ) (whole : length b % 128 ≡ 0) where
   mixed_alone b' log_n same mixed =
       sym (only_part (128 * (length b / 128)) b' (omega arith)) ∙ mixed ∙ ap (λ c. bytes_of (ro_mix (words_of c) log_n)) only_chunk
 
-  pub counted_whole : {simd : Bool} {before after : CoreCount} (log_n : ℕ)
-      → AreCountedAs simd (1 * thin_ro_mix_cost (words_of (part (128 * (length b / 128)) b 0)) log_n 0 (length b / 128)) before after
-      → AreCountedAs simd (ro_mix_cost log_n (length b / 128)) before after
+  pub counted_whole : {diagonal : Bool} {before after : CoreCount} (log_n : ℕ)
+      → AreCountedAs diagonal (1 * thin_ro_mix_cost (words_of (part (128 * (length b / 128)) b 0)) log_n 0 (length b / 128)) before after
+      → AreCountedAs diagonal (ro_mix_cost log_n (length b / 128)) before after
   counted_whole log_n counted = rw whole_cost at (counted_alone _ b log_n 0 (length b / 128) only_chunk counted)
 
 -- a scryptROMix of one chunk

@@ -4,7 +4,7 @@ use Rattle.scrypt_kernel.specs.declared.cores.count.CoreCount.{CoreCount}
 use Rattle.scrypt_kernel.specs.Count.{AreCounted, AreCountedAs, AreHashed}
 
 -- no more cores
-pub counted_none : (simd : Bool) (n : ℕ) (a : CoreCount) → n ≡ 0 → AreCountedAs simd n a a
+pub counted_none : (diagonal : Bool) (n : ℕ) (a : CoreCount) → n ≡ 0 → AreCountedAs diagonal n a a
 counted_none true n a none = record { all = omega arith; lanes = omega arith; compressions = refl }
 counted_none false n a none = record { all = omega arith; lanes = omega arith; compressions = refl }
 
@@ -16,7 +16,7 @@ counted_both {simd = true} k one two sum = record {
   lanes = omega arith;
   compressions = two.compressions ∙ one.compressions;
 }
-counted_both {simd = false} k one two sum = record {
+counted_both {diagonal = false} k one two sum = record {
   all = omega arith;
   lanes = omega arith;
   compressions = two.compressions ∙ one.compressions;

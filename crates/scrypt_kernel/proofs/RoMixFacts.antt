@@ -57,9 +57,9 @@ pub record HoldsRows (p q : List ℕ) (n s t rows : ℕ) (x v : List ℕ) : Type
   pub each : (m k : ℕ) → m < rows → k < n → part s v (place n m k) ≡ mixed_in p q (m * t) (part s x k)
 
 -- after i block mixes of each part of kept: x is what they made, and the cores are counted
-pub record AfterMixes (p q : List ℕ) (n s : ℕ) (simd : Bool) (before : CoreCount) (i : ℕ) (kept x : List ℕ) (after : CoreCount) : Type 0 where
+pub record AfterMixes (p q : List ℕ) (n s : ℕ) (diagonal : Bool) (before : CoreCount) (i : ℕ) (kept x : List ℕ) (after : CoreCount) : Type 0 where
   pub value : (k : ℕ) → k < n → part s x k ≡ mixed_in p q i (part s kept k)
-  pub counted : AreCountedAs simd (i * (n * (2 * (s / 32)))) before after
+  pub counted : AreCountedAs diagonal (i * (n * (2 * (s / 32)))) before after
 
 -- a block mix is the row after one
 pub one_mix : (p q x : List ℕ) → permuted p (block_mix (permuted q x)) ≡ mixed_in p q 1 x
@@ -130,16 +130,16 @@ module _ (p q : List ℕ) (inverse : AreInverse p q) where
       ap (λ z. permuted p (row z n)) (standard_of p q inverse x (row b i) whole is) ∙ ap (permuted p) (row_after b i n)
 
   -- before the first block mix, and after one more
-  module _ (n s : ℕ) (whole : s % 32 ≡ 0) {simd : Bool} {begin : CoreCount} (kept : List ℕ) (long : length kept ≡ n * s) where
-    pub no_mix : AfterMixes p q n s simd begin 0 kept kept begin
+  module _ (n s : ℕ) (whole : s % 32 ≡ 0) {diagonal : Bool} {begin : CoreCount} (kept : List ℕ) (long : length kept ≡ n * s) where
+    pub no_mix : AfterMixes p q n s diagonal begin 0 kept kept begin
     no_mix = record {
       value = λ k h. row_zero_in (part s kept k) (omega (arith, length-part_of_row n s k kept h long));
       counted = counted_none _ _ _ (omega arith);
     }
 
-    pub one_more_mix : (before after : CoreCount) (x y : List ℕ) (i j : ℕ) → AfterMixes p q n s simd begin i kept x before
+    pub one_more_mix : (before after : CoreCount) (x y : List ℕ) (i j : ℕ) → AfterMixes p q n s diagonal begin i kept x before
         → length x ≡ n * s → ((k : ℕ) → k < n → part s y k ≡ mixed_in p q 1 (part s x k))
-        → AreCountedAs simd (n * (2 * (s / 32))) before after → j ≡ i + 1 → AfterMixes p q n s simd begin j kept y after
+        → AreCountedAs diagonal (n * (2 * (s / 32))) before after → j ≡ i + 1 → AfterMixes p q n s diagonal begin j kept y after
     one_more_mix before after x y i j until same mixed counted is = rw is (record {
       value = λ k h. mixed k h ∙ row_after_in (permuted q (part s kept k)) (part s x k) i 1
           (omega (arith, length-part_of_row n s k x h same)) (until.value k h);

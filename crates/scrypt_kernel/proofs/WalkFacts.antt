@@ -106,10 +106,10 @@ extra_rows-more b log_n s k = rw add-one refl
 
 -- one step, from the X in x to the one in y
 pub one_step : (p q : List ℕ) → AreInverse p q → {n s log_n t a c d : ℕ} {kept : List ℕ} → AreWalkLens n s log_n t a c d (length kept)
-    → {simd : Bool} {before after : CoreCount} (x y : List ℕ) → length x ≡ n * s
+    → {diagonal : Bool} {before after : CoreCount} (x y : List ℕ) → length x ≡ n * s
     → ((k : ℕ) → k < n → part s y k ≡ x_after p q n k s log_n t kept (part s x k))
-    → AreCountedAs simd ((recomputed_rows t (integerify (permuted q (part s x 0)) % 2 ^ log_n) + 1) * (n * (2 * (s / 32)))) before after
-    → AfterSteps p n s log_n t simd kept 1 x before y after
+    → AreCountedAs diagonal ((recomputed_rows t (integerify (permuted q (part s x 0)) % 2 ^ log_n) + 1) * (n * (2 * (s / 32)))) before after
+    → AfterSteps p n s log_n t diagonal kept 1 x before y after
 one_step p q inverse {n} {s} {log_n} {t} {kept = kept} lens x y size stepped counted = record {
   walked = λ k below b i at.
       let j : ℕ = integerify (permuted q (part s x k)) % 2 ^ log_n in
@@ -136,9 +136,9 @@ one_step p q inverse {n} {s} {log_n} {t} {kept = kept} lens x y size stepped cou
 }
 
 -- more steps after some
-pub more_steps : {p : List ℕ} {n s log_n t m l : ℕ} {simd : Bool} {kept x y z : List ℕ} {a b c : CoreCount} → 0 < n
-    → AfterSteps p n s log_n t simd kept m x a y b → AfterSteps p n s log_n t simd kept l y b z c
-    → (count : ℕ) → count ≡ m + l → AfterSteps p n s log_n t simd kept count x a z c
+pub more_steps : {p : List ℕ} {n s log_n t m l : ℕ} {diagonal : Bool} {kept x y z : List ℕ} {a b c : CoreCount} → 0 < n
+    → AfterSteps p n s log_n t diagonal kept m x a y b → AfterSteps p n s log_n t diagonal kept l y b z c
+    → (count : ℕ) → count ≡ m + l → AfterSteps p n s log_n t diagonal kept count x a z c
 more_steps {m = m} {l} some one two count sum = rw sum (record {
   walked = λ k below b i at. rw (← add_assoc i m l) (two.walked k below b (i + m) (one.walked k below b i at));
   counted = λ b i begin at until.
@@ -147,8 +147,8 @@ more_steps {m = m} {l} some one two count sum = rw sum (record {
 })
 
 -- the cores of the fill and of the walk
-pub filled_and_walked : {simd : Bool} {before filled after : CoreCount} (b : List ℕ) (n s log_n t r : ℕ) → s / 32 ≡ r
-    → AreCountedAs simd (2 ^ log_n * (n * (2 * (s / 32)))) before filled
-    → AreCountedAs simd (steps_cost b n s log_n t (2 ^ log_n)) filled after
-    → AreCountedAs simd (n * thin_ro_mix_cost b log_n t r) before after
+pub filled_and_walked : {diagonal : Bool} {before filled after : CoreCount} (b : List ℕ) (n s log_n t r : ℕ) → s / 32 ≡ r
+    → AreCountedAs diagonal (2 ^ log_n * (n * (2 * (s / 32)))) before filled
+    → AreCountedAs diagonal (steps_cost b n s log_n t (2 ^ log_n)) filled after
+    → AreCountedAs diagonal (n * thin_ro_mix_cost b log_n t r) before after
 filled_and_walked b n s log_n t r blocks fill walk = counted_both _ (rw blocks at fill) (rw blocks at walk) (omega arith)

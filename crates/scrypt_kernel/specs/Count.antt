@@ -12,7 +12,7 @@ pub record AreCounted (n m : ℕ) (before after : CoreCount) : Type 0 where
 -- block was compressed
 pub record AreCountedAs (simd : Bool) (n : ℕ) (before after : CoreCount) : Type 0 where
   pub all : after.all ≡ before.all + n
-  pub lanes : after.lanes ≡ before.lanes + (if simd then n else 0)
+  pub lanes : after.lanes ≡ before.lanes + (if diagonal then n else 0)
   pub compressions : after.compressions ≡ before.compressions
 
 -- n more blocks were compressed, and no core was run

@@ -1,6 +1,6 @@
 -- Diagonal order: in each block the words of the four diagonals follow one another, so that the
 -- four columns of a double round are the lanes of four vectors of four words. This order is not the
--- standard's: the SIMD core computes in it.
+-- standard's.
 use Rattle.std.specs.Prelude.{◌≡◌, ℕ, ◌+◌, ◌*◌, ◌/◌, ◌%◌, ◌<◌, List, [], ◌∷◌, map, length, slice_index, nat_lt, IsTrue}
 use Rattle.scrypt_kernel.specs.Words.{block, last_block, xor_words}
 use Rattle.scrypt_kernel.specs.Salsa.{double_round, salsa20_8}

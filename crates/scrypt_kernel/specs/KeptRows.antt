@@ -83,11 +83,11 @@ steps_cost b n part_len log_n spacing i = (i + extra_rows b log_n spacing i) * (
 
 -- After `count` steps of the walk X is `to`, where it was `from`. The cores are those of the steps
 -- and of the rows that were recomputed, which at spacing 0 are none.
-pub record AfterSteps (p : List ℕ) (n part_len log_n spacing : ℕ) (simd : Bool) (kept : List ℕ) (count : ℕ)
+pub record AfterSteps (p : List ℕ) (n part_len log_n spacing : ℕ) (diagonal : Bool) (kept : List ℕ) (count : ℕ)
     (from : List ℕ) (before : CoreCount) (to : List ℕ) (after : CoreCount) : Type 0 where
   pub walked : (k : ℕ) → k < n → (b : List ℕ) → (i : ℕ) → IsInWalk p b n k part_len log_n spacing i kept from
       → IsInWalk p b n k part_len log_n spacing (i + count) kept to
   pub counted : (b : List ℕ) → (i : ℕ) → (begin : CoreCount) → IsInWalk p b n 0 part_len log_n spacing i kept from
-      → AreCountedAs simd (steps_cost b n part_len log_n spacing i) begin before
-      → AreCountedAs simd (steps_cost b n part_len log_n spacing (i + count)) begin after
-  pub whole : spacing ≡ 0 → AreCountedAs simd (count * (n * (2 * (part_len / 32)))) before after
+      → AreCountedAs diagonal (steps_cost b n part_len log_n spacing i) begin before
+      → AreCountedAs diagonal (steps_cost b n part_len log_n spacing (i + count)) begin after
+  pub whole : spacing ≡ 0 → AreCountedAs diagonal (count * (n * (2 * (part_len / 32)))) before after

@@ -1,4 +1,4 @@
--- Blocks in diagonal order, side by side in four vectors, with four lanes of each block.
+-- Blocks, side by side in four vectors, with four lanes of each block.
 -- `lanes v k` are the lanes of block k in a vector v.
 use Rattle.std.specs.Prelude.{◌≡◌, ℕ, ◌-◌, List, ◌++◌, if◌then◌else◌, nat_lt, length, map, take, drop, slice_index, bit_xor}
 use Rattle.std.specs.Int.{w32, rotate_left}
@@ -6,7 +6,7 @@ use Rattle.std.specs.List.{range_with_len}
 use Rattle.std.specs.Simd.Lanes.{zip2}
 use Rattle.scrypt_kernel.specs.Words.{part}
 use Rattle.scrypt_kernel.specs.Salsa.{quarter_round}
-use Rattle.scrypt_kernel.specs.declared.cores.simd.Diagonal.{Diagonal}
+use Rattle.scrypt_kernel.specs.declared.cores.simd.FourVectors.{FourVectors}
 
 -- a block as the lanes of four vectors
 abbrev pub lanes_of : List ℕ → List ℕ × List ℕ × List ℕ × List ℕ
@@ -53,9 +53,9 @@ abbrev pub of_both : ℕ → (ℕ → List ℕ) → (ℕ → List ℕ) → ℕ �
 of_both n x y k = if nat_lt k n then x k else y (k - n)
 
 -- block k of several in four vectors
-abbrev pub block_of : {V : Type 0} → (V → ℕ → List ℕ) → Diagonal V → ℕ → List ℕ
+abbrev pub block_of : {V : Type 0} → (V → ℕ → List ℕ) → FourVectors V → ℕ → List ℕ
 block_of lanes x k = lanes x.a k ++ lanes x.b k ++ lanes x.c k ++ lanes x.d k
 
 -- block k has four lanes in each of the vectors
-abbrev pub AreWhole : {V : Type 0} → (V → ℕ → List ℕ) → Diagonal V → ℕ → Type 0
+abbrev pub AreWhole : {V : Type 0} → (V → ℕ → List ℕ) → FourVectors V → ℕ → Type 0
 AreWhole lanes x k = AreFourEach (lanes x.a k, lanes x.b k, lanes x.c k, lanes x.d k)

@@ -20,14 +20,14 @@ pub mod RoMix
 pub mod RoMixLoops
 -- the cost of one scryptROMix in cores and in memory, and buffers of these lengths
 pub mod RoMixCost
--- the order of the words of a block in the SIMD core
+-- the order of the words of a block whose core is computed in four lanes
 pub mod Diagonal
 -- the cost of one scryptROMix with a table that keeps some rows of V, or all of them
 pub mod Table
 -- a text that is being hashed, and PBKDF2 whose blocks are being written
 pub mod HmacState
 -- Private, since only functions that the crate scrypt does not export cite these:
--- the lanes of the SIMD core
+-- the four lanes of the core
 pub mod Lanes
 -- parts of the same length
 pub mod Parts

@@ -80,7 +80,7 @@ pub(crate) fn mix<O: OrderedBlocks, I: Input>(
     requires row { IsRowLen len }
     ensures value { (k : ℕ) → k < O.count → part len output.new k
         ≡ permuted O.pivot (block_mix (permuted O.inverse_pivot (I.words input.now k))) }
-    ensures counted { AreCountedAs O.simd (O.count * (2 * (len / 32))) cores.old cores.new }
+    ensures counted { AreCountedAs O.diagonal (O.count * (2 * (len / 32))) cores.old cores.new }
 {
     let r = len / 32;
     // Step 1: X = B[2 * r - 1].
@@ -109,7 +109,7 @@ pub(crate) fn take_turn<O: OrderedBlocks, I: Input>(
         → AfterTurns O.pivot O.inverse_pivot (I.words input.now k) i (O.held x k) (part len output.old k)
         → AfterTurns O.pivot O.inverse_pivot (I.words input.now k) (i
         + 1) (O.held result k) (part len output.new k) }
-    ensures counted { AreCountedAs O.simd (O.count * 2) cores.old cores.new }
+    ensures counted { AreCountedAs O.diagonal (O.count * 2) cores.old cores.new }
 {
     let r = len / 32;
     // Step 2: for i = 0 to 2 * r - 1 do T = X xor B[i], X = Salsa (T), Y[i] = X.
@@ -135,7 +135,7 @@ fn mix_block<O: OrderedBlocks, I: Input>(
     ensures value { (k : ℕ) → k < O.count → O.held result k ≡ permuted O.pivot (salsa20_8
         (permuted O.inverse_pivot (xor_words (O.held x k) (block (I.words input.now k) i)))) }
     ensures long { (k : ℕ) → k < O.count → length (I.words input.now k) ≡ len }
-    ensures counted { AreCountedAs O.simd O.count cores.old cores.new }
+    ensures counted { AreCountedAs O.diagonal O.count cores.old cores.new }
 {
     x.xor(input.read(i, len)).core(cores)
 }

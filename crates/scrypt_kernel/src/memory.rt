@@ -39,7 +39,7 @@ pub trait TableMemory {
         requires room { (i + 2) * (O.count * len) ≤ room self.old }
         ensures words { AddsRow (mixed_in O.pivot O.inverse_pivot 1) O.count len i (words self.old) (words self.new) }
         ensures room { room self.old ≤ room self.new }
-        ensures counted { AreCountedAs O.simd (O.count * (2 * (len / 32))) cores.old cores.new };
+        ensures counted { AreCountedAs O.diagonal (O.count * (2 * (len / 32))) cores.old cores.new };
 }
 
 /// The caller's buffer. Each row is computed directly in its final position.
@@ -212,7 +212,7 @@ fn take_turn_of_next<O: OrderedBlocks>(
         → AfterRowTurns O.pivot O.inverse_pivot O.count len i j (λ k. O.held x k) first memory.old
         → AfterRowTurns O.pivot O.inverse_pivot O.count len i (j + 1) (λ k. O.held result k) first memory.new }
     ensures len { length memory.new ≡ length memory.old }
-    ensures counted { AreCountedAs O.simd (O.count * 2) cores.old cores.new }
+    ensures counted { AreCountedAs O.diagonal (O.count * 2) cores.old cores.new }
 {
     let (rows, rest) = memory.split_at_mut(end);
     let last = Parts::of(part(row_len, rows, i), len, O::count());

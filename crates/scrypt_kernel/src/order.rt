@@ -23,8 +23,8 @@ pub trait OrderedBlocks: Copy {
     // inverse_pivot[i] is the index of the word whose standard index is i
     ghost inverse_pivot: { List ℕ };
 
-    // whether its cores are counted as SIMD cores
-    ghost simd: { Bool };
+    // whether it is diagonal order, and its cores are counted as such
+    ghost diagonal: { Bool };
 
     // the number of blocks, one for each chunk
     ghost count: { ℕ };
@@ -73,7 +73,7 @@ pub trait OrderedBlocks: Copy {
     fn core(self, cores: &mut CoreCount) -> Self
         ensures value { (k : ℕ) → k < count → held result k
             ≡ permuted pivot (salsa20_8 (permuted inverse_pivot (held self k))) }
-        ensures counted { AreCountedAs simd count cores.old cores.new };
+        ensures counted { AreCountedAs diagonal count cores.old cores.new };
 
     /// Returns the exclusive or of each block with the same block of `y`.
     fn xor(self, y: Self) -> Self

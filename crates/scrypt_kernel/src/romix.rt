@@ -51,7 +51,7 @@ pub fn mix_chunks<O: OrderedBlocks, M: TableMemory>(
     ensures value { (k : ℕ) → k < O.count
         → part (128 * r) b.new k ≡ bytes_of (ro_mix (words_of (part (128 * r) b.old k)) log_n) }
     ensures room { M.room rows.old ≤ M.room rows.new }
-    ensures counted { AreCountedAs O.simd
+    ensures counted { AreCountedAs O.diagonal
         (O.count * thin_ro_mix_cost (words_of (part (128 * r) b.old 0)) log_n s r) cores.old cores.new }
 {
     let n = O::count();
@@ -85,7 +85,7 @@ fn fill_and_walk<O: OrderedBlocks, M: TableMemory>(
     ensures value { (k : ℕ) → k < O.count
         → part len x.new k ≡ permuted O.pivot (ro_mix (permuted O.inverse_pivot (part len x.old k)) log_n) }
     ensures room { M.room rows.old ≤ M.room rows.new }
-    ensures counted { AreCountedAs O.simd (O.count
+    ensures counted { AreCountedAs O.diagonal (O.count
         * thin_ro_mix_cost (permuted O.inverse_pivot
         (part len x.old 0)) log_n s (len / 32)) cores.old cores.new }
 {
@@ -106,8 +106,8 @@ fn fill_and_walk<O: OrderedBlocks, M: TableMemory>(
     );
 }
 
-/// Replaces the bytes of `b` by their scryptROMix, and counts its `4 * N * r` cores, all of them as
-/// SIMD cores (RFC 7914, section 5).
+/// Replaces the bytes of `b` by their scryptROMix, and counts its `4 * N * r` cores, all of them in
+/// diagonal order (RFC 7914, section 5).
 ///
 /// `b` has `128 * r` bytes with `r` at least 1, the table `v` has `32 * r * N` words, the scratch
 /// `t` has `64 * r` words, and `log_n` is at most 56. The contents of `v` and `t` before the call
@@ -148,7 +148,7 @@ pub fn thin_ro_mix(
 }
 
 /// Mixes as [`scrypt_ro_mix`] does, with block mixes on words in standard order: no core is counted
-/// as a SIMD core.
+/// as one in diagonal order.
 ///
 /// The lengths are the same as for [`scrypt_ro_mix`].
 #[tactic(auto, using(crate::proofs::ChunkFacts::alone))]

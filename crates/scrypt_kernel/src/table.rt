@@ -33,7 +33,7 @@ pub(crate) fn fill<O: OrderedBlocks, M: TableMemory>(
     requires room { 2 ^ (log_n - s) * (O.count * len) ≤ M.room rows.old }
     ensures room { M.room rows.old ≤ M.room rows.new }
     ensures filled { IsFilled O.pivot O.inverse_pivot O.count len log_n s x.old (M.words rows.new) x.new }
-    ensures counted { AreCountedAs O.simd (2 ^ log_n * (O.count * (2 * (len / 32)))) cores.old cores.new }
+    ensures counted { AreCountedAs O.diagonal (2 ^ log_n * (O.count * (2 * (len / 32)))) cores.old cores.new }
 {
     rows.write(0, x);
     let last = (1usize << (log_n - s)) - 1;
@@ -71,7 +71,7 @@ fn write_next<O: OrderedBlocks, M: TableMemory>(
     ensures words { AddsRow
         (mixed_in O.pivot O.inverse_pivot (2 ^ s)) O.count len m (M.words rows.old) (M.words rows.new) }
     ensures room { M.room rows.old ≤ M.room rows.new }
-    ensures counted { AreCountedAs O.simd (2 ^ s * (O.count * (2 * (len / 32)))) cores.old cores.new }
+    ensures counted { AreCountedAs O.diagonal (2 ^ s * (O.count * (2 * (len / 32)))) cores.old cores.new }
 {
     if s == 0 {
         rows.mix_next::<O>(m, len, cores);
@@ -107,7 +107,7 @@ pub(crate) fn recompute<O: OrderedBlocks>(
     requires scratch { length next.old ≡ length kept.now }
     ensures value { (k : ℕ) → k < O.count
         → part len x.new k ≡ mixed_in O.pivot O.inverse_pivot n (part len kept.now k) }
-    ensures counted { AreCountedAs O.simd (n * (O.count * (2 * (len / 32)))) cores.old cores.new }
+    ensures counted { AreCountedAs O.diagonal (n * (O.count * (2 * (len / 32)))) cores.old cores.new }
 {
     if n % 2 == 0 {
         mix_row::<O>(kept, next, len, cores);
@@ -131,7 +131,7 @@ fn mix_row<O: OrderedBlocks>(x: &[u32], next: &mut [u32], len: usize, cores: &mu
     requires same { length next.old ≡ length x.now }
     ensures value { (k : ℕ) → k < O.count
         → part len next.new k ≡ mixed_in O.pivot O.inverse_pivot 1 (part len x.now k) }
-    ensures counted { AreCountedAs O.simd (O.count * (2 * (len / 32))) cores.old cores.new }
+    ensures counted { AreCountedAs O.diagonal (O.count * (2 * (len / 32))) cores.old cores.new }
 {
     mix::<O, Parts<'_>>(&Parts::of(x, len, O::count()), next, len, cores);
 }

@@ -33,7 +33,7 @@ pub(crate) fn take_steps<O: OrderedBlocks>(
     cores: &mut CoreCount,
 )
     requires lens { AreWalkLens O.count len log_n s (length x.old) (length next.old) (length spare.old) (length v.now) }
-    ensures steps { AfterSteps O.pivot O.count len log_n s O.simd v.now count x.old cores.old x.new cores.new }
+    ensures steps { AfterSteps O.pivot O.count len log_n s O.diagonal v.now count x.old cores.old x.new cores.new }
 {
     'pairs: for _k in 0..count / 2 {
         step::<O>(x, v, next, spare, len, log_n, s, cores);
@@ -48,7 +48,7 @@ pub(crate) fn take_steps<O: OrderedBlocks>(
 // Step 3 for one `i`: j = Integerify (X) mod N, T = X xor V[j], X = scryptBlockMix (T).
 //
 // It is not inlined: as two copies in one function, the steps of three chunks take 1.02 to 1.04 of
-// the time on x86-64-v2.
+// the time with SSE2.
 fn step<O: OrderedBlocks>(
     x: &[u32],
     v: &[u32],
@@ -63,7 +63,7 @@ fn step<O: OrderedBlocks>(
     ensures value { (k : ℕ) → k < O.count → part len next.new k
         ≡ x_after O.pivot O.inverse_pivot O.count k len log_n s v.now (part len x.now k) }
     ensures counted { let j = integerify (permuted O.inverse_pivot (part len x.now 0)) % 2 ^ log_n in
-        AreCountedAs O.simd ((recomputed_rows s j + 1) * (O.count * (2 * (len / 32)))) cores.old cores.new }
+        AreCountedAs O.diagonal ((recomputed_rows s j + 1) * (O.count * (2 * (len / 32)))) cores.old cores.new }
 {
     let starts = take_rows::<O>(x, v, next, len, log_n, s);
     // The row of the first chunk. If there are others, every row is kept.
@@ -102,7 +102,7 @@ fn mix_recomputed<O: OrderedBlocks>(
         → part len next.new k
         ≡ mix_of O.pivot O.inverse_pivot (part len x.now k) (mixed_in O.pivot O.inverse_pivot missing
         (part len kept.now k)) }
-    ensures counted { AreCountedAs O.simd ((missing + 1) * (O.count * (2 * (len / 32)))) cores.old cores.new }
+    ensures counted { AreCountedAs O.diagonal ((missing + 1) * (O.count * (2 * (len / 32)))) cores.old cores.new }
 {
     let row = &mut spare[..x.len()];
     recompute::<O>(kept, len, missing, row, next, cores);

@@ -38,7 +38,7 @@ impl BufferLens {
 
     /// Returns the lengths for interleaving `tables` chunks, at most four: the table and the
     /// scratch are `tables` times as long as [`BufferLens::of`] returns. With a `p` of 2
-    /// or more, more tables take less time: on x86-64-v3 two take a little more than half of the
+    /// or more, more tables take less time: with AVX2 two take a little more than half of the
     /// time, and four less than half (docs/BENCHMARKS.md).
     pub fn for_tables(params: &Params, tables: usize) -> BufferLens
         requires few { tables ≤ 4 }

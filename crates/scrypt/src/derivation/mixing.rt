@@ -129,7 +129,7 @@ fn mix_group<O: OrderedBlocks, M: TableMemory>(
     ensures mixed { (b : List ℕ) → AreMixed b params.now.log_n params.now.r i used.old.chunks.now
         → AreMixed b params.now.log_n params.now.r (i + n) used.new.chunks.now }
     ensures kept { IsKept M.room used.old used.new }
-    ensures counted { AreCountedAs O.simd (n
+    ensures counted { AreCountedAs O.diagonal (n
         * thin_ro_mix_cost (words_of (part (128 * params.now.r) used.old.chunks.now i))
         params.now.log_n s params.now.r) used.old.cores.now used.new.cores.now }
 {

@@ -14,7 +14,7 @@ use crate::parts::Parts;
 use std::simd::u32x4;
 
 /// Writes the block mix of `input` to `output`, both in diagonal order, and counts its `2 * r`
-/// cores, all of them as SIMD cores (RFC 7914, section 4).
+/// cores, all of them in diagonal order (RFC 7914, section 4).
 ///
 /// `input` and `output` have `32 * r` words each, that is `2 * r` blocks of 16. `r` is at least 1.
 #[inline(always)]

@@ -9,8 +9,8 @@ ghost use Rattle.scrypt_kernel.specs.Diagonal.{diagonal_core};
 use sha2::Sha256;
 use std::marker::Model;
 
-/// The number of Salsa20/8 cores that were run: all of them, and the SIMD cores (`lanes`); and the
-/// number of blocks of 64 bytes that SHA-256 compressed (`compressions`).
+/// The number of Salsa20/8 cores that were run: all of them, and those on words in diagonal order
+/// (`lanes`); and the number of blocks of 64 bytes that SHA-256 compressed (`compressions`).
 ///
 /// Contracts see three numbers without an upper bound. At run time a count has no bytes, and no
 /// running program reads it.
@@ -38,9 +38,8 @@ impl CoreCount {
         CoreCount::of()
     }
 
-    // The count after one more core, whose input and output are the evidence that it was run. For a
-    // SIMD core they are in diagonal order. `one` has whether it is such a core, and the three
-    // numbers after it.
+    // The count after one more core, whose input and output are the evidence that it was run. `one`
+    // has whether their words are in diagonal order, and the three numbers after it.
     pub(super) fn after_core(_before: &CoreCount, _from: &[u32; 16], _to: &[u32; 16]) -> CoreCount
         ghost one: { Bool × ℕ × ℕ × ℕ }
         requires core { _to.now ≡ (if one.0 then diagonal_core _from.now else salsa20_8 _from.now) }

@@ -19,7 +19,7 @@ use crate::words::{put_in_part, put_vector, vector};
 use std::simd::u32x4;
 
 /// Replaces the 16 words, which are in diagonal order, by their Salsa20/8 core in diagonal order,
-/// and counts it as a SIMD core (RFC 7914, section 3).
+/// and counts it as one in diagonal order (RFC 7914, section 3).
 #[inline(always)]
 pub fn core(x: &mut [u32; 16], cores: &mut CoreCount)
     ensures value { x.new ≡ diagonal_order (salsa20_8 (standard_order x.old)) }
@@ -30,10 +30,10 @@ pub fn core(x: &mut [u32; 16], cores: &mut CoreCount)
 
 /// Returns these words as the lanes of four vectors.
 #[inline(always)]
-pub(crate) fn in_vectors(words: &[u32; 16]) -> Diagonal<u32x4>
+pub(crate) fn in_vectors(words: &[u32; 16]) -> FourVectors<u32x4>
     ensures { block_of (λ v k. part 4 v k) result 0 ≡ words.now }
 {
-    Diagonal {
+    FourVectors {
         a: vector(words, 0),
         b: vector(words, 1),
         c: vector(words, 2),
@@ -41,24 +41,24 @@ pub(crate) fn in_vectors(words: &[u32; 16]) -> Diagonal<u32x4>
     }
 }
 
-/// A block, or several side by side, with the words in diagonal order, as four vectors.
+/// A block, or several side by side, as four vectors.
 #[derive(Clone, Copy)]
-pub struct Diagonal<V> {
+pub struct FourVectors<V> {
     pub(crate) a: V,
     pub(crate) b: V,
     pub(crate) c: V,
     pub(crate) d: V,
 }
 
-impl<V: Lanes> Diagonal<V> {
+impl<V: Lanes> FourVectors<V> {
     ghost use Rattle.std.specs.Prelude.{◌≡◌, ℕ, ◌<◌, true};
     ghost use Rattle.scrypt_kernel.specs.Count.{AreCountedAs};
     ghost use Rattle.scrypt_kernel.specs.Diagonal.{diagonal_core, diagonal_round};
     ghost use Rattle.scrypt_kernel.specs.Lanes.{AreWhole};
 
-    /// Returns the Salsa20/8 core of each block, and counts them as SIMD cores.
+    /// Returns the Salsa20/8 core of each block in diagonal order, and counts them.
     #[inline(always)]
-    pub(crate) fn counted_core(self, cores: &mut CoreCount) -> Diagonal<V>
+    pub(crate) fn counted_core(self, cores: &mut CoreCount) -> FourVectors<V>
         ensures value { (k : ℕ) → k < V.count → block_of V.lanes result k ≡ diagonal_core (block_of V.lanes self k) }
         ensures counted { AreCountedAs true V.count cores.old cores.new }
     {
@@ -69,7 +69,7 @@ impl<V: Lanes> Diagonal<V> {
 
     // Counts the cores whose inputs are these blocks and whose outputs are the blocks of `mixed`.
     // The compiler removes this, because a count has no bytes.
-    fn count(&self, mixed: &Diagonal<V>, cores: &mut CoreCount)
+    fn count(&self, mixed: &FourVectors<V>, cores: &mut CoreCount)
         requires { (k : ℕ) → k < V.count → block_of V.lanes mixed.now k ≡ diagonal_core (block_of V.lanes self.now k) }
         ensures { AreCountedAs true V.count cores.old cores.new }
     {
@@ -79,14 +79,14 @@ impl<V: Lanes> Diagonal<V> {
     }
 
     #[inline(always)]
-    fn salsa20_8(self) -> Diagonal<V>
+    fn salsa20_8(self) -> FourVectors<V>
         ensures { (k : ℕ) → k < V.count → block_of V.lanes result k ≡ diagonal_core (block_of V.lanes self k) }
     {
         let once = self.double_round();
         let twice = once.double_round();
         let thrice = twice.double_round();
         let all = thrice.double_round();
-        Diagonal {
+        FourVectors {
             a: self.a.plus(all.a),
             b: self.b.plus(all.b),
             c: self.c.plus(all.c),
@@ -96,14 +96,14 @@ impl<V: Lanes> Diagonal<V> {
 
     // A double round is two halves: the first is the columns, and the second the rows.
     #[inline(always)]
-    fn double_round(self) -> Diagonal<V>
+    fn double_round(self) -> FourVectors<V>
         ensures whole { (k : ℕ) → k < V.count → AreWhole V.lanes self k }
         ensures value { (k : ℕ) → k < V.count → block_of V.lanes result k ≡ diagonal_round (block_of V.lanes self k) }
         ensures still_whole { (k : ℕ) → k < V.count → AreWhole V.lanes result k }
     {
         let (a, b, c, d) = turn(self.a, self.b, self.c, self.d);
         let (a, b, c, d) = turn(a, b, c, d);
-        Diagonal { a, b, c, d }
+        FourVectors { a, b, c, d }
     }
 
     /// Returns block `k`.

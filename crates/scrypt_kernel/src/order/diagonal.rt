@@ -1,4 +1,4 @@
-//! Diagonal order, the order of words in which the SIMD core computes, in four lanes.
+//! Diagonal order, in which the Salsa20/8 core is computed in four lanes.
 //!
 //! A block of 16 words is a square of four rows. In diagonal order its four diagonals follow one
 //! another, so the words of each column are in the same lane of four vectors. Word 0 stays at index
@@ -11,7 +11,7 @@ ghost use Rattle.scrypt_kernel.specs.RoMix.{integerify};
 ghost use Rattle.scrypt_kernel.specs.Diagonal.{AreInverse, diagonal_order, inverse_pivot, permuted, pivot, standard_order};
 
 use crate::CoreCount;
-pub use crate::cores::simd::Diagonal;
+pub use crate::cores::simd::FourVectors as Diagonal;
 pub use crate::cores::simd::both::Both;
 pub use crate::cores::simd::scalars::Scalars;
 use crate::cores::simd::{Lanes, in_vectors};
@@ -49,7 +49,7 @@ impl<V: Lanes> OrderedBlocks for Diagonal<V> {
 
     ghost inverse_pivot = { inverse_pivot };
 
-    ghost simd = { true };
+    ghost diagonal = { true };
 
     ghost count = { V.count };
 

@@ -6,16 +6,15 @@ ghost use Rattle.scrypt_kernel.specs.RoMix.{integerify};
 
 use crate::CoreCount;
 use crate::cores::salsa;
-use crate::cores::simd::{Diagonal, in_vectors};
+use crate::cores::simd::{FourVectors, in_vectors};
 use crate::order::{OrderedBlocks, low_bits};
 use crate::parts::Parts;
 use std::simd::u32x4;
 
-/// A block with its words in the order of the standard. They are read and written as vectors, like
-/// the words of a block in diagonal order.
+/// A block with its words in the order of the standard, as four vectors.
 #[derive(Clone, Copy)]
 pub struct Standard {
-    rows: Diagonal<u32x4>,
+    rows: FourVectors<u32x4>,
 }
 
 impl OrderedBlocks for Standard {
@@ -26,7 +25,7 @@ impl OrderedBlocks for Standard {
 
     ghost inverse_pivot = { range_with_len 0 16 };
 
-    ghost simd = { false };
+    ghost diagonal = { false };
 
     ghost count = { 1 };
 
@@ -52,7 +51,7 @@ impl OrderedBlocks for Standard {
     #[inline(always)]
     fn read(parts: &Parts<'_>, i: usize) -> Standard {
         Standard {
-            rows: Diagonal::read(parts, i),
+            rows: FourVectors::read(parts, i),
         }
     }
 

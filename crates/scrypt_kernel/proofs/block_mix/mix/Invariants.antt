@@ -8,6 +8,6 @@ abbrev pub invariant-turns : goal.invariant-turns
 invariant-turns g l =
     let o = g.O.OrderedBlocks in
     record {
-      counted : AreCountedAs o.simd (o.count * (2 * l.i)) l.initial.cores l.cores;
+      counted : AreCountedAs o.diagonal (o.count * (2 * l.i)) l.initial.cores l.cores;
       mixed : (k : ℕ) → k < o.count → AfterTurns o.pivot o.inverse_pivot (g.I.Input.words l.input k) l.i (o.held l.x k) (part l.len l.output k);
     }

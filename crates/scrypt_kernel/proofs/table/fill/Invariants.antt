@@ -9,5 +9,5 @@ invariant-rows g l =
     record {
       room : g.M.TableMemory.room l.fn.rows ≤ g.M.TableMemory.room l.rows;
       held : HoldsRows o.pivot o.inverse_pivot o.count l.len (2 ^ l.s) (l.m + 1) l.fn.x (g.M.TableMemory.words l.rows);
-      counted : AreCountedAs o.simd (l.m * 2 ^ l.s * (o.count * (2 * (l.len / 32)))) l.fn.cores l.cores;
+      counted : AreCountedAs o.diagonal (l.m * 2 ^ l.s * (o.count * (2 * (l.len / 32)))) l.fn.cores l.cores;
     }

@@ -7,4 +7,4 @@ abbrev pub invariant-pairs : goal.invariant-pairs
 invariant-pairs g l =
     let o = g.O.OrderedBlocks in
     let done = l.fn.n - 2 * ((l.fn.n - 1) / 2) + 2 * l._k in
-    AfterMixes o.pivot o.inverse_pivot o.count l.len o.simd l.fn.cores done l.fn.kept l.x l.cores
+    AfterMixes o.pivot o.inverse_pivot o.count l.len o.diagonal l.fn.cores done l.fn.kept l.x l.cores

@@ -8,9 +8,8 @@ use std::simd::u32x4;
 
 /// One of the two vectors of [`Both`].
 pub trait Half: Lanes {
-    /// States that it has at most two blocks. Does nothing at run time.
-    fn few()
-        ensures { Self.count ≤ 2 };
+    // it has at most two blocks
+    ghost few: { Self.count ≤ 2 };
 }
 
 /// The lanes of the blocks of two vectors.
@@ -30,8 +29,6 @@ impl<A: Half, B: Half> Lanes for Both<A, B> {
 
     #[inline(always)]
     fn count() -> usize {
-        A::few();
-        B::few();
         A::count() + B::count()
     }
 

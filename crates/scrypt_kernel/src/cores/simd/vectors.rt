@@ -103,11 +103,15 @@ impl Lanes for u32x8 {
 }
 
 impl Half for u32x4 {
-    fn few() {}
+    ghost use Rattle.std.proofs.Common.{lit≤};
+
+    ghost few = { lit≤ tt };
 }
 
 impl Half for u32x8 {
-    fn few() {}
+    ghost use Rattle.std.proofs.Common.{lit≤};
+
+    ghost few = { lit≤ tt };
 }
 
 // Adds word by word.

@@ -11,5 +11,5 @@ invariant-turns g l =
       turned : AfterRowTurns o.pivot o.inverse_pivot o.count l.len l.i l.j (λ k. o.held l.x k) l.fn.self.memory.items l.self.memory.items;
       len : (l.i + 2) * (o.count * l.len) ≤ length l.self.memory.items;
       room : allocated_room l.fn.self ≤ allocated_room l.self;
-      counted : AreCountedAs o.simd (o.count * (2 * l.j)) l.fn.cores l.cores;
+      counted : AreCountedAs o.diagonal (o.count * (2 * l.j)) l.fn.cores l.cores;
     }

@@ -1,6 +1,6 @@
 use Rattle.std.proofs.Common.{refl, sym, ◌∙◌, arith}
 use Rattle.scrypt_kernel.proofs.LaneFacts.{lanes_joined}
-use Rattle.scrypt_kernel.proofs.cores.simd.Diagonal.block.Goals as goal
+use Rattle.scrypt_kernel.proofs.cores.simd.FourVectors.block.Goals as goal
 
 pub returns : goal.returns
 returns g c =

@@ -2,7 +2,7 @@ use Rattle.std.proofs.Common.{◌≡◌, ◌++◌, List, ℕ, ap, ◌∙◌, len
 use Rattle.scrypt_kernel.specs.Lanes.{AreFourEach, lanes_of, quarter_rounds, turned}
 use Rattle.scrypt_kernel.specs.Diagonal.{diagonal_round}
 use Rattle.scrypt_kernel.proofs.LaneFacts.{double_rounds_are, lanes_joined, length-joined, length-round}
-use Rattle.scrypt_kernel.proofs.cores.simd.Diagonal.double_round.Goals as goal
+use Rattle.scrypt_kernel.proofs.cores.simd.FourVectors.double_round.Goals as goal
 
 -- the lanes after both turns
 lanes_after : (l m n : List ℕ × List ℕ × List ℕ × List ℕ) → AreFourEach l → m ≡ turned (quarter_rounds l.0 l.1 l.2 l.3)

@@ -4,7 +4,7 @@ use Rattle.scrypt_kernel.specs.Words.{add32}
 use Rattle.scrypt_kernel.specs.Diagonal.{diagonal_round}
 use Rattle.scrypt_kernel.specs.Lanes.{block_of}
 use Rattle.scrypt_kernel.proofs.LaneFacts.{core_of_rounds, length-joined, zip_joined}
-use Rattle.scrypt_kernel.proofs.cores.simd.Diagonal.salsa20_8.Goals as goal
+use Rattle.scrypt_kernel.proofs.cores.simd.FourVectors.salsa20_8.Goals as goal
 
 pub returns : goal.returns
 returns g c k h =
