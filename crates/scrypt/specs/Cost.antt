@@ -5,7 +5,7 @@
 use Rattle.std.specs.Prelude.{ℕ, zero, suc, ◌+◌, ◌*◌, ◌/◌, ◌^◌, List}
 use Rattle.scrypt_kernel.specs.Words.{part, words_of}
 use Rattle.scrypt_kernel.specs.Pbkdf2.{pbkdf2}
-pub use Rattle.scrypt_kernel.specs.Count.{AreCounted, AreCountedAs, AreHashed}
+pub use Rattle.scrypt_kernel.specs.Count.{AreCompressed, AreCounted, AreCountedAs, AreHashed}
 pub use Rattle.scrypt_kernel.specs.Pbkdf2Cost.{key_cost, pbkdf2_cost}
 pub use Rattle.scrypt_kernel.specs.Table.{extra_rows, thin_ro_mix_cost}
 pub use Rattle.scrypt_kernel.specs.RoMixCost.{ro_mix_cost, scratch_words, table_words, thin_scratch_words}

@@ -4,7 +4,7 @@ use Rattle.password_hash.specs.declared.kdf.Error.{Error}
 use Rattle.password_hash.specs.declared.kdf.Error.TheVariants.{OutOfMemory, Refused}
 use Rattle.scrypt.specs.Accepted.{is_output_len, Parameters}
 use Rattle.scrypt_kernel.specs.declared.cores.count.CoreCount.{CoreCount}
-use Rattle.scrypt.specs.Cost.{AreCounted, cost, hash_cost}
+use Rattle.scrypt.specs.Cost.{AreCompressed, AreCounted, cost, hash_cost}
 use Rattle.scrypt.specs.Key.{derived_key}
 
 -- the key that these parameters derive; the length of a stored key in them is ignored
@@ -19,7 +19,8 @@ cost_by c = cost c.log_n c.r c.p
 -- blocks that SHA-256 compresses in this derivation.
 pub record IsDerived (c : Parameters) (password salt : List ℕ) (cores : ℕ) (old new : List ℕ) (before after : CoreCount) : Type 0 where
   pub value : new ≡ key_by c password salt (length old)
-  pub counted : AreCounted cores (hash_cost (length password) (length salt) c.r c.p (length old)) before after
+  pub counted : AreCounted cores before after
+  pub hashed : AreCompressed (hash_cost (length password) (length salt) c.r c.p (length old)) before after
 
 -- the errors of deriving a key of n bytes: the length is rejected exactly if no output can have it
 abbrev pub KeyIsRefused : ℕ → Error → Type 0

@@ -3,8 +3,8 @@
 ghost use Rattle.std.specs.Prelude.{◌≡◌, ◌↔◌, ◌-◌, ◌*◌, ◌<◌, ◌≤◌, length, take, IsOk, IsTrue, IsErrOf, OnOk, OnErr};
 ghost use Rattle.scrypt_kernel.specs.Pbkdf2.{max_output_len, pbkdf2};
 ghost use Rattle.scrypt.specs.Accepted.{is_output_len};
-ghost use Rattle.scrypt.specs.Cost.{AreCounted, AreHashed, chunks_bytes, cost, hash_cost, pbkdf2_cost, scratch_words, table_words, thin_cost, thin_scratch_words};
-ghost use Rattle.scrypt.specs.Key.{derived_key, mixed_b};
+ghost use Rattle.scrypt.specs.Cost.{AreCompressed, AreCounted, AreHashed, chunks_bytes, cost, hash_cost, pbkdf2_cost, scratch_words, table_words, thin_cost, thin_scratch_words};
+ghost use Rattle.scrypt.specs.Key.{derived_key};
 ghost use Rattle.scrypt.specs.KeyOfParams.{IsDerived, cost_by};
 ghost use Rattle.scrypt.specs.Mixing.{IsKept, IsReady};
 ghost use Rattle.scrypt.specs.Workspace.{IsRestKept, are_enough, workspace_of};
@@ -74,9 +74,9 @@ pub fn scrypt_counted(
     ensures length { IsErrOf result BadLength ↔ ¬ IsTrue (is_output_len (length output.old)) }
     ensures value { OnOk result (output.new
         ≡ derived_key password.now salt.now params.now.log_n params.now.r params.now.p (length output.old)) }
-    ensures counted { OnOk result (AreCounted (cost params.now.log_n params.now.r params.now.p)
-        (hash_cost (length password.now) (length salt.now) params.now.r params.now.p (length output.old))
-        cores.old cores.new) }
+    ensures counted { OnOk result (AreCounted (cost params.now.log_n params.now.r params.now.p) cores.old cores.new) }
+    ensures hashed { OnOk result (AreCompressed (hash_cost (length password.now)
+        (length salt.now) params.now.r params.now.p (length output.old)) cores.old cores.new) }
     ensures refused { OnErr result (output.new ≡ output.old) }
     ensures uncounted { OnErr result (cores.new ≡ cores.old) }
 {
@@ -311,10 +311,7 @@ pub(crate) fn derive_in<M: TableMemory, W: Backend>(
     ensures derived { IsDerived params.now password.now salt.now
         (thin_cost password.now salt.now params.now.log_n params.now.r params.now.p s)
         output.old output.new used.old.cores.now used.new.cores.now }
-    ensures mixed { used.new.chunks.now ≡ mixed_b password.now salt.now params.now.log_n params.now.r params.now.p }
-    ensures whole { s ≡ 0 → AreCounted (cost_by params.now)
-        (hash_cost (length password.now) (length salt.now) params.now.r params.now.p (length output.old))
-        used.old.cores.now used.new.cores.now }
+    ensures whole { s ≡ 0 → AreCounted (cost_by params.now) used.old.cores.now used.new.cores.now }
 {
     derive_chunks(password, salt, params, used.chunks, used.cores);
     mix_all::<M, W>(params, s, params.p() as usize, used);

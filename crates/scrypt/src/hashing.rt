@@ -1,7 +1,7 @@
 // Hashing, in every format, with any source of memory.
 
 ghost use Rattle.std.specs.Prelude.{◌≡◌, length, IfErr, IfOk, OnErr, OnOk};
-ghost use Rattle.scrypt.specs.Cost.{AreCounted, hash_cost};
+ghost use Rattle.scrypt.specs.Cost.{AreCompressed, AreCounted, hash_cost};
 ghost use Rattle.scrypt.specs.Hashing.{key_len_or_default};
 ghost use Rattle.scrypt.specs.KeyOfParams.{cost_by, key_by};
 ghost use Rattle.scrypt.specs.Mixing.{IsReady, IsSpent};
@@ -27,9 +27,9 @@ pub(crate) fn key_allocating<W: Backend>(
     cores: &mut CoreCount,
 ) -> Result<Output>
     ensures value { IfOk result (λ key. key ≡ key_by params.now password.now salt.now (key_len_or_default params.now)) }
-    ensures counted { OnOk result (AreCounted (cost_by params.now)
-        (hash_cost (length password.now) (length salt.now) params.now.r params.now.p (key_len_or_default params.now))
-        cores.old cores.new) }
+    ensures counted { OnOk result (AreCounted (cost_by params.now) cores.old cores.new) }
+    ensures hashed { OnOk result (AreCompressed (hash_cost (length password.now) (length salt.now) params.now.r
+        params.now.p (key_len_or_default params.now)) cores.old cores.new) }
     ensures memory { IfErr result (λ e. e ≡ OutOfMemory) }
     ensures uncounted { OnErr result (cores.new ≡ cores.old) }
 {
@@ -50,9 +50,9 @@ pub(crate) fn stored_key<M: TableMemory, W: Backend>(
     requires ready { IsReady M.room params.now.log_n 0 params.now.r params.now.p used.old }
     ensures value { result ≡ key_by params.now password.now salt.now (key_len_or_default params.now) }
     ensures spent { IsSpent M.room used.old used.new }
-    ensures counted { AreCounted (cost_by params.now)
-        (hash_cost (length password.now) (length salt.now) params.now.r params.now.p (key_len_or_default params.now))
-        used.old.cores.now used.new.cores.now }
+    ensures counted { AreCounted (cost_by params.now) used.old.cores.now used.new.cores.now }
+    ensures hashed { AreCompressed (hash_cost (length password.now) (length salt.now)
+        params.now.r params.now.p (key_len_or_default params.now)) used.old.cores.now used.new.cores.now }
 {
     let mut places = [0u8; Output::MAX_LENGTH];
     let key = &mut places[..params.key_len_or_default()];

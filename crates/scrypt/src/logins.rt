@@ -7,7 +7,7 @@ ghost use Rattle.scrypt.specs.Reading.{chunks_of, mapped, mixed_of, verdict, ver
 ghost use Rattle.scrypt.specs.StoredParts.{stored};
 ghost use Rattle.scrypt.specs.WithinLimits.{with_limited_refusal};
 ghost use Rattle.scrypt.specs.Workspace.{IsLeft, workspace_of};
-ghost use Rattle.scrypt_kernel.specs.Count.{AreCounted, AreHashed};
+ghost use Rattle.scrypt_kernel.specs.Count.{AreCompressed, AreCounted, AreHashed};
 ghost use Rattle.scrypt_kernel.specs.Memory.{buffer_room};
 
 use crate::buffers::memory::{ActiveBuffers, with_prefix};
@@ -138,8 +138,10 @@ impl<'p, 't> Login<'p, 't> {
             ≡ verdict_on (workspace_of chunks.old table.old scratch.old) (attempt_of self.now) }
         ensures left { IsLeft (reading_of self.now) (workspace_of chunks.old table.old scratch.old)
             (workspace_of chunks.new table.new scratch.new) }
-        ensures counted { AreCounted (cores_on (workspace_of chunks.old table.old scratch.old) (attempt_of self.now))
-            (hashed_on (workspace_of chunks.old table.old scratch.old) (attempt_of self.now)) cores.old cores.new }
+        ensures counted { AreCounted (cores_on (workspace_of chunks.old table.old scratch.old)
+            (attempt_of self.now)) cores.old cores.new }
+        ensures hashed { AreCompressed (hashed_on (workspace_of chunks.old table.old scratch.old)
+            (attempt_of self.now)) cores.old cores.new }
     {
         match self.parts() {
             Ok(parts) => {
@@ -176,8 +178,10 @@ pub fn verify_logins<W: Backend>(
         ≡ map (verdict_on (workspace_of chunks.old table.old scratch.old)) (attempts logins.now) }
     ensures left { AreLeft (attempts logins.now) (workspace_of chunks.old table.old scratch.old)
         (workspace_of chunks.new table.new scratch.new) }
-    ensures counted { AreCounted (sum_by (cores_on (workspace_of chunks.old table.old scratch.old)) (attempts logins.now))
-        (sum_by (hashed_on (workspace_of chunks.old table.old scratch.old)) (attempts logins.now)) cores.old cores.new }
+    ensures counted { AreCounted (sum_by (cores_on (workspace_of chunks.old table.old scratch.old))
+        (attempts logins.now)) cores.old cores.new }
+    ensures hashed { AreCompressed (sum_by (hashed_on (workspace_of chunks.old table.old scratch.old))
+        (attempts logins.now)) cores.old cores.new }
 {
     for i in 0..logins.len() {
         let (_, rest) = logins.split_at(i);
@@ -203,9 +207,10 @@ fn verified_in_batch<W: Backend>(
         ≡ map (verdict_on (workspace_of chunks.old table.old scratch.old)) (attempts logins.now) }
     ensures left { IsTrue result → AreLeft (attempts logins.now) (workspace_of chunks.old table.old scratch.old)
         (workspace_of chunks.new table.new scratch.new) }
-    ensures counted { IsTrue result
-        → AreCounted (sum_by (cores_on (workspace_of chunks.old table.old scratch.old)) (attempts logins.now))
-        (sum_by (hashed_on (workspace_of chunks.old table.old scratch.old)) (attempts logins.now)) cores.old cores.new }
+    ensures counted { IsTrue result → AreCounted (sum_by (cores_on (workspace_of chunks.old table.old scratch.old))
+        (attempts logins.now)) cores.old cores.new }
+    ensures hashed { IsTrue result → AreCompressed (sum_by (hashed_on (workspace_of chunks.old table.old scratch.old))
+        (attempts logins.now)) cores.old cores.new }
     ensures alone { result ≡ false → IsAlone (attempts logins.now) (workspace_of chunks.old table.old scratch.old) }
     ensures kept { result ≡ false → verdicts.new ≡ verdicts.old }
     ensures unchanged { result ≡ false
@@ -267,8 +272,8 @@ fn verify_in_batch<W: Backend>(
     requires ready { IsReady buffer_room params.now.log_n 0 params.now.r count used.old }
     ensures verdicts { map with_limited_refusal verdicts.new ≡ map (λ a. verdict a.0 a.1) (attempts logins.now) }
     ensures spent { IsSpent buffer_room used.old used.new }
-    ensures counted { AreCounted (all_cost verify_cores (attempts logins.now)) (all_cost verify_cost (attempts logins.now))
-        used.old.cores.now used.new.cores.now }
+    ensures counted { AreCounted (all_cost verify_cores (attempts logins.now)) used.old.cores.now used.new.cores.now }
+    ensures hashed { AreCompressed (all_cost verify_cost (attempts logins.now)) used.old.cores.now used.new.cores.now }
 {
     params.expose_invariant();
     derive_all_chunks(logins, used.chunks, used.cores);

@@ -3,7 +3,7 @@
 ghost use Rattle.std.specs.Prelude.{◌≡◌, ◌⊎◌, ◌↔◌, Err, IfErr, IfOk, IsErrOf, IsOk, IsTrue, None, Ok, OnErr};
 ghost use Rattle.password_hash.specs.Refusal.{refusal};
 ghost use Rattle.password_hash.specs.declared.error.Error.TheVariants.{EncodingInvalid, OutOfMemory};
-ghost use Rattle.scrypt.specs.Cost.{AreCounted};
+ghost use Rattle.scrypt.specs.Cost.{AreCompressed, AreCounted};
 ghost use Rattle.scrypt.specs.KeyOfParams.{cost_by};
 ghost use Rattle.scrypt.specs.Reading.{◌and_then◌, IsVerdict, let_in, mapped, verdict, verify_cost, weaker, with_refusal};
 ghost use Rattle.scrypt.specs.StoredHash.{formatted, is_mcf_text, is_stored_text, key_len_or_zero, params_reading, reading};
@@ -155,7 +155,9 @@ impl<'a> StoredHash<'a> {
         ensures unread { OnErr (reading self.now) (cores.new ≡ cores.old) }
         ensures memory { IsErrOf result OutOfMemory → cores.new ≡ cores.old }
         ensures counted { IfOk (reading self.now) (λ s. (¬ IsErrOf result OutOfMemory)
-            → AreCounted (cost_by s.params) (verify_cost password.now s) cores.old cores.new) }
+            → AreCounted (cost_by s.params) cores.old cores.new) }
+        ensures hashed { IfOk (reading self.now) (λ s. (¬ IsErrOf result OutOfMemory)
+            → AreCompressed (verify_cost password.now s) cores.old cores.new) }
     {
         match self.parts() {
             Ok(parts) => verify_allocating::<W>(alloc, password, parts, cores),
@@ -204,9 +206,10 @@ impl<'a> StoredHash<'a> {
             ≡ verdict_in (workspace_of chunks.old table.old scratch.old) password.now (reading self.now) }
         ensures left { IsLeft (reading self.now) (workspace_of chunks.old table.old scratch.old)
             (workspace_of chunks.new table.new scratch.new) }
-        ensures counted { AreCounted (cores_in (workspace_of chunks.old table.old scratch.old) (reading self.now))
-            (hashed_in (workspace_of chunks.old table.old scratch.old) password.now (reading self.now))
-            cores.old cores.new }
+        ensures counted { AreCounted (cores_in (workspace_of chunks.old table.old scratch.old)
+            (reading self.now)) cores.old cores.new }
+        ensures hashed { AreCompressed (hashed_in (workspace_of chunks.old table.old scratch.old)
+            password.now (reading self.now)) cores.old cores.new }
     {
         match self.parts() {
             Ok(parts) => verify_in_buffers::<W>(password, parts, chunks, table, scratch, cores),

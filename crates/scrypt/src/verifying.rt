@@ -3,7 +3,7 @@
 ghost use Rattle.std.specs.Prelude.{◌≡◌, if◌then◌else◌, Err, IsErrOf, Ok};
 ghost use Rattle.password_hash.specs.Refusal.{PasswordInvalid};
 ghost use Rattle.password_hash.specs.declared.error.Error.TheVariants.{OutOfMemory};
-ghost use Rattle.scrypt.specs.Cost.{AreCounted};
+ghost use Rattle.scrypt.specs.Cost.{AreCompressed, AreCounted};
 ghost use Rattle.scrypt.specs.KeyOfParams.{cost_by};
 ghost use Rattle.scrypt.specs.Mixing.{IsReady, IsSpent};
 ghost use Rattle.scrypt.specs.Reading.{IsVerdict, is_right, verify_cost, with_refusal};
@@ -43,7 +43,8 @@ fn is_key_of<M: TableMemory, W: Backend>(
     requires ready { IsReady M.room parts.now.params.log_n 0 parts.now.params.r parts.now.params.p used.old }
     ensures exact { result ≡ is_right password.now (stored parts.now) }
     ensures spent { IsSpent M.room used.old used.new }
-    ensures counted { AreCounted (cost_by parts.now.params) (verify_cost password.now (stored parts.now))
+    ensures counted { AreCounted (cost_by parts.now.params) used.old.cores.now used.new.cores.now }
+    ensures hashed { AreCompressed (verify_cost password.now (stored parts.now))
         used.old.cores.now used.new.cores.now }
 {
     let params = &parts.params;
@@ -71,8 +72,9 @@ pub(crate) fn verify_allocating<W: Backend>(
 ) -> Result<()>
     ensures verdict { IsVerdict password.now (Ok (stored parts.now)) (with_refusal result) }
     ensures memory { IsErrOf result OutOfMemory → cores.new ≡ cores.old }
-    ensures counted { (¬ IsErrOf result OutOfMemory)
-        → AreCounted (cost_by parts.now.params) (verify_cost password.now (stored parts.now)) cores.old cores.new }
+    ensures counted { (¬ IsErrOf result OutOfMemory) → AreCounted (cost_by parts.now.params) cores.old cores.new }
+    ensures hashed { (¬ IsErrOf result OutOfMemory)
+        → AreCompressed (verify_cost password.now (stored parts.now)) cores.old cores.new }
 {
     // A limit of 0 bytes selects one table.
     let (w, mut own) = Allocation::allocate_within(alloc, &parts.params, 0)?;
@@ -97,9 +99,10 @@ pub(crate) fn verify_in_buffers<W: Backend>(
         (workspace_of chunks.new table.new scratch.new) }
     ensures verdict { with_refusal result
         ≡ verdict_in (workspace_of chunks.old table.old scratch.old) password.now (Ok (stored parts.now)) }
-    ensures counted { AreCounted (cores_in (workspace_of chunks.old table.old scratch.old) (Ok (stored parts.now)))
-        (hashed_in (workspace_of chunks.old table.old scratch.old) password.now (Ok (stored parts.now)))
-        cores.old cores.new }
+    ensures counted { AreCounted (cores_in (workspace_of chunks.old table.old scratch.old)
+        (Ok (stored parts.now))) cores.old cores.new }
+    ensures hashed { AreCompressed (hashed_in (workspace_of chunks.old table.old scratch.old)
+        password.now (Ok (stored parts.now))) cores.old cores.new }
 {
     let params = &parts.params;
     params.expose_invariant();

@@ -6,7 +6,7 @@ ghost use Rattle.password_hash.specs.Phc.{hash_text};
 ghost use Rattle.password_hash.specs.Refusal.{with_refusal};
 ghost use Rattle.scrypt.specs.McfHash.{made_mcf};
 ghost use Rattle.scrypt.specs.PhcHash.{is_salt_len, made_phc};
-ghost use Rattle.scrypt.specs.Cost.{AreCounted, cost, hash_cost};
+ghost use Rattle.scrypt.specs.Cost.{AreCompressed, AreCounted, cost, hash_cost};
 ghost use Rattle.scrypt.specs.KeyOfParams.{cost_by};
 ghost use Rattle.scrypt.specs.Reading.{verify_cost, weaker};
 ghost use Rattle.scrypt.specs.StoredHash.{reading};
@@ -86,8 +86,9 @@ pub fn hash_phc(
         → IsTooLong (hash_text (made_phc (wanted log_n r p key_len) password.now salt.now)) text.old text_len.new }
     ensures status { (result ≡ OK) ⊎ (result ≡ INVALID_PARAMS) ⊎ (result ≡ SALT_INVALID)
         ⊎ (result ≡ OUT_OF_MEMORY) ⊎ (result ≡ BUFFER_SIZE) }
-    ensures counted { (result ≡ OK) ⊎ (result ≡ BUFFER_SIZE) → AreCounted (cost log_n r p)
-        (hash_cost (length password.now) (length salt.now) r p key_len) cores.old cores.new }
+    ensures counted { (result ≡ OK) ⊎ (result ≡ BUFFER_SIZE) → AreCounted (cost log_n r p) cores.old cores.new }
+    ensures hashed { (result ≡ OK) ⊎ (result ≡ BUFFER_SIZE) → AreCompressed (hash_cost (length password.now)
+        (length salt.now) r p key_len) cores.old cores.new }
     ensures refused { result ≢ OK → text.new ≡ text.old }
     ensures unchanged { result ≢ OK → result ≢ BUFFER_SIZE → text_len.new ≡ text_len.old }
     ensures uncounted { result ≢ OK → result ≢ BUFFER_SIZE → cores.new ≡ cores.old }
@@ -154,8 +155,9 @@ pub fn hash_mcf(
     ensures size { result ≡ BUFFER_SIZE
         → IsTooLong (made_mcf (wanted log_n r p key_len) password.now salt.now) text.old text_len.new }
     ensures status { (result ≡ OK) ⊎ (result ≡ INVALID_PARAMS) ⊎ (result ≡ OUT_OF_MEMORY) ⊎ (result ≡ BUFFER_SIZE) }
-    ensures counted { (result ≡ OK) ⊎ (result ≡ BUFFER_SIZE) → AreCounted (cost log_n r p)
-        (hash_cost (length password.now) (length (crypt64_of salt.now)) r p key_len) cores.old cores.new }
+    ensures counted { (result ≡ OK) ⊎ (result ≡ BUFFER_SIZE) → AreCounted (cost log_n r p) cores.old cores.new }
+    ensures hashed { (result ≡ OK) ⊎ (result ≡ BUFFER_SIZE) → AreCompressed (hash_cost (length password.now)
+        (length (crypt64_of salt.now)) r p key_len) cores.old cores.new }
     ensures refused { result ≢ OK → text.new ≡ text.old }
     ensures unchanged { result ≢ OK → result ≢ BUFFER_SIZE → text_len.new ≡ text_len.old }
     ensures uncounted { result ≢ OK → result ≢ BUFFER_SIZE → cores.new ≡ cores.old }
@@ -244,7 +246,9 @@ pub fn verify_limited(
 ) -> i32
     ensures status { IsVerifyStatus password.now (limited_reading max_mem max_work min_key_len text.now) result }
     ensures counted { IfOk (limited_reading max_mem max_work min_key_len text.now) (λ s. result ≢ OUT_OF_MEMORY
-        → AreCounted (cost_by s.params) (verify_cost password.now s) cores.old cores.new) }
+        → AreCounted (cost_by s.params) cores.old cores.new) }
+    ensures hashed { IfOk (limited_reading max_mem max_work min_key_len text.now) (λ s. result ≢ OUT_OF_MEMORY
+        → AreCompressed (verify_cost password.now s) cores.old cores.new) }
     ensures unread { OnErr (limited_reading max_mem max_work min_key_len text.now) (cores.new ≡ cores.old) }
     ensures memory { result ≡ OUT_OF_MEMORY → cores.new ≡ cores.old }
 {
@@ -285,7 +289,9 @@ fn verify_allocating(
 ) -> i32
     ensures status { IsVerifyStatus password.now (reading hash.now) result }
     ensures counted { IfOk (reading hash.now) (λ s. result ≢ OUT_OF_MEMORY
-        → AreCounted (cost_by s.params) (verify_cost password.now s) cores.old cores.new) }
+        → AreCounted (cost_by s.params) cores.old cores.new) }
+    ensures hashed { IfOk (reading hash.now) (λ s. result ≢ OUT_OF_MEMORY
+        → AreCompressed (verify_cost password.now s) cores.old cores.new) }
     ensures memory { result ≡ OUT_OF_MEMORY → cores.new ≡ cores.old }
 {
     match hash.verify_counted::<Target>(alloc, password, cores) {

@@ -3,7 +3,7 @@
 ghost use Rattle.std.specs.Prelude.{◌≡◌, ◌≢◌, ◌⊎◌, ◌↔◌, length, take, IsSome, IfSome, IsTrue};
 ghost use Rattle.scrypt.specs.Accepted.{are_accepted, is_output_len};
 ghost use Rattle.scrypt.specs.InBuffers.{are_enough};
-ghost use Rattle.scrypt.specs.Cost.{AreCounted, chunks_bytes, cost, hash_cost, thin_cost};
+ghost use Rattle.scrypt.specs.Cost.{AreCompressed, AreCounted, chunks_bytes, cost, hash_cost, thin_cost};
 ghost use Rattle.scrypt.specs.Key.{derived_key, mixed_b};
 ghost use Rattle.scrypt.specs.Workspace.{IsRestKept, workspace_of};
 ghost use Rattle.scrypt_c.specs.Buffers.{AreBuffers, IsSpacing};
@@ -74,8 +74,9 @@ pub fn kdf(
         ↔ (IsTrue (are_accepted log_n r p) × ¬ IsTrue (is_output_len (length output.old))) }
     ensures status { (result ≡ OK) ⊎ (result ≡ INVALID_PARAMS) ⊎ (result ≡ INVALID_OUTPUT_LEN)
         ⊎ (result ≡ OUT_OF_MEMORY) }
-    ensures counted { result ≡ OK → AreCounted (cost log_n r p)
-        (hash_cost (length password.now) (length salt.now) r p (length output.old)) cores.old cores.new }
+    ensures counted { result ≡ OK → AreCounted (cost log_n r p) cores.old cores.new }
+    ensures hashed { result ≡ OK → AreCompressed (hash_cost (length password.now) (length salt.now) r p (length
+        output.old)) cores.old cores.new }
     ensures refused { result ≢ OK → output.new ≡ output.old }
     ensures uncounted { result ≢ OK → cores.new ≡ cores.old }
 {
@@ -198,8 +199,9 @@ pub fn kdf_with_buffers(
     ensures rest { result ≡ OK
         → IsRestKept (params_of log_n r p) (workspace_of chunks.old table.old scratch.old)
         (workspace_of chunks.new table.new scratch.new) }
-    ensures counted { result ≡ OK → AreCounted (cost log_n r p)
-        (hash_cost (length password.now) (length salt.now) r p (length output.old)) cores.old cores.new }
+    ensures counted { result ≡ OK → AreCounted (cost log_n r p) cores.old cores.new }
+    ensures hashed { result ≡ OK → AreCompressed (hash_cost (length password.now) (length salt.now) r p (length
+        output.old)) cores.old cores.new }
     ensures refused { result ≢ OK → output.new ≡ output.old }
     ensures unchanged { result ≢ OK
         → (chunks.new ≡ chunks.old) × (table.new ≡ table.old) × (scratch.new ≡ scratch.old) }
@@ -272,8 +274,9 @@ pub fn kdf_thin(
         (AreBuffers log_n r p s (length chunks.old) (length table.old) (length scratch.old)) (length output.old) result }
     ensures value { result ≡ OK → output.new ≡ derived_key password.now salt.now log_n r p (length output.old) }
     ensures mixed { result ≡ OK → chunks.new ≡ mixed_b password.now salt.now log_n r p }
-    ensures counted { result ≡ OK → AreCounted (thin_cost password.now salt.now log_n r p s)
-        (hash_cost (length password.now) (length salt.now) r p (length output.old)) cores.old cores.new }
+    ensures counted { result ≡ OK → AreCounted (thin_cost password.now salt.now log_n r p s) cores.old cores.new }
+    ensures hashed { result ≡ OK → AreCompressed (hash_cost (length password.now) (length salt.now) r p (length
+        output.old)) cores.old cores.new }
     ensures refused { result ≢ OK → output.new ≡ output.old }
     ensures unchanged { result ≢ OK
         → (chunks.new ≡ chunks.old) × (table.new ≡ table.old) × (scratch.new ≡ scratch.old) }

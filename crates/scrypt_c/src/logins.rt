@@ -2,7 +2,7 @@
 
 ghost use Rattle.std.specs.Prelude.{◌≡◌, List, [], ◌∷◌, sum_by};
 ghost use Rattle.password_hash.specs.Refusal.{with_refusal};
-ghost use Rattle.scrypt.specs.Cost.{AreCounted};
+ghost use Rattle.scrypt.specs.Cost.{AreCompressed, AreCounted};
 ghost use Rattle.scrypt.specs.Decoy.{decoy_reading};
 ghost use Rattle.scrypt.specs.Logins.{AreLeft, Attempt, attempt_of, cores_on, hashed_on};
 ghost use Rattle.scrypt.specs.Reading.{◌and_then◌};
@@ -112,10 +112,18 @@ pub fn verify_batch_with_buffers<'a>(
         (workspace_of chunks.old table.old scratch.old) (workspace_of chunks.new table.new scratch.new) }
     ensures counted { let decoy = decoy_reading (wanted log_n r p key_len) salt.now in
         let before = workspace_of chunks.old table.old scratch.old in
-        let these : List Attempt = login_attempt decoy password.now text.now unknown ∷ login_attempt decoy password_2.now text_2.now unknown_2
+        let these : List Attempt = login_attempt decoy password.now text.now unknown ∷ login_attempt decoy
+        password_2.now text_2.now unknown_2
         ∷ login_attempt decoy password_3.now text_3.now unknown_3
         ∷ login_attempt decoy password_4.now text_4.now unknown_4 ∷ [] in
-        AreCounted (sum_by (cores_on before) these) (sum_by (hashed_on before) these) cores.old cores.new }
+        AreCounted (sum_by (cores_on before) these) cores.old cores.new }
+    ensures hashed { let decoy = decoy_reading (wanted log_n r p key_len) salt.now in
+        let before = workspace_of chunks.old table.old scratch.old in
+        let these : List Attempt = login_attempt decoy password.now text.now unknown ∷ login_attempt decoy
+        password_2.now text_2.now unknown_2
+        ∷ login_attempt decoy password_3.now text_3.now unknown_3
+        ∷ login_attempt decoy password_4.now text_4.now unknown_4 ∷ [] in
+        AreCompressed (sum_by (hashed_on before) these) cores.old cores.new }
 {
     let logins = [
         login(password, text, unknown, salt, log_n, r, p, key_len),

@@ -7,7 +7,7 @@
 ghost use Rattle.std.specs.Prelude.{◌≡◌, ◌≢◌, ◌↔◌, ◌⊎◌, length, replicate, IsTrue};
 ghost use Rattle.password_hash.specs.Crypt64.{crypt64_of};
 ghost use Rattle.password_hash.specs.Phc.{hash_text};
-ghost use Rattle.scrypt.specs.Cost.{AreCounted, cost, hash_cost};
+ghost use Rattle.scrypt.specs.Cost.{AreCompressed, AreCounted, cost, hash_cost};
 ghost use Rattle.scrypt.specs.InBuffers.{are_enough};
 ghost use Rattle.scrypt.specs.McfHash.{made_mcf};
 ghost use Rattle.scrypt.specs.PhcHash.{is_salt_len, made_phc};
@@ -94,8 +94,9 @@ pub fn hash_phc_with_buffers(
     ensures status { (result ≡ OK) ⊎ (result ≡ INVALID_PARAMS) ⊎ (result ≡ SALT_INVALID) ⊎ (result ≡ BUFFER_SIZE) }
     ensures used { result ≡ OK → IsDone (wanted log_n r p key_len)
         (workspace_of chunks.old table.old scratch.old) (workspace_of chunks.new table.new scratch.new) }
-    ensures counted { result ≡ OK → AreCounted (cost log_n r p)
-        (hash_cost (length password.now) (length salt.now) r p key_len) cores.old cores.new }
+    ensures counted { result ≡ OK → AreCounted (cost log_n r p) cores.old cores.new }
+    ensures hashed { result ≡ OK → AreCompressed (hash_cost (length password.now) (length salt.now) r p key_len)
+        cores.old cores.new }
     ensures unchanged { result ≢ OK → (text.new ≡ text.old) × (chunks.new ≡ chunks.old) × (table.new ≡ table.old)
         × (scratch.new ≡ scratch.old) }
     ensures len { (result ≡ INVALID_PARAMS) ⊎ (result ≡ SALT_INVALID) → text_len.new ≡ text_len.old }
@@ -181,8 +182,9 @@ pub fn hash_mcf_with_buffers(
     ensures status { (result ≡ OK) ⊎ (result ≡ INVALID_PARAMS) ⊎ (result ≡ BUFFER_SIZE) }
     ensures used { result ≡ OK → IsDone (wanted log_n r p key_len)
         (workspace_of chunks.old table.old scratch.old) (workspace_of chunks.new table.new scratch.new) }
-    ensures counted { result ≡ OK → AreCounted (cost log_n r p)
-        (hash_cost (length password.now) (length (crypt64_of salt.now)) r p key_len) cores.old cores.new }
+    ensures counted { result ≡ OK → AreCounted (cost log_n r p) cores.old cores.new }
+    ensures hashed { result ≡ OK → AreCompressed (hash_cost (length password.now) (length (crypt64_of salt.now)) r
+        p key_len) cores.old cores.new }
     ensures unchanged { result ≢ OK → (text.new ≡ text.old) × (chunks.new ≡ chunks.old) × (table.new ≡ table.old)
         × (scratch.new ≡ scratch.old) }
     ensures len { result ≡ INVALID_PARAMS → text_len.new ≡ text_len.old }
@@ -263,8 +265,10 @@ pub fn verify_limited_with_buffers(
     ensures left { IsLeft (limited_reading max_mem max_work min_key_len text.now)
         (workspace_of chunks.old table.old scratch.old) (workspace_of chunks.new table.new scratch.new) }
     ensures counted { let reading = limited_reading max_mem max_work min_key_len text.now in
-        AreCounted (cores_in (workspace_of chunks.old table.old scratch.old) reading)
-        (hashed_in (workspace_of chunks.old table.old scratch.old) password.now reading) cores.old cores.new }
+        AreCounted (cores_in (workspace_of chunks.old table.old scratch.old) reading) cores.old cores.new }
+    ensures hashed { let reading = limited_reading max_mem max_work min_key_len text.now in
+        AreCompressed (hashed_in (workspace_of chunks.old table.old scratch.old) password.now reading) cores.old
+        cores.new }
 {
     match limited_hash(text, max_mem, max_work, min_key_len) {
         Ok(hash) => verify(password, &hash, chunks, table, scratch, cores),
@@ -287,7 +291,9 @@ fn verify(
     ensures left { IsLeft (reading hash.now) (workspace_of chunks.old table.old scratch.old)
         (workspace_of chunks.new table.new scratch.new) }
     ensures counted { AreCounted (cores_in (workspace_of chunks.old table.old scratch.old) (reading hash.now))
-        (hashed_in (workspace_of chunks.old table.old scratch.old) password.now (reading hash.now)) cores.old cores.new }
+        cores.old cores.new }
+    ensures hashed { AreCompressed (hashed_in (workspace_of chunks.old table.old scratch.old) password.now (reading
+        hash.now)) cores.old cores.new }
 {
     match hash.verify_with_buffers::<Target>(password, chunks, table, scratch, cores) {
         Ok(()) => OK,

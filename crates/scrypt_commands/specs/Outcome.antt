@@ -14,7 +14,7 @@ use Rattle.scrypt.specs.declared.limits.Limits.{Limits}
 use Rattle.scrypt.specs.declared.limits.TheConstants.Limits.{DEFAULT}
 use Rattle.scrypt.specs.StoredHash.{reading}
 use Rattle.scrypt.specs.WithinLimits.{within}
-use Rattle.scrypt_kernel.specs.Count.{AreCounted}
+use Rattle.scrypt_kernel.specs.Count.{AreCompressed, AreCounted}
 use Rattle.scrypt_kernel.specs.declared.cores.count.CoreCount.{CoreCount}
 use Rattle.scrypt_commands.specs.Options.{limits_of, password_of}
 use Rattle.scrypt_commands.specs.Invocation.{CommandLine}
@@ -116,7 +116,8 @@ reply_view (Made line) = record { status = 0; line = line.items }
 -- allocation failed.
 abbrev pub AreOfHash : List ℕ → Result Stored Refusal → (failed : Type 0) → CoreCount → CoreCount → Type 0
 AreOfHash password (Err why) failed before after = after ≡ before
-AreOfHash password (Ok s) failed before after = ¬ failed → AreCounted (cost_by s.params) (verify_cost password s) before after
+AreOfHash password (Ok s) failed before after = ¬ failed
+    → AreCounted (cost_by s.params) before after × AreCompressed (verify_cost password s) before after
 
 -- the cores of verifying for a request within limits, if options set any: none if nothing is
 -- verified

@@ -10,7 +10,7 @@ use Rattle.scrypt.specs.Reading.{Stored, verify_cost}
 use Rattle.scrypt.specs.WithinLimits.{within}
 use Rattle.scrypt.specs.InBuffers.{are_enough}
 use Rattle.scrypt.specs.Workspace.{Workspace, cores_in, hashed_in}
-use Rattle.scrypt_kernel.specs.Count.{AreCounted}
+use Rattle.scrypt_kernel.specs.Count.{AreCompressed, AreCounted}
 use Rattle.scrypt_kernel.specs.declared.cores.count.CoreCount.{CoreCount}
 use Rattle.scrypt_examples.specs.Login.{CostsAtMost}
 use Rattle.scrypt.specs.declared.limits.Limits.{Limits}
@@ -59,23 +59,24 @@ max_cost limits password s = limits.max_work + 9 * lengths_cost (length password
 -- the same of both counts together
 pub both_bounded : (limits : Limits) → BoundsBothCounts limits → (w : Workspace) (password : List ℕ) (reading : Result Stored Refusal)
     → (before after : CoreCount)
-    → AreCounted (cores_in w (within limits reading)) (hashed_in w password (within limits reading)) before after
+    → AreCounted (cores_in w (within limits reading)) before after
+    → AreCompressed (hashed_in w password (within limits reading)) before after
     → IfOk reading (λ s. CostsAtMost (max_cost limits password s) before after)
-both_bounded limits law w password reading before after counted = at (within limits reading) refl counted
+both_bounded limits law w password reading before after counted hashed = at (within limits reading) refl counted hashed
   where
-    in_room : (room : Bool) (n m most : ℕ) → n + 9 * m ≤ most → AreCounted (if room then n else 0) (if room then m else 0) before after
-        → CostsAtMost most before after
-    in_room true n m most fits counted = omega (arith, counted.all, counted.compressions)
-    in_room false n m most fits counted = omega (arith, counted.all, counted.compressions)
+    in_room : (room : Bool) (n m most : ℕ) → n + 9 * m ≤ most → AreCounted (if room then n else 0) before after
+        → AreCompressed (if room then m else 0) before after → CostsAtMost most before after
+    in_room true n m most fits counted hashed = omega (arith, counted.all, hashed.compressions)
+    in_room false n m most fits counted hashed = omega (arith, counted.all, hashed.compressions)
 
     at : (bound : Result Stored Refusal) → within limits reading ≡ bound
-        → AreCounted (cores_in w bound) (hashed_in w password bound) before after → IfOk reading (λ s. CostsAtMost (max_cost limits password s) before after)
-    at (Ok s) is counted =
+        → AreCounted (cores_in w bound) before after → AreCompressed (hashed_in w password bound) before after → IfOk reading (λ s. CostsAtMost (max_cost limits password s) before after)
+    at (Ok s) is counted hashed =
         let both = within_is limits reading s is in
         rw both.1 (in_room (are_enough s.params w.chunks w.table w.scratch) _ _ _
-        (law s.params (length password) (length s.salt) (length s.key) both.0) counted)
-    at (Err why) is counted = nothing reading
+        (law s.params (length password) (length s.salt) (length s.key) both.0) counted hashed)
+    at (Err why) is counted hashed = nothing reading
       where
         nothing : (reading : Result Stored Refusal) → IfOk reading (λ s. CostsAtMost (max_cost limits password s) before after)
-        nothing (Ok s) = omega (arith, counted.all, counted.compressions)
+        nothing (Ok s) = omega (arith, counted.all, hashed.compressions)
         nothing (Err why) = tt

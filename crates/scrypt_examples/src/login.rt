@@ -5,7 +5,7 @@ ghost use Rattle.std.specs.Prelude.{◌≡◌, ◌⊎◌, ◌↔◌, None, Ok, E
 ghost use Rattle.password_hash.specs.Refusal.{refusal};
 ghost use Rattle.password_hash.specs.declared.error.Error.TheVariants.{OutOfMemory};
 ghost use Rattle.scrypt.specs.Accepted.{are_accepted};
-ghost use Rattle.scrypt.specs.Cost.{AreCounted, hash_cost};
+ghost use Rattle.scrypt.specs.Cost.{AreCompressed, AreCounted, hash_cost};
 ghost use Rattle.scrypt.specs.Hashing.{key_len_or_default};
 ghost use Rattle.scrypt.specs.KeyOfParams.{cost_by};
 ghost use Rattle.scrypt.specs.McfHash.{made_mcf};
@@ -117,9 +117,9 @@ impl LoginPolicy {
         cores: &mut CoreCount,
     ) -> Result<LoginOutcome>
         ensures refused { IfOk result (λ login. lets_in login ≡ false) }
-        ensures counted { OnOk result (AreCounted (cost_by self.now.wanted)
-            (hash_cost (length password.now) 16 self.now.wanted.r self.now.wanted.p
-            (key_len_or_default self.now.wanted)) cores.old cores.new) }
+        ensures counted { OnOk result (AreCounted (cost_by self.now.wanted) cores.old cores.new) }
+        ensures hashed { OnOk result (AreCompressed (hash_cost (length password.now) 16
+            self.now.wanted.r self.now.wanted.p (key_len_or_default self.now.wanted)) cores.old cores.new) }
         ensures err { IfErr result (λ e. e ≡ OutOfMemory) }
     {
         match Decoy::new(&self.wanted).verify_counted::<Simd>(alloc, password, cores) {

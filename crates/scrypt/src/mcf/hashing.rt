@@ -6,7 +6,7 @@ ghost use Rattle.password_hash.specs.Crypt64.{crypt64_of, encoded_len};
 ghost use Rattle.password_hash.specs.Mcf.{IsField, IsMcf};
 ghost use Rattle.password_hash.specs.declared.error.Error.TheVariants.{OutOfMemory, OutputSize, SaltInvalid};
 ghost use Rattle.scrypt.specs.McfParams.{params_text};
-ghost use Rattle.scrypt.specs.Cost.{AreCounted, hash_cost};
+ghost use Rattle.scrypt.specs.Cost.{AreCompressed, AreCounted, hash_cost};
 ghost use Rattle.scrypt.specs.KeyOfParams.{cost_by};
 ghost use Rattle.scrypt.specs.Hashing.{key_len_or_default};
 ghost use Rattle.scrypt.specs.Accepted.{is_output_len};
@@ -45,8 +45,9 @@ pub fn hash<W: Backend>(
     cores: &mut CoreCount,
 ) -> Result<PasswordHash>
     ensures value { IfOk result (λ text. text ≡ made_mcf params.now password.now salt.now) }
-    ensures counted { OnOk result (AreCounted (cost_by params.now) (hash_cost (length password.now)
-        (length (crypt64_of salt.now)) params.now.r params.now.p (key_len_or_default params.now)) cores.old cores.new) }
+    ensures counted { OnOk result (AreCounted (cost_by params.now) cores.old cores.new) }
+    ensures hashed { OnOk result (AreCompressed (hash_cost (length password.now) (length (crypt64_of salt.now))
+        params.now.r params.now.p (key_len_or_default params.now)) cores.old cores.new) }
     ensures memory { IfErr result (λ e. e ≡ OutOfMemory) }
     ensures uncounted { OnErr result (cores.new ≡ cores.old) }
 {
@@ -73,8 +74,9 @@ fn key_by_letters<W: Backend>(
 ) -> Result<Output>
     requires { encoded_len (length salt.now) ≤ length text.old }
     ensures value { IfOk result (λ key. key ≡ made_key params.now password.now salt.now) }
-    ensures counted { OnOk result (AreCounted (cost_by params.now) (hash_cost (length password.now)
-        (length (crypt64_of salt.now)) params.now.r params.now.p (key_len_or_default params.now)) cores.old cores.new) }
+    ensures counted { OnOk result (AreCounted (cost_by params.now) cores.old cores.new) }
+    ensures hashed { OnOk result (AreCompressed (hash_cost (length password.now) (length (crypt64_of salt.now))
+        params.now.r params.now.p (key_len_or_default params.now)) cores.old cores.new) }
     ensures memory { IfErr result (λ e. e ≡ OutOfMemory) }
     ensures uncounted { OnErr result (cores.new ≡ cores.old) }
 {
@@ -178,7 +180,8 @@ pub fn hash_with_buffers<W: Backend>(
     ensures unwritten { OnErr result (text.new ≡ text.old) }
     ensures done { OnOk result (IsDone params.now (workspace_of chunks.old table.old scratch.old)
         (workspace_of chunks.new table.new scratch.new)) }
-    ensures counted { OnOk result (AreCounted (cost_by params.now) (hash_cost (length password.now)
+    ensures counted { OnOk result (AreCounted (cost_by params.now) cores.old cores.new) }
+    ensures hashed { OnOk result (AreCompressed (hash_cost (length password.now)
         (length (crypt64_of salt.now)) params.now.r params.now.p (key_len_or_default params.now)) cores.old cores.new) }
     ensures unchanged { OnErr result (workspace_of chunks.new table.new scratch.new
         ≡ workspace_of chunks.old table.old scratch.old) }
@@ -212,9 +215,9 @@ fn fill_with_hash<W: Backend>(
     ensures made { text.new ≡ made_mcf params.now password.now salt.now }
     ensures ascii { IsAscii text.new }
     ensures spent { IsSpent buffer_room used.old used.new }
-    ensures counted { AreCounted (cost_by params.now) (hash_cost (length password.now)
-        (length (crypt64_of salt.now)) params.now.r params.now.p (key_len_or_default params.now))
-        used.old.cores.now used.new.cores.now }
+    ensures counted { AreCounted (cost_by params.now) used.old.cores.now used.new.cores.now }
+    ensures hashed { AreCompressed (hash_cost (length password.now) (length (crypt64_of salt.now))
+        params.now.r params.now.p (key_len_or_default params.now)) used.old.cores.now used.new.cores.now }
 {
     let letters = &mut text[..Base64::Crypt.encoded_len(salt.len())];
     encode(salt, letters);

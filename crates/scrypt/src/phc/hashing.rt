@@ -1,7 +1,7 @@
 // Making PHC hashes.
 
 ghost use Rattle.std.specs.Prelude.{◌≡◌, ◌↔◌, ◌⊎◌, ℕ, List, length, if◌then◌else◌, Some, Ok, Err, false, IfErr, IfOk, IsErrOf, IsOk, OnErr, OnOk, IsTrue};
-ghost use Rattle.scrypt.specs.Cost.{AreCounted, hash_cost};
+ghost use Rattle.scrypt.specs.Cost.{AreCompressed, AreCounted, hash_cost};
 ghost use Rattle.scrypt.specs.Hashing.{key_len_or_default};
 ghost use Rattle.scrypt.specs.KeyOfParams.{cost_by};
 ghost use Rattle.scrypt.specs.PhcHash.{is_salt_len, made_phc, phc_hash, salt_refusal};
@@ -38,9 +38,9 @@ pub fn hash<W: Backend>(
 ) -> Result<PasswordHash>
     ensures made { IfOk result (λ hash. IsTrue (is_salt_len (length salt.now))
         × (hash ≡ made_phc params.now password.now salt.now)) }
-    ensures counted { OnOk result (AreCounted (cost_by params.now)
-        (hash_cost (length password.now) (length salt.now) params.now.r params.now.p (key_len_or_default params.now))
-        cores.old cores.new) }
+    ensures counted { OnOk result (AreCounted (cost_by params.now) cores.old cores.new) }
+    ensures hashed { OnOk result (AreCompressed (hash_cost (length password.now) (length salt.now) params.now.r
+        params.now.p (key_len_or_default params.now)) cores.old cores.new) }
     ensures err { IfErr result (λ e. refusal e ≡ salt_refusal salt.now) }
     ensures uncounted { OnErr result (cores.new ≡ cores.old) }
 {
@@ -137,9 +137,9 @@ pub fn hash_with_buffers<W: Backend>(
         then Ok (made_phc params.now password.now salt.now) else Err OutOfMemory else Err BadSalt }
     ensures done { OnOk result (IsDone params.now (workspace_of chunks.old table.old scratch.old)
         (workspace_of chunks.new table.new scratch.new)) }
-    ensures counted { OnOk result (AreCounted (cost_by params.now)
-        (hash_cost (length password.now) (length salt.now) params.now.r params.now.p (key_len_or_default params.now))
-        cores.old cores.new) }
+    ensures counted { OnOk result (AreCounted (cost_by params.now) cores.old cores.new) }
+    ensures hashed { OnOk result (AreCompressed (hash_cost (length password.now) (length salt.now)
+        params.now.r params.now.p (key_len_or_default params.now)) cores.old cores.new) }
     ensures unchanged { OnErr result (workspace_of chunks.new table.new scratch.new
         ≡ workspace_of chunks.old table.old scratch.old) }
     ensures uncounted { OnErr result (cores.new ≡ cores.old) }

@@ -8,10 +8,12 @@ pub returns-clause-derived : goal.returns-clause-derived
 unfolding derived_key
 returns-clause-derived g c =
     let long : length c.mix_all.new.used.chunks.now ≡ chunks_bytes c.args.params.now.r c.args.params.now.p = search rules in
+    let both = counted_between c.derive_chunks.ensures.counted
+    (rw (c.p.ensures.value, c.derive_chunks.ensures.value) at c.mix_all.ensures.counted) c.pbkdf2_counted.ensures.counted in
     record {
       value = rw (c.pbkdf2_counted.ensures.value, c.mix_all.ensures.value, c.derive_chunks.ensures.value, c.p.ensures.value) refl;
-      counted = rw long at (counted_between c.derive_chunks.ensures.counted
-          (rw (c.p.ensures.value, c.derive_chunks.ensures.value) at c.mix_all.ensures.counted) c.pbkdf2_counted.ensures.counted);
+      counted = both.0;
+      hashed = rw long at both.1;
     }
 
 pub returns-clause-whole : goal.returns-clause-whole

@@ -1,5 +1,5 @@
 use Rattle.std.proofs.Common.{◌≡◌, ◌∙◌, rules, map}
-use Rattle.scrypt_kernel.specs.Count.{AreCounted}
+use Rattle.scrypt_kernel.specs.Count.{AreCompressed, AreCounted}
 use Rattle.scrypt.specs.Logins.{Attempt, all_cost, attempts, verify_cores}
 use Rattle.scrypt.specs.Reading.{verdict, verify_cost}
 use Rattle.scrypt.specs.WithinLimits.{with_limited_refusal}
@@ -17,9 +17,15 @@ pub returns-in-Some-verified-clause-counted : goal.returns-in-Some-verified-clau
 returns-in-Some-verified-clause-counted g c = λ _.
     let before = workspace_of c.args.chunks.now c.args.table.now c.args.scratch.now in
     let these = attempts c.args.logins.now in
-    let batch : AreCounted (all_cost verify_cores these) (all_cost verify_cost these) c.args.cores.now c.with_prefix-verified.new.cores = search rules in
-    let each = alone c.in-Some.params these c.in-Some.count before c.in-Some.ensures'.count (search rules) in
-    rw (each.1, each.2) at batch
+    let batch : AreCounted (all_cost verify_cores these) c.args.cores.now c.with_prefix-verified.new.cores = search rules in
+    rw ((alone c.in-Some.params these c.in-Some.count before c.in-Some.ensures'.count (search rules)).1) at batch
+
+pub returns-in-Some-verified-clause-hashed : goal.returns-in-Some-verified-clause-hashed
+returns-in-Some-verified-clause-hashed g c = λ _.
+    let before = workspace_of c.args.chunks.now c.args.table.now c.args.scratch.now in
+    let these = attempts c.args.logins.now in
+    let batch : AreCompressed (all_cost verify_cost these) c.args.cores.now c.with_prefix-verified.new.cores = search rules in
+    rw ((alone c.in-Some.params these c.in-Some.count before c.in-Some.ensures'.count (search rules)).2) at batch
 
 pub returns-in-Some-verified-clause-left : goal.returns-in-Some-verified-clause-left
 returns-in-Some-verified-clause-left g c = λ _.

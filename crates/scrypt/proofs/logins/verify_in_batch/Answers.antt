@@ -6,6 +6,8 @@ use Rattle.scrypt.proofs.logins.verify_in_batch.Goals as goal
 
 pub returns-clause-counted : goal.returns-clause-counted
 returns-clause-counted g c =
-    let these = attempts c.args.logins.now in
-    rw (both_costs these, cores_of_all c.args.params.now these c.args.count c.requires.count)
-    at (counted_between c.derive_all_chunks.ensures.counted (c.mix_all.ensures.whole refl) c.compare.ensures.counted)
+    rw (cores_of_all c.args.params.now (attempts c.args.logins.now) c.args.count c.requires.count) at (counted_between c.derive_all_chunks.ensures.counted (c.mix_all.ensures.whole refl) c.compare.ensures.counted).0
+
+pub returns-clause-hashed : goal.returns-clause-hashed
+returns-clause-hashed g c =
+    rw (both_costs (attempts c.args.logins.now)) at (counted_between c.derive_all_chunks.ensures.counted (c.mix_all.ensures.whole refl) c.compare.ensures.counted).1

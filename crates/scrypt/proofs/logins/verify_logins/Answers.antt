@@ -2,7 +2,7 @@ use Rattle.std.proofs.Common.{◌∙◌, ◌+◌, ◌++◌, ap, arith, drop, map
 use Rattle.std.proofs.lemmas.List.{map-append}
 use Rattle.std.proofs.lemmas.Slice.{take-put_mid_below}
 use Rattle.std.specs.List.{drop-map}
-use Rattle.scrypt_kernel.proofs.CountFacts.{counted_then}
+use Rattle.scrypt_kernel.proofs.CountFacts.{compressed_then, counted_then}
 use Rattle.scrypt.specs.Logins.{attempt_of, attempts, cores_on, hashed_on, verdict_on}
 use Rattle.scrypt.specs.WithinLimits.{with_limited_refusal}
 use Rattle.scrypt.specs.Workspace.{workspace_of}
@@ -34,8 +34,16 @@ returns-then-verified_in_batch-clause-counted g c =
     let known = c.loop-i.invariant in
     let others = ap attempts c.split_at.ensures.back ∙ sym (drop-map attempt_of c.loop-i.i c.args.logins.now) in
     let these = attempts c.split_at.result.1.now in
-    known.counted _ (rw (same_costs (same_cores now before known.lens) these, same_costs (same_hashed now before known.lens) these, others)
-    at (c.if-verified_in_batch.ensures.counted (search rules)))
+    known.counted _ (rw (same_costs (same_cores now before known.lens) these, others) at (c.if-verified_in_batch.ensures.counted (search rules)))
+
+pub returns-then-verified_in_batch-clause-hashed : goal.returns-then-verified_in_batch-clause-hashed
+returns-then-verified_in_batch-clause-hashed g c =
+    let before = workspace_of c.args.chunks.now c.args.table.now c.args.scratch.now in
+    let now = workspace_of c.loop-i.chunks c.loop-i.table c.loop-i.scratch in
+    let known = c.loop-i.invariant in
+    let others = ap attempts c.split_at.ensures.back ∙ sym (drop-map attempt_of c.loop-i.i c.args.logins.now) in
+    let these = attempts c.split_at.result.1.now in
+    known.hashed _ (rw (same_costs (same_hashed now before known.lens) these, others) at (c.if-verified_in_batch.ensures.hashed (search rules)))
 
 pub loop-i-preserved : goal.loop-i-preserved
 loop-i-preserved g c =
@@ -50,6 +58,7 @@ loop-i-preserved g c =
     let verdict = rw (kept.0, kept.1, kept.2) at c.verify_alone.ensures.verdict in
     let left = rw (kept.0, kept.1, kept.2) at c.verify_alone.ensures.left in
     let counted = rw (kept.0, kept.1, kept.2, kept.3) at c.verify_alone.ensures.counted in
+    let hashed = rw (kept.0, kept.1, kept.2, kept.3) at c.verify_alone.ensures.hashed in
     let others = drop (i + 1) (attempts logins) in
     record {
       lens = search rules;
@@ -60,7 +69,8 @@ loop-i-preserved g c =
           (take-put_mid_below i _ c.loop-i.verdicts c.verified_in_batch.new.verdicts i (omega arith)
           (omega (arith, known.long, c.loop-i-test.true))) ∙ known.verified;
       counted = λ after rest. known.counted after (counted_then counted rest
-          (sum_more (cores_on before) _ here (same_cores now before known.lens (attempt_of login)))
+          (sum_more (cores_on before) _ here (same_cores now before known.lens (attempt_of login))));
+      hashed = λ after rest. known.hashed after (compressed_then hashed rest
           (sum_more (hashed_on before) _ here (same_hashed now before known.lens (attempt_of login))));
       left = λ after rest.
           let alone = rw (c.split_at.ensures.back, ← drop-map attempt_of i logins, here) at (c.if-verified_in_batch.ensures.alone (search rules)) in
@@ -70,4 +80,8 @@ loop-i-preserved g c =
 pub returns-clause-counted : goal.returns-clause-counted
 returns-clause-counted g c =
     c.loop-i.invariant.counted _ (rw (none_left c.args.logins.now c.loop-i.i c.loop-i-test.false)
-    (record { all = omega arith; lanes = omega arith; compressions = omega arith }))
+    (record { all = omega arith; lanes = omega arith }))
+
+pub returns-clause-hashed : goal.returns-clause-hashed
+returns-clause-hashed g c =
+    c.loop-i.invariant.hashed _ (rw (none_left c.args.logins.now c.loop-i.i c.loop-i-test.false) (record { compressions = omega arith }))

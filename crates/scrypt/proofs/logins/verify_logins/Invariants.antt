@@ -1,5 +1,5 @@
 use Rattle.std.proofs.Common.{◌≡◌, ◌++◌, drop, length, map, take, sum_by}
-use Rattle.scrypt_kernel.specs.Count.{AreCounted}
+use Rattle.scrypt_kernel.specs.Count.{AreCompressed, AreCounted}
 use Rattle.scrypt.specs.Logins.{AreLeft, attempts, cores_on, hashed_on, verdict_on}
 use Rattle.scrypt.specs.WithinLimits.{with_limited_refusal}
 use Rattle.scrypt.specs.Workspace.{Workspace, workspace_of}
@@ -16,7 +16,9 @@ invariant-loop-i g l =
       lens : AreAsLong now before;
       long : length l.verdicts ≡ length l.logins;
       verified : map with_limited_refusal (take l.i l.verdicts) ++ map (verdict_on before) others ≡ map (verdict_on before) (attempts l.logins);
-      counted : (after : _) → AreCounted (sum_by (cores_on before) others) (sum_by (hashed_on before) others) l.cores after
-          → AreCounted (sum_by (cores_on before) (attempts l.logins)) (sum_by (hashed_on before) (attempts l.logins)) l.initial.cores after;
+      counted : (after : _) → AreCounted (sum_by (cores_on before) others) l.cores after
+          → AreCounted (sum_by (cores_on before) (attempts l.logins)) l.initial.cores after;
+      hashed : (after : _) → AreCompressed (sum_by (hashed_on before) others) l.cores after
+          → AreCompressed (sum_by (hashed_on before) (attempts l.logins)) l.initial.cores after;
       left : (after : Workspace) → AreLeft others now after → AreLeft (attempts l.logins) before after;
     }

@@ -46,10 +46,11 @@ pub returns-clause-derived : goal.returns-clause-derived
 returns-clause-derived g c =
     let params = c.args.params.now in
     let all : c.steps.at.chunks ≡ params.p = omega (arith, c.steps-test.false, c.p.ensures.value, c.steps.invariant.going.within.chunks) in
+    let both = counted_between c.begin-at.ensures.counted c.steps.invariant.counted c.in-Ok.ensures.counted in
     record {
       value = c.in-Ok.ensures.value c.args.salt.now c.steps.table c.steps.scratch c.steps.invariant.under_way;
-      counted = rw (all_mixes_cost params.log_n params.r params.p c.steps.at.chunks c.steps.at.interleaved c.steps.at.mixes all (c.steps.invariant.going.within.ended all))
-          at (counted_between c.begin-at.ensures.counted c.steps.invariant.counted c.in-Ok.ensures.counted);
+      counted = rw (all_mixes_cost params.log_n params.r params.p c.steps.at.chunks c.steps.at.interleaved c.steps.at.mixes all (c.steps.invariant.going.within.ended all)) at both.0;
+      hashed = both.1;
     }
 
 pub returns-clause-shown : goal.returns-clause-shown

@@ -9,7 +9,11 @@ returns-clause-exact g c = c.is_derived_key-same.ensures.exact (search rules)
 
 pub returns-clause-counted : goal.returns-clause-counted
 returns-clause-counted g c =
+    (counted_between c.derive_chunks.ensures.counted (rw c.p.ensures.value at (c.mix_all.ensures.whole refl)) c.is_derived_key-same.ensures.counted).0
+
+pub returns-clause-hashed : goal.returns-clause-hashed
+returns-clause-hashed g c =
     let params = c.args.parts.now.params in
     let long : length c.mix_all.new.used.chunks.now ≡ chunks_bytes params.r params.p = search rules in
     rw (long, c.as_bytes-salt.ensures) at (counted_between c.derive_chunks.ensures.counted
-    (rw c.p.ensures.value at (c.mix_all.ensures.whole refl)) c.is_derived_key-same.ensures.counted)
+    (rw c.p.ensures.value at (c.mix_all.ensures.whole refl)) c.is_derived_key-same.ensures.counted).1

@@ -2,7 +2,7 @@ use Rattle.std.proofs.Common.{◌∙◌, ℕ, List, [], ◌∷◌, Ok, ap, get_o
 use Rattle.std.proofs.Math.ListN.{get_or-map}
 use Rattle.std.specs.Prelude.{sum_by}
 use Rattle.scrypt.specs.WithinLimits.{with_limited_refusal}
-use Rattle.scrypt.specs.Cost.{AreCounted}
+use Rattle.scrypt.specs.Cost.{AreCompressed, AreCounted}
 use Rattle.scrypt.specs.Logins.{AreLeft, Attempt, cores_on, hashed_on}
 use Rattle.scrypt.specs.Workspace.{workspace_of}
 use Rattle.scrypt_c.proofs.InBuffersFacts.{kept_status}
@@ -32,6 +32,14 @@ pub returns-clause-counted : goal.returns-clause-counted
 returns-clause-counted c =
     let before = workspace_of c.args.chunks.now c.args.table.now c.args.scratch.now in
     let cores = c.args.cores.now in
-    subst (λ (these : List Attempt). AreCounted (sum_by (cores_on before) these) (sum_by (hashed_on before) these) cores c.verify_logins.new.cores)
+    subst (λ (these : List Attempt). AreCounted (sum_by (cores_on before) these) cores c.verify_logins.new.cores)
     (λ i. c.login.ensures.attempt i ∷ c.login-2.ensures.attempt i ∷ c.login-3.ensures.attempt i ∷ c.login-4.ensures.attempt i ∷ [])
     c.verify_logins.ensures.counted
+
+pub returns-clause-hashed : goal.returns-clause-hashed
+returns-clause-hashed c =
+    let before = workspace_of c.args.chunks.now c.args.table.now c.args.scratch.now in
+    let cores = c.args.cores.now in
+    subst (λ (these : List Attempt). AreCompressed (sum_by (hashed_on before) these) cores c.verify_logins.new.cores)
+    (λ i. c.login.ensures.attempt i ∷ c.login-2.ensures.attempt i ∷ c.login-3.ensures.attempt i ∷ c.login-4.ensures.attempt i ∷ [])
+    c.verify_logins.ensures.hashed
