@@ -1,14 +1,15 @@
 -- Facts on a derivation in steps.
-use Rattle.std.proofs.Common.{◌≡◌, Bool, true, ℕ, ◌<◌, ◌≤◌, ◌+◌, ◌-◌, ◌*◌, ◌/◌, ◌%◌, ◌^◌, min, List, [], ◌∷◌, ◌++◌, length, refl, sym, ap, ◌∙◌, take_all, arith, suc, zero}
+use Rattle.std.proofs.Common.{◌≡◌, Bool, true, ℕ, ◌<◌, ◌≤◌, ◌+◌, ◌-◌, ◌*◌, ◌/◌, ◌%◌, ◌^◌, min, List, [], ◌∷◌, ◌++◌, drop, length, refl, sym, ap, ◌∙◌, take_all, arith, suc, zero}
 use Rattle.std.proofs.lemmas.Fn.{FoldsTo-push}
 use Rattle.std.proofs.lemmas.Nat.{le-div, mul-le, one_shl, pow_pos, pow-add}
 use Rattle.std.proofs.Math.Nat.{mul-le-mul_left, mul-le-mul_right, pow-le-pow_right}
 use Rattle.scrypt_kernel.specs.Steps.{all_mixes}
+use Rattle.scrypt_kernel.proofs.StepFacts.{drop_same}
 use Rattle.scrypt.specs.Key.{mixed_chunks}
 use Rattle.scrypt.specs.Accepted.{Parameters}
-use Rattle.scrypt.specs.Cost.{cost, scratch_words, table_words}
+use Rattle.scrypt.specs.Cost.{chunks_bytes, cost, scratch_words, table_words}
 use Rattle.scrypt.specs.Stepping.{AreMixed, CanGoOn, IsNext, WentOn, lacking, max_step, mixes_done}
-use Rattle.scrypt.specs.Workspace.{interleaved_chunks}
+use Rattle.scrypt.specs.Workspace.{IsRestKept, Workspace, interleaved_chunks, tables_used}
 use Rattle.scrypt.specs.declared.stepping.Progress.{Progress}
 use Rattle.scrypt.proofs.AcceptedFacts.{small_factor}
 use Rattle.scrypt.proofs.CostFacts.{some_table}
@@ -92,18 +93,44 @@ cores_fit i n k m r p x inside few some product small less width =
     let cores : (i * 2 ^ (k + 1) % 2 ^ 128 + n * m) * (2 * x) ≤ 2 ^ 88 * (2 * x) = mul-le-mul_right (2 * x) mixes in
     omega (arith, cores, width)
 
+-- a group has a table and a scratch for each of its chunks
+pub group_fits : (most : ℕ) (scalar : Bool) (c : Parameters) (at : Progress) (table scratch : List ℕ) → CanGoOn most scalar c at table scratch → 0 < c.r
+    → at.interleaved ≤ tables_used c table scratch
+unfolding interleaved_chunks
+group_fits most scalar c at table scratch going some =
+    let by_table = le-div at.interleaved (length table) (table_words c.log_n c.r) (some_table c.log_n c.r some) going.table_fits in
+    let by_scratch = le-div at.interleaved (length scratch) (scratch_words c.r) (omega arith) going.scratch_fits in
+    omega (arith, by_table, by_scratch, going.within.few, going.within.chunks)
+
+-- nothing is changed behind the part that is used if no more than n tables and scratches are
+pub rest_kept : (c : Parameters) (n : ℕ) (before after : Workspace) → n ≤ tables_used c before.table before.scratch
+    → drop (chunks_bytes c.r c.p) after.chunks ≡ drop (chunks_bytes c.r c.p) before.chunks
+    → drop (n * table_words c.log_n c.r) after.table ≡ drop (n * table_words c.log_n c.r) before.table
+    → drop (n * scratch_words c.r) after.scratch ≡ drop (n * scratch_words c.r) before.scratch → IsRestKept c before after
+rest_kept c n before after few chunks table scratch = record {
+  chunks = chunks;
+  table = drop_same (n * table_words c.log_n c.r) _ _ _ (mul-le-mul_right (table_words c.log_n c.r) few) table;
+  scratch = drop_same (n * scratch_words c.r) _ _ _ (mul-le-mul_right (scratch_words c.r) few) scratch;
+}
+
+-- nor by one call after another
+pub rest_then : (c : Parameters) (first next last : Workspace) → length next.table ≡ length first.table → length next.scratch ≡ length first.scratch
+    → IsRestKept c first next → IsRestKept c next last → IsRestKept c first last
+rest_then c first next last table scratch one two = record {
+  chunks = two.chunks ∙ one.chunks;
+  table = rw (table, scratch) at two.table ∙ one.table;
+  scratch = rw (table, scratch) at two.scratch ∙ one.scratch;
+}
+
 -- the number that a step shows is the next
 pub next_shown : (most : ℕ) (scalar : Bool) (c : Parameters) (at : Progress) (table scratch : List ℕ) (count j t s : ℕ)
     → CanGoOn most scalar c at table scratch → length table ≡ t → length scratch ≡ s → 0 < c.r → 0 < count → at.chunks < c.p
     → j ≡ mixes_done c at + at.interleaved * min count (lacking c at)
     → IsNext (max_step c count t s) (mixes_done c at * (2 * c.r)) (j * (2 * c.r))
-unfolding interleaved_chunks
 next_shown most scalar c at table scratch count j t s going table_is scratch_is some counted left is =
     let n : ℕ = at.interleaved in
     let x : ℕ = min count (lacking c at) in
-    let by_table : n ≤ t / table_words c.log_n c.r = le-div n t (table_words c.log_n c.r) (some_table c.log_n c.r some) (omega (arith, going.table_fits, table_is)) in
-    let by_scratch : n ≤ s / scratch_words c.r = le-div n s (scratch_words c.r) (omega arith) (omega (arith, going.scratch_fits, scratch_is)) in
-    let width : n ≤ interleaved_chunks c.log_n c.r c.p t s = omega (arith, by_table, by_scratch, going.within.few, going.within.chunks) in
+    let width : n ≤ interleaved_chunks c.log_n c.r c.p t s = rw (table_is, scratch_is) at (group_fits most scalar c at table scratch going some) in
     let near : n * x ≤ interleaved_chunks c.log_n c.r c.p t s * count = mul-le n x _ count width (omega arith) in
     let more : 1 ≤ n * x = mul-le 1 1 n x (going.within.some left) (omega (arith, going.within.mixes)) in
     let cores = cores_more (mixes_done c at) j n x (2 * c.r) is in

@@ -104,7 +104,8 @@ impl Buffers {
     /// does. The buffers have at least the lengths of [`BufferLens::of`].
     ///
     /// Returns `InvalidOutputLen` exactly if the length of `output` is not allowed, and `Cancelled`
-    /// as soon as `go_on` returns `false`. On an error `output` is unchanged.
+    /// as soon as `go_on` returns `false`. On an error `output` is unchanged. The buffers are the
+    /// caller's to wipe.
     pub fn derive_key_in_steps<F: FnMut(u128) -> bool>(
         &mut self,
         password: &[u8],
@@ -125,6 +126,7 @@ impl Buffers {
         ensures cancelled { IsErrOf result Cancelled → (done : ℕ) × IsStopped (λ f done on g. F.step f done on g)
             (max_step params.now count (length self.old.table.items) (length self.old.scratch.items)) go_on done }
         ensures refused { OnErr result (output.new ≡ output.old) }
+        ensures rest { IsRestKept params.now (workspace_in self.old) (workspace_in self.new) }
         ensures lens { KeepLens self.old self.new }
     {
         let (chunks, table, scratch) = (&mut self.chunks, &mut self.table, &mut self.scratch);

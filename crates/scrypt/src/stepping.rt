@@ -1,7 +1,7 @@
 //! A derivation in steps, in the caller's buffers: between two steps the caller can show the
 //! progress, or abandon the derivation.
 
-ghost use Rattle.std.specs.Prelude.{◌≡◌, ◌↔◌, ℕ, ◌+◌, ◌-◌, ◌*◌, ◌<◌, ◌≤◌, List, length, min, false, true, IsErrOf, IsOk, IsTrue, OnErr, OnOk};
+ghost use Rattle.std.specs.Prelude.{◌≡◌, ◌↔◌, ℕ, ◌+◌, ◌-◌, ◌*◌, ◌<◌, ◌≤◌, List, drop, length, min, false, true, IsErrOf, IsOk, IsTrue, OnErr, OnOk};
 ghost use Rattle.scrypt_kernel.specs.Diagonal.{pivot};
 ghost use Rattle.scrypt_kernel.specs.Steps.{IsMixing, all_mixes};
 ghost use Rattle.scrypt.specs.Accepted.{is_output_len};
@@ -48,7 +48,7 @@ pub enum StepsError {
 
 /// Begins a derivation in steps: step 1 (RFC 7914, section 6). No core is run yet.
 ///
-/// Each buffer has at least its length of [`BufferLens::of`], and only its front is used. Up to
+/// Each buffer has at least its length of [`BufferLens::of`], and only its front is changed. Up to
 /// four chunks are interleaved, each with its own part of the table and of the scratch, if these
 /// are long enough ([`BufferLens::for_tables`]). The contents of the buffers before the call do not
 /// matter. From then on they are only for [`step`] and [`finish`]; to abandon the
@@ -70,6 +70,8 @@ pub fn begin<W: Backend>(
         params.now.r params.now.p (length table.old) (length scratch.old)) params.now.p }
     ensures going { CanGoOn W.most W.scalar params.now result table.new scratch.new }
     ensures under_way { IsUnderWay password.now salt.now params.now result chunks.new table.new scratch.new }
+    ensures rest { IsRestKept params.now (workspace_of chunks.old table.old scratch.old)
+        (workspace_of chunks.new table.new scratch.new) }
     ensures counted { AreHashed (pbkdf2_cost (length password.now)
         (length salt.now) (chunks_bytes params.now.r params.now.p)) cores.old cores.new }
 {
@@ -100,6 +102,8 @@ pub fn step<W: Backend>(
     ensures under_way { (password : List ℕ) → (salt : List ℕ)
         → IsUnderWay password salt params.now at chunks.old table.old scratch.old
         → IsUnderWay password salt params.now result chunks.new table.new scratch.new }
+    ensures rest { IsRestKept params.now (workspace_of chunks.old table.old scratch.old)
+        (workspace_of chunks.new table.new scratch.new) }
     ensures ended { at.chunks ≡ params.now.p → result ≡ at }
     ensures going_on { at.chunks < params.now.p → count < lacking params.now at
         → result ≡ record at { mixes = at.mixes + count } }
@@ -206,7 +210,7 @@ pub fn finish(
 ///
 /// Returns `InvalidOutputLen`, and changes nothing, exactly if the length of `output` is not
 /// allowed, and `Cancelled` as soon as `go_on` returns `false`, and then `output` is unchanged. The
-/// caller has to wipe the buffers.
+/// rest of each buffer is unchanged; its front is the caller's to wipe.
 pub fn scrypt_in_steps<W: Backend, F: FnMut(u128) -> bool>(
     password: &[u8],
     salt: &[u8],
@@ -232,6 +236,8 @@ pub fn scrypt_in_steps<W: Backend, F: FnMut(u128) -> bool>(
     ensures cancelled { IsErrOf result Cancelled → (done : ℕ) × IsStopped (λ f done on g. F.step f done on g)
         (max_step params.now count (length table.old) (length scratch.old)) go_on done
         × (cores.new.all ≡ cores.old.all + done) }
+    ensures rest { IsRestKept params.now (workspace_of chunks.old table.old scratch.old)
+        (workspace_of chunks.new table.new scratch.new) }
     ensures refused { OnErr result (output.new ≡ output.old) }
     ensures unchanged { IsErrOf result BadLength → (cores.new ≡ cores.old)
         × (workspace_of chunks.new table.new scratch.new ≡ workspace_of chunks.old table.old scratch.old) }
@@ -274,6 +280,9 @@ fn mix_more<W: Backend>(
     ensures mixed { (b : ℕ → List ℕ)
         → IsMixing pivot n b (32 * params.now.r) params.now.log_n done table.old scratch.old
         → IsMixing pivot n b (32 * params.now.r) params.now.log_n result table.new scratch.new }
+    ensures table_rest { let used = n * table_words params.now.log_n params.now.r in
+        drop used table.new ≡ drop used table.old }
+    ensures scratch_rest { drop (n * scratch_words params.now.r) scratch.new ≡ drop (n * scratch_words params.now.r) scratch.old }
     ensures counted { AreCountedAs true (min count (all_mixes params.now.log_n - done) * (n * (2 * params.now.r)))
         cores.old cores.new }
 {
@@ -321,6 +330,8 @@ fn begin_group<W: Backend>(
     ensures under_way { (password : List ℕ) → (salt : List ℕ)
         → AreMixed (first_b password salt params.now) params.now.log_n params.now.r i chunks.now
         → IsUnderWay password salt params.now result chunks.now table.new scratch.new }
+    ensures rest { IsRestKept params.now (workspace_of chunks.now table.old scratch.old)
+        (workspace_of chunks.now table.new scratch.new) }
 {
     params.expose_invariant();
     let count = params.p() as usize;
@@ -357,6 +368,9 @@ fn write_first_rows(
     ensures begun { (b : List ℕ) → AreMixed b params.now.log_n params.now.r i chunks.now
         → IsMixing pivot n (words_from b params.now.r i) (32
         * params.now.r) params.now.log_n 0 table.new scratch.new }
+    ensures table_rest { let used = n * table_words params.now.log_n params.now.r in
+        drop used table.new ≡ drop used table.old }
+    ensures scratch_rest { drop (n * scratch_words params.now.r) scratch.new ≡ drop (n * scratch_words params.now.r) scratch.old }
 {
     params.expose_invariant();
     let r = params.r() as usize;
@@ -373,6 +387,7 @@ fn end_group(params: &Params, i: usize, n: usize, chunks: &mut [u8], scratch: &m
         → IsMixing pivot n (words_from b params.now.r i) (32
         * params.now.r) params.now.log_n (all_mixes params.now.log_n) table scratch.old → AreMixed b
         params.now.log_n params.now.r (i + n) chunks.new }
+    ensures scratch_rest { drop (n * scratch_words params.now.r) scratch.new ≡ drop (n * scratch_words params.now.r) scratch.old }
 {
     params.expose_invariant();
     let r = params.r() as usize;

@@ -1,6 +1,7 @@
 -- Facts on scryptROMix in steps.
-use Rattle.std.proofs.Common.{◌≡◌, ℕ, ◌<◌, ◌≤◌, ◌+◌, ◌-◌, ◌*◌, ◌%◌, ◌^◌, List, ◌++◌, length, take, ap, ◌∙◌, inl, inr, arith}
+use Rattle.std.proofs.Common.{◌≡◌, ℕ, ◌<◌, ◌≤◌, ◌+◌, ◌-◌, ◌*◌, ◌%◌, ◌^◌, List, ◌++◌, length, take, drop, ap, ◌∙◌, inl, inr, arith, rules}
 use Rattle.std.proofs.lemmas.Bool.{cases_lt}
+use Rattle.std.proofs.lemmas.List.{drop-drop, places, same_lists}
 use Rattle.std.proofs.lemmas.Nat.{pow_pos}
 use Rattle.scrypt_kernel.specs.Words.{part}
 use Rattle.scrypt_kernel.specs.RoMix.{row, ro_mix, walk}
@@ -17,6 +18,19 @@ one_more_times i m c order = let next : m + 1 - i ≡ m - i + 1 = omega arith in
 -- the cores of n mixes and of m more
 pub times_sum : (k n m c : ℕ) → k ≡ n + m → k * c ≡ n * c + m * c
 times_sum k n m c sum = rw sum (omega arith)
+
+-- lists that are the same from index a on are the same from a later index on
+pub drop_same : (a b : ℕ) (x y : List ℕ) → a ≤ b → drop a x ≡ drop a y → drop b x ≡ drop b y
+drop_same a b x y later same =
+    let sum : a + (b - a) ≡ b = omega arith in
+    rw (← sum, ← drop-drop (b - a) a x, ← drop-drop (b - a) a y) (ap (drop (b - a)) same)
+
+-- what is behind two parts of a list that were written
+pub behind : (xs ys back whole : List ℕ) (a b n : ℕ) → back ≡ drop a whole → length xs ≡ a → length ys ≡ b → a + b ≡ n
+    → drop n (xs ++ (ys ++ drop b back)) ≡ drop n whole
+behind xs ys back whole a b n is front next end =
+    rw (← end) (same_lists (drop (a + b) (xs ++ (ys ++ drop b back))) (drop b back) (search (rules, places)) (λ i d h. grind (arith, places)))
+    ∙ ap (drop b) is ∙ drop-drop b a whole ∙ ap (λ k. drop k whole) end
 
 -- before the first mix
 pub no_mix_yet : {p : List ℕ} {n s : ℕ} {b : ℕ → List ℕ} {v x : List ℕ} (log_n : ℕ)

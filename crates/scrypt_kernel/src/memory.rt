@@ -1,6 +1,6 @@
 //! The memory of a table, whose rows are written one after another.
 
-ghost use Rattle.std.specs.Prelude.{◌≡◌, ℕ, ◌+◌, ◌*◌, ◌/◌, ◌%◌, ◌<◌, ◌≤◌, List, ◌++◌, length, take};
+ghost use Rattle.std.specs.Prelude.{◌≡◌, ℕ, ◌+◌, ◌*◌, ◌/◌, ◌%◌, ◌<◌, ◌≤◌, List, ◌++◌, drop, length, take};
 ghost use Rattle.std.specs.Vec.{vec_capacity};
 ghost use Rattle.scrypt_kernel.specs.Count.{AreCountedAs};
 ghost use Rattle.scrypt_kernel.specs.KeptRows.{AddsRow, AfterRowTurns, IsRowLen, mixed_in};
@@ -93,7 +93,8 @@ pub(crate) fn mix_next<O: OrderedBlocks>(
     requires row { IsRowLen len }
     requires room { (i + 2) * (O.count * len) ≤ length memory.old }
     ensures words { AddsRow (mixed_in O.pivot O.inverse_pivot 1) O.count len i memory.old memory.new }
-    ensures counted { AreCountedAs O.simd (O.count * (2 * (len / 32))) cores.old cores.new }
+    ensures rest { drop ((i + 2) * (O.count * len)) memory.new ≡ drop ((i + 2) * (O.count * len)) memory.old }
+    ensures counted { AreCountedAs O.diagonal (O.count * (2 * (len / 32))) cores.old cores.new }
 {
     let row_len = O::count() * len;
     let (rows, rest) = memory.split_at_mut((i + 1) * row_len);

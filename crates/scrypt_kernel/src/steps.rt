@@ -5,7 +5,7 @@
 //! state between two steps consists of the table, the scratch and the number of mixes that are
 //! done.
 
-ghost use Rattle.std.specs.Prelude.{◌≡◌, ℕ, ◌+◌, ◌-◌, ◌*◌, ◌/◌, ◌%◌, ◌^◌, ◌<◌, ◌≤◌, List, length, max, min};
+ghost use Rattle.std.specs.Prelude.{◌≡◌, ℕ, ◌+◌, ◌-◌, ◌*◌, ◌/◌, ◌%◌, ◌^◌, ◌<◌, ◌≤◌, List, drop, length, max, min};
 ghost use Rattle.scrypt_kernel.specs.Words.{bytes_of, part, words_of};
 ghost use Rattle.scrypt_kernel.specs.Count.{AreCountedAs};
 ghost use Rattle.scrypt_kernel.specs.RoMix.{ro_mix};
@@ -23,7 +23,8 @@ use crate::words::{part, read_words, write_words};
 /// Begins the scryptROMix of the `n` chunks of `b`, with words in the order `O`: no mix is done
 /// yet.
 ///
-/// For each chunk `b` has `128 * r` bytes, and `table` and `scratch` have at least `32 * r` words.
+/// For each chunk `b` has `128 * r` bytes, and `table` and `scratch` have at least `32 * r` words,
+/// of which nothing after these is changed.
 pub fn begin_chunks<O: OrderedBlocks>(
     n: usize,
     b: &[u8],
@@ -38,6 +39,8 @@ pub fn begin_chunks<O: OrderedBlocks>(
     requires scratch { n * (32 * r) ≤ length scratch.old }
     ensures begun { (log_n : ℕ)
         → IsMixing O.pivot n (chunk_words r b.now) (32 * r) log_n 0 table.new scratch.new }
+    ensures table_rest { drop (n * (32 * r)) table.new ≡ drop (n * (32 * r)) table.old }
+    ensures scratch_rest { drop (n * (32 * r)) scratch.new ≡ drop (n * (32 * r)) scratch.old }
 {
     let row_len = n * (32 * r);
     let x = &mut scratch[..row_len];
@@ -50,8 +53,8 @@ pub fn begin_chunks<O: OrderedBlocks>(
 /// Does `count` more mixes of each chunk after the first `done`, or all that are left, and counts
 /// their cores, `2 * r` each. `O` has a block for each chunk. Returns how many mixes are done then.
 ///
-/// For each chunk `table` has at least `32 * r * N` words, and `scratch` at least `64 * r`. `log_n`
-/// is at most 56.
+/// For each chunk `table` has at least `32 * r * N` words, and `scratch` at least `64 * r`, of which
+/// nothing after these is changed. `log_n` is at most 56.
 pub fn step_chunks<O: OrderedBlocks>(
     r: usize,
     table: &mut [u32],
@@ -69,7 +72,9 @@ pub fn step_chunks<O: OrderedBlocks>(
     ensures done { result ≡ min (done + count) (all_mixes log_n) }
     ensures mixed { (b : ℕ → List ℕ) → IsMixing O.pivot O.count b (32 * r) log_n done table.old scratch.old
         → IsMixing O.pivot O.count b (32 * r) log_n result table.new scratch.new }
-    ensures counted { AreCountedAs O.simd (min count (all_mixes log_n - done) * (O.count * (2 * r))) cores.old cores.new }
+    ensures table_rest { drop (O.count * table_words log_n r) table.new ≡ drop (O.count * table_words log_n r) table.old }
+    ensures scratch_rest { drop (O.count * scratch_words r) scratch.new ≡ drop (O.count * scratch_words r) scratch.old }
+    ensures counted { AreCountedAs O.diagonal (min count (all_mixes log_n - done) * (O.count * (2 * r))) cores.old cores.new }
 {
     let n = O::count();
     let len = 32 * r;
@@ -103,7 +108,8 @@ fn fill_on<O: OrderedBlocks>(
     ensures done { result ≡ max done (min end (2 ^ log_n)) }
     ensures mixed { (b : ℕ → List ℕ) → IsMixing O.pivot O.count b len log_n done table.old x.old
         → IsMixing O.pivot O.count b len log_n result table.new x.new }
-    ensures counted { AreCountedAs O.simd ((result - done) * (O.count * (2 * (len / 32)))) cores.old cores.new }
+    ensures rest { drop (2 ^ log_n * (O.count * len)) table.new ≡ drop (2 ^ log_n * (O.count * len)) table.old }
+    ensures counted { AreCountedAs O.diagonal ((result - done) * (O.count * (2 * (len / 32)))) cores.old cores.new }
 {
     let to = done.max(end.min(1usize << log_n));
     'mixes: for m in done..to {
@@ -117,7 +123,7 @@ fn fill_on<O: OrderedBlocks>(
 }
 
 /// Ends the scryptROMix of the `n` chunks: writes the mixed chunks to `b`, in place of the original
-/// ones.
+/// ones. It changes only the front of `scratch`, `32 * r` words for each.
 pub fn end_chunks<O: OrderedBlocks>(n: usize, b: &mut [u8], r: usize, scratch: &mut [u32])
     requires several { 0 < n }
     requires some { 0 < r }
@@ -126,6 +132,7 @@ pub fn end_chunks<O: OrderedBlocks>(n: usize, b: &mut [u8], r: usize, scratch: &
     ensures value { (b' : ℕ → List ℕ) → (log_n : ℕ) → (table : List ℕ)
         → IsMixing O.pivot n b' (32 * r) log_n (all_mixes log_n) table scratch.old
         → (k : ℕ) → k < n → part (128 * r) b.new k ≡ bytes_of (ro_mix (b' k) log_n) }
+    ensures scratch_rest { drop (n * (32 * r)) scratch.new ≡ drop (n * (32 * r)) scratch.old }
 {
     let x = &mut scratch[..n * (32 * r)];
     // Step 4: B' = X.

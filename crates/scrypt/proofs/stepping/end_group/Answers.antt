@@ -1,4 +1,6 @@
-use Rattle.std.proofs.Common.{◌*◌}
+use Rattle.std.proofs.Common.{◌*◌, arith}
+use Rattle.std.proofs.Math.Nat.{mul-le-mul_left}
+use Rattle.scrypt_kernel.proofs.StepFacts.{drop_same}
 use Rattle.scrypt_kernel.proofs.PartFacts.{parts_from}
 use Rattle.scrypt.specs.Key.{mixed_chunk}
 use Rattle.scrypt.specs.Stepping.{words_from}
@@ -12,4 +14,6 @@ returns c = record {
       let value = (rw c.r-r.ensures.value at c.end_chunks.ensures.value) (words_from b params.r c.args.i) params.log_n table mixing in
       rw c.r-r.ensures.value (mixed_slice c.args.n c.requires.inside (rw c.r-r.ensures.value at c.end_chunks.auto.b)
       (λ long. parts_from (mixed_chunk b params.log_n params.r) (128 * params.r) c.args.i c.args.n c.end_chunks.new.b long value) before);
+  scratch_rest = drop_same (c.args.n * (32 * c.args.params.now.r)) _ _ _ (mul-le-mul_left c.args.n (omega arith))
+      (rw c.r-r.ensures.value at c.end_chunks.ensures.scratch_rest);
 }

@@ -3,7 +3,7 @@ use denote.Param.Always.{mut_next}
 use Rattle.scrypt_kernel.proofs.CountFacts.{counted_between, counted_both, counted_none}
 use Rattle.scrypt_kernel.specs.Steps.{all_mixes}
 use Rattle.scrypt.specs.Stepping.{lacking, mixes_done}
-use Rattle.scrypt.proofs.SteppingFacts.{all_mixes_cost, cores_more, mixes_left, mixes_more, next_shown, none_shown, one_shown}
+use Rattle.scrypt.proofs.SteppingFacts.{all_mixes_cost, cores_more, mixes_left, mixes_more, next_shown, none_shown, one_shown, rest_then}
 use Rattle.scrypt.proofs.stepping.scrypt_in_steps.Goals as goal
 
 pub steps-smaller : goal.steps-smaller
@@ -25,6 +25,7 @@ steps-init g c =
       going = c.begin-at.ensures.going;
       under_way = c.begin-at.ensures.under_way;
       shown = none_shown _ _ c.args.go_on _ none;
+      rest = c.begin-at.ensures.rest;
       counted = counted_none true _ _ none;
     }
 
@@ -39,6 +40,7 @@ steps-preserved g c =
       going = c.step-at.ensures.going;
       under_way = c.step-at.ensures.under_way _ _ c.steps.invariant.under_way;
       shown = one_shown _ _ _ _ _ _ _ c.steps.invariant.shown next (rw (is_true, c.cores_done.ensures.exact) at c.go_on.ensures);
+      rest = rest_then params _ _ _ (c.steps.auto.table ∙ c.begin-at.auto.table) (c.steps.auto.scratch ∙ c.begin-at.auto.scratch) c.steps.invariant.rest c.step-at.ensures.rest;
       counted = counted_both _ c.steps.invariant.counted c.step-at.ensures.counted (cores_more _ _ _ _ (2 * params.r) c.step-at.ensures.exact);
     }
 
@@ -78,3 +80,7 @@ returns-then-not-go_on-clause-cancelled g c _ =
       },
       omega (arith, c.begin-at.ensures.counted.all, c.steps.invariant.counted.all, c.step-at.ensures.counted.all, cores, c.cores_done.ensures.exact),
     )
+
+pub returns-then-not-go_on-clause-rest : goal.returns-then-not-go_on-clause-rest
+returns-then-not-go_on-clause-rest g c =
+    rest_then c.args.params.now _ _ _ (c.steps.auto.table ∙ c.begin-at.auto.table) (c.steps.auto.scratch ∙ c.begin-at.auto.scratch) c.steps.invariant.rest c.step-at.ensures.rest

@@ -2,6 +2,7 @@ use Rattle.std.proofs.Common.{◌*◌, ◌-◌, length, true}
 use Rattle.scrypt_kernel.specs.Count.{AreCountedAs}
 use Rattle.scrypt_kernel.specs.Steps.{all_mixes}
 use Rattle.scrypt.specs.Stepping.{CanGoOn, WentOn, IsUnderWay, max_step, mixes_done}
+use Rattle.scrypt.specs.Workspace.{IsRestKept, workspace_of}
 use Rattle.scrypt.proofs.stepping.scrypt_in_steps.Given as goal
 
 abbrev pub invariant-steps : goal.invariant-steps
@@ -11,6 +12,7 @@ invariant-steps g l = record {
   under_way : IsUnderWay l.password l.salt l.params l.at l.chunks l.table l.scratch;
   shown : WentOn (λ f done on h. goal.F-step g f done on h) (max_step l.params l.count (length l.fn.table) (length l.fn.scratch)) l.fn.go_on
       (mixes_done l.params l.at * (2 * l.params.r)) l.go_on;
+  rest : IsRestKept l.params (workspace_of l.fn.chunks l.fn.table l.fn.scratch) (workspace_of l.chunks l.table l.scratch);
   counted : AreCountedAs true (mixes_done l.params l.at * (2 * l.params.r)) l.initial.cores l.cores;
 }
 

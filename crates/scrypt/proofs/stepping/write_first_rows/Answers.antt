@@ -1,6 +1,8 @@
 use Rattle.std.proofs.Common.{◌≡◌, ◌+◌, ◌-◌, ◌*◌, ℕ, refl, ap, arith}
 use Rattle.scrypt_kernel.specs.Words.{words_of}
-use Rattle.scrypt_kernel.proofs.StepFacts.{mixing_as}
+use Rattle.std.proofs.Math.Nat.{mul-le-mul_left}
+use Rattle.scrypt_kernel.proofs.StepFacts.{drop_same, mixing_as}
+use Rattle.scrypt.specs.Cost.{table_words}
 use Rattle.scrypt.proofs.KeyFacts.{chunk_of_slice}
 use Rattle.scrypt.proofs.SteppingFacts.{first_rows_fit}
 use Rattle.scrypt.proofs.stepping.write_first_rows.Goals as goal
@@ -19,4 +21,11 @@ returns c = record {
       let size : m ≡ n * (128 * params.r) = omega arith in
       mixing_as _ _ (λ k below. ap words_of (chunk_of_slice a m n k c.args.chunks.now refl size below before))
       (rw c.r-r.ensures.value at (c.begin_chunks.ensures.begun params.log_n));
+  table_rest =
+      let c' = c.args.params.now in
+      let n = c.args.n in
+      drop_same (n * (32 * c'.r)) _ _ _ (first_rows_fit n c'.log_n c'.r (n * table_words c'.log_n c'.r) (omega arith))
+      (rw c.r-r.ensures.value at c.begin_chunks.ensures.table_rest);
+  scratch_rest = drop_same (c.args.n * (32 * c.args.params.now.r)) _ _ _ (mul-le-mul_left c.args.n (omega arith))
+      (rw c.r-r.ensures.value at c.begin_chunks.ensures.scratch_rest);
 }

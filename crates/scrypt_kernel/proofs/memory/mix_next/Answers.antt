@@ -1,9 +1,10 @@
-use Rattle.std.proofs.Common.{◌≡◌, ◌*◌, ◌++◌, length, ◌∙◌, ap, arith, refl}
+use Rattle.std.proofs.Common.{◌≡◌, ℕ, ◌+◌, ◌*◌, ◌++◌, drop, length, ◌∙◌, ap, arith, refl}
 use Rattle.std.proofs.lemmas.List.{length-take-le}
 use Rattle.scrypt_kernel.specs.Words.{part}
 use Rattle.scrypt_kernel.specs.KeptRows.{mixed_in}
 use Rattle.scrypt_kernel.proofs.PartFacts.{part-take, take_both}
 use Rattle.scrypt_kernel.proofs.RoMixFacts.{adds_row, one_mix}
+use Rattle.scrypt_kernel.proofs.StepFacts.{behind}
 use Rattle.scrypt_kernel.proofs.memory.mix_next.Goals as goal
 
 pub returns-clause-words : goal.returns-clause-words
@@ -28,3 +29,17 @@ returns-clause-words g c =
     (λ k h. c.mix.ensures.value k h ∙ one_mix p q _
     ∙ ap (mixed_in p q 1) (c.of-last.ensures.parts k (omega (arith, h, c.count-2.ensures.value))
     ∙ ap (λ z. part len z k) row_is))
+
+pub returns-clause-rest : goal.returns-clause-rest
+returns-clause-rest g c =
+    let n = g.O.OrderedBlocks.count in
+    let len = c.args.len in
+    let i = c.args.i in
+    let rows = c.split_at_mut-rows in
+    let m : ℕ = c.count.result * len in
+    let row_len : m ≡ n * len = ap (λ n. n * len) c.count.ensures.value in
+    let full : length c.mix.new.output ≡ n * len =
+    c.mix.auto.output ∙ length-take-le _ _ (omega (arith, row_len, rw row_len at rows.ensures.back_len)) ∙ row_len in
+    let end : (i + 1) * m + m ≡ (i + 2) * (n * len) = rw row_len (omega arith) in
+    behind rows.result.0.now c.mix.new.output _ c.args.memory.now ((i + 1) * m) m _ rows.ensures.back (omega (arith, rows.ensures.front_len))
+    (omega (arith, full, row_len)) end

@@ -1,5 +1,6 @@
 use Rattle.std.proofs.Common.{◌≡◌, ◌*◌, length, ap, ◌∙◌, arith}
 use Rattle.std.proofs.lemmas.List.{length-take-le}
+use Rattle.std.proofs.lemmas.Slice.{drop-append-drop}
 use Rattle.scrypt_kernel.specs.Words.{part}
 use Rattle.scrypt_kernel.proofs.PartFacts.{part_append_front, part_inside}
 use Rattle.scrypt_kernel.proofs.ChunkFacts.{chunk_in}
@@ -17,4 +18,8 @@ returns g c = record {
       ∙ ap (λ z. part (32 * r) z k) c.copy_from_slice.ensures.after
       ∙ chunk_in g.O.OrderedBlocks.pivot g.O.OrderedBlocks.inverse_pivot g.met.O.OrderedBlocks.inverse n r k log_n c.args.b.now c.shuffle_in.new.x below
       c.requires.chunks (rw c.read_words.ensures at c.shuffle_in.ensures.value));
+  table_rest = drop-append-drop _ c.args.table.now c.copy_from_slice.new.self _ (omega arith)
+      (c.copy_from_slice.ensures.len ∙ length-take-le _ c.args.table.now c.requires.room);
+  scratch_rest = drop-append-drop _ c.args.scratch.now c.shuffle_in.new.x _ (omega arith)
+      (c.shuffle_in.auto.x ∙ c.read_words.auto.words ∙ length-take-le _ c.args.scratch.now c.requires.scratch);
 }

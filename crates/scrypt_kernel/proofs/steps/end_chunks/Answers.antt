@@ -1,5 +1,6 @@
 use Rattle.std.proofs.Common.{◌*◌, take, ap, ◌∙◌, arith}
 use Rattle.std.proofs.lemmas.List.{length-take-le}
+use Rattle.std.proofs.lemmas.Slice.{drop-append-drop}
 use Rattle.scrypt_kernel.specs.Words.{bytes_of}
 use Rattle.scrypt_kernel.proofs.PartFacts.{part-take, part_inside}
 use Rattle.scrypt_kernel.proofs.ChunkFacts.{chunk_out}
@@ -16,4 +17,6 @@ returns g c = record {
       (length-take-le _ c.args.scratch.now c.requires.scratch)
       (c.write_words.ensures ∙ ap (λ x. bytes_of x) c.shuffle_out.ensures.value)
       (part-take (32 * r) k _ c.args.scratch.now (part_inside (32 * r) k n _ below (omega arith)) ∙ all_mixed at k below);
+  scratch_rest = drop-append-drop _ c.args.scratch.now c.shuffle_out.new.x _ (omega arith)
+      (c.shuffle_out.auto.x ∙ length-take-le _ c.args.scratch.now c.requires.scratch);
 }

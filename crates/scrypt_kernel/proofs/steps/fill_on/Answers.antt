@@ -2,7 +2,7 @@ use Rattle.std.proofs.Common.{◌≡◌, ◌<◌, ◌≤◌, ◌+◌, ◌-◌, �
 use Rattle.std.proofs.Math.Nat.{mul-le-mul_right}
 use Rattle.std.proofs.lemmas.Nat.{one_shl}
 use Rattle.scrypt_kernel.proofs.CountFacts.{counted_both}
-use Rattle.scrypt_kernel.proofs.StepFacts.{last_row_mixed, one_more_row_mixed, one_more_times}
+use Rattle.scrypt_kernel.proofs.StepFacts.{drop_same, last_row_mixed, one_more_row_mixed, one_more_times}
 use Rattle.scrypt_kernel.proofs.steps.fill_on.Goals as goal
 use Rattle.scrypt_kernel.proofs.steps.fill_on.Goals.{then-m-log_n, else-m-log_n}
 
@@ -21,10 +21,13 @@ mixes-preserved g c =
     elim c.if-m-log_n.branch [
       | then-m-log_n w ↦
           let more : m + 1 < 2 ^ c.args.log_n = omega (arith, shifted, w.if-m-log_n.true) in
+          let more' : m + 2 ≤ 2 ^ c.args.log_n = omega arith in
           rw (w.table-is, w.x-is, w.cores-is) (record {
             mixed = λ b begun. one_more_row_mixed o.pivot o.inverse_pivot g.met.O.OrderedBlocks.inverse c.mixes.table c.mixes.x
                 c.requires.lens.row.whole (c.mixes.invariant.mixed b begun) w.mix_next.new.memory more
                 room w.mix_next.ensures.words;
+            rest = drop_same ((m + 2) * (o.count * c.args.len)) _ _ _ (mul-le-mul_right (o.count * c.args.len) more') w.mix_next.ensures.rest
+                ∙ c.mixes.invariant.rest;
             counted = counted_both _ c.mixes.invariant.counted w.mix_next.ensures.counted sum;
           })
       | else-m-log_n w ↦
@@ -33,6 +36,7 @@ mixes-preserved g c =
             mixed = λ b begun. last_row_mixed o.pivot o.inverse_pivot g.met.O.OrderedBlocks.inverse c.mixes.table c.mixes.x
                 c.requires.lens.row.whole (c.mixes.invariant.mixed b begun) w.recompute.new.x w.part.result.now all
                 room (rw (c.mixes.auto.x, c.requires.lens.chunks) at w.part.ensures.value) w.recompute.ensures.value;
+            rest = c.mixes.invariant.rest;
             counted = counted_both _ c.mixes.invariant.counted w.recompute.ensures.counted (omega (arith, sum));
           })
     ]

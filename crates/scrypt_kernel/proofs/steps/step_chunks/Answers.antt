@@ -3,7 +3,7 @@ use Rattle.std.proofs.lemmas.List.{length-take-le}
 use Rattle.std.proofs.lemmas.Nat.{one_shl}
 use Rattle.scrypt_kernel.specs.Steps.{all_mixes}
 use Rattle.scrypt_kernel.proofs.CountFacts.{counted_both}
-use Rattle.scrypt_kernel.proofs.StepFacts.{mixing_front, mixing_longer, steps_walked, times_sum}
+use Rattle.scrypt_kernel.proofs.StepFacts.{behind, mixing_front, mixing_longer, steps_walked, times_sum}
 use Rattle.scrypt_kernel.proofs.steps.step_chunks.Goals as goal
 
 pub returns-then-at-end-clause-mixed : goal.returns-then-at-end-clause-mixed
@@ -41,3 +41,25 @@ returns-then-at-end-clause-counted g c =
     omega (arith, c.fill_on-at.ensures.done, c.min.ensures, one_shl c.args.log_n 64 (omega (arith, c.requires.small))) in
     counted_both _ (rw whole at c.fill_on-at.ensures.counted) (rw whole at (c.take_steps.ensures.steps.whole refl))
     (times_sum _ _ _ (g.O.OrderedBlocks.count * (2 * c.args.r)) sum)
+
+pub returns-then-at-end-clause-scratch_rest : goal.returns-then-at-end-clause-scratch_rest
+returns-then-at-end-clause-scratch_rest g c =
+    let len : ℕ = 32 * c.args.r in
+    let row : ℕ = c.count-n.result * len in
+    let used : row ≡ g.O.OrderedBlocks.count * len = ap (λ n. n * len) c.count-n.ensures.value in
+    let x = c.split_at_mut-x in
+    behind c.take_steps.new.x c.take_steps.new.next _ c.args.scratch.now row row _ x.ensures.back
+    (c.take_steps.auto.x ∙ c.fill_on-at.auto.x ∙ x.ensures.front_len)
+    (c.take_steps.auto.next ∙ c.fill_on-at.auto.next ∙ length-take-le row _ (omega (arith, x.ensures.back_len, used, c.requires.scratch)))
+    (omega (arith, used))
+
+pub returns-else-at-end-clause-scratch_rest : goal.returns-else-at-end-clause-scratch_rest
+returns-else-at-end-clause-scratch_rest g c =
+    let len : ℕ = 32 * c.args.r in
+    let row : ℕ = c.count-n.result * len in
+    let used : row ≡ g.O.OrderedBlocks.count * len = ap (λ n. n * len) c.count-n.ensures.value in
+    let x = c.split_at_mut-x in
+    behind c.fill_on-at.new.x c.fill_on-at.new.next _ c.args.scratch.now row row _ x.ensures.back
+    (c.fill_on-at.auto.x ∙ x.ensures.front_len)
+    (c.fill_on-at.auto.next ∙ length-take-le row _ (omega (arith, x.ensures.back_len, used, c.requires.scratch)))
+    (omega (arith, used))
