@@ -217,13 +217,9 @@ static int write_hash(const scrypt_options *options, const struct call *call, co
 }
 
 static int write_key(const scrypt_options *options, const struct call *call, const scrypt_buffers *buffers) {
-  scrypt_buffers secret = *buffers;
-  int status = scrypt_key_with_buffers(call->login.password, call->login.password_len, call->salt, call->salt_len,
-                                       options->log_n, options->r, options->p, (uint8_t *)call->output,
-                                       call->output_len, buffers);
-  secret.table_len = 0; /* it is kept */
-  scrypt_wipe(&secret);
-  return status;
+  return scrypt_key_with_buffers(call->login.password, call->login.password_len, call->salt, call->salt_len,
+                                 options->log_n, options->r, options->p, (uint8_t *)call->output, call->output_len,
+                                 buffers);
 }
 
 /* The salt of a $7$ hash is its letters. */

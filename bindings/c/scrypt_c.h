@@ -168,10 +168,9 @@ int scrypt_buffer_lens(uint32_t log_n, uint32_t r, uint32_t p, uint8_t s, scrypt
 
 /* Writes the same key, in the caller's buffers, each at least as long as scrypt_buffer_lens returns
  * for s = 0. With a table and a scratch of w times that length, up to w chunks are interleaved, but
- * no more than four. The initial content of the buffers does not matter. Afterwards the chunks hold
- * the mixed blocks, with which passwords can be tried against the key at little cost, so wipe them
- * with scrypt_wipe. The used parts of the other buffers are unspecified, and the rest is unchanged.
- * Nothing is allocated. On an error the buffers are unchanged too.
+ * no more than four. The initial content of the buffers does not matter. Afterwards the used parts
+ * of the chunks and the scratch are zeros, the used part of the table is unspecified, and the rest
+ * is unchanged. Nothing is allocated. On an error the buffers are unchanged too.
  * SCRYPT_E_INVALID_PARAMS, SCRYPT_E_INVALID_OUTPUT_LEN, SCRYPT_E_BUFFER_SIZE if a buffer is too short. */
 SCRYPT_NODISCARD
 int scrypt_key_with_buffers(const void *password, size_t password_len, const void *salt, size_t salt_len,

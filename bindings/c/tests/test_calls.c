@@ -108,6 +108,7 @@ static void chunks_in_tables(uint32_t p, size_t tables) {
   check(scrypt_key(INPUTS, p, key, 32) == SCRYPT_OK, "a key of several chunks");
   check(scrypt_key_with_buffers(INPUTS, p, same, 32, &in) == SCRYPT_OK && memcmp(key, same, 32) == 0,
         "the same key in buffers");
+  check(is_all(0, in.chunks, in.chunks_len) && is_all(0, in.scratch, 4 * in.scratch_len / tables), "zeros");
   free_buffers(in);
   hashes(p, tables, texts);
   batches(p, tables, texts);

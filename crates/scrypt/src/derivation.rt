@@ -1,18 +1,17 @@
 // The derived key (RFC 7914, section 6).
 
-ghost use Rattle.std.specs.Prelude.{◌≡◌, ◌↔◌, ◌-◌, ◌*◌, ◌<◌, ◌≤◌, length, take, IsOk, IsTrue, IsErrOf, OnOk, OnErr};
+ghost use Rattle.std.specs.Prelude.{◌≡◌, ◌↔◌, ◌-◌, ◌*◌, ◌<◌, ◌≤◌, length, replicate, IsOk, IsTrue, IsErrOf, OnOk, OnErr};
 ghost use Rattle.scrypt_kernel.specs.Pbkdf2.{max_output_len, pbkdf2};
 ghost use Rattle.scrypt.specs.Accepted.{is_output_len};
 ghost use Rattle.scrypt.specs.Cost.{AreCompressed, AreCounted, AreHashed, chunks_bytes, cost, hash_cost, pbkdf2_cost, scratch_words, table_words, thin_cost, thin_scratch_words};
 ghost use Rattle.scrypt.specs.Key.{derived_key};
 ghost use Rattle.scrypt.specs.KeyOfParams.{IsDerived, cost_by};
-ghost use Rattle.scrypt.specs.Mixing.{IsKept, IsReady};
-ghost use Rattle.scrypt.specs.Workspace.{IsRestKept, are_enough, workspace_of};
+ghost use Rattle.scrypt.specs.Mixing.{IsReady, IsSpent};
+ghost use Rattle.scrypt.specs.Workspace.{IsDone, are_enough, workspace_of};
 ghost use Rattle.scrypt.specs.declared.errors.DeriveError.TheVariants.{InvalidOutputLen as BadLength, OutOfMemory};
 
 pub(crate) mod mixing;
 
-use crate::buffers::lens::interleaved_chunks;
 use crate::buffers::memory::{ActiveBuffers, Allocation, with_prefix};
 use crate::derivation::mixing::mix_all;
 use crate::size::Size;
@@ -122,10 +121,9 @@ pub fn scrypt_with_max_mem<W: Backend>(
 /// `table` and `scratch` have at least its lengths in words. Up to four chunks are interleaved,
 /// each with its own part of the table and of the scratch, if these are long enough
 /// ([`BufferLens::for_tables`](crate::BufferLens::for_tables)). The contents of the buffers before
-/// the call do not matter. After it `chunks` holds B after step 2, which suffices to test passwords
-/// against the key without running a core, and the contents of the others are unspecified:
-/// [`wipe`](crate::wipe) all three. `cores` counts the `4 * N * r * p` cores, and the blocks that
-/// SHA-256 compresses. Does not allocate.
+/// the call do not matter. After it `chunks` and the used part of `scratch` are zeros, the used part
+/// of `table` is unspecified, and the rest is unchanged. `cores` counts the `4 * N * r * p` cores,
+/// and the blocks that SHA-256 compresses. Does not allocate.
 ///
 /// Returns `InvalidOutputLen`, and changes nothing, exactly if the length of `output` is
 /// not allowed ([`output_len_ok`](crate::output_len_ok)).
@@ -146,28 +144,28 @@ pub fn scrypt_with_buffers(
     ensures allowed { IsOk result ↔ IsTrue (is_output_len (length output.old)) }
     ensures derived { OnOk result (IsDerived params.now password.now salt.now
         (cost_by params.now) output.old output.new cores.old cores.new) }
-    ensures mixed { OnOk result
-        (chunks.new ≡ mixed_b password.now salt.now params.now.log_n params.now.r params.now.p) }
+    ensures done { OnOk result (IsDone params.now (workspace_of chunks.old table.old scratch.old)
+        (workspace_of chunks.new table.new scratch.new)) }
     ensures refused { OnErr result (output.new ≡ output.old) }
     ensures unchanged { OnErr result (workspace_of chunks.new table.new scratch.new
         ≡ workspace_of chunks.old table.old scratch.old) }
     ensures uncounted { OnErr result (cores.new ≡ cores.old) }
 {
-    if !output_len_ok(output.len()) {
-        return Err(InvalidOutputLen);
-    }
     params.expose_invariant();
-    let width = interleaved_chunks(params, params.p() as usize, table.len(), scratch.len());
-    let mut rows = Buffer::new(table);
-    let mut used = ActiveBuffers::new(width, chunks, &mut rows, scratch, cores);
-    derive_in::<Buffer<'_>, Simd>(password, salt, params, 0, &mut used, output);
-    Ok(())
+    match scrypt_in_prefix::<Simd>(
+        password, salt, params, chunks, table, scratch, output, cores,
+    ) {
+        Ok(()) => Ok(()),
+        Err(DeriveError::InvalidOutputLen) => Err(InvalidOutputLen),
+        Err(DeriveError::OutOfMemory) => unreachable!(),
+    }
 }
 
 /// Derives the key as [`scrypt_with_buffers`] does, by the backend `W`, in buffers of any length.
 /// It uses only the front of each buffer, with the lengths of
 /// [`BufferLens::for_tables`](crate::BufferLens::for_tables) for the tables that fit, at most four
-/// and at most `p`. The rest of each buffer is unchanged.
+/// and at most `p`. The rest of each buffer is unchanged. Afterwards the used parts of `chunks` and
+/// `scratch` are zeros, and the used part of `table` is unspecified.
 ///
 /// Returns `InvalidOutputLen` exactly if the length of `output` is not allowed, and otherwise
 /// `OutOfMemory` exactly if a buffer is too short. On an error nothing has changed.
@@ -188,10 +186,7 @@ pub fn scrypt_in_prefix<W: Backend>(
         × ¬ IsTrue (are_enough params.now chunks.old table.old scratch.old)) }
     ensures derived { OnOk result (IsDerived params.now password.now salt.now
         (cost_by params.now) output.old output.new cores.old cores.new) }
-    ensures mixed { OnOk result (take (chunks_bytes params.now.r params.now.p) chunks.new
-        ≡ mixed_b password.now salt.now params.now.log_n params.now.r params.now.p) }
-    ensures rest { OnOk result
-        (IsRestKept params.now (workspace_of chunks.old table.old scratch.old)
+    ensures done { OnOk result (IsDone params.now (workspace_of chunks.old table.old scratch.old)
         (workspace_of chunks.new table.new scratch.new)) }
     ensures refused { OnErr result (output.new ≡ output.old) }
     ensures unchanged { OnErr result (workspace_of chunks.new table.new scratch.new
@@ -221,8 +216,8 @@ pub fn scrypt_in_prefix<W: Backend>(
 ///
 /// The buffers have the lengths of [`BufferLens::thin`](crate::BufferLens::thin): `chunks` in
 /// bytes, `table` and `scratch` in words. `s` is at most `log_n`. The contents of the buffers
-/// before the call do not matter. After it `chunks` holds B after step 2, and the contents of the
-/// others are unspecified.
+/// before the call do not matter. After it `chunks` and `scratch` are zeros, and the contents of
+/// `table` are unspecified.
 ///
 /// Returns `InvalidOutputLen`, and changes nothing, exactly if the length of `output` is
 /// not allowed ([`output_len_ok`](crate::output_len_ok)).
@@ -245,8 +240,8 @@ pub fn scrypt_thin(
     ensures derived { OnOk result (IsDerived params.now password.now salt.now
         (thin_cost password.now salt.now params.now.log_n params.now.r params.now.p s)
         output.old output.new cores.old cores.new) }
-    ensures mixed { OnOk result
-        (chunks.new ≡ mixed_b password.now salt.now params.now.log_n params.now.r params.now.p) }
+    ensures wiped { OnOk result ((chunks.new ≡ replicate (length chunks.old) 0)
+        × (scratch.new ≡ replicate (length scratch.old) 0)) }
     ensures refused { OnErr result (output.new ≡ output.old) }
     ensures unchanged { OnErr result (workspace_of chunks.new table.new scratch.new
         ≡ workspace_of chunks.old table.old scratch.old) }
@@ -278,8 +273,8 @@ pub fn scrypt_thin_with_backend<W: Backend>(
     ensures derived { OnOk result (IsDerived params.now password.now salt.now
         (thin_cost password.now salt.now params.now.log_n params.now.r params.now.p s)
         output.old output.new cores.old cores.new) }
-    ensures mixed { OnOk result
-        (chunks.new ≡ mixed_b password.now salt.now params.now.log_n params.now.r params.now.p) }
+    ensures wiped { OnOk result ((chunks.new ≡ replicate (length chunks.old) 0)
+        × (scratch.new ≡ replicate (length scratch.old) 0)) }
     ensures refused { OnErr result (output.new ≡ output.old) }
     ensures unchanged { OnErr result (workspace_of chunks.new table.new scratch.new
         ≡ workspace_of chunks.old table.old scratch.old) }
@@ -295,7 +290,8 @@ pub fn scrypt_thin_with_backend<W: Backend>(
     Ok(())
 }
 
-/// Steps 1 to 3, in any memory, with a table that keeps one row in `2^s`.
+/// Steps 1 to 3, in any memory, with a table that keeps one row in `2^s`. Afterwards the chunks and
+/// the scratch are zeros.
 #[tactic(auto, unfolding(crate::specs::Key::derived_key))]
 pub(crate) fn derive_in<M: TableMemory, W: Backend>(
     password: &[u8],
@@ -307,7 +303,7 @@ pub(crate) fn derive_in<M: TableMemory, W: Backend>(
 )
     requires ready { IsReady M.room params.now.log_n s params.now.r params.now.p used.old }
     requires length { length output.old ≤ max_output_len }
-    ensures kept { IsKept M.room used.old used.new }
+    ensures spent { IsSpent M.room used.old used.new }
     ensures derived { IsDerived params.now password.now salt.now
         (thin_cost password.now salt.now params.now.log_n params.now.r params.now.p s)
         output.old output.new used.old.cores.now used.new.cores.now }
@@ -319,6 +315,8 @@ pub(crate) fn derive_in<M: TableMemory, W: Backend>(
     // second shared borrow besides the borrow of the count.
     let mixed = &mut *used.chunks;
     pbkdf2_counted(password, mixed, output, used.cores);
+    used.chunks.fill(0);
+    used.scratch.fill(0);
 }
 
 /// Step 1: `chunks` becomes B, which has `p` chunks.

@@ -57,8 +57,6 @@ pub(crate) fn stored_key<M: TableMemory, W: Backend>(
     let mut places = [0u8; Output::MAX_LENGTH];
     let key = &mut places[..params.key_len_or_default()];
     derive_in::<M, W>(password, salt, params, 0, used, key);
-    used.chunks.fill(0);
-    used.scratch.fill(0);
     let Ok(key) = Output::new(key) else {
         unreachable!();
     };

@@ -1,11 +1,11 @@
 //! Keys, derived in allocated memory or in the caller's buffers.
 
-ghost use Rattle.std.specs.Prelude.{◌≡◌, ◌≢◌, ◌⊎◌, ◌↔◌, length, take, IsSome, IfSome, IsTrue};
+ghost use Rattle.std.specs.Prelude.{◌≡◌, ◌≢◌, ◌⊎◌, ◌↔◌, length, replicate, IsSome, IfSome, IsTrue};
 ghost use Rattle.scrypt.specs.Accepted.{are_accepted, is_output_len};
 ghost use Rattle.scrypt.specs.InBuffers.{are_enough};
 ghost use Rattle.scrypt.specs.Cost.{AreCompressed, AreCounted, chunks_bytes, cost, hash_cost, thin_cost};
-ghost use Rattle.scrypt.specs.Key.{derived_key, mixed_b};
-ghost use Rattle.scrypt.specs.Workspace.{IsRestKept, workspace_of};
+ghost use Rattle.scrypt.specs.Key.{derived_key};
+ghost use Rattle.scrypt.specs.Workspace.{IsDone, workspace_of};
 ghost use Rattle.scrypt_c.specs.Buffers.{AreBuffers, IsSpacing};
 ghost use Rattle.scrypt_c.specs.Limits.{bytes_that_pay, params_of};
 ghost use Rattle.scrypt_c.specs.Statuses.{IsKeyStatus};
@@ -146,9 +146,9 @@ pub extern "C" fn scrypt_buffer_lens(
 /// both the table and the scratch have capacity for. The derivation uses a prefix of each buffer:
 /// the length that `scrypt_buffer_lens` returns, which for the table and the scratch is multiplied
 /// by the number of interleaved chunks. On arm64 two chunks are not interleaved: one table and one
-/// scratch serve both. The initial contents of the buffers do not matter. After `OK` the chunks
-/// hold B after step 2, the used prefix of the others is unspecified, and nothing after it has
-/// changed. On an error the buffers and the output are unchanged.
+/// scratch serve both. The initial contents of the buffers do not matter. After `OK` the used prefix
+/// of the chunks and of the scratch is zeros, that of the table is unspecified, and nothing after it
+/// has changed. On an error the buffers and the output are unchanged.
 #[unsafe(no_mangle)]
 pub extern "C" fn scrypt_kdf_with_buffers(
     password: &[u8],
@@ -164,9 +164,8 @@ pub extern "C" fn scrypt_kdf_with_buffers(
     ensures status { IsKeyStatus (IsTrue (are_accepted log_n r p))
         (IsTrue (are_enough (params_of log_n r p) chunks.old table.old scratch.old)) (length output.old) result }
     ensures value { result ≡ OK → output.new ≡ derived_key password.now salt.now log_n r p (length output.old) }
-    ensures mixed { result ≡ OK → take (chunks_bytes r p) chunks.new ≡ mixed_b password.now salt.now log_n r p }
-    ensures rest { result ≡ OK
-        → IsRestKept (params_of log_n r p) (workspace_of chunks.old table.old scratch.old)
+    ensures used { result ≡ OK
+        → IsDone (params_of log_n r p) (workspace_of chunks.old table.old scratch.old)
         (workspace_of chunks.new table.new scratch.new) }
     ensures refused { result ≢ OK → output.new ≡ output.old }
     ensures unchanged { result ≢ OK
@@ -195,9 +194,8 @@ pub fn kdf_with_buffers(
     ensures status { IsKeyStatus (IsTrue (are_accepted log_n r p))
         (IsTrue (are_enough (params_of log_n r p) chunks.old table.old scratch.old)) (length output.old) result }
     ensures value { result ≡ OK → output.new ≡ derived_key password.now salt.now log_n r p (length output.old) }
-    ensures mixed { result ≡ OK → take (chunks_bytes r p) chunks.new ≡ mixed_b password.now salt.now log_n r p }
-    ensures rest { result ≡ OK
-        → IsRestKept (params_of log_n r p) (workspace_of chunks.old table.old scratch.old)
+    ensures used { result ≡ OK
+        → IsDone (params_of log_n r p) (workspace_of chunks.old table.old scratch.old)
         (workspace_of chunks.new table.new scratch.new) }
     ensures counted { result ≡ OK → AreCounted (cost log_n r p) cores.old cores.new }
     ensures hashed { result ≡ OK → AreCompressed (hash_cost (length password.now) (length salt.now) r p (length
@@ -226,9 +224,8 @@ pub fn kdf_with_buffers(
 ///
 /// Returns `OK`, or the first of these: `INVALID_PARAMS`, also if `s` is above `log_n`,
 /// `INVALID_OUTPUT_LEN`, and `BUFFER_SIZE` unless the three buffers have exactly the lengths of
-/// `scrypt_buffer_lens` with this `s`. After `OK` the chunks hold B after step 2, and the contents
-/// of the table and the scratch are unspecified. On an error all three buffers and the output are
-/// unchanged.
+/// `scrypt_buffer_lens` with this `s`. After `OK` the chunks are zeros, and the contents of the
+/// others are unspecified. On an error all three buffers and the output are unchanged.
 #[unsafe(no_mangle)]
 pub extern "C" fn scrypt_kdf_thin(
     password: &[u8],
@@ -245,7 +242,7 @@ pub extern "C" fn scrypt_kdf_thin(
     ensures status { IsKeyStatus (IsTrue (are_accepted log_n r p) × IsSpacing log_n s)
         (AreBuffers log_n r p s (length chunks.old) (length table.old) (length scratch.old)) (length output.old) result }
     ensures value { result ≡ OK → output.new ≡ derived_key password.now salt.now log_n r p (length output.old) }
-    ensures mixed { result ≡ OK → chunks.new ≡ mixed_b password.now salt.now log_n r p }
+    ensures wiped { result ≡ OK → chunks.new ≡ replicate (length chunks.old) 0 }
     ensures refused { result ≢ OK → output.new ≡ output.old }
     ensures unchanged { result ≢ OK
         → (chunks.new ≡ chunks.old) × (table.new ≡ table.old) × (scratch.new ≡ scratch.old) }
@@ -273,7 +270,7 @@ pub fn kdf_thin(
     ensures status { IsKeyStatus (IsTrue (are_accepted log_n r p) × IsSpacing log_n s)
         (AreBuffers log_n r p s (length chunks.old) (length table.old) (length scratch.old)) (length output.old) result }
     ensures value { result ≡ OK → output.new ≡ derived_key password.now salt.now log_n r p (length output.old) }
-    ensures mixed { result ≡ OK → chunks.new ≡ mixed_b password.now salt.now log_n r p }
+    ensures wiped { result ≡ OK → chunks.new ≡ replicate (length chunks.old) 0 }
     ensures counted { result ≡ OK → AreCounted (thin_cost password.now salt.now log_n r p s) cores.old cores.new }
     ensures hashed { result ≡ OK → AreCompressed (hash_cost (length password.now) (length salt.now) r p (length
         output.old)) cores.old cores.new }

@@ -1,7 +1,7 @@
 use Rattle.std.proofs.Common.{◌≡◌, length, refl, rules}
 use Rattle.scrypt_kernel.proofs.CountFacts.{counted_between}
 use Rattle.scrypt.specs.Cost.{chunks_bytes}
-use Rattle.scrypt.specs.Key.{derived_key, mixed_b}
+use Rattle.scrypt.specs.Key.{derived_key}
 use Rattle.scrypt.proofs.derivation.derive_in.Goals as goal
 
 pub returns-clause-derived : goal.returns-clause-derived
@@ -18,12 +18,4 @@ returns-clause-derived g c =
 
 pub returns-clause-whole : goal.returns-clause-whole
 returns-clause-whole g c none =
-    let long : length c.mix_all.new.used.chunks.now ≡ chunks_bytes c.args.params.now.r c.args.params.now.p = search rules in
-    rw long at (counted_between c.derive_chunks.ensures.counted (rw c.p.ensures.value at (c.mix_all.ensures.whole none)) c.pbkdf2_counted.ensures.counted)
-
-pub returns-clause-mixed : goal.returns-clause-mixed
-returns-clause-mixed g c =
-    let params = c.args.params.now in
-    let mixed : c.mix_all.new.used.chunks.now ≡ mixed_b c.args.password.now c.args.salt.now params.log_n params.r params.p =
-    rw (c.mix_all.ensures.value, c.derive_chunks.ensures.value, c.p.ensures.value) refl in
-    search (rules, mixed)
+    (counted_between c.derive_chunks.ensures.counted (rw c.p.ensures.value at (c.mix_all.ensures.whole none)) c.pbkdf2_counted.ensures.counted).0

@@ -1,4 +1,7 @@
-use Rattle.std.proofs.Common.{length, refl, rules}
+use Rattle.std.proofs.Common.{◌≡◌, length, refl, rules, ◌∙◌}
+use Rattle.std.proofs.Math.Seq.{drop-length}
+use Rattle.std.proofs.lemmas.List.{append-nil}
+use Rattle.scrypt.specs.Cost.{chunks_bytes}
 use Rattle.scrypt.proofs.CostFacts.{whole_table_cost}
 use Rattle.scrypt_c.specs.Buffers.{AreBuffers}
 use Rattle.scrypt_c.proofs.InBuffersFacts.{enough_at_zero, kept_key_status}
@@ -20,3 +23,10 @@ returns-then-s-eq0-clause-status c =
 pub returns-then-s-eq0-clause-counted : goal.returns-then-s-eq0-clause-counted
 returns-then-s-eq0-clause-counted c done =
     rw (c.if-s-eq0.true, whole_table_cost) (c.kdf_with_buffers.ensures.counted (search (rules, done)))
+
+-- all of the chunks is the part that is used
+pub returns-then-s-eq0-clause-wiped : goal.returns-then-s-eq0-clause-wiped
+returns-then-s-eq0-clause-wiped c ok =
+    let long : length c.args.chunks.now ≡ chunks_bytes c.args.r c.args.p = search rules in
+    let done = c.kdf_with_buffers.ensures.used (search rules) in
+    done.chunks ∙ rw (← long, drop-length) (append-nil _)
