@@ -177,19 +177,18 @@ pub fn finish(
     password: &[u8],
     params: &Params,
     at: Progress,
-    chunks: &mut [u8],
+    chunks: &[u8],
     output: &mut [u8],
     cores: &mut CoreCount,
 ) -> Result<(), InvalidOutputLen>
     requires ended { at.chunks ≡ params.now.p }
-    requires chunks { chunks_bytes params.now.r params.now.p ≤ length chunks.old }
+    requires chunks { chunks_bytes params.now.r params.now.p ≤ length chunks.now }
     ensures allowed { IsOk result ↔ IsTrue (is_output_len (length output.old)) }
     ensures value { OnOk result ((salt : List ℕ) → (table : List ℕ) → (scratch : List ℕ)
-        → IsUnderWay password.now salt params.now at chunks.old table scratch → output.new
+        → IsUnderWay password.now salt params.now at chunks.now table scratch → output.new
         ≡ derived_key password.now salt params.now.log_n params.now.r params.now.p (length output.old)) }
     ensures counted { OnOk result (AreHashed (pbkdf2_cost (length password.now)
         (chunks_bytes params.now.r params.now.p) (length output.old)) cores.old cores.new) }
-    ensures kept { chunks.new ≡ chunks.old }
     ensures refused { OnErr result (output.new ≡ output.old) }
     ensures uncounted { OnErr result (cores.new ≡ cores.old) }
 {
@@ -197,9 +196,7 @@ pub fn finish(
     if !output_len_ok(output.len()) {
         return Err(InvalidOutputLen);
     }
-    // B is borrowed mutably, because the prover does not support a second shared borrow besides the
-    // borrow of the count.
-    let (mixed, _) = chunks.split_at_mut(index(BufferLens::of(params).chunks));
+    let (mixed, _) = chunks.split_at(index(BufferLens::of(params).chunks));
     pbkdf2_counted(password, mixed, output, cores);
     Ok(())
 }

@@ -136,19 +136,18 @@ pub fn key_step(
 ///
 /// Returns `OK`, or the first of these, and then the output is unchanged: `INVALID_PARAMS`;
 /// `BUFFER_SIZE` unless the chunks have the length of `scrypt_buffer_lens`; `UNFINISHED` unless all
-/// chunks are mixed; and `INVALID_OUTPUT_LEN`. The chunks are unchanged.
+/// chunks are mixed; and `INVALID_OUTPUT_LEN`.
 #[unsafe(no_mangle)]
 pub extern "C" fn scrypt_key_finish(
     password: &[u8],
     log_n: u8,
     r: u32,
     p: u32,
-    chunks: &mut [u8],
+    chunks: &[u8],
     at: &Progress,
     output: &mut [u8],
 ) -> i32
-    ensures finished { HasFinished password.now log_n r p chunks.old at.now output.old output.new result }
-    ensures kept { chunks.new ≡ chunks.old }
+    ensures finished { HasFinished password.now log_n r p chunks.now at.now output.old output.new result }
 {
     let cores = &mut CoreCount::new();
     key_finish(password, log_n, r, p, chunks, at, output, cores)
@@ -160,13 +159,12 @@ pub fn key_finish(
     log_n: u8,
     r: u32,
     p: u32,
-    chunks: &mut [u8],
+    chunks: &[u8],
     at: &Progress,
     output: &mut [u8],
     cores: &mut CoreCount,
 ) -> i32
-    ensures finished { HasFinished password.now log_n r p chunks.old at.now output.old output.new result }
-    ensures kept { chunks.new ≡ chunks.old }
+    ensures finished { HasFinished password.now log_n r p chunks.now at.now output.old output.new result }
     ensures counted { result ≡ OK
         → AreHashed (pbkdf2_cost (length password.now) (chunks_bytes r p) (length output.old)) cores.old cores.new }
     ensures uncounted { result ≢ OK → cores.new ≡ cores.old }

@@ -128,24 +128,23 @@ pub fn verify_begin(
 ///
 /// Returns `OK`, or the first of these: the errors of `scrypt_verify_limited` for a hash that cannot
 /// be read; `BUFFER_SIZE` unless the chunks have the length of `scrypt_buffer_lens`; `UNFINISHED`
-/// unless all chunks are mixed; and `MISMATCH`. The chunks are unchanged.
+/// unless all chunks are mixed; and `MISMATCH`.
 #[unsafe(no_mangle)]
 pub extern "C" fn scrypt_verify_finish(
     password: &[u8],
     text: &[u8],
-    chunks: &mut [u8],
+    chunks: &[u8],
     at: &Progress,
 ) -> i32
     ensures unread { OnErr (bytes_reading text.now) (result ≡ result_status (bytes_reading text.now)) }
     ensures buffers { IfOk (bytes_reading text.now)
-        (λ s. (result ≡ BUFFER_SIZE) ↔ (length chunks.old ≢ chunks_bytes s.params.r s.params.p)) }
+        (λ s. (result ≡ BUFFER_SIZE) ↔ (length chunks.now ≢ chunks_bytes s.params.r s.params.p)) }
     ensures unfinished { IfOk (bytes_reading text.now) (λ s. (result ≡ UNFINISHED)
-        ↔ ((length chunks.old ≡ chunks_bytes s.params.r s.params.p) × (at.now.chunks ≢ s.params.p))) }
+        ↔ ((length chunks.now ≡ chunks_bytes s.params.r s.params.p) × (at.now.chunks ≢ s.params.p))) }
     ensures verdict { result ≢ BUFFER_SIZE → result ≢ UNFINISHED → (table scratch : List ℕ)
         → IfOk (bytes_reading text.now) (λ s. IsUnderWay password.now s.salt
-        (params_of s.params.log_n s.params.r s.params.p) at.now chunks.old table scratch)
+        (params_of s.params.log_n s.params.r s.params.p) at.now chunks.now table scratch)
         → result ≡ result_status (verdict password.now (bytes_reading text.now)) }
-    ensures kept { chunks.new ≡ chunks.old }
 {
     let cores = &mut CoreCount::new();
     verify_finish(password, text, chunks, at, cores)
@@ -155,20 +154,19 @@ pub extern "C" fn scrypt_verify_finish(
 pub fn verify_finish(
     password: &[u8],
     text: &[u8],
-    chunks: &mut [u8],
+    chunks: &[u8],
     at: &Progress,
     cores: &mut CoreCount,
 ) -> i32
     ensures unread { OnErr (bytes_reading text.now) (result ≡ result_status (bytes_reading text.now)) }
     ensures buffers { IfOk (bytes_reading text.now)
-        (λ s. (result ≡ BUFFER_SIZE) ↔ (length chunks.old ≢ chunks_bytes s.params.r s.params.p)) }
+        (λ s. (result ≡ BUFFER_SIZE) ↔ (length chunks.now ≢ chunks_bytes s.params.r s.params.p)) }
     ensures unfinished { IfOk (bytes_reading text.now) (λ s. (result ≡ UNFINISHED)
-        ↔ ((length chunks.old ≡ chunks_bytes s.params.r s.params.p) × (at.now.chunks ≢ s.params.p))) }
+        ↔ ((length chunks.now ≡ chunks_bytes s.params.r s.params.p) × (at.now.chunks ≢ s.params.p))) }
     ensures verdict { result ≢ BUFFER_SIZE → result ≢ UNFINISHED → (table scratch : List ℕ)
         → IfOk (bytes_reading text.now) (λ s. IsUnderWay password.now s.salt
-        (params_of s.params.log_n s.params.r s.params.p) at.now chunks.old table scratch)
+        (params_of s.params.log_n s.params.r s.params.p) at.now chunks.now table scratch)
         → result ≡ result_status (verdict password.now (bytes_reading text.now)) }
-    ensures kept { chunks.new ≡ chunks.old }
     ensures counted { result ≢ BUFFER_SIZE → result ≢ UNFINISHED → IfOk (bytes_reading text.now) (λ s. AreHashed
         (pbkdf2_cost (length password.now) (chunks_bytes s.params.r s.params.p) (length s.key)) cores.old cores.new) }
     ensures unread_uncounted { OnErr (bytes_reading text.now) (cores.new ≡ cores.old) }

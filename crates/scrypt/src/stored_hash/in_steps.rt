@@ -34,23 +34,22 @@ impl<'a> StoredHash<'a> {
         &self,
         password: &[u8],
         at: Progress,
-        chunks: &mut [u8],
+        chunks: &[u8],
         cores: &mut CoreCount,
     ) -> Result<()>
         requires ended { IfOk (reading self.now) (λ s. at.chunks ≡ s.params.p) }
-        requires chunks { IfOk (reading self.now) (λ s. chunks_bytes s.params.r s.params.p ≤ length chunks.old) }
+        requires chunks { IfOk (reading self.now) (λ s. chunks_bytes s.params.r s.params.p ≤ length chunks.now) }
         ensures verdict { (table : List ℕ) → (scratch : List ℕ)
             → IfOk (reading self.now)
             (λ s. IsUnderWay password.now s.salt s.params at chunks.old table scratch)
             → with_refusal result ≡ verdict password.now (reading self.now) }
         ensures counted { IfOk (reading self.now) (λ s. AreHashed (pbkdf2_cost (length password.now)
             (chunks_bytes s.params.r s.params.p) (length s.key)) cores.old cores.new) }
-        ensures kept { chunks.new ≡ chunks.old }
         ensures uncounted { OnErr (reading self.now) (cores.new ≡ cores.old) }
     {
         match self.parts() {
             Ok(parts) => {
-                let (mixed, _) = chunks.split_at_mut(index(BufferLens::of(&parts.params).chunks));
+                let (mixed, _) = chunks.split_at(index(BufferLens::of(&parts.params).chunks));
                 accept_if(is_derived_key(password, mixed, parts, cores))
             }
             Err(refused) => Err(refused),
