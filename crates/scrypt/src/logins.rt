@@ -242,7 +242,6 @@ fn shared_params(logins: &[Login<'_, '_>]) -> Option<(Params, u32)>
 {
     let (first, rest) = logins.split_first()?;
     let params = first.params()?;
-    params.expose_invariant();
     let count = params.p().checked_add(count_of(&params, rest)?)?;
     Some((params, count))
 }

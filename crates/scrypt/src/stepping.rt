@@ -283,7 +283,6 @@ fn mix_more<W: Backend>(
     ensures counted { AreCountedAs true (min count (all_mixes params.now.log_n - done) * (n * (2 * params.now.r)))
         cores.old cores.new }
 {
-    params.expose_invariant();
     let r = params.r() as usize;
     let log_n = params.log_n();
     // A backend's results are constants, so that the compiler leaves out the groups that it never
@@ -369,7 +368,6 @@ fn write_first_rows(
         drop used table.new ≡ drop used table.old }
     ensures scratch_rest { drop (n * scratch_words params.now.r) scratch.new ≡ drop (n * scratch_words params.now.r) scratch.old }
 {
-    params.expose_invariant();
     let r = params.r() as usize;
     let at = i * (128 * r);
     begin_chunks::<Diagonal<u32x4>>(n, &chunks[at..at + n * (128 * r)], r, table, scratch);
@@ -386,7 +384,6 @@ fn end_group(params: &Params, i: usize, n: usize, chunks: &mut [u8], scratch: &m
         params.now.log_n params.now.r (i + n) chunks.new }
     ensures scratch_rest { drop (n * scratch_words params.now.r) scratch.new ≡ drop (n * scratch_words params.now.r) scratch.old }
 {
-    params.expose_invariant();
     let r = params.r() as usize;
     let at = i * (128 * r);
     end_chunks::<Diagonal<u32x4>>(n, &mut chunks[at..at + n * (128 * r)], r, scratch);

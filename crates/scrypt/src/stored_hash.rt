@@ -159,10 +159,7 @@ impl<'a> StoredHash<'a> {
         ensures hashed { IfOk (reading self.now) (λ s. (¬ IsErrOf result OutOfMemory)
             → AreCompressed (verify_cost password.now s) cores.old cores.new) }
     {
-        match self.parts() {
-            Ok(parts) => verify_allocating::<W>(alloc, password, parts, cores),
-            Err(refused) => Err(refused),
-        }
+        verify_allocating::<W>(alloc, password, self.parts()?, cores)
     }
 
     /// Returns whether `log_n`, `r`, `p` or the length of the key is below the parameters
@@ -174,10 +171,8 @@ impl<'a> StoredHash<'a> {
     pub fn needs_rehash(&self, wanted: &Params) -> Result<bool>
         ensures weaker { with_refusal result ≡ weaker wanted.now (reading self.now) }
     {
-        match self.parts() {
-            Ok(parts) => Ok(parts.params.is_below(wanted, parts.key_len)),
-            Err(error) => Err(error),
-        }
+        let parts = self.parts()?;
+        Ok(parts.params.is_below(wanted, parts.key_len))
     }
 
     /// Verifies `password` as [`StoredHash::verify`] does, in the caller's buffers. Does not
@@ -211,10 +206,7 @@ impl<'a> StoredHash<'a> {
         ensures hashed { AreCompressed (hashed_in (workspace_of chunks.old table.old scratch.old)
             password.now (reading self.now)) cores.old cores.new }
     {
-        match self.parts() {
-            Ok(parts) => verify_in_buffers::<W>(password, parts, chunks, table, scratch, cores),
-            Err(unread) => Err(unread),
-        }
+        verify_in_buffers::<W>(password, self.parts()?, chunks, table, scratch, cores)
     }
 
     /// Returns the result of [`StoredHash::params`], and the length of the key in bytes, or 0 if the

@@ -105,7 +105,6 @@ pub(crate) fn verify_in_buffers<W: Backend>(
         password.now (Ok (stored parts.now))) cores.old cores.new }
 {
     let params = &parts.params;
-    params.expose_invariant();
     let test = |used: &mut ActiveBuffers<'_, Buffer<'_>>, _: &mut [()]| {
         is_key_of::<Buffer<'_>, W>(password, parts, used)
     };

@@ -30,7 +30,6 @@ fn width_in(
         (λ w. IsWidth params.now.log_n params.now.r count w chunks.now table.now scratch.now) }
 {
     let width = interleaved_chunks(params, count as usize, table.len(), scratch.len());
-    params.expose_invariant();
     let chunk_len = 128 * u128::from(params.r());
     if width == 0 || u128::from(count) * chunk_len > chunks.len() as u128 {
         return None;
@@ -114,7 +113,6 @@ pub(crate) fn with_prefix<V, T, F: FnOnce(&mut ActiveBuffers<'_, Buffer<'_>>, &m
         × (workspace_of chunks.new table.new scratch.new ≡ workspace_of chunks.old table.old scratch.old) }
 {
     let width = width_in(params, count, chunks, table, scratch)?;
-    params.expose_invariant();
     let lens = BufferLens::for_tables(params, width);
     let (chunks, _) = chunks.split_at_mut(count as usize * (128 * params.r() as usize));
     let (table, _) = table.split_at_mut(index(lens.table));

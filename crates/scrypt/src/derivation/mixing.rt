@@ -133,7 +133,6 @@ fn mix_group<O: OrderedBlocks, M: TableMemory>(
         * thin_ro_mix_cost (words_of (part (128 * params.now.r) used.old.chunks.now i))
         params.now.log_n s params.now.r) used.old.cores.now used.new.cores.now }
 {
-    params.expose_invariant();
     let r = params.r() as usize;
     let at = i * (128 * r);
     let len = n * (128 * r);

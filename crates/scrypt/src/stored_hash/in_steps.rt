@@ -21,10 +21,7 @@ impl<'a> StoredHash<'a> {
     pub fn salt(&self) -> Result<&[u8]>
         ensures value { mapped (λ salt. salt.now) (with_refusal result) ≡ mapped (λ s. s.salt) (reading self.now) }
     {
-        match self.parts() {
-            Ok(parts) => Ok(parts.salt.as_bytes()),
-            Err(error) => Err(error),
-        }
+        Ok(self.parts()?.salt.as_bytes())
     }
 
     /// Finishes a verification in steps, which [`begin`](crate::steps::begin) began with
@@ -41,7 +38,7 @@ impl<'a> StoredHash<'a> {
         requires chunks { IfOk (reading self.now) (λ s. chunks_bytes s.params.r s.params.p ≤ length chunks.now) }
         ensures verdict { (table : List ℕ) → (scratch : List ℕ)
             → IfOk (reading self.now)
-            (λ s. IsUnderWay password.now s.salt s.params at chunks.old table scratch)
+            (λ s. IsUnderWay password.now s.salt s.params at chunks.now table scratch)
             → with_refusal result ≡ verdict password.now (reading self.now) }
         ensures counted { IfOk (reading self.now) (λ s. AreHashed (pbkdf2_cost (length password.now)
             (chunks_bytes s.params.r s.params.p) (length s.key)) cores.old cores.new) }
