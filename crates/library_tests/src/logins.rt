@@ -1,7 +1,9 @@
 // Batches of logins.
 
 use crate::holds;
-use scrypt::{BufferLens, Buffers, Decoy, LimitedError, Login, LoginHash, Params, StoredHash};
+use scrypt::{
+    BufferLens, Buffers, CoreCount, Decoy, LimitedError, Login, LoginHash, Params, StoredHash,
+};
 use std::alloc::{AllocError, Global};
 use std::test::Fail;
 
@@ -69,7 +71,7 @@ fn many_logins(rt: HostRuntime) -> Result<(), Fail> {
     for &(first, others, is_first, is_last, reason) in &LOGINS {
         let logins = logins_of(alloc, first, others, &params)?;
         let mut verdicts = vec![in alloc; Ok(()); logins.len()]?;
-        own.verify_logins(&logins, &mut verdicts);
+        own.verify_logins(&logins, &mut verdicts, &mut CoreCount::new());
         let wanted = (is_first, is_last);
         holds(
             (is_verified(verdicts.first()), is_verified(verdicts.last())) == wanted,

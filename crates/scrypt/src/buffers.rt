@@ -1,18 +1,18 @@
 // Buffers that a caller reuses from call to call. Their lengths are in `lens`, and `memory` has the
 // part of them that a derivation uses.
 
-ghost use Rattle.std.specs.Prelude.{◌≡◌, ◌⊎◌, ◌↔◌, ◌*◌, ◌/◌, ◌<◌, ◌≤◌, ℕ, All, length, map, min, replicate, IfOk, IsErrOf, IsOk, IsTrue, OnErr, OnOk};
+ghost use Rattle.std.specs.Prelude.{◌≡◌, ◌⊎◌, ◌↔◌, ◌*◌, ◌/◌, ◌<◌, ◌≤◌, ℕ, All, length, map, min, replicate, sum_by, IfOk, IsErrOf, IsOk, IsTrue, OnErr, OnOk};
 ghost use Rattle.scrypt.specs.Accepted.{is_output_len};
 ghost use Rattle.scrypt.specs.Buffers.{AreFor, KeepLens, workspace_in};
-ghost use Rattle.scrypt.specs.Cost.{chunks_bytes, scratch_words, table_words};
+ghost use Rattle.scrypt.specs.Cost.{AreCompressed, AreCounted, chunks_bytes, scratch_words, table_words};
 ghost use Rattle.scrypt.specs.KeyOfParams.{cost_by, key_by};
 ghost use Rattle.scrypt.specs.Limits.{SufficeFor, tables_bytes, tables_within};
-ghost use Rattle.scrypt.specs.Logins.{attempts, reading_of, verdict_on};
+ghost use Rattle.scrypt.specs.Logins.{AreLeft, attempts, cores_on, hashed_on, reading_of, verdict_on};
 ghost use Rattle.scrypt.specs.Reading.{verdict, with_refusal};
 ghost use Rattle.scrypt.specs.Stepping.{IsStopped, WentOn, max_step};
 ghost use Rattle.scrypt.specs.StoredHash.{reading};
 ghost use Rattle.scrypt.specs.WithinLimits.{with_limited_refusal, within};
-ghost use Rattle.scrypt.specs.Workspace.{verdict_in};
+ghost use Rattle.scrypt.specs.Workspace.{IsLeft, IsRestKept, cores_in, hashed_in, verdict_in};
 ghost use Rattle.scrypt.specs.declared.limits.Limits.{Limits};
 ghost use Rattle.scrypt.specs.declared.stepping.StepsError.TheVariants.{Cancelled, InvalidOutputLen as BadLength};
 
@@ -136,24 +136,32 @@ impl Buffers {
         )
     }
 
-    /// Verifies `password`, as [`StoredHash::verify_with_buffers`] does.
+    /// Verifies `password`, and counts the work, as [`StoredHash::verify_with_buffers`] does.
     ///
     /// Returns the errors of [`StoredHash::verify`] in the same order, and `OutOfMemory` exactly if
     /// the hash can be read and a buffer is too short for it. So it never returns `OutOfMemory` for
     /// a hash within limits, in the buffers of [`Buffers::for_limits`].
-    pub fn verify(&mut self, hash: &StoredHash<'_>, password: &[u8]) -> password_hash::Result<()>
+    pub fn verify(
+        &mut self,
+        hash: &StoredHash<'_>,
+        password: &[u8],
+        cores: &mut CoreCount,
+    ) -> password_hash::Result<()>
         ensures verdict { with_refusal result ≡ verdict_in (workspace_in self.old) password.now (reading hash.now) }
         ensures within { (limits : Limits)
             → SufficeFor limits self.old.chunks.items self.old.table.items self.old.scratch.items
             → IsOk (within limits (reading hash.now))
             → with_refusal result ≡ verdict password.now (reading hash.now) }
+        ensures left { IsLeft (reading hash.now) (workspace_in self.old) (workspace_in self.new) }
+        ensures counted { AreCounted (cores_in (workspace_in self.old) (reading hash.now)) cores.old cores.new }
+        ensures hashed { AreCompressed (hashed_in (workspace_in self.old) password.now (reading hash.now))
+            cores.old cores.new }
         ensures lens { KeepLens self.old self.new }
     {
         match hash.parts() {
             Ok(parts) => {
                 parts.params.expose_invariant();
                 let chunks = &mut self.chunks;
-                let cores = &mut CoreCount::new();
                 let (table, scratch) = (&mut self.table, &mut self.scratch);
                 verify_in_buffers::<Simd>(password, parts, chunks, table, scratch, cores)
             }
@@ -161,7 +169,7 @@ impl Buffers {
         }
     }
 
-    /// Verifies each password, in one batch if possible, as
+    /// Verifies each password, in one batch if possible, and counts the work, as
     /// [`verify_logins`](crate::verify_logins) does: `verdicts` has the length of `logins`, and gets
     /// the verdict of each login at the same index. No verdict is `OutOfMemory` if each hash is
     /// within limits, in the buffers of [`Buffers::for_limits`].
@@ -169,6 +177,7 @@ impl Buffers {
         &mut self,
         logins: &[Login<'_, '_>],
         verdicts: &mut [Result<(), LimitedError>],
+        cores: &mut CoreCount,
     )
         requires len { length verdicts.old ≡ length logins.now }
         ensures verdicts { map with_limited_refusal verdicts.new
@@ -177,10 +186,12 @@ impl Buffers {
             → SufficeFor limits self.old.chunks.items self.old.table.items self.old.scratch.items
             → All (λ login. within limits (reading_of login) ≡ reading_of login) logins.now
             → map with_limited_refusal verdicts.new ≡ map (λ a. verdict a.0 a.1) (attempts logins.now) }
+        ensures left { AreLeft (attempts logins.now) (workspace_in self.old) (workspace_in self.new) }
+        ensures counted { AreCounted (sum_by (cores_on (workspace_in self.old)) (attempts logins.now)) cores.old cores.new }
+        ensures hashed { AreCompressed (sum_by (hashed_on (workspace_in self.old)) (attempts logins.now)) cores.old cores.new }
         ensures lens { KeepLens self.old self.new }
     {
         let (chunks, table, scratch) = (&mut self.chunks, &mut self.table, &mut self.scratch);
-        let cores = &mut CoreCount::new();
         verify_logins::<Simd>(logins, verdicts, chunks, table, scratch, cores);
     }
 }

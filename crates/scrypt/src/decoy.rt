@@ -3,7 +3,7 @@
 ghost use Rattle.std.specs.Prelude.{◌≡◌, ◌⊎◌, length, Err, IsErrOf, Ok};
 ghost use Rattle.password_hash.specs.Refusal.{OutOfMemory as NoMemory, PasswordInvalid as WrongPassword};
 ghost use Rattle.password_hash.specs.declared.error.Error.TheVariants.{OutOfMemory, PasswordInvalid};
-ghost use Rattle.scrypt.specs.Cost.{AreCounted, hash_cost};
+ghost use Rattle.scrypt.specs.Cost.{AreCompressed, AreCounted, hash_cost};
 ghost use Rattle.scrypt.specs.Decoy.{decoy_reading};
 ghost use Rattle.scrypt.specs.Hashing.{key_len_or_default};
 ghost use Rattle.scrypt.specs.KeyOfParams.{cost_by};
@@ -12,7 +12,7 @@ ghost use Rattle.scrypt.specs.StoredParts.{stored};
 
 use crate::stored_parts::{Key, Salt, StoredParts};
 use crate::verifying::verify_allocating;
-use crate::{Backend, CoreCount, Params, Simd};
+use crate::{Backend, CoreCount, Params};
 use password_hash::Result;
 use std::alloc::Global;
 use std::marker::Model;
@@ -75,21 +75,13 @@ impl<'a> Decoy<'a> {
         }
     }
 
-    /// Verifies `password` as [`StoredHash::verify`](crate::StoredHash::verify) does, and rejects
-    /// it.
+    /// Verifies `password` as [`StoredHash::verify_counted`](crate::StoredHash::verify_counted) does,
+    /// by the backend `W`, and rejects it. `cores` counts the `4 * N * r * p` cores of `params`, and
+    /// the blocks that SHA-256 compresses: the same numbers as for a stored hash.
     ///
-    /// Returns `PasswordInvalid`, or `OutOfMemory` if an allocation fails.
-    pub fn verify(&self, alloc: Global, password: &[u8]) -> Result<()>
-        ensures refused { (with_refusal result ≡ Err WrongPassword) ⊎ (with_refusal result ≡ Err NoMemory) }
-    {
-        self.verify_counted::<Simd>(alloc, password, &mut CoreCount::new())
-    }
-
-    /// Verifies as [`Decoy::verify`] does, by the backend `W`, and counts the `4 * N * r * p` cores
-    /// of `params`, and the blocks that SHA-256 compresses: the same numbers as for a stored hash.
-    ///
-    /// If an allocation fails, the count is unchanged.
-    pub fn verify_counted<W: Backend>(
+    /// Returns `PasswordInvalid`, or `OutOfMemory` if an allocation fails, and then the count is
+    /// unchanged.
+    pub fn verify<W: Backend>(
         &self,
         alloc: Global,
         password: &[u8],
@@ -97,9 +89,9 @@ impl<'a> Decoy<'a> {
     ) -> Result<()>
         ensures refused { (with_refusal result ≡ Err WrongPassword) ⊎ (with_refusal result ≡ Err NoMemory) }
         ensures memory { IsErrOf result OutOfMemory → cores.new ≡ cores.old }
-        ensures counted { IsErrOf result PasswordInvalid → AreCounted (cost_by self.now.0)
-            (hash_cost (length password.now) (length self.now.1) self.now.0.r self.now.0.p
-            (key_len_or_default self.now.0)) cores.old cores.new }
+        ensures counted { IsErrOf result PasswordInvalid → AreCounted (cost_by self.now.0) cores.old cores.new }
+        ensures hashed { IsErrOf result PasswordInvalid → AreCompressed (hash_cost (length password.now)
+            (length self.now.1) self.now.0.r self.now.0.p (key_len_or_default self.now.0)) cores.old cores.new }
     {
         self.params.expose_invariant();
         verify_allocating::<W>(alloc, password, &self.parts, cores)

@@ -54,7 +54,7 @@ impl BoundedLogins {
     {
         let hash = StoredHash::read(stored)?;
         let verified = match hash.within(&self.limits) {
-            Ok(hash) => self.own.verify(hash, password),
+            Ok(hash) => self.own.verify(hash, password, &mut CoreCount::new()),
             Err(LimitedError::Hash(error)) => Err(error),
             Err(error) => return Err(error),
         };
@@ -85,7 +85,8 @@ impl BoundedLogins {
             login_within(second.0, second.1, &self.limits),
         ];
         let mut verdicts = [Ok(()), Ok(())];
-        self.own.verify_logins(&logins, &mut verdicts);
+        self.own
+            .verify_logins(&logins, &mut verdicts, &mut CoreCount::new());
         verdicts
     }
 }

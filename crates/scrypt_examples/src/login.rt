@@ -122,7 +122,7 @@ impl LoginPolicy {
             self.now.wanted.r self.now.wanted.p (key_len_or_default self.now.wanted)) cores.old cores.new) }
         ensures err { IfErr result (λ e. e ≡ OutOfMemory) }
     {
-        match Decoy::new(&self.wanted).verify_counted::<Simd>(alloc, password, cores) {
+        match Decoy::new(&self.wanted).verify::<Simd>(alloc, password, cores) {
             Err(Error::PasswordInvalid) => Ok(LoginOutcome::Refused),
             _ => Err(Error::OutOfMemory),
         }

@@ -1,6 +1,6 @@
 use Rattle.scrypt.specs.StoredParts.{stored}
 use Rattle.scrypt.proofs.DecoyFacts.{rejects}
-use Rattle.scrypt.proofs.decoy.Decoy.verify_counted.Goals as goal
+use Rattle.scrypt.proofs.decoy.Decoy.verify.Goals as goal
 
 pub returns-clause-refused : goal.returns-clause-refused
 returns-clause-refused g c =
