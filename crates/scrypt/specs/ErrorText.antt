@@ -2,6 +2,8 @@
 use Rattle.std.specs.Prelude.{ℕ, List, codes, Option, None, Some}
 use Rattle.scrypt.specs.declared.errors.DeriveError.{DeriveError}
 use Rattle.scrypt.specs.declared.errors.DeriveError.TheVariants.{InvalidOutputLen, OutOfMemory}
+use Rattle.scrypt.specs.declared.errors.StepsError.{StepsError}
+use Rattle.scrypt.specs.declared.errors.StepsError.TheVariants as steps
 use Rattle.scrypt.specs.declared.errors.LimitedError.{LimitedError}
 use Rattle.scrypt.specs.declared.errors.LimitedError.TheVariants.{Hash, KeyTooShort, TooCostly}
 
@@ -9,6 +11,11 @@ use Rattle.scrypt.specs.declared.errors.LimitedError.TheVariants.{Hash, KeyTooSh
 abbrev pub derive_error_text : DeriveError → List ℕ
 derive_error_text InvalidOutputLen = codes "invalid output buffer length"
 derive_error_text OutOfMemory = codes "out of memory"
+
+-- the message of an error from a derivation in steps
+abbrev pub steps_error_text : StepsError → List ℕ
+steps_error_text (steps.InvalidOutputLen) = codes "invalid output buffer length"
+steps_error_text (steps.Cancelled) = codes "the derivation was cancelled"
 
 -- the message of an error from verifying within limits; the message of an error of verifying is not
 -- specified

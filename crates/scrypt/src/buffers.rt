@@ -14,7 +14,7 @@ ghost use Rattle.scrypt.specs.StoredHash.{reading};
 ghost use Rattle.scrypt.specs.WithinLimits.{with_limited_refusal, within};
 ghost use Rattle.scrypt.specs.Workspace.{IsLeft, IsRestKept, cores_in, hashed_in, verdict_in};
 ghost use Rattle.scrypt.specs.declared.limits.Limits.{Limits};
-ghost use Rattle.scrypt.specs.declared.stepping.StepsError.TheVariants.{Cancelled, InvalidOutputLen as BadLength};
+ghost use Rattle.scrypt.specs.declared.errors.StepsError.TheVariants.{Cancelled, InvalidOutputLen as BadLength};
 
 pub(crate) mod lens;
 pub(crate) mod memory;

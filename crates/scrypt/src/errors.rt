@@ -1,10 +1,11 @@
 //! The errors of a derivation, of its parameters and of verifying within limits.
 
 ghost use Rattle.std.specs.Prelude.{◌≡◌, Some, codes};
-ghost use Rattle.scrypt.specs.ErrorText.{derive_error_text, limited_error_text};
+ghost use Rattle.scrypt.specs.ErrorText.{derive_error_text, limited_error_text, steps_error_text};
 ghost use Rattle.password_hash.specs.declared.kdf.Error.TheVariants.{Refused};
 ghost use Rattle.scrypt.specs.declared.errors.LimitedError.TheVariants.{Hash};
 ghost use Rattle.scrypt.specs.declared.errors.DeriveError.TheVariants.{InvalidOutputLen as BadLength, OutOfMemory};
+ghost use Rattle.scrypt.specs.declared.errors.StepsError.TheVariants.{InvalidOutputLen as BadStepsLength};
 
 use password_hash::kdf;
 use std::alloc::AllocError;
@@ -82,6 +83,36 @@ impl From<InvalidOutputLen> for kdf::Error {
 
     fn from(_error: InvalidOutputLen) -> kdf::Error {
         kdf::Error::Refused
+    }
+}
+
+/// An error from a derivation in steps.
+#[derive(Clone, Copy, Debug, PartialEq, Eq)]
+pub enum StepsError {
+    /// The output is empty, or has more than 137438953440 bytes.
+    InvalidOutputLen,
+    /// The caller's function returned `false`.
+    Cancelled,
+}
+
+impl fmt::Display for StepsError {
+    ghost output = { λ e. Some (steps_error_text e) };
+
+    fn fmt<W: fmt::Write>(&self, f: &mut fmt::Formatter<W>) -> fmt::Result {
+        match self {
+            StepsError::InvalidOutputLen => write!(f, "{InvalidOutputLen}"),
+            StepsError::Cancelled => f.write_str("the derivation was cancelled"),
+        }
+    }
+}
+
+impl Error for StepsError {}
+
+impl From<InvalidOutputLen> for StepsError {
+    ghost from_gives = { λ _ e. e ≡ BadStepsLength };
+
+    fn from(_error: InvalidOutputLen) -> StepsError {
+        StepsError::InvalidOutputLen
     }
 }
 

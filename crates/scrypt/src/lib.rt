@@ -37,7 +37,7 @@ pub use derivation::{
     output_len_ok, scrypt, scrypt_counted, scrypt_in_prefix, scrypt_thin, scrypt_thin_with_backend,
     scrypt_with_buffers, scrypt_with_max_mem,
 };
-pub use errors::{DeriveError, InvalidOutputLen, InvalidParams, LimitedError};
+pub use errors::{DeriveError, InvalidOutputLen, InvalidParams, LimitedError, StepsError};
 pub use limits::Limits;
 pub use logins::{Login, LoginHash, verify_logins};
 pub use params::Params;
@@ -46,6 +46,6 @@ pub use password_hash::kdf;
 pub use password_hash::kdf::{Kdf, Pbkdf};
 pub use scrypt_kernel::{CoreCount, block_mix, hmac, pbkdf2, romix, salsa};
 pub use size::Size;
-pub use stepping::{Progress, StepsError, cores_done, scrypt_in_steps};
+pub use stepping::{Progress, cores_done, scrypt_in_steps};
 pub use stored_hash::StoredHash;
 pub use texts::hash_text;

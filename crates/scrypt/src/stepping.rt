@@ -10,14 +10,14 @@ ghost use Rattle.scrypt.specs.Key.{derived_key};
 ghost use Rattle.scrypt.specs.KeyOfParams.{IsDerived, cost_by};
 ghost use Rattle.scrypt.specs.Mixing.{group_by};
 ghost use Rattle.scrypt.specs.Stepping.{AreMixable, AreMixed, CanGoOn, IsStopped, IsUnderWay, IsWithin, WentOn, first_b, lacking, max_step, mixes_done, words_from};
-ghost use Rattle.scrypt.specs.Workspace.{interleaved_chunks, workspace_of};
-ghost use Rattle.scrypt.specs.declared.stepping.StepsError.TheVariants.{Cancelled, InvalidOutputLen as BadLength};
+ghost use Rattle.scrypt.specs.Workspace.{IsRestKept, interleaved_chunks, workspace_of};
+ghost use Rattle.scrypt.specs.declared.errors.StepsError.TheVariants.{Cancelled, InvalidOutputLen as BadLength};
 
 use crate::buffers::lens::interleaved_chunks;
 use crate::derivation::mixing::group_by;
 use crate::derivation::{derive_chunks, output_len_ok};
 use crate::size::{Size, index};
-use crate::{Backend, BufferLens, CoreCount, InvalidOutputLen, Params};
+use crate::{Backend, BufferLens, CoreCount, InvalidOutputLen, Params, StepsError};
 use scrypt_kernel::order::diagonal::{Both, Diagonal, Scalars};
 use scrypt_kernel::pbkdf2::pbkdf2_counted;
 use scrypt_kernel::steps::{begin_chunks, end_chunks, step_chunks};
@@ -35,15 +35,6 @@ pub struct Progress {
     pub interleaved: usize,
     /// The number of block mixes that are done for each chunk of this group.
     pub mixes: usize,
-}
-
-/// An error from a derivation in steps.
-#[derive(Clone, Copy, Debug, PartialEq, Eq)]
-pub enum StepsError {
-    /// The output is empty, or has more than 137438953440 bytes.
-    InvalidOutputLen,
-    /// The caller's function returned `false`.
-    Cancelled,
 }
 
 /// Begins a derivation in steps: step 1 (RFC 7914, section 6). No core is run yet.
