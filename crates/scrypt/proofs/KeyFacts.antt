@@ -25,7 +25,7 @@ made_append f a (suc n) b m next =
     let count : suc n + m ≡ suc (n + m) = omega arith in
     rw count (ap (λ z. f a ++ z) (made_append f (a + 1) n b m (omega arith)) ∙ sym (append_assoc (f a) _ _))
 
-made_alike : (f g : ℕ → List ℕ) (a b n : ℕ) → ((i : ℕ) → i < n → f (a + i) ≡ g (b + i))
+pub made_alike : (f g : ℕ → List ℕ) (a b n : ℕ) → ((i : ℕ) → i < n → f (a + i) ≡ g (b + i))
     → flat_map f (range_with_len a n) ≡ flat_map g (range_with_len b n)
 made_alike f g a b zero same = refl
 made_alike f g a b (suc n) same =

@@ -1,13 +1,14 @@
 //! Laws of the definitions. Each function does nothing at run time: its contract is the law.
 
-ghost use Rattle.std.specs.Prelude.{◌≡◌, ◌≢◌, ◌⊎◌, ◌↔◌, true, false, ℕ, ◌+◌, ◌-◌, ◌*◌, ◌%◌, ◌^◌, ◌<◌, ◌≤◌, List, [], ◌∷◌, ◌++◌, IsTrue, length, map, sum_by, take, Result, Ok, Err, IsOk, IsSome, Some, All};
+ghost use Rattle.std.specs.Prelude.{◌≡◌, ◌≢◌, ◌⊎◌, ◌↔◌, true, false, ℕ, ◌+◌, ◌-◌, ◌*◌, ◌/◌, ◌%◌, ◌^◌, ◌<◌, ◌≤◌, List, [], ◌∷◌, ◌++◌, IsTrue, length, map, sum_by, take, Result, Ok, Err, IsOk, IsSome, Some, All};
+ghost use Rattle.std.specs.List.{flat_map, range_with_len};
 ghost use Rattle.sha2.specs.Sha256.{sha256};
 ghost use Rattle.password_hash.specs.Crypt64.{Crypt64, crypt64_of, encoded_len, letter_value, letters_of};
 ghost use Rattle.password_hash.specs.Mcf.{IsMcfText, fields_of};
 ghost use Rattle.password_hash.specs.Phc.{IsHashText, IsSalt, hash_text};
 ghost use Rattle.password_hash.specs.Refusal.{Refusal, EncodingInvalid, PasswordInvalid};
 ghost use Rattle.password_hash.specs.declared.phc.hash.PasswordHash.{PasswordHash};
-ghost use Rattle.scrypt_kernel.specs.Pbkdf2.{max_output_len};
+ghost use Rattle.scrypt_kernel.specs.Pbkdf2.{max_output_len, pbkdf2, pbkdf2_block};
 ghost use Rattle.scrypt.specs.Accepted.{are_accepted, is_output_len, is_stored_len, Parameters, without_len};
 ghost use Rattle.scrypt_kernel.specs.BlockMix.{block_mix};
 ghost use Rattle.scrypt_kernel.specs.RoMix.{ro_mix};
@@ -16,9 +17,9 @@ ghost use Rattle.scrypt_kernel.specs.Salsa.{salsa20_8};
 ghost use Rattle.scrypt.specs.ChunkOrder.{NamesEachOnce, mixed_in_order};
 ghost use Rattle.scrypt.specs.Decoy.{decoy_reading};
 ghost use Rattle.scrypt.specs.Hashing.{key_len_or_default};
-ghost use Rattle.scrypt.specs.KeyOfParams.{cost_by, key_by};
+ghost use Rattle.scrypt.specs.KeyOfParams.{IsDerived, cost_by, key_by};
 ghost use Rattle.scrypt_kernel.specs.Diagonal.{AreInverse, IsBlockMixBy, diagonal_core, diagonal_order, inverse_pivot, pivot, standard_order};
-ghost use Rattle.scrypt.specs.Key.{derived_key, mixed_chunks};
+ghost use Rattle.scrypt.specs.Key.{derived_key, mixed_b, mixed_chunks};
 ghost use Rattle.scrypt.specs.Cost.{chunks_bytes, cost, extra_rows, hash_cost, lengths_cost, scratch_words, table_words, thin_cost};
 ghost use Rattle.scrypt.specs.InBuffers.{are_enough};
 ghost use Rattle.scrypt.specs.Limits.{SufficeFor, are_within, buffers_bytes, limits_for_new, work};
@@ -30,11 +31,14 @@ ghost use Rattle.scrypt.specs.PhcParams.{params_of_pairs, written_pairs};
 ghost use Rattle.scrypt.specs.PhcHash.{is_salt_len, made_phc, phc_params, read_phc};
 ghost use Rattle.scrypt.specs.PublicPart.{AreSameAfter, public_hash, public_part};
 ghost use Rattle.scrypt.specs.Reading.{IsOfText, IsReadAsMade, NamesNoPassword, Stored, verdict, verify_cost};
+ghost use Rattle.scrypt.specs.Stepping.{IsUnderWay};
 ghost use Rattle.scrypt.specs.StoredHash.{is_mcf_text, is_stored_text, params_reading, reading};
 ghost use Rattle.scrypt.specs.WithinLimits.{within};
 ghost use Rattle.scrypt.specs.Workspace.{IsLeft, Workspace, hashed_in, tables_used};
 ghost use Rattle.scrypt.specs.declared.buffers.Buffers.{Buffers};
 ghost use Rattle.scrypt.specs.declared.limits.Limits.{Limits};
+ghost use Rattle.scrypt.specs.declared.stepping.Progress.{Progress};
+ghost use Rattle.scrypt_kernel.specs.declared.cores.count.CoreCount.{CoreCount};
 
 /// A shorter key is the beginning of a longer one, for any two lengths.
 #[tactic(auto, using(crate::proofs::KeyFacts::key_prefix))]
@@ -58,6 +62,32 @@ pub fn zero_byte_and_digest_passwords_collide()
 #[tactic(auto, using(scrypt_kernel::proofs::RoMixLoopFacts::same_ro_mix))]
 pub fn ro_mix_is_its_loops()
     ensures same { (b : List ℕ) (log_n : ℕ) → ro_mix_by_loops b log_n ≡ ro_mix b log_n }
+{}
+
+/// PBKDF2 is the first `n` bytes of `T_1 || T_2 || ..`, of as many of these blocks of 32 bytes as
+/// are needed (RFC 8018, section 5.2).
+pub fn pbkdf2_is_its_blocks()
+    ensures same { (password salt : List ℕ) (n : ℕ) → pbkdf2 password salt n
+        ≡ take n (flat_map (pbkdf2_block password salt) (range_with_len 1 ((n + 31) / 32))) }
+{}
+
+/// The key is the same in one call, with one chunk at a time or several interleaved, with a smaller
+/// table, and in steps, whatever the buffers held: `calls` is for what each of these calls ensures,
+/// and the others are for a derivation of one step after another. At the same progress its chunks
+/// are the same, and once all are mixed, they are B after step 2, whose PBKDF2 is the key.
+pub fn derivations_agree()
+    ensures calls { (c : Parameters) (password salt : List ℕ) (n m : ℕ) (old other made again : List ℕ) (a b d e : CoreCount)
+        → length old ≡ length other → IsDerived c password salt n old made a b
+        → IsDerived c password salt m other again d e → made ≡ again }
+    ensures steps { (c : Parameters) (password salt : List ℕ) (at to : Progress)
+        (chunks table scratch others tables scratches : List ℕ) → at.chunks ≡ to.chunks
+        → IsUnderWay password salt c at chunks table scratch → IsUnderWay password salt c to others tables scratches
+        → take (chunks_bytes c.r c.p) chunks ≡ take (chunks_bytes c.r c.p) others }
+    ensures mixed { (c : Parameters) (password salt : List ℕ) (at : Progress) (chunks table scratch : List ℕ)
+        → at.chunks ≡ c.p → chunks_bytes c.r c.p ≤ length chunks → IsUnderWay password salt c at chunks table scratch
+        → take (chunks_bytes c.r c.p) chunks ≡ mixed_b password salt c.log_n c.r c.p }
+    ensures finished { (c : Parameters) (password salt : List ℕ) (n : ℕ)
+        → pbkdf2 password (mixed_b password salt c.log_n c.r c.p) n ≡ key_by c password salt n }
 {}
 
 /// The chunks may be mixed one after another in any order that names each of them once.
@@ -308,6 +338,15 @@ pub fn buffers_for_limits_are_enough()
     ensures hash { (limits : Limits) (text : List ℕ) (s : Stored) (own : Buffers)
         → SufficeFor limits own.chunks.items own.table.items own.scratch.items → reading text ≡ Ok s
         → IsOk (within limits (reading text)) → AreFor s.params own }
+{}
+
+/// Limits change no hash: what is within them is the reading itself, and an error of reading stays.
+pub fn within_changes_nothing()
+    ensures same { (limits : Limits) (read : Result Stored Refusal) → IsOk (within limits read)
+        → within limits read ≡ read }
+    ensures allowed { (limits : Limits) (s : Stored) → IsOk (within limits (Ok s))
+        ↔ (IsTrue (are_within limits s.params) × (limits.min_key_len ≤ length s.key)) }
+    ensures unread { (limits : Limits) (why : Refusal) → within limits (Err why) ≡ Err why }
 {}
 
 /// Each computed condition, as the inequalities that it means: the preconditions of calls on

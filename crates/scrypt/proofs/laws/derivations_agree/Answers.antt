@@ -1,0 +1,28 @@
+use Rattle.std.proofs.Common.{ℕ, ◌*◌, ◌++◌, refl, sym, ap, ap₂, ◌∙◌, take, arith}
+use Rattle.std.proofs.lemmas.List.{length-take-le, take-append-drop}
+use Rattle.scrypt.specs.Cost.{chunks_bytes}
+use Rattle.scrypt.specs.Key.{derived_key}
+use Rattle.scrypt.specs.KeyOfParams.{key_by}
+use Rattle.scrypt.specs.Stepping.{first_b}
+use Rattle.scrypt.proofs.SteppingFacts.{all_chunks_mixed}
+use Rattle.scrypt.proofs.laws.derivations_agree.Goals as goal
+
+pub returns-clause-calls : goal.returns-clause-calls
+returns-clause-calls x c password salt n m old other made again a b d e long one two =
+    one.value ∙ ap (key_by c password salt) long ∙ sym two.value
+
+pub returns-clause-steps : goal.returns-clause-steps
+returns-clause-steps x c password salt at to chunks table scratch others tables scratches same one two =
+    let n : ℕ = at.chunks * (128 * c.r) in
+    let y = take (chunks_bytes c.r c.p) chunks in
+    let z = take (chunks_bytes c.r c.p) others in
+    let again = rw (← same) at two.mixed in
+    sym (take-append-drop n y) ∙ ap₂ (λ done rest. done ++ rest) (one.mixed.done ∙ sym again.done) (one.mixed.rest ∙ sym again.rest) ∙ take-append-drop n z
+
+pub returns-clause-mixed : goal.returns-clause-mixed
+returns-clause-mixed x c password salt at chunks table scratch ended room under_way =
+    all_chunks_mixed (first_b password salt c) (take (chunks_bytes c.r c.p) chunks) c.log_n c.r at.chunks c.p ended (length-take-le _ chunks room) under_way.mixed
+
+pub returns-clause-finished : goal.returns-clause-finished
+unfolding derived_key
+returns-clause-finished x c password salt n = refl
