@@ -1,8 +1,10 @@
-use Rattle.std.proofs.Common.{◌≡◌, List, ℕ, [], ◌∷◌, Bool, true, false, Ok, Err, refl, sym, ap, arith, lit<, IfErr, Option, Some, None, Result, codes, is_some, length, ok_or, IsTrue, ◌<◌}
+use Rattle.std.proofs.Common.{◌≡◌, List, ℕ, [], ◌∷◌, Bool, true, false, Ok, Err, refl, sym, ap, arith, inl, inr, lit<, nat_eq, ◌⊎◌, IfErr, Option, Some, None, Result, codes, is_some, length, ok_or, IsTrue, ◌<◌}
 use Rattle.std.specs.Prelude.{IsOk}
-use Rattle.std.proofs.Math.Bool.{or-true}
-use Rattle.std.proofs.lemmas.Bool.{false≢true}
-use Rattle.std.proofs.lemmas.Bool.Decides.{nat_tests}
+use Rattle.std.proofs.lemmas.Bool.{false≢true, or_cases}
+use Rattle.std.proofs.lemmas.Slice.Eq.{bytes_eq-Decides, starts_is}
+use Rattle.std.specs.List.{starts_with}
+use Rattle.std.specs.Str.{bytes_eq}
+use Rattle.std.proofs.lemmas.Bool.Decides.{Decides-eqb}
 use Rattle.password_hash.proofs.McfFacts.{IsMcfText-from_parts}
 use Rattle.password_hash.proofs.PhcReadingFacts.{hash_is_read}
 use Rattle.password_hash.specs.Crypt64.{crypt64_of}
@@ -30,20 +32,11 @@ use Rattle.scrypt.proofs.ReadingFacts.{AreGood, IsFault, enough_within, mapped_r
 -- a text that is `$7`, or begins with `$7$`, is a `$7$` hash
 pub seven_is_mcf : (text : List ℕ) → is_mcf_text text ≡ true → IsMcfText text mcf_id (fields_of text)
 unfolding is_mcf_text fields_of
-seven_is_mcf text seven = IsMcfText-from_parts text mcf_id (fields_of text) (at text seven) (lit< tt, refl)
+seven_is_mcf text seven = IsMcfText-from_parts text mcf_id (fields_of text) (at (or_cases _ _ seven)) (lit< tt, refl)
   where
-    at : (text : List ℕ) → is_mcf_text text ≡ true → parts_of text ≡ [] ∷ mcf_id ∷ fields_of text
-    at [] seven = absurd (false≢true seven)
-    at (a ∷ []) seven = absurd (grind (arith, nat_tests))
-    at (a ∷ b ∷ []) seven =
-        let first : a ≡ 36 = grind (arith, nat_tests) in
-        let second : b ≡ 55 = grind (arith, nat_tests) in
-        rw (first, second) refl
-    at (a ∷ b ∷ c ∷ rest) seven =
-        let first : a ≡ 36 = grind (arith, nat_tests) in
-        let second : b ≡ 55 = grind (arith, nat_tests) in
-        let third : c ≡ 36 = grind (arith, nat_tests) in
-        rw (first, second, third) refl
+    at : (bytes_eq text (codes "$7") ≡ true) ⊎ (starts_with nat_eq text (codes "$7$") ≡ true) → parts_of text ≡ [] ∷ mcf_id ∷ fields_of text
+    at (inl whole) = rw ((bytes_eq-Decides text (codes "$7")).0 whole) refl
+    at (inr begins) = rw ((starts_is Decides-eqb text (codes "$7$") true (sym begins)).0 refl) refl
 
 pub seven_read : (text : List ℕ) → is_mcf_text text ≡ true → read_mcf text ≡ read_fields (fields_of text)
 seven_read text seven = read_seven (seven_is_mcf text seven) refl
@@ -146,7 +139,7 @@ whole_of_text text = at (formatted text)
 pub mcf_is_seven : {text : List ℕ} {fields : List (List ℕ)} → IsMcfText text mcf_id fields → is_mcf_text text ≡ true
 unfolding is_mcf_text
 mcf_is_seven {fields = []} is = rw is.written refl
-mcf_is_seven {fields = field ∷ fields} is = rw is.written (or-true _)
+mcf_is_seven {fields = field ∷ fields} is = rw is.written refl
 
 -- the text of a PHC hash of scrypt is read as a PHC string
 pub scrypt_is_phc : {text : List ℕ} {hash : PasswordHash} → IsHashText text hash → hash.algorithm ≡ codes "scrypt" → is_mcf_text text ≡ false

@@ -1,6 +1,8 @@
 -- Stored hashes of either format, by their texts: the format in which a text is read, and the
 -- result.
-use Rattle.std.specs.Prelude.{ℕ, ◌==◌, ◌&&◌, ◌||◌, Bool, if◌then◌else◌, List, length, slice_index, Option, Some, is_some, ok_or, option_map, unwrap_or, Result}
+use Rattle.std.specs.Prelude.{ℕ, ◌||◌, Bool, if◌then◌else◌, List, codes, length, nat_eq, Option, Some, is_some, ok_or, option_map, unwrap_or, Result}
+use Rattle.std.specs.List.{starts_with}
+use Rattle.std.specs.Str.{bytes_eq}
 use Rattle.password_hash.specs.PhcReading.{read_hash}
 use Rattle.password_hash.specs.Refusal.{Refusal, EncodingInvalid}
 use Rattle.password_hash.specs.declared.phc.hash.PasswordHash.{PasswordHash}
@@ -11,7 +13,7 @@ use Rattle.scrypt.specs.Reading.{◌and_then◌, Stored, mapped}
 
 -- the text is `$7` or begins with `$7$`: it is read as a `$7$` hash, and any other as a PHC string
 unfoldable pub is_mcf_text : List ℕ → Bool
-is_mcf_text text = slice_index text 0 == 36 && slice_index text 1 == 55 && (length text == 2 || slice_index text 2 == 36)
+is_mcf_text text = bytes_eq text (codes "$7") || starts_with nat_eq text (codes "$7$")
 
 -- a text in its format: a `$7$` hash, or the hash that a PHC string encodes
 pub data Formatted : Type 0 where
