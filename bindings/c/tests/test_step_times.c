@@ -42,7 +42,7 @@ int cleared_scrypt_key_step(uint8_t log_n, uint32_t r, uint32_t p, size_t count,
 }
 
 int cleared_scrypt_key_finish(const uint8_t *password, size_t password_len, uint8_t log_n, uint32_t r, uint32_t p,
-                              uint8_t *chunks, size_t chunks_len, const scrypt_progress *at, uint8_t *output,
+                              const uint8_t *chunks, size_t chunks_len, const scrypt_progress *at, uint8_t *output,
                               size_t output_len) {
   return SCRYPT_OK;
 }
