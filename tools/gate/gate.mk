@@ -10,8 +10,8 @@ PROGRAM = build/bin/scrypt_tool
 LIBRARY = build/lib/libscrypt_c.so
 # Other machines.
 MACHINES := $(shell $(PY) tools.presets names)
-# The levels of an x86-64 machine's code.
-LEVELS := $(and $(filter x86_64,$(shell uname -m)),x86-64 x86-64-avx2 x86-64-avx512vl)
+# Only code for x86-64 is compared with RFC 7914.
+COMPILED := $(and $(filter x86_64,$(shell uname -m)),compiled)
 FOR = $(shell $(PY) tools.presets needs $1) env -u CC
 BUILD = rust/build.sh c $(shell $(PY) tools.presets target $1)
 export ERASED = 1 # the task erased erases for all
@@ -26,8 +26,7 @@ BUILDS = erased library linked module program $(MACHINES:%=library-%) program-ar
 documents = lint first-steps links version promises cores declarations vectors
 examples = $(patsubst examples/%/test.sh,example-%,$(wildcard examples/*/test.sh))
 LANGUAGES = python go rust javascript drop-in $(examples) examples-of-pages
-compiled = $(LEVELS:%=compiled-%)
-suites = native asan tsan $(LANGUAGES) answers migration oracle hostile vectors-by-library $(compiled)
+suites = native asan tsan $(LANGUAGES) answers migration oracle hostile vectors-by-library $(COMPILED)
 # They need the kit.
 proved = proofs kit-library same must-not-compile new-user
 gate = proofs $(BUILDS) $(MACHINES) answers-arm64 $(proved) $(documents) $(suites)
@@ -100,10 +99,11 @@ $(MACHINES:%=library-%): library-%: $(call built,erased)
 $(MACHINES): %: $(call built,library-%)
 	$(TASK) $(call FOR,$*) tools/gate/c_tests.sh $*
 
-# The code of each level is compared with RFC 7914; then miscompilations are planted into it.
-$(compiled): private NEEDS = objdump:binutils
-$(compiled): compiled-%: linked
-	$(TASK) $(PY) tools.tests.compiled.planted $(LIBRARY) $*
+# The code of each level is compared with RFC 7914, and miscompilations are planted into it; then its instructions are
+# compared with this processor.
+compiled: private NEEDS = objdump:binutils
+compiled: linked
+	$(TASK) $(PY) tools.tests.compiled.planted $(LIBRARY)
 
 # ---- Other languages ----
 python go rust drop-in: linked

@@ -121,10 +121,8 @@ class AnyRows(Case):
             times = self.to_loop(2, self.machine.run, fill.head)
         except Branch as branch:
             [it] = self.branched(branch)
-            words.assume(it, (1 << self.s) - 1, 1)
-            found = self.discovered(fill)
-            words.assume(it, 0, 0)
-            return found
+            with words.assumed(it, (1 << self.s) - 1, 1):
+                return self.discovered(fill)
         return self.head, times
 
     def walk(self, loop):
@@ -211,9 +209,8 @@ class AnyRows(Case):
         except Branch as branch:
             [it] = self.branched(branch)
             for value in range(1 << self.s):
-                words.assume(it, (1 << self.s) - 1, value)
-                self.paths(piece)
-            words.assume(it, 0, 0)
+                with words.assumed(it, (1 << self.s) - 1, value):
+                    self.paths(piece)
 
     # Loops
 

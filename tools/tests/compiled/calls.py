@@ -15,7 +15,6 @@ LEVELS = "x86-64", "x86-64-avx2", "x86-64-avx512vl"  # as in scrypt_version's te
 STACK = 0x7000_0000
 AFTER = 16  # bytes after each buffer, which have to stay as they are
 OK, MISMATCH, TOO_COSTLY, KEY_TOO_SHORT = 0, 1, 14, 15
-FOUND = {}  # each address and condition that depends on an index
 
 
 class Wrong(Exception):
@@ -30,10 +29,13 @@ def expect(it, what):
 class Compression:
     """The function that compresses blocks: sha2::sha256::compress256. At the addresses of each call it is run once for
     any state and any blocks, without and with the processor's instructions for SHA-256, and has to give the standard's
-    next state. Then a call's result is known by its arguments, as in the definition."""
+    next state. Then a call's result is known by its arguments, as in the definition.
 
-    def __init__(self, program):
-        self.program, self.checked, self.heads, self.names = program, set(), set(), 0
+    Also what runs of one program have in common: the begins of its long loops, and in `found` each address and
+    condition that depends on an index."""
+
+    def __init__(self, program, checked=(), heads=()):
+        self.program, self.checked, self.heads, self.names, self.found = program, set(checked), set(heads), 0, {}
         self.cuts = dict.fromkeys(program.functions["sha2::sha256::compress256"], self)
 
     def __call__(self, m):
@@ -74,7 +76,7 @@ class Call:
     """The library at a level, and the buffers of a call."""
 
     def __init__(self, compression, level):
-        self.program, self.next, self.ends = compression.program, 1 << 32, []
+        self.program, self.found, self.next, self.ends = compression.program, compression.found, 1 << 32, []
         self.machine = Machine(self.program, [Region("stack", STACK - 0x8000, 0x8000, writable=True)], compression.cuts)
         self.memory = self.machine.memory
         for name in ("TAKEN", "FOUND"):  # the level that is chosen at run time, and what the processor has
@@ -118,7 +120,7 @@ class Call:
             text = self.program.externals.get(at) or self.program.instruction(at).text
             expect(known, f"a symbolic {what} at {text}")
             if any(it[0] not in words.BELOW for pair in pairs for it in words.wide_addends(pair)[0]):  # no counter
-                FOUND.setdefault((at, what, text))
+                self.found[at, what, text] = None
 
 
 class Derivation:

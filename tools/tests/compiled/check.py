@@ -13,7 +13,7 @@ from functools import partial
 from tools.tests import crypt64, phc
 from tools.tests.compiled import definition, words
 from tools.tests.compiled.any_rows import AnyRows
-from tools.tests.compiled.calls import FOUND, LEVELS, Case, Compression, Wrong, expect
+from tools.tests.compiled.calls import LEVELS, Case, Compression, Wrong, expect
 from tools.tests.compiled.machine import Branch
 from tools.tests.compiled.program import Program, Unknown
 
@@ -61,21 +61,27 @@ def cases(is_long):
     yield f"{case}, a batch of four, by induction", case.in_batch
 
 
-def run_all(program, levels, is_long=False):
-    """Runs all cases. Returns how many fail."""
-    compression, failed, its = Compression(program), 0, [*cases(is_long)]
+def run_all(compression, levels, is_long=False, then=lambda *_: None):
+    """Runs all cases, and after each that is right `then` with its name, its function and the level. Returns how many
+    fail. The levels have most formulas of a case in common."""
+    program, run_ones, failed, its = compression.program, {}, 0, [*cases(is_long)]
     for what, run in its:
+        words.forget()
         for level in levels:
-            words.forget()
+            program.decoded.clear()
             begin = time.process_time()
             try:
                 run(compression, level)
-                print(f"ok {level}: {what} ({time.process_time() - begin:.1f} s)", flush=True)
             except (Wrong, Unknown, Branch) as error:
                 failed += 1
                 print(f"{level}: {what}: WRONG: {error}", flush=True)
-    for _, what, text in FOUND:
+                continue
+            print(f"ok {level}: {what} ({time.process_time() - begin:.1f} s)", flush=True)
+            run_ones |= program.decoded
+            then(what, run, level)
+    for _, what, text in compression.found:
         print(f"a secret index decides the {what} at {text}")
+    program.decoded = run_ones
     count = len(its) * len(levels)
     print(f"{len(program.decoded)} instructions were run, in {time.process_time():.0f} seconds")
     print(f"cases: {count - failed} of {count} as they should be")
@@ -89,7 +95,7 @@ def main():
         expect(definition.scrypt(list(password), list(b"NaCl"), 3, 2, 2, 70) == key, "the definition is not hashlib's")
     library, *levels = sys.argv[1:]
     is_long = "all" in levels
-    return run_all(Program(library), [it for it in levels if it != "all"] or LEVELS, is_long) > 0
+    return run_all(Compression(Program(library)), [it for it in levels if it != "all"] or LEVELS, is_long) > 0
 
 
 if __name__ == "__main__":

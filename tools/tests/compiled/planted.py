@@ -1,41 +1,36 @@
-"""Runs check.py; then plants miscompilations into the compiled code, in memory, and fails unless it finds each.
+"""Runs check.py, plants miscompilations into the code that each case runs, in memory, and fails unless the case finds
+them. Then compares the instructions that were run with this processor (processor.py).
 
 usage: python3 -m tools.tests.compiled.planted LIBRARY [LEVEL ..]    with as and ld of binutils
 """
 
 import gc
 import re
-import subprocess
 import sys
-import tempfile
 from bisect import bisect
-from functools import partial
-from pathlib import Path
 
-from tools.tests import crypt64, phc
-from tools.tests.compiled import words
-from tools.tests.compiled.any_rows import AnyRows
+from tools.tests.compiled import processor
+from tools.tests.compiled.calls import LEVELS, Compression, Wrong
 from tools.tests.compiled.check import run_all
-from tools.tests.compiled.calls import LEVELS, Case, Compression, Wrong
 from tools.tests.compiled.machine import Branch
-from tools.tests.compiled.program import Program, Unknown
+from tools.tests.compiled.program import Program, Unknown, assembled, plain
 
-CHUNKS, ROWS = Case(9, 8, 0, 1, 2, 64), Case(9, 8, 1, 1, 1, 64)
-RUNS = {
-    "chunk": partial(CHUNKS.in_buffers, 1),
-    "two chunks": partial(CHUNKS.in_buffers, 2),
-    "two rows": partial(ROWS.in_buffers, 1),
-    "lengths": partial(Case(65, 60, 0, 1, 1, 65, 1).in_buffers, 1),
-    "PHC": partial(Case(9, 8, 0, 1, 1, 39).verified, phc.text),
-    "$7$": partial(Case(9, 8, 0, 1, 1, 97).verified, crypt64.text),
-    "limits": Case(9, 8, 0, 1, 1, 32).limited,
-    "steps": partial(Case(9, 8, 2, 1, 1, 32).in_steps, 1),
-    "any rows": AnyRows(9, 8, 24, 1, 1, 64).in_any_rows,
-    "thin": partial(AnyRows(9, 8, 24, 1, 1, 64).thin, 1),
+# The cases of check.py that have to find what is planted.
+CASES = {
+    "chunk": "lengths 1, 51 and 31",
+    "two chunks": "N = 1, r = 1, p = 5, tables: 2",
+    "two rows": "N = 2, r = 2, p = 1, tables: 1",
+    "lengths": "lengths 65, 60 and 65",
+    "PHC": "N = 2, r = 1, p = 1, a PHC string of 39 bytes",
+    "$7$": "N = 2, r = 1, p = 1, a $7$ hash of 97 bytes",
+    "limits": "N = 2, r = 1, p = 1, limits",
+    "steps": "N = 4, r = 1, p = 2, in steps of 2",
+    "any rows": "N = 16777216, r = 1, p = 1, by induction",
+    "thin": "N = 16777216, r = 1, p = 1, a row in 2, by induction",
 }
 
-# What is planted; the run that has to find it; a part of the function's name; and the instructions, one after another.
-# Of the places that fit, and that this run has run, it is put into the middle one; and if that changes nothing, which
+# What is planted; the case that has to find it; a part of the function's name; and the instructions, one after another.
+# Of the places that fit, and that this case has run, it is put into the middle one; and if that changes nothing, which
 # can be, into some others. It is the first instruction's text with a replacement; or code that names the instructions
 # {0} and {1}, and the register {a} of the first.
 SHIFT, TURN, SUM = r"v?pslld .*,0x7|vprold .*,0x7", r"v?pshufd .*,0x39", r"v?paddd (?P<a>[xy]mm\d+),.*mm\d+"
@@ -75,6 +70,7 @@ PLANTED = [
     ("two steps are counted as one", "steps", "step", [r"(inc|dec) r\w+|add r\w+,0x1"], "nop"),
 ]
 TRIED = 6  # places
+COMMON = "compress", "digest_blocks"  # functions that all levels have in common, which are run at the first
 
 
 class Plantation:
@@ -87,22 +83,14 @@ class Plantation:
         self.program.image.extend(bytes(4096))
         self.image, self.texts = bytes(self.program.image), dict(self.program.texts)
 
-    def result(self, run, level, is_new=True):
-        """What the check says, and the instructions that were run. What was checked of SHA-256 is not checked again
-        unless it is new."""
+    def error(self, run, level, at):
+        """How a case fails, or None. SHA-256 is checked again only if it is changed."""
+        checked = () if "sha2::" in self.function(at) else self.compression.checked
         self.program.decoded.clear()
-        words.forget()
-        compression = Compression(self.program)
-        if not is_new:
-            compression.checked, compression.heads = set(self.compression.checked), set(self.compression.heads)
         try:
-            RUNS[run](compression, level)
+            run(Compression(self.program, checked, self.compression.heads), level)
         except (Wrong, Unknown, Branch) as error:
-            return error, None
-        if is_new:
-            self.compression.checked |= compression.checked
-            self.compression.heads |= compression.heads
-        return None, sorted(self.program.decoded)
+            return error
 
     def function(self, at):
         return self.program.starts[bisect(self.program.starts, (at, "~")) - 1][1]
@@ -138,50 +126,41 @@ class Plantation:
         self.program.decoded.clear()
 
 
-def plain(it):
-    """objdump's text without the address, the name of a target and a comment."""
-    return re.sub(" +", " ", it.text.partition(": ")[2].partition("#")[0]).strip()
-
-
-def assembled(text, at):
-    """The code of this text at an address."""
-    text = re.sub(" <.*>", "", text)
-    with tempfile.TemporaryDirectory() as folder:
-        made = Path(folder) / "made"
-        subprocess.run(["as", "-o", f"{made}.o"], input=f".intel_syntax noprefix\n{text}\n".encode(), check=True)
-        subprocess.run(["ld", f"-Ttext={at:#x}", "-e0", "--oformat=binary", "-o", made, f"{made}.o"], check=True)
-        return made.read_bytes()
-
-
-def plant_all(plantation, level):
-    """Plants each at a level. Returns how many are found."""
-    places, right = {}, 0
-    for run in RUNS:
-        error, places[run] = plantation.result(run, level)
+def planted(plantation, row, run, level):
+    """Plants a row's change in one place after another until the case fails. Returns how it fails, or why it does not.
+    """
+    _, _, function, patterns, change = row
+    places = plantation.find(sorted(plantation.program.decoded), function, patterns)
+    for its, match in places:
+        plantation.plant(its, match, change)
+        error = plantation.error(run, level, its[0].at)
+        plantation.restore()
         if error:
-            sys.exit(f"{level}, {run}, before anything is planted: {error}")
-    for what, run, function, patterns, change in PLANTED:
-        found = plantation.find(places[run], function, patterns)
-        result = f"NOT FOUND at {len(found)} places"
-        for its, match in found:
-            plantation.plant(its, match, change)
-            error, _ = plantation.result(run, level, "sha2::" in plantation.function(its[0].at))
-            plantation.restore()
-            if error:
-                right, result = right + 1, f"found ({error})"
-                break
-        print(f"{level}: {what}: {result}", flush=True)
-    return right
+            return True, f"found ({error})"
+    if places:
+        return False, f"NOT FOUND at {len(places)} places"
+    return False, f"""NO PLACE: in a function *{function}* no instructions that this case runs are {"; ".join(patterns)}
+Another compiler may write them otherwise. See what it writes there by objdump -dC -M intel, and change the pattern."""
 
 
 def main():
     gc.disable()
     library, *levels = sys.argv[1:]
-    levels, plantation = levels or LEVELS, Plantation(library)
-    failed = run_all(plantation.program, levels)
-    right, count = sum(plant_all(plantation, level) for level in levels), len(PLANTED) * len(levels)
-    print(f"planted: {right} of {count} as they should be")
-    return failed > 0 or right < count
+    levels, plantation, results = levels or LEVELS, Plantation(library), []
+    its = [(level, row) for level in levels for row in PLANTED if level == levels[0] or row[2] not in COMMON]
+
+    def plant_all(case, run, level):
+        kept = dict(plantation.program.decoded)
+        for row in (row for at, row in its if at == level and CASES[row[1]] == case):
+            plantation.program.decoded = dict(kept)
+            results.append(planted(plantation, row, run, level))
+            print(f"{level}: {row[0]}: {results[-1][1]}", flush=True)
+
+    failed = run_all(plantation.compression, levels, then=plant_all)
+    right = sum(is_right for is_right, _ in results)
+    print(f"planted: {right} of {len(its)} as they should be")
+    failed += len(its) - right + processor.compare(plantation.program)
+    return failed > 0
 
 
 if __name__ == "__main__":

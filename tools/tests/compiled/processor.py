@@ -11,15 +11,15 @@ import gc
 import mmap
 import random
 import re
+import struct
 import sys
 from pathlib import Path
 
 from tools.tests.compiled import check, words
-from tools.tests.compiled.calls import LEVELS
+from tools.tests.compiled.calls import LEVELS, Compression
 from tools.tests.compiled.machine import CONDITIONS, HANDLERS, RDX, RSP, Machine
 from tools.tests.compiled.memory import Region, value_of
-from tools.tests.compiled.planted import assembled, plain
-from tools.tests.compiled.program import NAMES, Program, Unknown
+from tools.tests.compiled.program import NAMES, Program, Unknown, assembled, plain
 from tools.tests.compiled.words import ALL
 
 # In the memory an instruction's operand is at PLACE, and a state at STATE or after it: 32 vectors, the flags, and the
@@ -96,9 +96,9 @@ class Trial:
         bounds = [1, 0x80, 0x7FFFFFFF, 0x80000000, ALL] + [0] * (it.name != "div")
         some = lambda: rng.choice(bounds) if rng.random() < 0.3 else rng.getrandbits(32)
         self.registers = [some() | some() << 32 for _ in range(16)]
-        self.vectors = [tuple(some() for _ in range(16)) for _ in range(32)]
-        if it.name == "packuswb":  # of numbers that need no saturation
-            self.vectors = [tuple(word & 0x00FF00FF for word in it) for it in self.vectors]
+        used = range(32) if it.name == "vzeroupper" else {0, *(op.vector for op in it.operands)} - {None}
+        mask = 0x00FF00FF if it.name == "packuswb" else ALL  # of numbers that need no saturation
+        self.vectors = {i: tuple(some() & mask for _ in range(16)) for i in used}
         self.flags = 0x202 | rng.getrandbits(1) << CARRY | rng.getrandbits(1) << ZERO
         # A vector on the stack has an address that is a multiple of its size.
         places = [op for op in it.operands if op.is_memory]
@@ -113,19 +113,20 @@ class Trial:
         if it.name[:2] in ("sh", "bz"):  # by a number of bits that is not symbolic
             self.needed |= {op.register for op in it.operands[1:]} - {None}
         self.memory = bytearray(rng.randbytes(SIZE))
+        for i, vector in self.vectors.items():
+            self.memory[self.state + 64 * i : self.state + 64 * (i + 1)] = struct.pack("<16I", *vector)
         numbers = self.flags, *(self.registers[i] for i in ORDER)
-        made = [word.to_bytes(4, "little") for vector in self.vectors for word in vector]
-        made += [number.to_bytes(8, "little") for number in numbers]
-        self.memory[self.state : self.state + AFTER] = b"".join(made)
+        self.memory[self.state + FLAGS : self.state + AFTER] = struct.pack("<16Q", *numbers)
 
     def machine(self):
         """This machine after the instruction, and a function for the values of its words."""
         content, values, known = None if self.is_symbolic else bytes(self.memory), {}, {}
         m = Machine(One, [Region("memory", self.processor.start, SIZE, content, writable=True)])
-        for i in range(32):
-            values |= zip(m.vector(i), self.vectors[i])
-            if not self.is_symbolic:
-                m.vectors[i] = self.vectors[i]
+        for i, vector in self.vectors.items():
+            if self.is_symbolic:
+                values |= zip(m.vector(i), vector)
+            else:
+                m.vectors[i] = vector
         for i in range(16):
             values |= zip(m.registers[i], value_of(self.registers[i], 8))
             if not self.is_symbolic or i in self.needed:
@@ -148,7 +149,9 @@ class Trial:
             if [*map(value, m.registers[i])] != [word_in(after, at), word_in(after, at + 4)]:
                 return f"register {i}"
         for i in range(32):
-            if [value(it) for it in m.vector(i)] != [word_in(after, state + 64 * i + 4 * k) for k in range(16)]:
+            at = state + 64 * i
+            made = struct.pack("<16I", *map(value, m.vectors[i])) if i in m.vectors else self.memory[at : at + 64]
+            if made != after[at : at + 64]:
                 return f"vector {i}"
         for index, word in m.memory.items():
             at = 4 * index - self.processor.start
@@ -210,14 +213,14 @@ def forms(program):
     return found
 
 
-def main():
-    gc.disable()
-    library, *levels = sys.argv[1:]
-    program, rng, processor = Program(library), random.Random(7914), Processor()
-    failed = check.run_all(program, levels or LEVELS)
+def compare(program):
+    """Compares each form of the instructions that were run. Returns how many trials differ."""
     has, right, wrong, refused, lacking = Path("/proc/cpuinfo").read_text().split(), 0, 0, set(), set()
-    its = forms(program)
-    for text, it in its.items():
+    if "avx512vl" not in has:
+        print("instructions: none was compared, since this processor has no AVX-512")
+        return 0
+    its, processor, rng = forms(program), Processor(), random.Random(7914)
+    for it in its.values():
         if it.name.startswith("sha256") and "sha_ni" not in has:
             lacking.add(it.name)
             continue
@@ -235,7 +238,15 @@ def main():
     print(f"{len(its)} forms; not run on every symbolic operand: {', '.join(sorted(refused))}")
     print(f"not compared, since this processor lacks them: {', '.join(sorted(lacking)) or 'none'}")
     print(f"instructions: {right} of {right + wrong} as they should be")
-    return failed + wrong > 0
+    return wrong
+
+
+def main():
+    gc.disable()
+    library, *levels = sys.argv[1:]
+    compression = Compression(Program(library))
+    failed = check.run_all(compression, levels or LEVELS)
+    return failed + compare(compression.program) > 0
 
 
 if __name__ == "__main__":

@@ -85,6 +85,21 @@ class Program:
         return self.decoded[at]
 
 
+def plain(it):
+    """objdump's text of an instruction without the address, prefixes that change nothing, and a comment."""
+    return re.sub(" +", " ", PREFIXES.sub("", it.text.partition(": ")[2].partition("#")[0])).strip()
+
+
+def assembled(text, at):
+    """The code of this text at an address."""
+    text = re.sub(" <.*>", "", text)
+    with tempfile.TemporaryDirectory() as folder:
+        made = Path(folder) / "made"
+        subprocess.run(["as", "-o", f"{made}.o"], input=f".intel_syntax noprefix\n{text}\n".encode(), check=True)
+        subprocess.run(["ld", f"-Ttext={at:#x}", "-e0", "--oformat=binary", "-o", made, f"{made}.o"], check=True)
+        return made.read_bytes()
+
+
 def general(name):
     """The number of a general register by its name, its size, and its first bit."""
     for number, it in enumerate(NAMES):

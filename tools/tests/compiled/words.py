@@ -12,6 +12,7 @@ alone.
 Words that are one object are equal. The opposite need not be so: then a check fails that should not.
 """
 
+from contextlib import contextmanager
 from functools import cache, reduce
 
 ALL = 0xFFFFFFFF
@@ -60,9 +61,14 @@ def atoms_of(some_words):
     return {atom_of(factor) for word in some_words for monomial in polynomial_of(word) for factor in monomial}
 
 
-def assume(it, mask, value):
-    """From now on these bits of an atom are those of a number, wherever it is made again; with a mask of 0, none."""
-    WORDS[it.made_of] = xor(conj(it, ~mask & ALL), value)
+@contextmanager
+def assumed(it, mask, value):
+    """Meanwhile these bits of an atom are those of a number, wherever it is made again."""
+    before, WORDS[it.made_of] = WORDS[it.made_of], xor(conj(it, ~mask & ALL), value)
+    try:
+        yield
+    finally:
+        WORDS[it.made_of] = before
 
 
 def named(it, *made_of):
