@@ -1,5 +1,5 @@
-//! The chunks and the scratch that a call allocates are zeros when it frees them: with them passwords could be tested
-//! at no cost.
+//! The chunks and the scratch that a call allocates are zeros when it frees them: with the chunks
+//! passwords could be tested at little cost.
 
 use scrypt::{Params, StoredHash, hash_text, scrypt};
 use std::alloc::{GlobalAlloc, Layout, System};
