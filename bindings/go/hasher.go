@@ -352,24 +352,6 @@ func (h *Hasher) run(ctx context.Context, password []byte,
 	}
 }
 
-// acquire acquires the semaphore, until the context is done, or it is late.
-func (h *hasher) acquire(ctx context.Context, done <-chan struct{}, late <-chan time.Time) error {
-	select {
-	case h.inside <- struct{}{}:
-	case <-done:
-		return endOf(ctx)
-	case <-late:
-		return context.DeadlineExceeded
-	}
-	select {
-	case <-done:
-		<-h.inside
-		return endOf(ctx)
-	default:
-		return nil
-	}
-}
-
 // endOf returns the error of a context that is done. It is never nil, which would be a result, even
 // if a type of the caller has its own Done and the Err of another context.
 func endOf(ctx context.Context) error {

@@ -3,7 +3,11 @@ package scrypt
 // #include "library.h"
 import "C"
 
-import "runtime"
+import (
+	"context"
+	"runtime"
+	"time"
+)
 
 // Stats are the statistics of a Hasher.
 type Stats struct {
@@ -37,4 +41,22 @@ func (h *hasher) deriving() int64 {
 // them are about to derive.
 func (h *hasher) isFull(calls int64) bool {
 	return calls-h.slots > h.waiting && calls-h.deriving() > h.waiting
+}
+
+// acquire acquires the semaphore, until the context is done, or it is late.
+func (h *hasher) acquire(ctx context.Context, done <-chan struct{}, late <-chan time.Time) error {
+	select {
+	case h.inside <- struct{}{}:
+	case <-done:
+		return endOf(ctx)
+	case <-late:
+		return context.DeadlineExceeded
+	}
+	select {
+	case <-done:
+		<-h.inside
+		return endOf(ctx)
+	default:
+		return nil
+	}
 }
