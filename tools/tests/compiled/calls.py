@@ -136,7 +136,7 @@ class Derivation:
         (password, self.password), (salt, salts) = (call.given(*it, case.odd) for it in case.texts)
         self.output = call.buffer("output", case.key_len, odd=case.odd)
         self.given = *password, *salt, *case.params, *(() if s is None else (s,)), *self.output
-        self.chunks = None
+        self.chunks, self.wipes = None, True
         if name.startswith("proved"):
             self.chunks = call.buffer("chunks", p * self.size, odd=case.odd)
             table = call.buffer("table", tables * self.size << log_n - self.s, 4)
@@ -148,7 +148,7 @@ class Derivation:
     def check(self, status, mixed):
         expect(status == OK, f"the status is {status}")
         if self.chunks:
-            self.call.check(self.chunks, mixed, "the chunks")
+            self.call.check(self.chunks, [0] * len(mixed) if self.wipes else mixed, "the chunks")
         self.call.check(self.output, pbkdf2(self.password, mixed, self.key_len), "the key")
         return []
 
@@ -175,7 +175,7 @@ class Verification:
             self.read.append(read)
             self.stored.append(stored if form is phc.text else list(read))
             self.begin += parts(pbkdf2(its, list(salt), p * self.size), self.size)
-        chunks = call.buffer("chunks", count * p * self.size)
+        chunks = self.chunks = call.buffer("chunks", count * p * self.size)
         rows = ("table", 1 << log_n), ("scratch", 2)
         table, scratch = (call.buffer(it, count * n * self.size, 4) for it, n in rows)
         self.table, self.scratch, buffers = table[0], scratch[0], (*chunks, *table, *scratch)
@@ -217,6 +217,7 @@ class Verification:
         statuses = [status] if len(self.right) == 1 else self.call.memory.load(self.statuses[0], 4 * len(self.right))
         for is_equal, status in zip(self.pattern, statuses):
             expect(status == (OK if is_equal else MISMATCH), "the verdict")
+        self.call.check(self.chunks, [0] * len(mixed), "the chunks")
         return [(it, 0) for right in self.right for it in (right, xor(right, 1))]
 
 
@@ -288,5 +289,5 @@ class Case:
                 break
             status = call.run("proved_scrypt_key_step", *params, count, *chunks, *buffers, at)
             expect(status == OK, "a step")
-        it.name, it.given = "proved_scrypt_key_finish", (*password, *params, *chunks, at, *output)
+        it.name, it.given, it.wipes = "proved_scrypt_key_finish", (*password, *params, *chunks, at, *output), False
         self.run(it)
