@@ -163,7 +163,7 @@ export class Instance {
 const filled = (words, ...numbers) => words.replace(/%/g, () => numbers.shift());
 const atMost = (limit) => (limit === NO_LIMIT ? '' : filled(AT_MOST, limit));
 
-// The numbers of a refusal, as the C library's scrypt_explain writes them.
+// The numbers of a rejected hash, as the C library's scrypt_explain writes them.
 function explained(status, { log_n: logN, r, p, bytes, work, key_len: keyLen }, limits) {
   const [maxMem, maxWork, minKeyLen] = limits;
   if (status === KEY_TOO_SHORT) return `: ${filled(LENGTHS, keyLen, minKeyLen)}`;

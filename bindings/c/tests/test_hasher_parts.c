@@ -110,7 +110,7 @@ TEST(rehashes) {
               {"a smaller r, and a larger N", "right", "", 9, 1, SCRYPT_OK, 1},
               {"a wrong password", "wrong", "", 3, 8, SCRYPT_MISMATCH, 7},
               {"no hash", "right", NULL, 3, 8, SCRYPT_MISMATCH, 7},
-              {"a hash that is refused", "right", "$7$", 3, 8, SCRYPT_E_ENCODING_INVALID, 7}};
+              {"a hash that is rejected", "right", "$7$", 3, 8, SCRYPT_E_ENCODING_INVALID, 7}};
   scrypt_hasher *hasher = new_hasher(1, 1, 4);
   for (size_t i = 0; i < sizeof ROWS / sizeof *ROWS; i++) {
     char made[SCRYPT_PHC_CAPACITY];

@@ -126,7 +126,7 @@ class ClientTest(TestCase):
 
 
 class ColumnTest(TransactionTestCase):
-    """What SQLite does not check: PostgreSQL refuses a hash that is longer than the column."""
+    """What SQLite does not check: PostgreSQL rejects a hash that is longer than the column."""
 
     def test_new_hashes_fit(self):
         for kind in (ScryptPasswordHasher, OverPBKDF2):
