@@ -68,7 +68,9 @@ if [ $# = 2 ]; then
 fi
 # shellcheck disable=SC2046 # names without blanks
 absent=$(absent $(sed -n 's/.*|\(.*\)|$/\1/p' <<< "$rows"))
-case $absent in '') ;; *librust-*) absent="$absent (crates: or CARGO_NET_OFFLINE=false, to download them)" ;; esac
+case $absent in *librust-*) absent="$absent (crates: or CARGO_NET_OFFLINE=false, to download them)" ;; esac
+case $absent in *cargo-web*) ! command -v cargo > /dev/null ||
+  absent="$absent (this cargo is too old; Debian 12 has a later one in bookworm-security)" ;; esac
 if [ -n "$absent" ]; then end "$name needs these packages of Debian, which make setup $name installs as root:$absent"; fi
 while IFS='|' read -r _ words what; do
   # shellcheck disable=SC2086 # names without blanks

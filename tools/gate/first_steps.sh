@@ -35,7 +35,7 @@ fake id 1000
 fake apt-get ""
 fake dpkg-query installed
 fake cargo "cargo 1.88.9"
-is "$(setup run)" "$(needs run 'cargo-web gcc')"
+is "$(setup run)" "$(needs run 'cargo-web gcc (this cargo is too old; Debian 12 has a later one in bookworm-security)')"
 fake cargo "cargo 1.95.0"
 is "$(setup run)" "$(needs run gcc)"
 is "$(setup lib)" "$(needs lib 'cmake gcc')"
