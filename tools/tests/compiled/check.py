@@ -25,8 +25,9 @@ LENGTHS = [(0, 0, 1, 0), (1, 51, 31, 1), (55, 52, 32, 2), (63, 55, 33, 3), (64, 
 PARAMETERS = [(0, 1, 5, range(1, 5)), (1, 1, 5, range(1, 5)), (1, 2, 1, [1]), (2, 2, 2, [1, 2])]
 
 # log_n, r and p of derivations with any number of rows. The first of each p finds its loops.
-ANY = [(24, 1, 1), (3, 1, 1), (16, 1, 1), (24, 8, 1), (24, 1, 2), (24, 1, 3), (24, 1, 4)]
-EVERY = [*ANY, *((log_n, 1, 1) for log_n in range(4, 57)), *((n, 8, p) for p in (1, 2, 3, 4) for n in (24, 3, 14, 17))]
+ANY = [(24, 1, 1), (3, 1, 1), (16, 1, 1), (24, 2, 1), (24, 8, 1), (24, 1, 2), (24, 1, 3), (24, 1, 4)]
+EVERY = [*ANY, *((log_n, 1, 1) for log_n in range(4, 57)), *((n, 8, p) for p in (1, 2, 3, 4) for n in (24, 3, 14, 17)),
+         *((24, r, 1) for r in (3, 4, 16))]
 
 
 def cases(is_long):
