@@ -70,6 +70,7 @@ int scrypt_derivation_new(const void *password, size_t password_len, const void 
   if (output_len == 0 || output_len > SCRYPT_MAX_OUTPUT_LEN) return SCRYPT_E_INVALID_OUTPUT_LEN;
   tables = cost.tables < max_interleave() ? cost.tables : max_interleave();
   if (cost.table_len < MIN_INTERLEAVED_WORDS) tables = 1;
+  if (password_len > SIZE_MAX - sizeof *it) return SCRYPT_E_OUT_OF_MEMORY;
   it = (scrypt_derivation *)clearing_malloc(sizeof *it + password_len);
   if (it == NULL) return SCRYPT_E_OUT_OF_MEMORY;
   *it = (scrypt_derivation){.log_n = (uint8_t)log_n, .r = r, .p = p, .output_len = output_len,

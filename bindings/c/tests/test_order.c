@@ -225,6 +225,7 @@ TEST(derivations) {
   meets("derivation: output, memory", NEW(SECRETS, HUGE, 1, 1, SCRYPT_AUTO, 0), SCRYPT_E_INVALID_OUTPUT_LEN);
   meets("derivation: a long output", NEW(SECRETS, HUGE, 1, 1, SCRYPT_AUTO, SCRYPT_MAX_OUTPUT_LEN + 1), SCRYPT_E_INVALID_OUTPUT_LEN);
   meets("derivation: memory", NEW(SECRETS, HUGE, 1, 1, SCRYPT_AUTO, 20), SCRYPT_E_OUT_OF_MEMORY);
+  meets("derivation: a password longer than memory", NEW("pw", SIZE_MAX, "salt", 4, PARAMS, 5376, 20), SCRYPT_E_OUT_OF_MEMORY);
   check(it == NULL, "no derivation");
   check(NEW(SECRETS, PARAMS, 5376, 20) == SCRYPT_OK, "a derivation in its bytes");
   meets("derivation: unfinished, output", scrypt_derivation_finish(it, key, 19), SCRYPT_E_UNFINISHED);
