@@ -95,6 +95,10 @@ REPLACED = [
      "support::level::require::<O>(); mix_next::<O>(self.memory, i, len, cores);", "its level as above"),
     ("let r = len / 32; let x = mix_block",
      "let r = len / 32; assert!(i < r && len <= output.len() / O::count()); let x = mix_block", "the same"),
+    ("used.chunks.fill(0); used.scratch.fill(0);", "support::wipe(used.chunks); support::wipe(used.scratch);",
+     "a compiler may leave out the zeros of `fill` if the memory is freed next"),
+    ("chunks.fill(0); table.fill(0); scratch.fill(0);",
+     "support::wipe(chunks); support::wipe(table); support::wipe(scratch);", "the same"),
     ("hasher.clone().unwrap()", "hasher.clone()", "the kit's clone may fail; that of a hasher never does"),
     ("pub(crate) use scrypt::Simd as Target;",
      "#[cfg(not(target_arch = \"wasm32\"))] pub(crate) use scrypt::Simd as Target;"

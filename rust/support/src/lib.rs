@@ -57,6 +57,13 @@ impl From<alloc::collections::TryReserveError> for AllocError {
 /// Why a test failed.
 pub type Fail = Box<dyn core::error::Error>;
 
+/// Writes zeros, which a compiler does not leave out if the memory is freed next, as it may those of `fill`: for what it
+/// knows, they are read.
+pub fn wipe<T: Copy + Default>(places: &mut [T]) {
+    places.fill(T::default());
+    core::hint::black_box(places);
+}
+
 /// `&words[at..at + len]`, which the source proves to be in bounds. Where a row of scrypt's table begins is secret, so
 /// the C library takes it without a check, which would be a branch; other callers of the crates may break their
 /// clauses.
