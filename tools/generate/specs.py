@@ -8,7 +8,7 @@ PARAGRAPH = re.compile(r"(?:.+\n|\n+(?= ))+")
 PARTS = re.compile(r"((?:--.*\n)*)(?:infixl .*\n)?([\s\S]*)")
 HEAD = re.compile(r"(?:(abbrev|unfoldable) )?(pub )?(?:(record|data) )?(◌\S+|[\w']+) [:({]")
 CONSTRUCTOR = re.compile(r"^ +(?:pub )?([\w']+) :", re.M)
-IMPORT = re.compile(r"^ *(?:pub )?(?:ghost )?use ([\w.]+?)(?:\.\{([^}]*)\}| as (\w+));?$", re.M)
+IMPORT = re.compile(r"^ *(?:unfoldable )?(?:pub )?(?:ghost )?use ([\w.]+?)(?:\.\{([^}]*)\}| as (\w+));?$", re.M)
 
 
 @dataclass(eq=False)
@@ -76,7 +76,7 @@ def read_module(name, path, text):
         if head:
             kind = head[3] or head[1] or "theorem"
             found[head[4]] = Definition(head[4], kind, bool(head[2]), comment, code.strip("\n"), path, line, page)
-        elif code and not re.match("(pub )?(use|mod) ", code):
+        elif code and not re.match("(unfoldable )?(pub )?(use|mod) ", code):
             unread.append(line)
         elif not block.start():
             first = comment

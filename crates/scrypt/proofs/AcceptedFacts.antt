@@ -1,9 +1,6 @@
-use Rattle.scrypt.specs.Accepted.{are_accepted, is_output_len, is_stored_len, Parameters, parameters_eq}
+use Rattle.scrypt.specs.Terms.{Parameters, ParamsInvalid, are_accepted, checked, is_output_len, is_salt_len}
+use Rattle.scrypt.specs.Terms.{is_stored_len, max_output_len, parameters_eq}
 pub use Rattle.password_hash.proofs.PhcReadingFacts.{leb_decided}
-use Rattle.password_hash.specs.Refusal.{ParamsInvalid}
-use Rattle.scrypt.specs.PhcHash.{is_salt_len}
-use Rattle.scrypt.specs.Reading.{checked}
-use Rattle.scrypt_kernel.specs.Pbkdf2.{max_output_len}
 use Rattle.std.specs.Option.{option_eq}
 use Rattle.std.proofs.lemmas.Bool.{false_from_ne_true}
 use Rattle.std.proofs.lemmas.Bool.Decides.{Decides-and, Decides-eqb, Decides-like, Decides-ltb}

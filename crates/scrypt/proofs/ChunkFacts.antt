@@ -3,10 +3,9 @@ use Rattle.std.proofs.lemmas.Bool.{cases_Bool, eqb-true, eqb-false}
 use Rattle.std.proofs.lemmas.List.Elements.{All-head, All-tail}
 use Rattle.std.proofs.lemmas.List.Sums.{sum_by-cons}
 use borrow.Rule.Slice.PartMut.{put_mid, same_len_mid}
-use Rattle.scrypt_kernel.specs.Words.{bytes_of, part, words_of}
+use Rattle.scrypt.specs.Terms.{NamesEachOnce, bytes_of, mixed_chunk, mixed_chunks, mixed_in_order, part}
+use Rattle.scrypt.specs.Terms.{with_chunk_mixed, words_of}
 use Rattle.scrypt_kernel.specs.RoMix.{ro_mix}
-use Rattle.scrypt.specs.Key.{mixed_chunk, mixed_chunks}
-use Rattle.scrypt.specs.ChunkOrder.{NamesEachOnce, mixed_in_order, with_chunk_mixed}
 use Rattle.scrypt.proofs.KeyFacts.{length-mixed_chunk}
 use Rattle.scrypt_kernel.proofs.PartFacts.{length-part, part_put_same, part_put_other, parts_all, parts_apart}
 

@@ -1,17 +1,15 @@
 use Rattle.std.proofs.Common.{◌≡◌, ℕ, zero, suc, ◌<◌, ◌≤◌, ◌+◌, ◌-◌, ◌*◌, ◌/◌, ◌%◌, ◌^◌, List, refl, ap, ◌∙◌, arith, lit≤, add-one, pow_pos, ◌↔◌, IsTrue}
 use Rattle.std.proofs.Math.Nat.{div-eq_of_eq-mul_left, div-mul-le_self, mul-div_left, mul-le-mul_right, one-le-pow}
 use Rattle.std.proofs.lemmas.Nat.{le-div, mul-le}
-use Rattle.scrypt_kernel.specs.Pbkdf2Cost.{end_cost}
+use Rattle.scrypt.specs.Terms.{AreMostTables, Parameters, are_within, chunks_bytes, cost, end_cost}
+use Rattle.scrypt.specs.Terms.{extra_rows_of_chunks, hash_cost, interleaved_chunks, lengths_cost, part, scratch_words}
+use Rattle.scrypt.specs.Terms.{table_words, tables_within, thin_chunks_cost, words_of, work}
 use Rattle.std.proofs.lemmas.Bool.Decides.{nat_tests}
-use Rattle.scrypt_kernel.specs.Words.{part, words_of}
 use Rattle.scrypt_kernel.specs.RoMix.{integerify, walk}
 use Rattle.scrypt_kernel.specs.Table.{extra_rows, recomputed_rows}
 use Rattle.scrypt_kernel.proofs.WalkFacts.{extra_rows-whole, whole_cost}
-use Rattle.scrypt.specs.Accepted.{Parameters}
-use Rattle.scrypt.specs.Limits.{AreMostTables, are_within, tables_within, work}
 use Rattle.scrypt.specs.declared.limits.Limits.{Limits}
-use Rattle.scrypt.specs.Cost.{chunks_bytes, cost, extra_rows_of_chunks, hash_cost, lengths_cost, scratch_words, table_words, thin_chunks_cost, thin_ro_mix_cost}
-use Rattle.scrypt.specs.Workspace.{interleaved_chunks}
+use Rattle.scrypt.specs.Cost.{thin_ro_mix_cost}
 
 none_of_chunks : (b : List ℕ) (log_n r i : ℕ) → extra_rows_of_chunks b log_n 0 r i ≡ 0
 unfolding extra_rows_of_chunks

@@ -2,16 +2,11 @@ use Rattle.std.proofs.Common.{◌≡◌, ◌≢◌, ◌⊎◌, inl, inr, ◌∙�
 use Rattle.std.specs.Prelude.{◌&&◌, Bool, Result, if◌then◌else◌, replicate, ⊤}
 use Rattle.std.proofs.lemmas.Bool.{and_parts, false_from_ne_true}
 use Rattle.std.proofs.lemmas.List.{drop-replicate, get_or-replicate, length-replicate}
-use Rattle.password_hash.specs.Refusal.{Refusal, OutOfMemory, ParamsInvalid, PasswordInvalid}
+use Rattle.scrypt.specs.Terms.{IsVerdict, OutOfMemory, Parameters, ParamsInvalid, PasswordInvalid, Refusal, Stored}
+use Rattle.scrypt.specs.Terms.{are_accepted, are_within, decoy_reading, is_right, is_stored_len, key_by}
+use Rattle.scrypt.specs.Terms.{key_len_or_default, made_stored, no_key, public_hash, verdict, with_refusal, within}
+use Rattle.scrypt.specs.Terms.{without_len}
 use Rattle.password_hash.specs.declared.error.Error.{Error}
-use Rattle.scrypt.specs.Accepted.{Parameters, are_accepted, is_stored_len, without_len}
-use Rattle.scrypt.specs.Decoy.{decoy_reading, no_key}
-use Rattle.scrypt.specs.Hashing.{key_len_or_default}
-use Rattle.scrypt.specs.KeyOfParams.{key_by}
-use Rattle.scrypt.specs.Limits.{are_within}
-use Rattle.scrypt.specs.PublicPart.{public_hash}
-use Rattle.scrypt.specs.Reading.{IsVerdict, Stored, is_right, made_stored, verdict, with_refusal}
-use Rattle.scrypt.specs.WithinLimits.{within}
 use Rattle.scrypt.specs.declared.limits.Limits.{Limits}
 use Rattle.scrypt.proofs.AcceptedFacts.{bounds, key_len_stored, ok_if}
 use Rattle.scrypt.proofs.KeyFacts.{key_by-are_bytes, length-key_by}

@@ -3,14 +3,10 @@ use Rattle.std.specs.List.{flat_map, range_with_len}
 use Rattle.std.proofs.lemmas.Slice.{drop-put_mid, take-put_mid}
 use Rattle.std.proofs.lemmas.List.FromFn.{length-map-range_with_len, take-map-range_with_len}
 use borrow.Rule.Slice.PartMut.{put_mid}
-use Rattle.scrypt_kernel.specs.Words.{bytes_of, part, words_of}
+use Rattle.scrypt.specs.Terms.{AreMixed, Parameters, bytes_of, derived_key, key_by, mixed_chunk, mixed_chunks, part}
+use Rattle.scrypt.specs.Terms.{pbkdf2, words_of}
 use Rattle.scrypt_kernel.specs.RoMix.{ro_mix}
 use Rattle.scrypt_kernel.specs.Hmac.{padded_key}
-use Rattle.scrypt_kernel.specs.Pbkdf2.{pbkdf2}
-use Rattle.scrypt.specs.Accepted.{Parameters}
-use Rattle.scrypt.specs.KeyOfParams.{key_by}
-use Rattle.scrypt.specs.Key.{derived_key, mixed_chunk, mixed_chunks}
-use Rattle.scrypt.specs.Stepping.{AreMixed}
 use Rattle.scrypt_kernel.proofs.PartFacts.{length-part, length-parts, part-take, part_after, part_append_front, parts_apart, parts_from}
 use Rattle.scrypt_kernel.proofs.RoMixFacts.{length-ro_mix}
 use Rattle.scrypt_kernel.proofs.WordFacts.{length-bytes_of}

@@ -11,17 +11,12 @@ use Rattle.std.proofs.lemmas.Bool.Decides.{Decides-and, Decides-eqb, Decides-ltb
 use Rattle.scrypt_kernel.specs.declared.cores.count.CoreCount.{CoreCount}
 use Rattle.scrypt_kernel.proofs.CountFacts.{hashed_both}
 use Rattle.scrypt_kernel.proofs.Pbkdf2Facts.{length-pbkdf2}
-use Rattle.password_hash.specs.Refusal.{Refusal}
-use Rattle.scrypt.specs.Accepted.{Parameters}
-use Rattle.scrypt.specs.Cost.{AreHashed, chunks_bytes, cost, ro_mix_cost}
-use Rattle.scrypt.specs.Key.{mixed_chunks}
-use Rattle.scrypt.specs.Limits.{SufficeFor}
-use Rattle.scrypt.specs.Logins.{Attempt, AreLeft, IsAlone, all_cost, all_of, attempt_of, attempts, chunks_cost, compare_cost, cores_on, cost_if_ok, count_of, hashed_on, reading_of, reading_of_hash, shared, verdict_on, verify_cores, with_more}
-use Rattle.scrypt.specs.Reading.{◌and_then◌, Stored, chunks_of, mixed_of, verdict, verify_cost}
-use Rattle.scrypt.specs.WithinLimits.{with_limited_refusal, within}
+use Rattle.scrypt.specs.Terms.{◌and_then◌, AreHashed, AreLeft, Attempt, IsAlone, IsDone, IsLeft, Parameters, Refusal}
+use Rattle.scrypt.specs.Terms.{Stored, SufficeFor, Workspace, all_cost, all_of, are_enough, attempt_of, attempts}
+use Rattle.scrypt.specs.Terms.{chunks_bytes, chunks_cost, chunks_of, compare_cost, cores_on, cost, cost_if_ok, count_of}
+use Rattle.scrypt.specs.Terms.{hashed_on, mixed_chunks, mixed_of, reading_of, reading_of_hash, ro_mix_cost, shared}
+use Rattle.scrypt.specs.Terms.{verdict, verdict_on, verify_cores, verify_cost, with_limited_refusal, with_more, within}
 use Rattle.scrypt.specs.declared.limits.Limits.{Limits}
-use Rattle.scrypt.specs.InBuffers.{are_enough}
-use Rattle.scrypt.specs.Workspace.{IsDone, IsLeft, Workspace}
 use Rattle.scrypt.specs.declared.logins.Login.{Login}
 use Rattle.scrypt.specs.declared.logins.LoginHash.{LoginHash}
 use Rattle.scrypt.specs.declared.logins.LoginHash.TheVariants as hashes

@@ -1,14 +1,11 @@
 use Rattle.std.proofs.Common.{◌≡◌, ◌≢◌, false, ℕ, List, [], ◌∷◌, ◌++◌, length, drop, Some, None, Ok, Err, refl, rules, ap, ap₂, ◌∙◌, append_assoc, lit<, IfErr, Option, codes, if◌then◌else◌, ok_or, IsTrue, bytes_eq, append-nil}
 use Rattle.std.proofs.lemmas.Slice.Eq.{bytes_eq-Decides}
-use Rattle.password_hash.specs.Crypt64.{IsBytes, Crypt64, IsCrypt64, crypt64_of, decoded}
-use Rattle.password_hash.specs.Mcf.{IsMcfText}
+use Rattle.scrypt.specs.Terms.{◌and_then◌, Algorithm, Crypt64, EncodingInvalid, IsBytes, IsCrypt64, IsMcfText}
+use Rattle.scrypt.specs.Terms.{NamesNoPassword, OutputSize, Parameters, Stored, are_accepted, crypt64_of, decoded}
+use Rattle.scrypt.specs.Terms.{field_params, is_output_len, mcf_id, mcf_text, params_letters, params_text, read_fields}
+use Rattle.scrypt.specs.Terms.{read_key, read_mcf, read_parts}
 use Rattle.password_hash.specs.Parts.{dollar, parts_of, parts_text}
-use Rattle.password_hash.specs.Refusal.{Algorithm, EncodingInvalid, OutputSize}
 use Rattle.password_hash.proofs.McfFacts.{IsMcfText-from_parts, parts_of-IsMcfText}
-use Rattle.scrypt.specs.Accepted.{Parameters, are_accepted, is_output_len}
-use Rattle.scrypt.specs.McfParams.{params_letters, params_text, field_params}
-use Rattle.scrypt.specs.McfHash.{mcf_id, mcf_text, read_fields, read_key, read_mcf, read_parts}
-use Rattle.scrypt.specs.Reading.{◌and_then◌, NamesNoPassword, Stored}
 use Rattle.scrypt.proofs.AcceptedFacts.{ok_if, refuted}
 use Rattle.scrypt.proofs.McfParamsFacts.{field_accepted, field_fault, field_is}
 use Rattle.scrypt.proofs.ReadingFacts.{IsFault, both_read, faults, no_password}

@@ -2,12 +2,10 @@ use Rattle.std.proofs.Common.{◌≡◌, ℕ, ◌-◌, ◌/◌, ◌%◌, ◌^◌
 use Rattle.std.proofs.Math.Seq.{take-append_seam}
 use Rattle.std.proofs.lemmas.Bool.{le-ltb, cases_lt, lt-ltb}
 use Rattle.std.proofs.lemmas.List.Elements.{All-head, All-tail}
-use Rattle.password_hash.specs.Crypt64.{letter, letter_value, letters_of, number_of, with_digit}
+use Rattle.scrypt.specs.Terms.{◌and_then◌, EncodingInvalid, Parameters, Refusal, are_accepted, checked, field_params}
+use Rattle.scrypt.specs.Terms.{five_letter_number, letter, letter_value, letters_of, number_of, params_letters}
+use Rattle.scrypt.specs.Terms.{with_digit}
 use Rattle.password_hash.proofs.Crypt64Facts.{length-letters_of, letters_of-number_of, number_of-letters_of, letter-of_value}
-use Rattle.password_hash.specs.Refusal.{Refusal, EncodingInvalid}
-use Rattle.scrypt.specs.Accepted.{are_accepted, Parameters}
-use Rattle.scrypt.specs.McfParams.{params_letters, field_params, five_letter_number}
-use Rattle.scrypt.specs.Reading.{◌and_then◌, checked}
 use Rattle.scrypt.proofs.AcceptedFacts.{checked_ok, ok_if, small_params}
 use Rattle.scrypt.proofs.ReadingFacts.{IsFault, faults}
 

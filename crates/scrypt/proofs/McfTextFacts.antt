@@ -3,19 +3,15 @@ use Rattle.std.proofs.lemmas.Str.{IsUtf8-from_ascii}
 use Rattle.std.proofs.lemmas.Str.Ascii.{IsAscii-from_all}
 use Rattle.std.proofs.lemmas.List.{append-nil, drop_all, drop_at}
 use Rattle.std.proofs.lemmas.List.Elements.{All-nil, All-cons, All-append, All-drop, All-from_recursion, All-head, All-weaker}
-use Rattle.password_hash.specs.Crypt64.{letter, letters_of, crypt64_of, encoded_len}
-use Rattle.password_hash.specs.Mcf.{IsField, IsMcf, IsMcfText}
+use Rattle.scrypt.specs.Terms.{IsField, IsMcf, IsMcfHashText, IsMcfText, Parameters, Refusal, Stored, are_accepted}
+use Rattle.scrypt.specs.Terms.{crypt64_of, encoded_len, field_params, five_letter_number, is_output_len}
+use Rattle.scrypt.specs.Terms.{key_len_or_default, letter, letters_of, made_key, made_mcf, made_stored, made_text_len}
+use Rattle.scrypt.specs.Terms.{mcf_id, mcf_text, params_letters, params_text, read_mcf, without_len}
 use Rattle.password_hash.specs.Parts.{dollar}
-use Rattle.password_hash.specs.Refusal.{Refusal}
 use Rattle.password_hash.proofs.Crypt64Facts.{letter-ascii, letter_value-letter, IsPlain, crypt64_of-plain, length-letters_of, letters_of-plain}
 use Rattle.password_hash.proofs.GroupFacts.{length-crypt64_of}
 use Rattle.password_hash.proofs.McfFacts.{IsField-crypt64_of}
-use Rattle.scrypt.specs.Accepted.{Parameters, are_accepted, is_output_len, without_len}
 use Rattle.scrypt.proofs.KeyFacts.{key_by-are_bytes, length-key_by}
-use Rattle.scrypt.specs.McfParams.{five_letter_number, params_letters, params_text, field_params}
-use Rattle.scrypt.specs.McfHash.{IsMcfHashText, made_key, made_mcf, made_text_len, mcf_id, mcf_text, read_mcf}
-use Rattle.scrypt.specs.Hashing.{key_len_or_default}
-use Rattle.scrypt.specs.Reading.{Stored, made_stored}
 use Rattle.scrypt.proofs.AcceptedFacts.{checked_is, numbers, small_params}
 use Rattle.scrypt.proofs.McfParamsFacts.{five_letter_number_letters_of, of_numbers}
 use Rattle.scrypt.proofs.McfHashFacts.{fields_read, is_mcf, key_read, read_seven, text_of, text_of_fields}

@@ -2,10 +2,12 @@ use Rattle.std.proofs.Common.{◌≡◌, ℕ, ◌+◌, ◌*◌, ◌/◌, ◌++�
 use Rattle.std.proofs.lemmas.Bool.Decides.{nat_tests}
 use Rattle.password_hash.specs.Decimal.{decimal_below}
 use Rattle.password_hash.proofs.DecimalFacts.{decimal_exact, is_value-decimal}
-use Rattle.scrypt.specs.Accepted.{are_accepted, Parameters, without_len, is_stored_len}
+use Rattle.scrypt.specs.Terms.{IsHashText, IsKey, IsSalt, NamesNoPassword, OutOfMemory, Parameters, are_accepted}
+use Rattle.scrypt.specs.Terms.{base64, hash_text, is_salt_len, is_stored_len, key_by, key_len_or_default, made_phc}
+use Rattle.scrypt.specs.Terms.{made_stored, params_of_pairs, phc_hash, phc_params, read_pairs, read_phc, refusal}
+use Rattle.scrypt.specs.Terms.{salt_refusal, without_len, written_pairs}
 use Rattle.scrypt.proofs.AcceptedFacts.{checked_is, small_params, key_len_stored}
 use Rattle.scrypt.proofs.ReadingFacts.{AreGood, IsFault, checked_fault, checked_good, faults, if_good, no_password, then_good}
-use Rattle.scrypt.specs.PhcParams.{params_of_pairs, read_pairs, written_pairs}
 use Rattle.std.proofs.lemmas.Bool.{false≢true}
 use Rattle.std.proofs.lemmas.Fmt.{length-decimal-le}
 use Rattle.std.proofs.lemmas.List.Elements.{All-from_recursion, All-nil}
@@ -15,15 +17,9 @@ use Rattle.password_hash.proofs.Base64Facts.{length-base64}
 use Rattle.password_hash.specs.Pairs.{ArePairs, IsPair, pairs_text}
 use Rattle.password_hash.specs.Parts.{parts_text}
 use Rattle.password_hash.proofs.ParamsFacts.{ArePairs-front}
-use Rattle.password_hash.specs.Phc.{IsHashText, IsKey, IsSalt, base64, hash_text}
 use Rattle.password_hash.specs.declared.phc.hash.PasswordHash.{PasswordHash}
-use Rattle.scrypt.specs.PhcHash.{is_salt_len, made_phc, phc_hash, phc_params, read_phc, salt_refusal}
-use Rattle.password_hash.specs.Refusal.{OutOfMemory, refusal}
 use Rattle.password_hash.specs.declared.error.Error.{Error}
 use Rattle.password_hash.specs.declared.error.Error.TheVariants.{OutOfMemory as NoMemory}
-use Rattle.scrypt.specs.Hashing.{key_len_or_default}
-use Rattle.scrypt.specs.KeyOfParams.{key_by}
-use Rattle.scrypt.specs.Reading.{NamesNoPassword, made_stored}
 use Rattle.scrypt.proofs.KeyFacts.{key_by-are_bytes, length-key_by}
 
 -- the number of a value

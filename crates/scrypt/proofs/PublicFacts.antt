@@ -1,14 +1,9 @@
 use Rattle.std.proofs.Common.{◌≡◌, ℕ, ◌*◌, List, [], ◌∷◌, length, map, refl, sym, ap, ap₂, ◌∙◌, Option, None, Some, Ok, Err, true, false, sum, sum_by, MatchBool, MatchOption, option_and_then}
 use Rattle.std.specs.Prelude.{Bool, option_map}
 use Rattle.std.proofs.lemmas.List.Sums.{sum-map}
-use Rattle.scrypt.specs.Accepted.{Parameters}
-use Rattle.scrypt.specs.Cost.{table_words}
-use Rattle.scrypt.specs.InBuffers.{are_enough}
-use Rattle.scrypt.specs.KeyOfParams.{cost_by}
-use Rattle.scrypt.specs.Logins.{AreLeft, Attempt, cores_on, count_of, hashed_on, params_of, shared}
-use Rattle.scrypt.specs.PublicPart.{AreSameAfter, public_hash, public_part}
-use Rattle.scrypt.specs.Reading.{Stored, verify_cost}
-use Rattle.scrypt.specs.Workspace.{IsDone, IsLeft, Workspace, tables_used}
+use Rattle.scrypt.specs.Terms.{AreLeft, AreSameAfter, Attempt, IsDone, IsLeft, Parameters, Stored, Workspace}
+use Rattle.scrypt.specs.Terms.{are_enough, cores_on, cost_by, count_of, hashed_on, params_of, public_hash, public_part}
+use Rattle.scrypt.specs.Terms.{shared, table_words, tables_used, verify_cost}
 
 -- two hashes with the same public part
 record AreAlike (s d : Stored) : Type 0 where

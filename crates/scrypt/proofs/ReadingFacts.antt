@@ -2,20 +2,16 @@ use Rattle.std.proofs.Common.{◌≡◌, ◌↔◌, ◌≢◌, ◌⊎◌, ◌∙
 use Rattle.std.specs.Prelude.{Bool, IfErr, IfOk, IsOk, None, Option, Result, Some, if◌then◌else◌, max, min, ok_or, ⊤, IsTrue}
 use Rattle.std.proofs.lemmas.Bool.Decides.{Decides-and, same_from_decides}
 use Rattle.std.proofs.lemmas.Slice.Eq.{bytes_eq-Decides}
-use Rattle.password_hash.specs.Refusal.{Refusal, KeyTooShort, OutOfMemory, ParamsInvalid, PasswordInvalid, TooCostly}
-use Rattle.scrypt.specs.Accepted.{Parameters, are_accepted, without_len}
-use Rattle.scrypt.specs.Cost.{chunks_bytes, scratch_words, table_words}
-use Rattle.scrypt.specs.Hashing.{key_len_or_default}
-use Rattle.scrypt.specs.KeyOfParams.{key_by}
+use Rattle.scrypt.specs.Terms.{◌and_then◌, IsReadAsMade, KeyTooShort, NamesNoPassword, OutOfMemory, Parameters}
+use Rattle.scrypt.specs.Terms.{ParamsInvalid, PasswordInvalid, Refusal, Stored, SufficeFor, TooCostly, are_accepted}
+use Rattle.scrypt.specs.Terms.{are_enough, are_within, buffers_bytes, checked, chunks_bytes, is_below, is_right, key_by}
+use Rattle.scrypt.specs.Terms.{key_len_or_default, limits_for_new, made_stored, mapped, scratch_words, table_words}
+use Rattle.scrypt.specs.Terms.{verdict, within, without_len, work}
 use Rattle.scrypt.proofs.AcceptedFacts.{leb_decided, numbers, ok_if}
 use Rattle.scrypt.proofs.KeyFacts.{length-key_by}
 use Rattle.std.proofs.lemmas.Bool.{false_from_ne_true, le-ltb}
 use Rattle.std.proofs.lemmas.Nat.{mul-le}
-use Rattle.scrypt.specs.Reading.{◌and_then◌, IsReadAsMade, NamesNoPassword, Stored, checked, is_below, is_right, made_stored, mapped, verdict}
-use Rattle.scrypt.specs.InBuffers.{are_enough}
-use Rattle.scrypt.specs.Limits.{SufficeFor, are_within, buffers_bytes, limits_for_new, work}
 use Rattle.scrypt.specs.declared.limits.Limits.{Limits}
-use Rattle.scrypt.specs.WithinLimits.{within}
 
 -- what is read in two steps
 

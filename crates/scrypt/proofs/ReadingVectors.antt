@@ -1,18 +1,13 @@
 use Rattle.std.proofs.Common.{◌≡◌, ℕ, List, [], ◌∷◌, map, codes, None, Ok, Err, refl, Result}
 use Rattle.std.specs.Fmt.{digits}
-use Rattle.password_hash.specs.Crypt64.{bytes_of_number, crypt64_of, decoded, letter, letter_value, letters_of, number_of}
+use Rattle.scrypt.specs.Terms.{Algorithm, EncodingInvalid, ParamInvalid, ParamsInvalid, PasswordInvalid, Refusal}
+use Rattle.scrypt.specs.Terms.{Stored, Version, are_accepted, bytes_of_number, checked, crypt64_of, decoded}
+use Rattle.scrypt.specs.Terms.{field_params, formatted, is_mcf_text, is_output_len, letter, letter_value, letters_of}
+use Rattle.scrypt.specs.Terms.{mcf_text, number_of, phc_params, read_mcf, read_pairs, reading}
 use Rattle.password_hash.specs.Decimal.{decimal_below, has_plus_or_leading_zero}
 use Rattle.password_hash.specs.PhcReading.{decoded_bytes, parsed_pairs, read_hash}
-use Rattle.password_hash.specs.Refusal.{Refusal, Algorithm, EncodingInvalid, ParamInvalid, ParamsInvalid, PasswordInvalid, Version}
 use Rattle.password_hash.proofs.StandardFacts.{decoded_of, encode_symbols, groups_bytes, groups_error, scan_steps}
 use Rattle.scrypt_kernel.proofs.StandardFacts.{bytes}
-use Rattle.scrypt.specs.Accepted.{are_accepted, is_output_len}
-use Rattle.scrypt.specs.McfHash.{mcf_text, read_mcf}
-use Rattle.scrypt.specs.McfParams.{field_params}
-use Rattle.scrypt.specs.PhcHash.{phc_params}
-use Rattle.scrypt.specs.PhcParams.{read_pairs}
-use Rattle.scrypt.specs.Reading.{Stored, checked}
-use Rattle.scrypt.specs.StoredHash.{formatted, is_mcf_text, reading}
 
 -- the parts of a hash: parameters, a salt and a key
 abbrev parts : ℕ → ℕ → ℕ → List ℕ → List ℕ → Stored

@@ -1,16 +1,13 @@
 use Rattle.std.proofs.Common.{◌≡◌, ℕ, zero, suc, ◌+◌, ◌*◌, ◌%◌, ◌^◌, List, [], ◌∷◌, ◌++◌, codes, refl, ap, ◌∙◌, add-zero, zero-add, arith}
 use Rattle.sha2.specs.Sha256.{sha256, first_words, schedule, rounds, compress, hash_after, digest_bytes}
 use Rattle.scrypt_kernel.specs.Hmac.{hmac_sha256}
-use Rattle.scrypt_kernel.specs.Pbkdf2.{pbkdf2}
+use Rattle.scrypt.specs.Terms.{derived_key, extra_rows_of_chunks, mixed_chunks, pbkdf2, thin_cost, words_of, xor_words}
 use Rattle.scrypt_kernel.proofs.Pbkdf2Facts.{pbkdf2_by_blocks}
 use Rattle.scrypt_kernel.proofs.StandardFacts.{bytes, key_blocks, mixed_input, ro_mix_output, ro_mix_vector}
-use Rattle.scrypt_kernel.specs.Words.{words_of, xor_words}
 use Rattle.scrypt_kernel.specs.Salsa.{double_round, quarter_round, salsa20_8}
 use Rattle.scrypt_kernel.specs.BlockMix.{block_mix, chain}
 use Rattle.scrypt_kernel.specs.RoMix.{integerify, ro_mix, row, walk}
 use Rattle.scrypt_kernel.specs.Table.{extra_rows, recomputed_rows}
-use Rattle.scrypt.specs.Cost.{extra_rows_of_chunks, thin_cost}
-use Rattle.scrypt.specs.Key.{derived_key, mixed_chunks}
 
 abbrev pub first_key : List ℕ
 first_key =

@@ -5,11 +5,9 @@ use Rattle.std.proofs.lemmas.Nat.{le-div, mul-le, one_shl, pow_pos, pow-add}
 use Rattle.std.proofs.Math.Nat.{mul-le-mul_left, mul-le-mul_right, pow-le-pow_right}
 use Rattle.scrypt_kernel.specs.Steps.{all_mixes}
 use Rattle.scrypt_kernel.proofs.StepFacts.{drop_same}
-use Rattle.scrypt.specs.Key.{mixed_chunks}
-use Rattle.scrypt.specs.Accepted.{Parameters}
-use Rattle.scrypt.specs.Cost.{chunks_bytes, cost, scratch_words, table_words}
-use Rattle.scrypt.specs.Stepping.{AreMixed, CanGoOn, IsNext, WentOn, lacking, max_step, mixes_done}
-use Rattle.scrypt.specs.Workspace.{IsRestKept, Workspace, interleaved_chunks, tables_used}
+use Rattle.scrypt.specs.Terms.{AreMixed, CanGoOn, IsNext, IsRestKept, Parameters, WentOn, Workspace, chunks_bytes, cost}
+use Rattle.scrypt.specs.Terms.{interleaved_chunks, lacking, max_step, mixed_chunks, mixes_done, scratch_words}
+use Rattle.scrypt.specs.Terms.{table_words, tables_used}
 use Rattle.scrypt.specs.declared.stepping.Progress.{Progress}
 use Rattle.scrypt.proofs.AcceptedFacts.{small_factor}
 use Rattle.scrypt.proofs.CostFacts.{some_table}

@@ -7,23 +7,16 @@ use Rattle.std.specs.Str.{bytes_eq}
 use Rattle.std.proofs.lemmas.Bool.Decides.{Decides-eqb}
 use Rattle.password_hash.proofs.McfFacts.{IsMcfText-from_parts}
 use Rattle.password_hash.proofs.PhcReadingFacts.{hash_is_read}
-use Rattle.password_hash.specs.Crypt64.{crypt64_of}
-use Rattle.password_hash.specs.Mcf.{IsMcfText, fields_of}
+use Rattle.scrypt.specs.Terms.{◌and_then◌, EncodingInvalid, Formatted, IsHashText, IsMcfText, IsOfText, IsSalt, McfText}
+use Rattle.scrypt.specs.Terms.{NamesNoPassword, Parameters, PasswordInvalid, PhcHash, Refusal, Stored, SufficeFor}
+use Rattle.scrypt.specs.Terms.{are_accepted, are_enough, crypt64_of, fields_of, formatted, hash_text, is_mcf_text}
+use Rattle.scrypt.specs.Terms.{is_output_len, is_stored_len, is_stored_text, key_len_or_default, made_mcf, made_phc}
+use Rattle.scrypt.specs.Terms.{made_stored, mapped, mcf_id, params_and_len, params_reading, phc_params, read_fields}
+use Rattle.scrypt.specs.Terms.{read_mcf, reading, whole, within}
 use Rattle.password_hash.specs.Parts.{parts_of}
-use Rattle.password_hash.specs.Phc.{IsHashText, IsSalt, hash_text}
-use Rattle.password_hash.specs.Refusal.{Refusal, EncodingInvalid, PasswordInvalid}
 use Rattle.password_hash.specs.declared.phc.hash.PasswordHash.{PasswordHash}
-use Rattle.scrypt.specs.McfHash.{made_mcf, mcf_id, read_fields, read_mcf}
-use Rattle.scrypt.specs.PhcHash.{made_phc, phc_params}
-use Rattle.scrypt.specs.Accepted.{are_accepted, is_output_len, is_stored_len, Parameters}
-use Rattle.scrypt.specs.Reading.{◌and_then◌, IsOfText, NamesNoPassword, Stored, made_stored, mapped}
-use Rattle.scrypt.specs.StoredHash.{Formatted, McfText, PhcHash, formatted, is_mcf_text, is_stored_text, params_and_len, params_reading, reading, whole}
 use Rattle.scrypt.proofs.McfHashFacts.{is_mcf, mcf_fault, mcf_none, read_seven}
-use Rattle.scrypt.specs.InBuffers.{are_enough}
-use Rattle.scrypt.specs.Limits.{SufficeFor}
-use Rattle.scrypt.specs.WithinLimits.{within}
 use Rattle.scrypt.specs.declared.limits.Limits.{Limits}
-use Rattle.scrypt.specs.Hashing.{key_len_or_default}
 use Rattle.scrypt.proofs.AcceptedFacts.{bounds}
 use Rattle.scrypt.proofs.McfTextFacts.{made_text, read_is_text}
 use Rattle.scrypt.proofs.PhcFacts.{made_is_text, made_read, params_fault, params_good, params_none}

@@ -3,19 +3,13 @@ use Rattle.std.proofs.lemmas.Str.{IsUtf8-append, IsUtf8-from_ascii}
 use Rattle.std.proofs.lemmas.Str.Ascii.{IsAscii-from_all}
 use Rattle.std.proofs.lemmas.List.Elements.{All-cons, All-append, All-from_recursion, All-weaker}
 use Rattle.std.specs.Str.{IsUtf8}
-use Rattle.password_hash.specs.Crypt64.{IsBytes, crypt64_of, encoded_len, letters_of}
-use Rattle.password_hash.specs.Mcf.{IsField}
+use Rattle.scrypt.specs.Terms.{IsBytes, IsField, IsKey, IsSalt, IsTextOfKey, Parameters, are_accepted, crypt64_of}
+use Rattle.scrypt.specs.Terms.{encoded_len, formatted, hash_text, is_output_len, letters_of, mcf_text, params_letters}
+use Rattle.scrypt.specs.Terms.{params_text, parts_of_key, phc_hash, phc_params, read_phc, reading}
 use Rattle.password_hash.specs.Parts.{dollar}
-use Rattle.password_hash.specs.Phc.{IsKey, IsSalt, hash_text}
 use Rattle.password_hash.proofs.Crypt64Facts.{IsPlain, crypt64_of-plain, length-letters_of}
 use Rattle.password_hash.proofs.GroupFacts.{length-crypt64_of}
 use Rattle.password_hash.proofs.PhcReadingFacts.{hash_is_read}
-use Rattle.scrypt.specs.Accepted.{Parameters, are_accepted, is_output_len}
-use Rattle.scrypt.specs.McfHash.{mcf_text}
-use Rattle.scrypt.specs.McfParams.{params_letters, params_text}
-use Rattle.scrypt.specs.PhcHash.{phc_hash, phc_params, read_phc}
-use Rattle.scrypt.specs.StoredHash.{formatted, reading}
-use Rattle.scrypt.specs.TextOfKey.{IsTextOfKey, parts_of_key}
 use Rattle.scrypt.proofs.AcceptedFacts.{small_params}
 use Rattle.scrypt.proofs.McfHashFacts.{is_mcf}
 use Rattle.scrypt.proofs.McfTextFacts.{plain_letters, text_read}

@@ -66,3 +66,5 @@ pub mod Mixing
 pub mod StoredKey
 -- private: the contents of a stored hash
 pub mod StoredParts
+-- private: the definitions above, for clauses and proofs
+pub mod Terms

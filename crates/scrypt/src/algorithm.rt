@@ -3,12 +3,10 @@
 
 ghost use Rattle.std.specs.Prelude.{◌≡◌, codes, length, option_map, None, IfErr, IsOk, IsTrue, OnOk};
 ghost use Rattle.password_hash.specs.McfViews.{borrowed_text};
-ghost use Rattle.password_hash.specs.Refusal.{OutOfMemory as NoMemory, Refusal, refusal};
-ghost use Rattle.scrypt.specs.Accepted.{is_output_len, Parameters, recommended_parameters};
-ghost use Rattle.scrypt.specs.Hashing.{call_refusal, is_named_or_none};
-ghost use Rattle.scrypt.specs.KeyOfParams.{KeyIsRefused, key_by};
-ghost use Rattle.scrypt.specs.McfHash.{made_mcf, mcf_id, read_mcf};
-ghost use Rattle.scrypt.specs.PhcHash.{is_salt_len, made_phc, read_phc, salt_refusal};
+ghost use Rattle.password_hash.specs.Refusal.{OutOfMemory as NoMemory};
+ghost use Rattle.scrypt.specs.Terms.{KeyIsRefused, Parameters, Refusal, call_refusal, is_named_or_none, is_output_len};
+ghost use Rattle.scrypt.specs.Terms.{is_salt_len, key_by, made_mcf, made_phc, mcf_id, read_mcf, read_phc};
+ghost use Rattle.scrypt.specs.Terms.{recommended_parameters, refusal, salt_refusal};
 ghost use Rattle.scrypt.specs.Reading.{verdict as verdict_of, weaker as weaker_than};
 
 use crate::mcf::reading::parts_of_mcf;

@@ -2,17 +2,11 @@
 // part of them that a derivation uses.
 
 ghost use Rattle.std.specs.Prelude.{◌≡◌, ◌⊎◌, ◌↔◌, ◌*◌, ◌/◌, ◌<◌, ◌≤◌, ℕ, All, length, map, min, replicate, sum_by, IfOk, IsErrOf, IsOk, IsTrue, OnErr, OnOk};
-ghost use Rattle.scrypt.specs.Accepted.{is_output_len};
-ghost use Rattle.scrypt.specs.Buffers.{AreFor, KeepLens, workspace_in};
-ghost use Rattle.scrypt.specs.Cost.{AreCompressed, AreCounted, chunks_bytes, scratch_words, table_words};
-ghost use Rattle.scrypt.specs.KeyOfParams.{cost_by, key_by};
-ghost use Rattle.scrypt.specs.Limits.{SufficeFor, tables_bytes, tables_within};
-ghost use Rattle.scrypt.specs.Logins.{AreLeft, attempts, cores_on, hashed_on, reading_of, verdict_on};
-ghost use Rattle.scrypt.specs.Reading.{verdict, with_refusal};
-ghost use Rattle.scrypt.specs.Stepping.{IsStopped, WentOn, max_step};
-ghost use Rattle.scrypt.specs.StoredHash.{reading};
-ghost use Rattle.scrypt.specs.WithinLimits.{with_limited_refusal, within};
-ghost use Rattle.scrypt.specs.Workspace.{IsLeft, IsRestKept, cores_in, hashed_in, verdict_in};
+ghost use Rattle.scrypt.specs.Terms.{AreCompressed, AreCounted, AreFor, AreLeft, IsLeft, IsRestKept, IsStopped};
+ghost use Rattle.scrypt.specs.Terms.{KeepLens, SufficeFor, WentOn, attempts, chunks_bytes, cores_in, cores_on, cost_by};
+ghost use Rattle.scrypt.specs.Terms.{hashed_in, hashed_on, is_output_len, key_by, max_step, reading, reading_of};
+ghost use Rattle.scrypt.specs.Terms.{scratch_words, table_words, tables_bytes, tables_within, verdict, verdict_in};
+ghost use Rattle.scrypt.specs.Terms.{verdict_on, with_limited_refusal, with_refusal, within, workspace_in};
 ghost use Rattle.scrypt.specs.declared.limits.Limits.{Limits};
 ghost use Rattle.scrypt.specs.declared.errors.StepsError.TheVariants.{Cancelled, InvalidOutputLen as BadLength};
 

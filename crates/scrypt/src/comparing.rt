@@ -2,9 +2,7 @@
 // either.
 
 ghost use Rattle.std.specs.Prelude.{◌≡◌, length};
-ghost use Rattle.scrypt.specs.Cost.{AreHashed, pbkdf2_cost};
-ghost use Rattle.scrypt.specs.Reading.{is_right, mixed_of};
-ghost use Rattle.scrypt.specs.StoredParts.{stored};
+ghost use Rattle.scrypt.specs.Terms.{AreHashed, is_right, mixed_of, pbkdf2_cost, stored};
 
 use crate::CoreCount;
 use crate::stored_parts::StoredParts;

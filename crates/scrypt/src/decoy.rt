@@ -3,12 +3,8 @@
 ghost use Rattle.std.specs.Prelude.{◌≡◌, ◌⊎◌, length, Err, IsErrOf, Ok};
 ghost use Rattle.password_hash.specs.Refusal.{OutOfMemory as NoMemory, PasswordInvalid as WrongPassword};
 ghost use Rattle.password_hash.specs.declared.error.Error.TheVariants.{OutOfMemory, PasswordInvalid};
-ghost use Rattle.scrypt.specs.Cost.{AreCompressed, AreCounted, hash_cost};
-ghost use Rattle.scrypt.specs.Decoy.{decoy_reading};
-ghost use Rattle.scrypt.specs.Hashing.{key_len_or_default};
-ghost use Rattle.scrypt.specs.KeyOfParams.{cost_by};
-ghost use Rattle.scrypt.specs.Reading.{with_refusal};
-ghost use Rattle.scrypt.specs.StoredParts.{stored};
+ghost use Rattle.scrypt.specs.Terms.{AreCompressed, AreCounted, cost_by, decoy_reading, hash_cost, key_len_or_default};
+ghost use Rattle.scrypt.specs.Terms.{stored, with_refusal};
 
 use crate::stored_parts::{Key, Salt, StoredParts};
 use crate::verifying::verify_allocating;

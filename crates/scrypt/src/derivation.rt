@@ -1,13 +1,10 @@
 // The derived key (RFC 7914, section 6).
 
 ghost use Rattle.std.specs.Prelude.{◌≡◌, ◌↔◌, ◌-◌, ◌*◌, ◌<◌, ◌≤◌, length, replicate, IsOk, IsTrue, IsErrOf, OnOk, OnErr};
-ghost use Rattle.scrypt_kernel.specs.Pbkdf2.{max_output_len, pbkdf2};
-ghost use Rattle.scrypt.specs.Accepted.{is_output_len};
-ghost use Rattle.scrypt.specs.Cost.{AreCompressed, AreCounted, AreHashed, chunks_bytes, cost, hash_cost, pbkdf2_cost, scratch_words, table_words, thin_cost, thin_scratch_words};
-ghost use Rattle.scrypt.specs.Key.{derived_key};
-ghost use Rattle.scrypt.specs.KeyOfParams.{IsDerived, cost_by};
-ghost use Rattle.scrypt.specs.Mixing.{IsReady, IsSpent};
-ghost use Rattle.scrypt.specs.Workspace.{IsDone, are_enough, workspace_of};
+ghost use Rattle.scrypt.specs.Terms.{AreCompressed, AreCounted, AreHashed, IsDerived, IsDone, IsReady, IsSpent};
+ghost use Rattle.scrypt.specs.Terms.{are_enough, chunks_bytes, cost, cost_by, derived_key, hash_cost, is_output_len};
+ghost use Rattle.scrypt.specs.Terms.{max_output_len, pbkdf2, pbkdf2_cost, scratch_words, table_words, thin_cost};
+ghost use Rattle.scrypt.specs.Terms.{thin_scratch_words, workspace_of};
 ghost use Rattle.scrypt.specs.declared.errors.DeriveError.TheVariants.{InvalidOutputLen as BadLength, OutOfMemory};
 
 pub(crate) mod mixing;

@@ -1,10 +1,8 @@
 // Hashing, in every format, with any source of memory.
 
 ghost use Rattle.std.specs.Prelude.{◌≡◌, length, IfErr, IfOk, OnErr, OnOk};
-ghost use Rattle.scrypt.specs.Cost.{AreCompressed, AreCounted, hash_cost};
-ghost use Rattle.scrypt.specs.Hashing.{key_len_or_default};
-ghost use Rattle.scrypt.specs.KeyOfParams.{cost_by, key_by};
-ghost use Rattle.scrypt.specs.Mixing.{IsReady, IsSpent};
+ghost use Rattle.scrypt.specs.Terms.{AreCompressed, AreCounted, IsReady, IsSpent, cost_by, hash_cost, key_by};
+ghost use Rattle.scrypt.specs.Terms.{key_len_or_default};
 ghost use Rattle.password_hash.specs.declared.error.Error.TheVariants.{OutOfMemory};
 
 use crate::buffers::memory::{ActiveBuffers, Allocation};

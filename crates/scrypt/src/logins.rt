@@ -1,13 +1,11 @@
 // Verifying several passwords in one workspace, in one batch if possible.
 
 ghost use Rattle.std.specs.Prelude.{◌≡◌, ◌∷◌, List, ◌+◌, ◌*◌, ◌<◌, length, map, IfSome, IsTrue, None, Some, true, false, sum_by};
-ghost use Rattle.scrypt.specs.Logins.{AreLeft, Attempt, IsAlone, all_cost, all_of, attempt_of, attempts, bytes_if_ok, chunks_cost, compare_cost, cores_on, cost_if_ok, count_of, hashed_on, params_of, reading_of, shared, verdict_on, verify_cores};
-ghost use Rattle.scrypt.specs.Mixing.{IsReady, IsSpent};
-ghost use Rattle.scrypt.specs.Reading.{chunks_of, mapped, mixed_of, verdict, verify_cost, with_refusal};
-ghost use Rattle.scrypt.specs.StoredParts.{stored};
-ghost use Rattle.scrypt.specs.WithinLimits.{with_limited_refusal};
-ghost use Rattle.scrypt.specs.Workspace.{IsLeft, workspace_of};
-ghost use Rattle.scrypt_kernel.specs.Count.{AreCompressed, AreCounted, AreHashed};
+ghost use Rattle.scrypt.specs.Terms.{AreCompressed, AreCounted, AreHashed, AreLeft, Attempt, IsAlone, IsLeft, IsReady};
+ghost use Rattle.scrypt.specs.Terms.{IsSpent, all_cost, all_of, attempt_of, attempts, bytes_if_ok, chunks_cost};
+ghost use Rattle.scrypt.specs.Terms.{chunks_of, compare_cost, cores_on, cost_if_ok, count_of, hashed_on, mapped};
+ghost use Rattle.scrypt.specs.Terms.{mixed_of, params_of, reading_of, shared, stored, verdict, verdict_on};
+ghost use Rattle.scrypt.specs.Terms.{verify_cores, verify_cost, with_limited_refusal, with_refusal, workspace_of};
 ghost use Rattle.scrypt_kernel.specs.Memory.{buffer_room};
 
 use crate::buffers::memory::{ActiveBuffers, with_prefix};

@@ -2,11 +2,9 @@
 #![tactic(auto, unfolding(crate::specs::Accepted::are_accepted, crate::specs::Accepted::is_stored_len))]
 
 ghost use Rattle.std.specs.Prelude.{◌≡◌, ◌↔◌, ◌+◌, ◌*◌, ◌^◌, ◌<◌, ◌≤◌, IsOk, IfOk, IsTrue, None, Some};
-ghost use Rattle.scrypt.specs.Accepted.{Parameters, are_accepted, is_stored_len, parameters_eq, recommended_parameters, without_len};
-ghost use Rattle.scrypt.specs.Limits.{work};
-ghost use Rattle.scrypt.specs.Hashing.{key_len_or_default};
-ghost use Rattle.scrypt.specs.Reading.{checked, is_below, with_refusal};
-ghost use Rattle.scrypt.specs.Cost.{cost};
+ghost use Rattle.scrypt.specs.Terms.{Parameters, are_accepted, checked, cost, is_below, is_stored_len};
+ghost use Rattle.scrypt.specs.Terms.{key_len_or_default, parameters_eq, recommended_parameters, with_refusal};
+ghost use Rattle.scrypt.specs.Terms.{without_len, work};
 ghost use Rattle.std.specs.Cmp.{and_equiv, on_equiv, partial_equiv_from_equiv};
 ghost use Rattle.std.specs.Cmp.Lexicographic.{options_equiv};
 ghost use Rattle.std.proofs.lemmas.Cmp.{nat_eq_equiv};

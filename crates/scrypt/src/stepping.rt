@@ -4,13 +4,10 @@
 ghost use Rattle.std.specs.Prelude.{◌≡◌, ◌↔◌, ℕ, ◌+◌, ◌-◌, ◌*◌, ◌<◌, ◌≤◌, List, drop, length, min, false, true, IsErrOf, IsOk, IsTrue, OnErr, OnOk};
 ghost use Rattle.scrypt_kernel.specs.Diagonal.{pivot};
 ghost use Rattle.scrypt_kernel.specs.Steps.{IsMixing, all_mixes};
-ghost use Rattle.scrypt.specs.Accepted.{is_output_len};
-ghost use Rattle.scrypt.specs.Cost.{AreCountedAs, AreHashed, chunks_bytes, pbkdf2_cost, scratch_words, table_words};
-ghost use Rattle.scrypt.specs.Key.{derived_key};
-ghost use Rattle.scrypt.specs.KeyOfParams.{IsDerived, cost_by};
-ghost use Rattle.scrypt.specs.Mixing.{group_by};
-ghost use Rattle.scrypt.specs.Stepping.{AreMixable, AreMixed, CanGoOn, IsStopped, IsUnderWay, IsWithin, WentOn, first_b, lacking, max_step, mixes_done, words_from};
-ghost use Rattle.scrypt.specs.Workspace.{IsRestKept, interleaved_chunks, workspace_of};
+ghost use Rattle.scrypt.specs.Terms.{AreCountedAs, AreHashed, AreMixable, AreMixed, CanGoOn, IsDerived, IsRestKept};
+ghost use Rattle.scrypt.specs.Terms.{IsStopped, IsUnderWay, IsWithin, WentOn, chunks_bytes, cost_by, derived_key};
+ghost use Rattle.scrypt.specs.Terms.{first_b, group_by, interleaved_chunks, is_output_len, lacking, max_step};
+ghost use Rattle.scrypt.specs.Terms.{mixes_done, pbkdf2_cost, scratch_words, table_words, words_from, workspace_of};
 ghost use Rattle.scrypt.specs.declared.errors.StepsError.TheVariants.{Cancelled, InvalidOutputLen as BadLength};
 
 use crate::buffers::lens::interleaved_chunks;

@@ -1,14 +1,11 @@
 // Stored hashes of either format.
 
 ghost use Rattle.std.specs.Prelude.{◌≡◌, ◌⊎◌, ◌↔◌, Err, IfErr, IfOk, IsErrOf, IsOk, IsTrue, None, Ok, OnErr};
-ghost use Rattle.password_hash.specs.Refusal.{refusal};
+ghost use Rattle.scrypt.specs.Terms.{◌and_then◌, AreCompressed, AreCounted, IsLeft, IsReadAs, IsVerdict, cores_in};
+ghost use Rattle.scrypt.specs.Terms.{cost_by, formatted, hashed_in, is_mcf_text, is_stored_text, key_len_or_zero};
+ghost use Rattle.scrypt.specs.Terms.{let_in, mapped, params_reading, reading, refusal, stored, verdict, verdict_in};
+ghost use Rattle.scrypt.specs.Terms.{verify_cost, weaker, with_refusal, workspace_of};
 ghost use Rattle.password_hash.specs.declared.error.Error.TheVariants.{EncodingInvalid, OutOfMemory};
-ghost use Rattle.scrypt.specs.Cost.{AreCompressed, AreCounted};
-ghost use Rattle.scrypt.specs.KeyOfParams.{cost_by};
-ghost use Rattle.scrypt.specs.Reading.{◌and_then◌, IsVerdict, let_in, mapped, verdict, verify_cost, weaker, with_refusal};
-ghost use Rattle.scrypt.specs.StoredHash.{formatted, is_mcf_text, is_stored_text, key_len_or_zero, params_reading, reading};
-ghost use Rattle.scrypt.specs.StoredParts.{IsReadAs, stored};
-ghost use Rattle.scrypt.specs.Workspace.{IsLeft, cores_in, hashed_in, verdict_in, workspace_of};
 
 mod in_steps;
 mod within;

@@ -2,15 +2,8 @@
 
 ghost use Rattle.std.specs.Prelude.{◌≡◌, ◌^◌, ◌<◌, ◌≤◌, ℕ, IfErr, IfOk, string_bytes, Ok, false};
 ghost use Rattle.password_hash.specs.declared.error.Error.TheVariants.{OutOfMemory};
-ghost use Rattle.scrypt.specs.Accepted.{without_len};
-ghost use Rattle.scrypt.specs.Hashing.{key_len_or_default};
-ghost use Rattle.scrypt.specs.KeyOfParams.{key_by};
-ghost use Rattle.scrypt.specs.Limits.{buffers_bytes, limits_for_new, work};
-ghost use Rattle.password_hash.specs.Phc.{hash_text};
-ghost use Rattle.scrypt.specs.PhcHash.{made_phc};
-ghost use Rattle.scrypt.specs.Reading.{verdict, weaker};
-ghost use Rattle.scrypt.specs.StoredHash.{reading};
-ghost use Rattle.scrypt.specs.WithinLimits.{within};
+ghost use Rattle.scrypt.specs.Terms.{buffers_bytes, hash_text, key_by, key_len_or_default, limits_for_new, made_phc};
+ghost use Rattle.scrypt.specs.Terms.{reading, verdict, weaker, within, without_len, work};
 ghost use Rattle.scrypt.specs.declared.limits.Limits.{Limits};
 
 use crate::laws::made_hashes_are_accepted;

@@ -1,14 +1,10 @@
 // Verifying, in every format, with any source of memory.
 
 ghost use Rattle.std.specs.Prelude.{◌≡◌, if◌then◌else◌, Err, IsErrOf, Ok};
-ghost use Rattle.password_hash.specs.Refusal.{PasswordInvalid};
+ghost use Rattle.scrypt.specs.Terms.{AreCompressed, AreCounted, IsLeft, IsReady, IsSpent, IsVerdict, PasswordInvalid};
+ghost use Rattle.scrypt.specs.Terms.{cores_in, cost_by, hashed_in, is_right, stored, verdict_in, verify_cost};
+ghost use Rattle.scrypt.specs.Terms.{with_refusal, workspace_of};
 ghost use Rattle.password_hash.specs.declared.error.Error.TheVariants.{OutOfMemory};
-ghost use Rattle.scrypt.specs.Cost.{AreCompressed, AreCounted};
-ghost use Rattle.scrypt.specs.KeyOfParams.{cost_by};
-ghost use Rattle.scrypt.specs.Mixing.{IsReady, IsSpent};
-ghost use Rattle.scrypt.specs.Reading.{IsVerdict, is_right, verify_cost, with_refusal};
-ghost use Rattle.scrypt.specs.StoredParts.{stored};
-ghost use Rattle.scrypt.specs.Workspace.{IsLeft, cores_in, hashed_in, verdict_in, workspace_of};
 
 use crate::buffers::memory::{ActiveBuffers, Allocation, with_prefix};
 use crate::comparing::is_derived_key;

@@ -1,10 +1,8 @@
 // The lengths of the buffers of a derivation.
 
 ghost use Rattle.std.specs.Prelude.{◌≡◌, ◌↔◌, ◌+◌, ◌-◌, ◌*◌, ◌<◌, ◌≤◌, IfSome, IsSome};
-ghost use Rattle.scrypt.specs.Cost.{chunks_bytes, scratch_words, table_words, thin_scratch_words};
-ghost use Rattle.scrypt.specs.Limits.{AreMostTables, tables_within};
-ghost use Rattle.scrypt.specs.Mixing.{HasTables};
-ghost use Rattle.scrypt.specs.Workspace.{interleaved_chunks};
+ghost use Rattle.scrypt.specs.Terms.{AreMostTables, HasTables, chunks_bytes, interleaved_chunks, scratch_words};
+ghost use Rattle.scrypt.specs.Terms.{table_words, tables_within, thin_scratch_words};
 
 use crate::Params;
 use crate::size::{Size, index};

@@ -2,10 +2,9 @@
 
 ghost use Rattle.std.specs.Prelude.{◌≡◌, ◌⊎◌, ◌↔◌, ◌*◌, ◌<◌, length, IfOk, IfSome, IsSome, IsTrue, None};
 ghost use Rattle.scrypt_kernel.specs.Memory.{allocated_room, buffer_room};
-ghost use Rattle.scrypt.specs.Cost.{chunks_bytes, scratch_words, table_words};
-ghost use Rattle.scrypt.specs.Limits.{tables_within};
-ghost use Rattle.scrypt.specs.Mixing.{HasTables, IsAtFront, IsKept, IsReady, IsSpent, IsWidth};
-ghost use Rattle.scrypt.specs.Workspace.{IsDone, are_enough, interleaved_chunks, workspace_of};
+ghost use Rattle.scrypt.specs.Terms.{HasTables, IsAtFront, IsDone, IsKept, IsReady, IsSpent, IsWidth, are_enough};
+ghost use Rattle.scrypt.specs.Terms.{chunks_bytes, interleaved_chunks, scratch_words, table_words, tables_within};
+ghost use Rattle.scrypt.specs.Terms.{workspace_of};
 
 use super::lens::{BufferLens, interleaved_chunks};
 use crate::size::{Size, index, room};

@@ -1,11 +1,9 @@
 // Step 2 of a derivation (RFC 7914, section 6): each chunk becomes its scryptROMix.
 
 ghost use Rattle.std.specs.Prelude.{◌≡◌, ◌≢◌, ℕ, List, ◌+◌, ◌*◌, ◌<◌, ◌≤◌, length, true};
-ghost use Rattle.scrypt_kernel.specs.Words.{part, words_of};
-ghost use Rattle.scrypt.specs.Cost.{AreCountedAs, cost, thin_chunks_cost, thin_ro_mix_cost};
-ghost use Rattle.scrypt.specs.Key.{mixed_chunks};
-ghost use Rattle.scrypt.specs.Stepping.{AreMixed};
-ghost use Rattle.scrypt.specs.Mixing.{HasTables, IsKept, IsReady, group_by, next_group};
+ghost use Rattle.scrypt.specs.Terms.{AreCountedAs, AreMixed, HasTables, IsKept, IsReady, cost, group_by, mixed_chunks};
+ghost use Rattle.scrypt.specs.Terms.{next_group, part, thin_chunks_cost, words_of};
+ghost use Rattle.scrypt.specs.Cost.{thin_ro_mix_cost};
 
 use crate::buffers::memory::ActiveBuffers;
 use crate::{Backend, Params};

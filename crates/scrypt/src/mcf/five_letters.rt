@@ -1,9 +1,8 @@
 // Numbers below 2^30 as five letters of crypt(5), the lowest digit in base 64 first.
 
 ghost use Rattle.std.specs.Prelude.{◌≡◌, ◌↔◌, ◌≤◌, ◌%◌, ◌^◌, ◌++◌, None, Some, length, drop, IsOk, IfOk, IfErr, OnErr, OnOk};
-ghost use Rattle.password_hash.specs.Crypt64.{letters_of};
+ghost use Rattle.scrypt.specs.Terms.{five_letter_number, letters_of};
 ghost use Rattle.password_hash.specs.declared.error.Error.TheVariants.{EncodingInvalid};
-ghost use Rattle.scrypt.specs.McfParams.{five_letter_number};
 
 use password_hash::mcf::alphabet::{letter, number};
 use password_hash::{Error, Result};

@@ -2,20 +2,12 @@
 
 ghost use Rattle.std.specs.Prelude.{◌≡◌, ◌↔◌, ◌⊎◌, ◌+◌, ◌++◌, ◌<◌, ◌≤◌, ◌&&◌, true, nat_le, ℕ, List, if◌then◌else◌, Ok, Err, drop, length, IfOk, IfErr, take, IsErrOf, OnErr, OnOk, IsTrue, IsAscii};
 ghost use Rattle.std.specs.Str.{IsUtf8};
-ghost use Rattle.password_hash.specs.Crypt64.{crypt64_of, encoded_len};
-ghost use Rattle.password_hash.specs.Mcf.{IsField, IsMcf};
+ghost use Rattle.scrypt.specs.Terms.{AreCompressed, AreCounted, IsCopiedTo, IsDone, IsField, IsMcf, IsReady, IsSpent};
+ghost use Rattle.scrypt.specs.Terms.{IsTextOfKey, are_enough, cost_by, crypt64_of, encoded_len, hash_cost};
+ghost use Rattle.scrypt.specs.Terms.{is_output_len, key_len_or_default, made_key, made_mcf, made_text_len, mcf_text};
+ghost use Rattle.scrypt.specs.Terms.{params_text, parts_of_key, with_refusal, workspace_of};
 ghost use Rattle.password_hash.specs.declared.error.Error.TheVariants.{OutOfMemory, OutputSize, SaltInvalid};
-ghost use Rattle.scrypt.specs.McfParams.{params_text};
-ghost use Rattle.scrypt.specs.Cost.{AreCompressed, AreCounted, hash_cost};
-ghost use Rattle.scrypt.specs.KeyOfParams.{cost_by};
-ghost use Rattle.scrypt.specs.Hashing.{key_len_or_default};
-ghost use Rattle.scrypt.specs.Accepted.{is_output_len};
-ghost use Rattle.scrypt.specs.TextOfKey.{IsTextOfKey, parts_of_key};
-ghost use Rattle.scrypt.specs.McfHash.{made_key, made_mcf, made_text_len, mcf_text};
-ghost use Rattle.password_hash.specs.Refusal.{OutOfMemory as NoMemory, with_refusal};
-ghost use Rattle.scrypt.specs.InBuffers.{are_enough, IsCopiedTo};
-ghost use Rattle.scrypt.specs.Mixing.{IsReady, IsSpent};
-ghost use Rattle.scrypt.specs.Workspace.{IsDone, workspace_of};
+ghost use Rattle.password_hash.specs.Refusal.{OutOfMemory as NoMemory};
 ghost use Rattle.scrypt_kernel.specs.Memory.{buffer_room};
 
 use crate::buffers::memory::{ActiveBuffers, with_prefix};

@@ -1,9 +1,7 @@
 // Reading the parameters and the salt of a `$7$` hash.
 
 ghost use Rattle.std.specs.Prelude.{◌≡◌, ◌≤◌, drop, length, Ok, Err, IfOk, IfErr};
-ghost use Rattle.password_hash.specs.Refusal.{refusal};
-ghost use Rattle.scrypt.specs.McfParams.{field_params};
-ghost use Rattle.scrypt.specs.Reading.{with_refusal};
+ghost use Rattle.scrypt.specs.Terms.{field_params, refusal, with_refusal};
 
 use crate::Params;
 use crate::mcf::five_letters::decode64_uint32;

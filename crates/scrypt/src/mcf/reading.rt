@@ -2,9 +2,7 @@
 
 ghost use Rattle.std.specs.Prelude.{◌≡◌, ◌↔◌, IsTrue};
 ghost use Rattle.password_hash.specs.McfViews.{borrowed_text, fields_left};
-ghost use Rattle.scrypt.specs.McfHash.{mcf_id, read_fields, read_mcf};
-ghost use Rattle.scrypt.specs.Reading.{mapped, with_refusal};
-ghost use Rattle.scrypt.specs.StoredParts.{stored};
+ghost use Rattle.scrypt.specs.Terms.{mapped, mcf_id, read_fields, read_mcf, stored, with_refusal};
 
 use crate::mcf::params::decode_params_and_salt;
 use crate::output_len_ok;

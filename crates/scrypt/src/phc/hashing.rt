@@ -1,16 +1,11 @@
 // Making PHC hashes.
 
 ghost use Rattle.std.specs.Prelude.{◌≡◌, ◌↔◌, ◌⊎◌, ℕ, List, length, if◌then◌else◌, Some, Ok, Err, false, IfErr, IfOk, IsErrOf, IsOk, OnErr, OnOk, IsTrue};
-ghost use Rattle.scrypt.specs.Cost.{AreCompressed, AreCounted, hash_cost};
-ghost use Rattle.scrypt.specs.Hashing.{key_len_or_default};
-ghost use Rattle.scrypt.specs.KeyOfParams.{cost_by};
-ghost use Rattle.scrypt.specs.PhcHash.{is_salt_len, made_phc, phc_hash, salt_refusal};
-ghost use Rattle.scrypt.specs.Accepted.{is_stored_len};
-ghost use Rattle.scrypt.specs.TextOfKey.{IsTextOfKey};
-ghost use Rattle.password_hash.specs.Phc.{hash_text};
-ghost use Rattle.password_hash.specs.Refusal.{OutOfMemory, SaltInvalid as BadSalt, refusal, with_refusal};
+ghost use Rattle.scrypt.specs.Terms.{AreCompressed, AreCounted, IsDone, IsTextOfKey, OutOfMemory, are_enough, cost_by};
+ghost use Rattle.scrypt.specs.Terms.{hash_cost, hash_text, is_salt_len, is_stored_len, key_len_or_default, made_phc};
+ghost use Rattle.scrypt.specs.Terms.{phc_hash, refusal, salt_refusal, with_refusal, workspace_of};
+ghost use Rattle.password_hash.specs.Refusal.{SaltInvalid as BadSalt};
 ghost use Rattle.password_hash.specs.declared.error.Error.TheVariants.{OutputSize, SaltInvalid};
-ghost use Rattle.scrypt.specs.Workspace.{IsDone, are_enough, workspace_of};
 
 use crate::buffers::memory::{ActiveBuffers, with_prefix};
 use crate::hashing::{key_allocating, stored_key};

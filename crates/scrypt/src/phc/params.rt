@@ -2,11 +2,9 @@
 
 ghost use Rattle.std.specs.Prelude.{◌≡◌, ◌^◌, codes, ok_or, Ok, IsTrue};
 ghost use Rattle.password_hash.specs.Decimal.{decimal_below};
-ghost use Rattle.password_hash.specs.Refusal.{ParamInvalid};
+ghost use Rattle.scrypt.specs.Terms.{ParamInvalid, is_stored_len, output_len_of, params_of_pairs, params_with_len};
+ghost use Rattle.scrypt.specs.Terms.{with_refusal, written_pairs};
 ghost use Rattle.password_hash.specs.Value.{value_text};
-ghost use Rattle.scrypt.specs.Accepted.{is_stored_len};
-ghost use Rattle.scrypt.specs.PhcParams.{output_len_of, params_of_pairs, params_with_len, written_pairs};
-ghost use Rattle.scrypt.specs.Reading.{with_refusal};
 
 use crate::Params;
 use password_hash::phc::{ParamsString, PasswordHash, Value};

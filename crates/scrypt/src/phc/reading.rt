@@ -1,9 +1,7 @@
 // Reading PHC hashes.
 
 ghost use Rattle.std.specs.Prelude.{◌≡◌, ◌↔◌, codes, IsTrue};
-ghost use Rattle.scrypt.specs.PhcHash.{phc_params, read_phc};
-ghost use Rattle.scrypt.specs.Reading.{mapped, with_refusal};
-ghost use Rattle.scrypt.specs.StoredParts.{stored};
+ghost use Rattle.scrypt.specs.Terms.{mapped, phc_params, read_phc, stored, with_refusal};
 
 use crate::Params;
 use crate::phc::ALG_ID;

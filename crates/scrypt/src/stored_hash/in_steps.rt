@@ -1,10 +1,8 @@
 // Verifying in steps.
 
 ghost use Rattle.std.specs.Prelude.{◌≡◌, ◌≤◌, ℕ, List, length, IfOk, OnErr};
-ghost use Rattle.scrypt.specs.Cost.{AreHashed, chunks_bytes, pbkdf2_cost};
-ghost use Rattle.scrypt.specs.Reading.{mapped, verdict, with_refusal};
-ghost use Rattle.scrypt.specs.StoredHash.{reading};
-ghost use Rattle.scrypt.specs.Stepping.{IsUnderWay};
+ghost use Rattle.scrypt.specs.Terms.{AreHashed, IsUnderWay, chunks_bytes, mapped, pbkdf2_cost, reading, verdict};
+ghost use Rattle.scrypt.specs.Terms.{with_refusal};
 
 use super::StoredHash;
 use crate::comparing::is_derived_key;

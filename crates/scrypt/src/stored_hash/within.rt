@@ -1,11 +1,8 @@
 // Limits on stored hashes of either format.
 
 ghost use Rattle.std.specs.Prelude.{◌≡◌, Err, IfErr, IfOk};
-ghost use Rattle.password_hash.specs.Refusal.{TooCostly};
-ghost use Rattle.scrypt.specs.Limits.{buffers_bytes, work};
-ghost use Rattle.scrypt.specs.Reading.{mapped};
-ghost use Rattle.scrypt.specs.StoredHash.{reading};
-ghost use Rattle.scrypt.specs.WithinLimits.{limited_refusal, with_limited_refusal, within};
+ghost use Rattle.scrypt.specs.Terms.{TooCostly, buffers_bytes, limited_refusal, mapped, reading, with_limited_refusal};
+ghost use Rattle.scrypt.specs.Terms.{within, work};
 
 use super::StoredHash;
 use crate::errors::LimitedError;

@@ -1,14 +1,10 @@
 use Rattle.std.proofs.Common.{◌≡◌, ◌-◌, ◌*◌, ◌/◌, ◌+◌, ℕ, List, min, arith, length, refl, replicate, rules, take, take_all, ◌↔◌, ◌&&◌, Bool, true, ◌++◌, drop, ◌∙◌, sym, ap, ap₂, length-take-le, take-add}
 use Rattle.std.proofs.lemmas.Bool.{and_from, and_parts}
 use Rattle.std.proofs.lemmas.List.{drop-take, take-take}
-use Rattle.scrypt_kernel.specs.Pbkdf2.{pbkdf2}
-use Rattle.scrypt_kernel.specs.Pbkdf2Cost.{end_cost}
+use Rattle.scrypt.specs.Terms.{derived_key, end_cost, key_bytes, pbkdf2, stored}
 use Rattle.scrypt_kernel.proofs.CountFacts.{hashed_both}
 use Rattle.scrypt_kernel.proofs.HashFacts.{more_blocks, no_ends_hashed}
 use Rattle.scrypt_kernel.proofs.Pbkdf2Facts.{length-pbkdf2, pbkdf2-piece}
-use Rattle.scrypt.specs.Key.{derived_key}
-use Rattle.scrypt.specs.StoredKey.{key_bytes}
-use Rattle.scrypt.specs.StoredParts.{stored}
 use Rattle.scrypt.proofs.ReadingFacts.{told_right}
 use Rattle.scrypt.proofs.comparing.is_derived_key.Goals as goal
 

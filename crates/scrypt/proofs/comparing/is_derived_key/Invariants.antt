@@ -1,8 +1,5 @@
 use Rattle.std.proofs.Common.{◌≡◌, ◌↔◌, ◌+◌, ◌*◌, ◌/◌, length, min, take, true}
-use Rattle.scrypt_kernel.specs.Count.{AreHashed}
-use Rattle.scrypt_kernel.specs.Pbkdf2.{pbkdf2}
-use Rattle.scrypt_kernel.specs.Pbkdf2Cost.{end_cost}
-use Rattle.scrypt.specs.StoredKey.{key_bytes}
+use Rattle.scrypt.specs.Terms.{AreHashed, end_cost, key_bytes, pbkdf2}
 use Rattle.scrypt.proofs.comparing.is_derived_key.Given as goal
 
 -- the keys are the same as far as they were compared, and what was hashed since the first of the chunks is counted

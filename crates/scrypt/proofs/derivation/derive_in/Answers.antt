@@ -1,7 +1,6 @@
 use Rattle.std.proofs.Common.{◌≡◌, length, refl, rules}
 use Rattle.scrypt_kernel.proofs.CountFacts.{counted_between}
-use Rattle.scrypt.specs.Cost.{chunks_bytes}
-use Rattle.scrypt.specs.Key.{derived_key}
+use Rattle.scrypt.specs.Terms.{chunks_bytes, derived_key}
 use Rattle.scrypt.proofs.derivation.derive_in.Goals as goal
 
 pub returns-clause-derived : goal.returns-clause-derived

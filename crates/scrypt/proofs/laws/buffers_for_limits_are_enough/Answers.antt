@@ -1,7 +1,5 @@
 use Rattle.std.specs.Prelude.{IsTrue}
-use Rattle.scrypt.specs.Accepted.{Parameters}
-use Rattle.scrypt.specs.InBuffers.{are_enough}
-use Rattle.scrypt.specs.Buffers.{AreFor}
+use Rattle.scrypt.specs.Terms.{AreFor, Parameters, are_enough}
 use Rattle.scrypt.specs.declared.buffers.Buffers.{Buffers}
 use Rattle.scrypt.proofs.ReadingFacts.{enough_decided, enough_for}
 use Rattle.scrypt.proofs.StoredHashFacts.{enough_read, reading_accepted}

@@ -1,9 +1,6 @@
 use Rattle.std.proofs.Common.{ℕ, ◌*◌, ◌++◌, refl, sym, ap, ap₂, ◌∙◌, take, arith}
 use Rattle.std.proofs.lemmas.List.{length-take-le, take-append-drop}
-use Rattle.scrypt.specs.Cost.{chunks_bytes}
-use Rattle.scrypt.specs.Key.{derived_key}
-use Rattle.scrypt.specs.KeyOfParams.{key_by}
-use Rattle.scrypt.specs.Stepping.{first_b}
+use Rattle.scrypt.specs.Terms.{chunks_bytes, derived_key, first_b, key_by}
 use Rattle.scrypt.proofs.SteppingFacts.{all_chunks_mixed}
 use Rattle.scrypt.proofs.laws.derivations_agree.Goals as goal
 

@@ -1,9 +1,7 @@
 use Rattle.std.proofs.Common.{◌≡◌, ◌≤◌, Bool, true, false, Ok, Err, Result, refl, rules}
 use Rattle.std.specs.Prelude.{IsOk, IsTrue, ◌↔◌, if◌then◌else◌, length, nat_le}
 use Rattle.scrypt.proofs.AcceptedFacts.{leb_decided}
-use Rattle.password_hash.specs.Refusal.{Refusal}
-use Rattle.scrypt.specs.Limits.{are_within}
-use Rattle.scrypt.specs.Reading.{Stored}
+use Rattle.scrypt.specs.Terms.{Refusal, Stored, are_within}
 use Rattle.scrypt.proofs.laws.within_changes_nothing.Goals as goal
 
 pub returns-clause-same : goal.returns-clause-same

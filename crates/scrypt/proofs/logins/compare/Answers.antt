@@ -1,8 +1,6 @@
 use Rattle.std.proofs.Common.{◌∙◌, ap, arith, drop, length, length-append, rules, sym, take, drop_at, take_at}
 use Rattle.scrypt_kernel.proofs.CountFacts.{hashed_none}
-use Rattle.scrypt.specs.Logins.{all_cost, all_of, attempt_of, compare_cost}
-use Rattle.scrypt.specs.Reading.{mixed_of, verdict}
-use Rattle.scrypt.specs.WithinLimits.{with_limited_refusal}
+use Rattle.scrypt.specs.Terms.{all_cost, all_of, attempt_of, compare_cost, mixed_of, verdict, with_limited_refusal}
 use Rattle.scrypt.proofs.LoginFacts.{from, hashed_more, none_left, one_more}
 use Rattle.scrypt.proofs.logins.compare.Goals as goal
 

@@ -1,8 +1,6 @@
 use Rattle.std.proofs.Common.{◌≡◌, ◌++◌, drop, length, map, take}
-use Rattle.scrypt_kernel.specs.Count.{AreHashed}
-use Rattle.scrypt.specs.Logins.{Attempt, all_cost, all_of, attempts, compare_cost}
-use Rattle.scrypt.specs.Reading.{mixed_of, verdict}
-use Rattle.scrypt.specs.WithinLimits.{with_limited_refusal}
+use Rattle.scrypt.specs.Terms.{AreHashed, Attempt, all_cost, all_of, attempts, compare_cost, mixed_of, verdict}
+use Rattle.scrypt.specs.Terms.{with_limited_refusal}
 use Rattle.scrypt.proofs.logins.compare.Given as goal
 
 -- the first i are compared, and the mixed chunks of the others are left

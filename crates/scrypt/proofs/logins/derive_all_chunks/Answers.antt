@@ -1,8 +1,7 @@
 use Rattle.std.proofs.Common.{◌≡◌, ◌∙◌, ◌∷◌, ◌≤◌, ◌+◌, ◌++◌, List, ap, append_assoc, append-nil, arith, drop, length, length-append, refl, rules, sym, take, take_all}
 use Rattle.std.proofs.lemmas.Slice.{take-put_mid}
 use Rattle.scrypt_kernel.proofs.CountFacts.{hashed_none}
-use Rattle.scrypt.specs.Logins.{Attempt, all_cost, all_of, attempts, bytes_if_ok, chunks_cost}
-use Rattle.scrypt.specs.Reading.{chunks_of}
+use Rattle.scrypt.specs.Terms.{Attempt, all_cost, all_of, attempts, bytes_if_ok, chunks_cost, chunks_of}
 use Rattle.scrypt.proofs.LoginFacts.{from, hashed_more, none_left}
 use Rattle.scrypt.proofs.logins.derive_all_chunks.Goals as goal
 

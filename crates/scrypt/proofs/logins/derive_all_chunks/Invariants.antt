@@ -1,7 +1,5 @@
 use Rattle.std.proofs.Common.{◌≡◌, ◌+◌, ◌++◌, drop, length, take}
-use Rattle.scrypt_kernel.specs.Count.{AreHashed}
-use Rattle.scrypt.specs.Logins.{all_cost, all_of, attempts, chunks_cost}
-use Rattle.scrypt.specs.Reading.{chunks_of}
+use Rattle.scrypt.specs.Terms.{AreHashed, all_cost, all_of, attempts, chunks_cost, chunks_of}
 use Rattle.scrypt.proofs.logins.derive_all_chunks.Given as goal
 
 -- the chunks of the first i are written, and those of the others follow

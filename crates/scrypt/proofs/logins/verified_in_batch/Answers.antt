@@ -1,9 +1,6 @@
 use Rattle.std.proofs.Common.{◌≡◌, ◌∙◌, rules, map}
-use Rattle.scrypt_kernel.specs.Count.{AreCompressed, AreCounted}
-use Rattle.scrypt.specs.Logins.{Attempt, all_cost, attempts, verify_cores}
-use Rattle.scrypt.specs.Reading.{verdict, verify_cost}
-use Rattle.scrypt.specs.WithinLimits.{with_limited_refusal}
-use Rattle.scrypt.specs.Workspace.{workspace_of}
+use Rattle.scrypt.specs.Terms.{AreCompressed, AreCounted, Attempt, all_cost, attempts, verdict, verify_cores}
+use Rattle.scrypt.specs.Terms.{verify_cost, with_limited_refusal, workspace_of}
 use Rattle.scrypt.proofs.LoginFacts.{alone}
 use Rattle.scrypt.proofs.logins.verified_in_batch.Goals as goal
 

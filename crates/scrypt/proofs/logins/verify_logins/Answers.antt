@@ -3,9 +3,8 @@ use Rattle.std.proofs.lemmas.List.{map-append}
 use Rattle.std.proofs.lemmas.Slice.{take-put_mid_below}
 use Rattle.std.specs.List.{drop-map}
 use Rattle.scrypt_kernel.proofs.CountFacts.{compressed_then, counted_then}
-use Rattle.scrypt.specs.Logins.{attempt_of, attempts, cores_on, hashed_on, verdict_on}
-use Rattle.scrypt.specs.WithinLimits.{with_limited_refusal}
-use Rattle.scrypt.specs.Workspace.{workspace_of}
+use Rattle.scrypt.specs.Terms.{attempt_of, attempts, cores_on, hashed_on, verdict_on, with_limited_refusal}
+use Rattle.scrypt.specs.Terms.{workspace_of}
 use Rattle.scrypt.proofs.LoginFacts.{all_put, from, left_alone, none_left, one_more, same_cores, same_costs, same_hashed, same_verdict, same_verdicts, sum_more}
 use Rattle.scrypt.proofs.logins.verify_logins.Goals as goal
 

@@ -1,8 +1,6 @@
 use Rattle.std.proofs.Common.{◌≡◌, ◌++◌, drop, length, map, take, sum_by}
-use Rattle.scrypt_kernel.specs.Count.{AreCompressed, AreCounted}
-use Rattle.scrypt.specs.Logins.{AreLeft, attempts, cores_on, hashed_on, verdict_on}
-use Rattle.scrypt.specs.WithinLimits.{with_limited_refusal}
-use Rattle.scrypt.specs.Workspace.{Workspace, workspace_of}
+use Rattle.scrypt.specs.Terms.{AreCompressed, AreCounted, AreLeft, Workspace, attempts, cores_on, hashed_on, verdict_on}
+use Rattle.scrypt.specs.Terms.{with_limited_refusal, workspace_of}
 use Rattle.scrypt.proofs.LoginFacts.{AreAsLong}
 use Rattle.scrypt.proofs.logins.verify_logins.Given as goal
 

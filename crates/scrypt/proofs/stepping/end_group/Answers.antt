@@ -2,8 +2,7 @@ use Rattle.std.proofs.Common.{◌*◌, arith}
 use Rattle.std.proofs.Math.Nat.{mul-le-mul_left}
 use Rattle.scrypt_kernel.proofs.StepFacts.{drop_same}
 use Rattle.scrypt_kernel.proofs.PartFacts.{parts_from}
-use Rattle.scrypt.specs.Key.{mixed_chunk}
-use Rattle.scrypt.specs.Stepping.{words_from}
+use Rattle.scrypt.specs.Terms.{mixed_chunk, words_from}
 use Rattle.scrypt.proofs.KeyFacts.{mixed_slice}
 use Rattle.scrypt.proofs.stepping.end_group.Goals as goal
 

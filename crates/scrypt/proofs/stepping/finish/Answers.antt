@@ -1,7 +1,5 @@
 use Rattle.std.proofs.Common.{ap, ◌∙◌, length}
-use Rattle.scrypt_kernel.specs.Pbkdf2.{pbkdf2}
-use Rattle.scrypt.specs.Key.{derived_key}
-use Rattle.scrypt.specs.Stepping.{first_b}
+use Rattle.scrypt.specs.Terms.{derived_key, first_b, pbkdf2}
 use Rattle.scrypt.proofs.SteppingFacts.{all_chunks_mixed}
 use Rattle.scrypt.proofs.stepping.finish.Goals as goal
 

@@ -1,8 +1,7 @@
 use Rattle.std.proofs.Common.{◌*◌, ◌-◌, length, true}
-use Rattle.scrypt_kernel.specs.Count.{AreCountedAs}
+use Rattle.scrypt.specs.Terms.{AreCountedAs, CanGoOn, IsRestKept, IsUnderWay, WentOn, max_step, mixes_done}
+use Rattle.scrypt.specs.Terms.{workspace_of}
 use Rattle.scrypt_kernel.specs.Steps.{all_mixes}
-use Rattle.scrypt.specs.Stepping.{CanGoOn, WentOn, IsUnderWay, max_step, mixes_done}
-use Rattle.scrypt.specs.Workspace.{IsRestKept, workspace_of}
 use Rattle.scrypt.proofs.stepping.scrypt_in_steps.Given as goal
 
 abbrev pub invariant-steps : goal.invariant-steps

@@ -2,9 +2,7 @@ use Rattle.std.proofs.Common.{◌≡◌, ◌∙◌, ◌<◌, ◌*◌, ℕ, List,
 use Rattle.std.proofs.Math.Nat.{mul-le-mul_right}
 use Rattle.std.proofs.lemmas.List.{drop_at}
 use Rattle.scrypt_kernel.specs.Steps.{all_mixes}
-use Rattle.scrypt.specs.Cost.{chunks_bytes, table_words}
-use Rattle.scrypt.specs.Stepping.{AreMixed, first_b, words_from}
-use Rattle.scrypt.specs.Workspace.{IsRestKept, workspace_of}
+use Rattle.scrypt.specs.Terms.{AreMixed, IsRestKept, chunks_bytes, first_b, table_words, words_from, workspace_of}
 use Rattle.scrypt.proofs.SteppingFacts.{all_done, chunks_inside, group_fits, more_mixes, rest_kept, rest_then}
 use Rattle.scrypt.proofs.stepping.step.Goals as goal
 

@@ -1,8 +1,7 @@
 use Rattle.std.proofs.Common.{◌≡◌, ◌+◌, ◌-◌, ◌*◌, ℕ, refl, ap, arith}
-use Rattle.scrypt_kernel.specs.Words.{words_of}
+use Rattle.scrypt.specs.Terms.{table_words, words_of}
 use Rattle.std.proofs.Math.Nat.{mul-le-mul_left}
 use Rattle.scrypt_kernel.proofs.StepFacts.{drop_same, mixing_as}
-use Rattle.scrypt.specs.Cost.{table_words}
 use Rattle.scrypt.proofs.KeyFacts.{chunk_of_slice}
 use Rattle.scrypt.proofs.SteppingFacts.{first_rows_fit}
 use Rattle.scrypt.proofs.stepping.write_first_rows.Goals as goal

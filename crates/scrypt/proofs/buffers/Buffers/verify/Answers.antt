@@ -1,8 +1,5 @@
 use Rattle.std.proofs.Common.{◌≡◌, ◌∙◌, Ok, refl, rules}
-use Rattle.scrypt.specs.Reading.{with_refusal}
-use Rattle.scrypt.specs.StoredHash.{reading}
-use Rattle.scrypt.specs.StoredParts.{stored}
-use Rattle.scrypt.specs.Workspace.{verdict_in, workspace_of}
+use Rattle.scrypt.specs.Terms.{reading, stored, verdict_in, with_refusal, workspace_of}
 use Rattle.scrypt.proofs.ReadingFacts.{enough_within}
 use Rattle.scrypt.proofs.buffers.Buffers.verify.Goals as goal
 

@@ -1,7 +1,5 @@
 use Rattle.std.proofs.Common.{◌≡◌, ◌∙◌, map, rules}
-use Rattle.scrypt.specs.Logins.{attempts, verdict_on}
-use Rattle.scrypt.specs.Buffers.{workspace_in}
-use Rattle.scrypt.specs.WithinLimits.{with_limited_refusal}
+use Rattle.scrypt.specs.Terms.{attempts, verdict_on, with_limited_refusal, workspace_in}
 use Rattle.scrypt.proofs.LoginFacts.{all_within}
 use Rattle.scrypt.proofs.buffers.Buffers.verify_logins.Goals as goal
 

@@ -1,7 +1,5 @@
 use Rattle.std.proofs.Common.{◌≤◌, ◌-◌, true}
-use Rattle.scrypt.specs.Cost.{AreCountedAs, thin_chunks_cost}
-use Rattle.scrypt.specs.Mixing.{IsKept}
-use Rattle.scrypt.specs.Stepping.{AreMixed}
+use Rattle.scrypt.specs.Terms.{AreCountedAs, AreMixed, IsKept, thin_chunks_cost}
 use Rattle.scrypt.proofs.derivation.mixing.mix_all.Given as goal
 
 abbrev pub invariant-groups : goal.invariant-groups

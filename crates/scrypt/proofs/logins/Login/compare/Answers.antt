@@ -1,8 +1,6 @@
 use Rattle.std.proofs.Common.{◌≡◌, ◌∙◌, ap, length}
 use Rattle.scrypt_kernel.proofs.Pbkdf2Facts.{length-pbkdf2}
-use Rattle.scrypt.specs.Cost.{chunks_bytes}
-use Rattle.scrypt.specs.Reading.{chunks_of}
-use Rattle.scrypt.specs.StoredParts.{stored}
+use Rattle.scrypt.specs.Terms.{chunks_bytes, chunks_of, stored}
 use Rattle.scrypt.proofs.KeyFacts.{length-mixed_chunks}
 use Rattle.scrypt.proofs.logins.Login.compare.Goals as goal
 

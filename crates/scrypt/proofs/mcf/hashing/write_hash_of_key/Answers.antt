@@ -1,9 +1,5 @@
 use Rattle.std.proofs.Common.{IsTrue, arith, length, rules}
-use Rattle.password_hash.specs.Crypt64.{IsBytes}
-use Rattle.password_hash.specs.Mcf.{IsField}
-use Rattle.scrypt.specs.Accepted.{is_output_len}
-use Rattle.scrypt.specs.McfHash.{mcf_text}
-use Rattle.scrypt.specs.TextOfKey.{parts_of_key}
+use Rattle.scrypt.specs.Terms.{IsBytes, IsField, is_output_len, mcf_text, parts_of_key}
 use Rattle.scrypt.proofs.TextOfKeyFacts.{length-mcf_of_key, mcf_of_key, mcf_of_key_is_utf8}
 use Rattle.scrypt.proofs.mcf.hashing.write_hash_of_key.Goals as goal
 

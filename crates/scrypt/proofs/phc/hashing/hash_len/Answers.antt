@@ -1,6 +1,5 @@
 use Rattle.std.proofs.Common.{◌≡◌, ◌∙◌, ap, length, rules, sym}
-use Rattle.password_hash.specs.Phc.{hash_text}
-use Rattle.scrypt.specs.Hashing.{key_len_or_default}
+use Rattle.scrypt.specs.Terms.{hash_text, key_len_or_default}
 use Rattle.scrypt.proofs.PhcFacts.{same_lengths}
 use Rattle.scrypt.proofs.phc.hashing.hash_len.Goals as goal
 

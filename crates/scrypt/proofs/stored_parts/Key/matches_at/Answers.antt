@@ -1,8 +1,7 @@
 use Rattle.std.proofs.Common.{◌≡◌, ◌≤◌, ◌+◌, ◌<◌, arith, length, refl, rules, slice_index}
 use Rattle.std.proofs.lemmas.List.{length-replicate}
 use Rattle.password_hash.proofs.GroupFacts.{encoded_is}
-use Rattle.scrypt.specs.Decoy.{no_key}
-use Rattle.scrypt.specs.StoredKey.{key_bytes}
+use Rattle.scrypt.specs.Terms.{key_bytes, no_key}
 use Rattle.scrypt.proofs.DecoyFacts.{all_match, no_match}
 use Rattle.scrypt.proofs.stored_parts.Key.matches_at.Goals as goal
 
