@@ -179,8 +179,8 @@ int scrypt_key_with_buffers(const void *password, size_t password_len, const voi
 
 /* Writes the same key, with a table that keeps one row in 2^s: a time-memory trade-off, because the
  * table is 2^s times smaller, and the work is larger. Each buffer must have exactly the length that
- * scrypt_buffer_lens returns for this s. Afterwards the chunks are zeros, and the others are
- * unspecified. Nothing is allocated. On an error the buffers are unchanged too.
+ * scrypt_buffer_lens returns for this s. Afterwards the chunks and the scratch are zeros, and the
+ * table is unspecified. Nothing is allocated. On an error the buffers are unchanged too.
  * SCRYPT_E_INVALID_PARAMS, also if s is above log_n, SCRYPT_E_INVALID_OUTPUT_LEN,
  * SCRYPT_E_BUFFER_SIZE. */
 SCRYPT_NODISCARD

@@ -1,16 +1,20 @@
 -- What verifying leaves in the caller's buffers.
-use Rattle.std.proofs.Common.{◌≡◌, ◌∙◌, ◌-◌, ℕ, List, ap, arith, length, refl, w32, SFits, of_z, to_z}
+use Rattle.std.proofs.Common.{◌≡◌, ◌∙◌, ◌-◌, ◌*◌, ℕ, List, ap, arith, length, refl, w32, SFits, of_z, to_z}
 use Rattle.std.proofs.lemmas.Int.{to_z-of_z}
 use Rattle.std.proofs.lemmas.Bool.{and_parts, false_from_ne_true}
-use Rattle.std.specs.Prelude.{◌&&◌, Err, IsTrue, Result, ℤ, ⊤}
+use Rattle.std.proofs.Math.Seq.{drop-length}
+use Rattle.std.proofs.lemmas.List.{append-nil}
+use Rattle.std.specs.Prelude.{◌&&◌, Err, IsTrue, Result, ℤ, ⊤, replicate}
 use Rattle.password_hash.specs.Refusal.{Refusal, ParamsInvalid}
 use Rattle.scrypt.specs.Accepted.{Parameters, are_accepted, is_stored_len}
+use Rattle.scrypt.proofs.AcceptedFacts.{bounds}
+use Rattle.scrypt.proofs.CostFacts.{one_table}
 use Rattle.scrypt.proofs.ReadingFacts.{enough_decided}
 use Rattle.scrypt.specs.Cost.{scratch_words, table_words}
 use Rattle.scrypt.specs.Decoy.{decoy_reading}
-use Rattle.scrypt.specs.InBuffers.{are_enough}
+use Rattle.scrypt.specs.InBuffers.{IsWiped, are_enough}
 use Rattle.scrypt.specs.Logins.{Attempt, verdict_on}
-use Rattle.scrypt.specs.Workspace.{Workspace}
+use Rattle.scrypt.specs.Workspace.{IsDone, Workspace, tables_used}
 use Rattle.scrypt_c.specs.Buffers.{AreBuffers}
 use Rattle.scrypt_c.specs.Limits.{params_of}
 use Rattle.scrypt_c.specs.Statuses.{IsKeyStatus, buffers_status}
@@ -25,15 +29,35 @@ pub none_decoy : (c : Parameters) (salt : List ℕ) → ¬ (IsTrue (are_accepted
     → decoy_reading c salt ≡ Err ParamsInvalid
 none_decoy c salt refused = rw (false_from_ne_true (are_accepted c.log_n c.r c.p && is_stored_len c.output_len) (λ is. refused (and_parts _ _ is))) refl
 
--- buffers of the lengths for a whole table are long enough
+-- the lengths of the table and the scratch that keep every row
+whole_lens : (log_n r p s : ℕ) {chunks table scratch : ℕ} → AreBuffers log_n r p s chunks table scratch → s ≡ 0
+    → (table ≡ table_words log_n r) × (scratch ≡ scratch_words r)
+whole_lens log_n r p s are none =
+    let same : log_n - s ≡ log_n = omega (arith, none) in
+    (rw same at are.table_is, rw none at are.scratch_is)
+
+-- buffers of these lengths are long enough
 pub enough_at_zero : (log_n r p s : ℕ) (chunks table scratch : List ℕ) → AreBuffers log_n r p s (length chunks) (length table) (length scratch)
     → s ≡ 0 → IsTrue (are_enough (params_of log_n r p) chunks table scratch)
 enough_at_zero log_n r p s chunks table scratch are none =
-    let same : log_n - s ≡ log_n = omega (arith, none) in
-    let table_is : length table ≡ table_words log_n r = rw same at are.table_is in
-    let scratch_is : length scratch ≡ scratch_words r = rw none at are.scratch_is in
+    let lens = whole_lens log_n r p s are none in
     (enough_decided (params_of log_n r p) chunks table scratch).1
-    (omega (arith, are.chunks_are), (omega (arith, table_is), omega (arith, scratch_is)))
+    (omega (arith, are.chunks_are), (omega (arith, lens.0), omega (arith, lens.1)))
+
+all_wiped : (n : ℕ) (old new : List ℕ) → length old ≡ n → IsWiped n old new → new ≡ replicate (length old) 0
+all_wiped n old new is wiped = wiped ∙ rw (← is, drop-length) (append-nil _)
+
+-- a derivation in them wipes all of the chunks and all of the scratch
+pub wiped_at_zero : (log_n r p s : ℕ) (before after : Workspace) → IsTrue (are_accepted log_n r p)
+    → AreBuffers log_n r p s (length before.chunks) (length before.table) (length before.scratch) → s ≡ 0
+    → IsDone (params_of log_n r p) before after
+    → (after.chunks ≡ replicate (length before.chunks) 0) × (after.scratch ≡ replicate (length before.scratch) 0)
+wiped_at_zero log_n r p s before after accepted are none done =
+    let lens = whole_lens log_n r p s are none in
+    let some = bounds log_n r p accepted in
+    let one = one_table log_n r p (length before.table) (length before.scratch) some.0 some.1 lens.0 (omega (arith, lens.1)) in
+    let used : length before.scratch ≡ tables_used (params_of log_n r p) before.table before.scratch * scratch_words r = rw (← one) (omega (arith, lens.1)) in
+    (all_wiped _ _ _ are.chunks_are done.chunks, all_wiped _ _ _ used done.scratch)
 
 -- the status of a call in such buffers, as another call returns it
 pub kept_key_status : {Accepted Other Enough Fits : Type 0} (n : ℕ) (status : ℤ) → SFits w32 status → Accepted × Other → Enough → Fits

@@ -224,8 +224,9 @@ pub fn kdf_with_buffers(
 ///
 /// Returns `OK`, or the first of these: `INVALID_PARAMS`, also if `s` is above `log_n`,
 /// `INVALID_OUTPUT_LEN`, and `BUFFER_SIZE` unless the three buffers have exactly the lengths of
-/// `scrypt_buffer_lens` with this `s`. After `OK` the chunks are zeros, and the contents of the
-/// others are unspecified. On an error all three buffers and the output are unchanged.
+/// `scrypt_buffer_lens` with this `s`. After `OK` the chunks and the scratch are zeros, and the
+/// contents of the table are unspecified. On an error all three buffers and the output are
+/// unchanged.
 #[unsafe(no_mangle)]
 pub extern "C" fn scrypt_kdf_thin(
     password: &[u8],
@@ -242,7 +243,8 @@ pub extern "C" fn scrypt_kdf_thin(
     ensures status { IsKeyStatus (IsTrue (are_accepted log_n r p) × IsSpacing log_n s)
         (AreBuffers log_n r p s (length chunks.old) (length table.old) (length scratch.old)) (length output.old) result }
     ensures value { result ≡ OK → output.new ≡ derived_key password.now salt.now log_n r p (length output.old) }
-    ensures wiped { result ≡ OK → chunks.new ≡ replicate (length chunks.old) 0 }
+    ensures wiped { result ≡ OK → (chunks.new ≡ replicate (length chunks.old) 0)
+        × (scratch.new ≡ replicate (length scratch.old) 0) }
     ensures refused { result ≢ OK → output.new ≡ output.old }
     ensures unchanged { result ≢ OK
         → (chunks.new ≡ chunks.old) × (table.new ≡ table.old) × (scratch.new ≡ scratch.old) }
@@ -270,7 +272,8 @@ pub fn kdf_thin(
     ensures status { IsKeyStatus (IsTrue (are_accepted log_n r p) × IsSpacing log_n s)
         (AreBuffers log_n r p s (length chunks.old) (length table.old) (length scratch.old)) (length output.old) result }
     ensures value { result ≡ OK → output.new ≡ derived_key password.now salt.now log_n r p (length output.old) }
-    ensures wiped { result ≡ OK → chunks.new ≡ replicate (length chunks.old) 0 }
+    ensures wiped { result ≡ OK → (chunks.new ≡ replicate (length chunks.old) 0)
+        × (scratch.new ≡ replicate (length scratch.old) 0) }
     ensures counted { result ≡ OK → AreCounted (thin_cost password.now salt.now log_n r p s) cores.old cores.new }
     ensures hashed { result ≡ OK → AreCompressed (hash_cost (length password.now) (length salt.now) r p (length
         output.old)) cores.old cores.new }

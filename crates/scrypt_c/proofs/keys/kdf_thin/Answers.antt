@@ -1,10 +1,7 @@
-use Rattle.std.proofs.Common.{◌≡◌, length, refl, rules, ◌∙◌}
-use Rattle.std.proofs.Math.Seq.{drop-length}
-use Rattle.std.proofs.lemmas.List.{append-nil}
-use Rattle.scrypt.specs.Cost.{chunks_bytes}
+use Rattle.std.proofs.Common.{length, refl, rules}
 use Rattle.scrypt.proofs.CostFacts.{whole_table_cost}
 use Rattle.scrypt_c.specs.Buffers.{AreBuffers}
-use Rattle.scrypt_c.proofs.InBuffersFacts.{enough_at_zero, kept_key_status}
+use Rattle.scrypt_c.proofs.InBuffersFacts.{enough_at_zero, kept_key_status, wiped_at_zero}
 use Rattle.scrypt_c.proofs.keys.kdf_thin.Goals as goal
 
 -- the buffers of a whole table are long enough for the call with buffers
@@ -24,9 +21,13 @@ pub returns-then-s-eq0-clause-counted : goal.returns-then-s-eq0-clause-counted
 returns-then-s-eq0-clause-counted c done =
     rw (c.if-s-eq0.true, whole_table_cost) (c.kdf_with_buffers.ensures.counted (search (rules, done)))
 
--- all of the chunks is the part that is used
+-- such buffers are wiped whole
 pub returns-then-s-eq0-clause-wiped : goal.returns-then-s-eq0-clause-wiped
 returns-then-s-eq0-clause-wiped c ok =
-    let long : length c.args.chunks.now ≡ chunks_bytes c.args.r c.args.p = search rules in
-    let done = c.kdf_with_buffers.ensures.used (search rules) in
-    done.chunks ∙ rw (← long, drop-length) (append-nil _)
+    let are : AreBuffers c.args.log_n c.args.r c.args.p c.args.s (length c.args.chunks.now) (length c.args.table.now) (length c.args.scratch.now) = record {
+      chunks_are = search rules;
+      table_is = search rules;
+      scratch_is = search rules;
+    } in
+    wiped_at_zero c.args.log_n c.args.r c.args.p c.args.s _ _ (c.in-Some.ensures'.exact.0 refl).0 are c.if-s-eq0.true
+    (c.kdf_with_buffers.ensures.used (search rules))
