@@ -1,5 +1,5 @@
 #!/usr/bin/env bash
-# usage: prove.sh         runs `rt ci`, and compares the axioms of the program with docs/TRUST.md
+# usage: prove.sh         runs `rt ci`, and compares what it proved with docs/EVIDENCE.md and docs/TRUST.md
 #        prove.sh NAME    waits until that run has proved this crate; the libraries are then in crates/*/out/rlib
 set -u
 cd "$(dirname "$0")/../.." || exit
@@ -14,6 +14,14 @@ fi
 rt ci
 status=$?
 echo "rt ci ended"
+while IFS= read -r listed; do
+  crate=${listed%%:*} verdict=${listed#*: }
+  found=$(sed -n "/^== $crate\$/,/^rt: $crate /{/^logic=/p}" $log)
+  if [ -n "$found" ] && [[ $found != "${verdict% ..}"* ]]; then
+    echo "docs/EVIDENCE.md lists another verdict of $crate than this: $found"
+    status=1
+  fi
+done < <(grep '^[a-z_]*: logic=' docs/EVIDENCE.md)
 known=$(sed -n 's/^- The program, `axioms=\([0-9]*\)`.*/\1/p' docs/TRUST.md)
 found=$(sed -n '/^== scrypt_tool$/,/^rt: /s/^logic=.* axioms=\([0-9]*\) .*/\1/p' $log)
 if [ -n "$found" ] && [ "$found" != "$known" ]; then
