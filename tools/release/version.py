@@ -17,7 +17,7 @@ from tools.gate import docs
 PYPROJECT = "bindings/python/pyproject.toml"
 # The lines of each file that state the version, a number of it, or the address.
 OTHERS = {
-    "bindings/README.md": ["libscrypt_c.so.{major} (the soname)", "`libscrypt-c{major}`", "`libscrypt_c.so.{major}`"],
+    "bindings/README.md": ["libscrypt_c.so.{major} (the soname)"],
     "bindings/c/README.md": ["`libscrypt_c.so.{major}`", "`SCRYPT_C_{major}`"],
     "bindings/c/CMakeLists.txt": ["HOMEPAGE_URL {url} "],
     "bindings/c/scrypt_c.h": [
