@@ -1,4 +1,5 @@
-// The SIMD core and its block mix, compared with plain ones and with known values.
+// The core and the block mix in diagonal order, compared with those in standard order and with known
+// values.
 
 use crate::holds;
 use scrypt::block_mix::lanes::{self, shuffle_in, shuffle_out};
@@ -51,15 +52,15 @@ fn cores() -> Result<(), Fail> {
     Ok(())
 }
 
-// The plain block mix of the first 2 * r blocks, with r from 1 to 5.
+// The block mix in standard order of the first 2 * r blocks, with r from 1 to 5.
 fn mixed_by_words(words: &[u32; 160], r: usize) -> [u32; 160] {
     let (len, mut output) = (32 * r.clamp(1, 5), [0; 160]);
     plain::scrypt_block_mix(&words[..len], &mut output[..len], &mut CoreCount::new());
     output
 }
 
-// The SIMD block mix of these words, which works in diagonal order, and its input afterwards, both
-// converted to the standard order.
+// The block mix of these words in diagonal order, and its input afterwards, both converted to the
+// standard order.
 fn mixed_by_lanes(words: &[u32; 160], r: usize) -> ([u32; 160], [u32; 160]) {
     let (len, mut input, mut output) = (32 * r.clamp(1, 5), *words, [0; 160]);
     shuffle_in(&mut input);
@@ -69,10 +70,11 @@ fn mixed_by_lanes(words: &[u32; 160], r: usize) -> ([u32; 160], [u32; 160]) {
     (output, input)
 }
 
-// The plain block mix. The SIMD block mix must return the same, and leave its input unchanged.
+// The block mix in standard order. That in diagonal order must return the same, and leave its input
+// unchanged.
 fn mixed(words: &[u32; 160], r: usize) -> Result<[u32; 160], Fail> {
     let (wanted, (output, input)) = (mixed_by_words(words, r), mixed_by_lanes(words, r));
-    holds(output == wanted, "the SIMD block mix")?;
+    holds(output == wanted, "the block mix in diagonal order")?;
     holds(mixed_by_words(&input, r) == wanted, "its input afterwards")?;
     Ok(wanted)
 }
