@@ -2,45 +2,40 @@
 use Rattle.std.proofs.Common.{◌≡◌, ◌≢◌, ◌∙◌, ◌++◌, ℕ, List, Ok, ap, arith, drop, inl, inr, length, refl, sym, take}
 use Rattle.std.specs.Prelude.{◌⊎◌, ℤ, pos}
 use Rattle.std.proofs.Math.Seq.{take-append_seam}
-use Rattle.password_hash.specs.Phc.{IsSalt, hash_text}
 use Rattle.scrypt.specs.Key.{derived_key}
-use Rattle.scrypt.specs.PhcHash.{made_phc}
 use Rattle.scrypt.specs.Reading.{made_stored}
+use Rattle.scrypt.specs.StoredHash.{reading}
 use Rattle.scrypt.proofs.KeyFacts.{length-key_by}
 use Rattle.scrypt.proofs.ReadingFacts.{read_as_made, verdict_wrong, within_limits}
-use Rattle.scrypt.proofs.StoredHashFacts.{phc_reading}
 use Rattle.scrypt_c.specs.Limits.{Admit, limited_reading, limits_of}
-use Rattle.scrypt_c.specs.Made.{AreHashParams, IsWritten, wanted}
+use Rattle.scrypt_c.specs.Made.{IsWritten, wanted}
 use Rattle.scrypt_c.specs.Statuses.{IsVerifyStatus, result_status}
 use Rattle.scrypt_c.proofs.TextFacts.{text_read}
 
 written_front : (text old new : List ℕ) (len : ℕ) → len ≡ length text → new ≡ text ++ drop len old → take len new ≡ text
 written_front text old new len is_len is_new = rw (is_new, is_len, take-append_seam) refl
 
--- its reading
-written_reading : (password salt old new : List ℕ) (log_n r p key_len len max_mem max_work min_key_len : ℕ)
-    → AreHashParams log_n r p key_len → IsSalt salt
-    → IsWritten (hash_text (made_phc (wanted log_n r p key_len) password salt)) old new len
+-- its reading, if such a text is read as it was made
+written_reading : (password salt text old new : List ℕ) (log_n r p key_len len max_mem max_work min_key_len : ℕ)
+    → reading text ≡ Ok (made_stored (wanted log_n r p key_len) password salt) → IsWritten text old new len
     → Admit max_mem max_work min_key_len log_n r p key_len
     → limited_reading max_mem max_work min_key_len (take len new) ≡ Ok (made_stored (wanted log_n r p key_len) password salt)
-written_reading password salt old new log_n r p key_len len max_mem max_work min_key_len accepted salted written admitted =
+written_reading password salt text old new log_n r p key_len len max_mem max_work min_key_len is written admitted =
     let c = wanted log_n r p key_len in
-    let text = hash_text (made_phc c password salt) in
     let front = written_front text old new len written.1 written.2 in
     let long = length-key_by c password salt key_len in
-    rw (front, (text_read text written.0).0, phc_reading c password salt accepted.0 accepted.1 salted)
+    rw (front, (text_read text written.0).0, is)
     (within_limits (limits_of max_mem max_work min_key_len) (made_stored c password salt) admitted.0 (omega (arith, long, admitted.1)))
 
 -- the status for its password
-pub right_status : (password salt old new : List ℕ) (log_n r p key_len len max_mem max_work min_key_len : ℕ) (status : ℤ)
-    → AreHashParams log_n r p key_len → IsSalt salt
-    → IsWritten (hash_text (made_phc (wanted log_n r p key_len) password salt)) old new len
+pub right_status : (password salt text old new : List ℕ) (log_n r p key_len len max_mem max_work min_key_len : ℕ) (status : ℤ)
+    → reading text ≡ Ok (made_stored (wanted log_n r p key_len) password salt) → IsWritten text old new len
     → Admit max_mem max_work min_key_len log_n r p key_len
     → IsVerifyStatus password (limited_reading max_mem max_work min_key_len (take len new)) status
     → (status ≡ pos 0) ⊎ (status ≡ pos 5)
-right_status password salt old new log_n r p key_len len max_mem max_work min_key_len status accepted salted written admitted verified =
+right_status password salt text old new log_n r p key_len len max_mem max_work min_key_len status is written admitted verified =
     let c = wanted log_n r p key_len in
-    let read = written_reading password salt old new log_n r p key_len len max_mem max_work min_key_len accepted salted written admitted in
+    let read = written_reading password salt text old new log_n r p key_len len max_mem max_work min_key_len is written admitted in
     let right = (read_as_made c password salt read).accepts in
     elim verified [
       | inl is ↦ inl (is ∙ ap result_status right)
@@ -48,16 +43,15 @@ right_status password salt old new log_n r p key_len len max_mem max_work min_ke
     ]
 
 -- and for a password with another key
-pub wrong_status : (password salt other old new : List ℕ) (log_n r p key_len len max_mem max_work min_key_len : ℕ) (status : ℤ)
-    → AreHashParams log_n r p key_len → IsSalt salt
+pub wrong_status : (password salt other text old new : List ℕ) (log_n r p key_len len max_mem max_work min_key_len : ℕ) (status : ℤ)
+    → reading text ≡ Ok (made_stored (wanted log_n r p key_len) password salt)
     → derived_key other salt log_n r p key_len ≢ derived_key password salt log_n r p key_len
-    → IsWritten (hash_text (made_phc (wanted log_n r p key_len) password salt)) old new len
-    → Admit max_mem max_work min_key_len log_n r p key_len
+    → IsWritten text old new len → Admit max_mem max_work min_key_len log_n r p key_len
     → IsVerifyStatus other (limited_reading max_mem max_work min_key_len (take len new)) status
     → (status ≡ pos 1) ⊎ (status ≡ pos 5)
-wrong_status password salt other old new log_n r p key_len len max_mem max_work min_key_len status accepted salted differ written admitted verified =
+wrong_status password salt other text old new log_n r p key_len len max_mem max_work min_key_len status is differ written admitted verified =
     let c = wanted log_n r p key_len in
-    let read = written_reading password salt old new log_n r p key_len len max_mem max_work min_key_len accepted salted written admitted in
+    let read = written_reading password salt text old new log_n r p key_len len max_mem max_work min_key_len is written admitted in
     let long = length-key_by c password salt key_len in
     let wrong = (verdict_wrong other _).1 (inl (made_stored c password salt, read, λ same. differ (sym (rw long at same)))) in
     elim verified [

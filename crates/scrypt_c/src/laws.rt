@@ -2,10 +2,12 @@
 //! contract is the law.
 
 ghost use Rattle.std.specs.Prelude.{◌≡◌, ◌≢◌, ◌⊎◌, ℕ, ℤ, ◌*◌, ◌^◌, ◌≤◌, All, Bool, IsTrue, List, length, take};
+ghost use Rattle.password_hash.specs.Crypt64.{crypt64_of};
 ghost use Rattle.password_hash.specs.Phc.{IsSalt, hash_text};
 ghost use Rattle.scrypt.specs.Accepted.{are_accepted, is_output_len};
 ghost use Rattle.scrypt.specs.Cost.{chunks_bytes};
 ghost use Rattle.scrypt.specs.Key.{derived_key};
+ghost use Rattle.scrypt.specs.McfHash.{made_mcf};
 ghost use Rattle.scrypt.specs.PhcHash.{made_phc};
 ghost use Rattle.scrypt.specs.Stepping.{IsUnderWay};
 ghost use Rattle.scrypt_c.specs.Limits.{Admit, limited_reading, params_of};
@@ -15,8 +17,9 @@ ghost use Rattle.scrypt_c.specs.Steps.{HasBegun, HasFinished, IsBegun, Kept, Ses
 
 use crate::statuses::{MISMATCH, OK, OUT_OF_MEMORY};
 
-/// A hash that [`scrypt_hash_phc`](crate::hashes::scrypt_hash_phc) wrote, in allocated memory or in
-/// the caller's buffers, is verified by
+/// A hash that [`scrypt_hash_phc`](crate::hashes::scrypt_hash_phc) or
+/// [`scrypt_hash_mcf`](crate::hashes::scrypt_hash_mcf) (`right_mcf`, `wrong_mcf`) wrote, in
+/// allocated memory or in the caller's buffers, is verified by
 /// [`scrypt_verify_limited`](crate::hashes::scrypt_verify_limited), within limits that admit it,
 /// with `OK` for its password, and with `MISMATCH` for a password with another key; or an
 /// allocation fails.
@@ -31,6 +34,19 @@ pub fn written_hashes_are_verified()
         (status : ℤ) → AreHashParams log_n r p key_len → IsSalt salt
         → derived_key other salt log_n r p key_len ≢ derived_key password salt log_n r p key_len
         → IsWritten (hash_text (made_phc (wanted log_n r p key_len) password salt)) old new len
+        → Admit max_mem max_work min_key_len log_n r p key_len
+        → IsVerifyStatus other (limited_reading max_mem max_work min_key_len (take len new)) status
+        → (status ≡ MISMATCH) ⊎ (status ≡ OUT_OF_MEMORY) }
+    ensures right_mcf { (password salt old new : List ℕ) (log_n r p key_len len max_mem max_work min_key_len : ℕ)
+        (status : ℤ) → AreHashParams log_n r p key_len
+        → IsWritten (made_mcf (wanted log_n r p key_len) password salt) old new len
+        → Admit max_mem max_work min_key_len log_n r p key_len
+        → IsVerifyStatus password (limited_reading max_mem max_work min_key_len (take len new)) status
+        → (status ≡ OK) ⊎ (status ≡ OUT_OF_MEMORY) }
+    ensures wrong_mcf { (password salt other old new : List ℕ) (log_n r p key_len len max_mem max_work min_key_len : ℕ)
+        (status : ℤ) → AreHashParams log_n r p key_len
+        → derived_key other (crypt64_of salt) log_n r p key_len ≢ derived_key password (crypt64_of salt) log_n r p key_len
+        → IsWritten (made_mcf (wanted log_n r p key_len) password salt) old new len
         → Admit max_mem max_work min_key_len log_n r p key_len
         → IsVerifyStatus other (limited_reading max_mem max_work min_key_len (take len new)) status
         → (status ≡ MISMATCH) ⊎ (status ≡ OUT_OF_MEMORY) }
