@@ -6,9 +6,7 @@ that is the formula of the definition need not be searched for, if both are writ
 A word is an int or a `Word`, which is a polynomial over GF(2), bit by bit: the exclusive or of monomials, each under a
 mask, where a monomial is the `and` of atoms, each rotated to the left. A boolean function has one polynomial, however
 it is written, and so have shifts, rotations, masks, packed bytes and their order. An atom is a variable; or a sum
-modulo 2^32, by the coefficients of the words in it; or the value of another function, which is known by its arguments
-alone.
-
+modulo 2^32, by the coefficients of the words in it; or the value of another function, which is known by its arguments.
 Words that are one object are equal. The opposite need not be so: then a check fails that should not.
 """
 
@@ -187,10 +185,8 @@ def swapped(x):
 
 
 def add(x, y):
-    return x + y & ALL if type(x) is type(y) is int else _add(x, y)
-
-
-def _add(x, y):
+    if type(x) is type(y) is int:
+        return x + y & ALL
     if not bits_of(x) & bits_of(y):
         return xor(x, y)  # nothing is carried
     made = by_cases(lambda a, b: a + b & ALL, x, y)
@@ -274,8 +270,7 @@ def values_of(word, bits):
 
 def by_cases(function, *some):
     """A function of words that are functions of few bits; None if they are not."""
-    bits = few_bits(*some)
-    if bits is None:
+    if (bits := few_bits(*some)) is None:
         return None
     values = [function(*each) for each in zip(*(values_of(it, bits) for it in some))]
     made = {}
@@ -299,10 +294,8 @@ def wide_addends(value):
     low, high = value
     if type(low) is type(high) is int:
         return {}, low | high << 32
-    if type(low) is Word and low.made_of[0] == "low":
-        of = low.made_of[1:]
-        if type(high) is Word and high.made_of == ("high", *of):
-            return dict(of[0]), of[1]
+    if type(low) is type(high) is Word and (low.made_of[0], high.made_of) == ("low", ("high", *low.made_of[1:])):
+        return dict(low.made_of[1]), low.made_of[2]
     if high == 0:  # the bits that are constant, and how far the others are shifted, are no part of the pair
         constant = low.polynomial.get((), 0)
         rest = xor(low, constant)
@@ -372,8 +365,7 @@ def is_zero(word):
     if len(values) > 2:
         if values.count(0) != 1:
             return by_cases(lambda a: int(a == 0), word)
-        case = values.index(0)
-        return product(opposite_of(word_of({(it,): 1}) ^ (case >> i & 1)) for i, it in enumerate(bits))
+        return product(opposite_of(word_of({(it,): 1}) ^ (values.index(0) >> i & 1)) for i, it in enumerate(bits))
     return product(opposite_of(bit_of(word, i)) for i in positions(bits_of(word)))
 
 
