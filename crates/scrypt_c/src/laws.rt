@@ -45,7 +45,8 @@ pub fn written_hashes_are_verified()
         → (status ≡ OK) ⊎ (status ≡ OUT_OF_MEMORY) }
     ensures wrong_mcf { (password salt other old new : List ℕ) (log_n r p key_len len max_mem max_work min_key_len : ℕ)
         (status : ℤ) → AreHashParams log_n r p key_len
-        → derived_key other (crypt64_of salt) log_n r p key_len ≢ derived_key password (crypt64_of salt) log_n r p key_len
+        → derived_key other (crypt64_of salt) log_n r p key_len
+        ≢ derived_key password (crypt64_of salt) log_n r p key_len
         → IsWritten (made_mcf (wanted log_n r p key_len) password salt) old new len
         → Admit max_mem max_work min_key_len log_n r p key_len
         → IsVerifyStatus other (limited_reading max_mem max_work min_key_len (take len new)) status
