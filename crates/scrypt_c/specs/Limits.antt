@@ -1,5 +1,5 @@
 -- The status of a cost within limits.
-use Rattle.std.specs.Prelude.{◌≡◌, ◌⊎◌, ◌↔◌, ℕ, ℤ, ◌+◌, ◌*◌, ◌^◌, ◌≤◌, if◌then◌else◌, min, nat_lt, pos, IsTrue, List, None, Result}
+use Rattle.std.specs.Prelude.{◌≡◌, ◌⊎◌, ◌↔◌, ℕ, ℤ, ◌+◌, ◌*◌, ◌^◌, ◌≤◌, if◌then◌else◌, min, nat_lt, IsTrue, List, None, Result}
 use Rattle.password_hash.specs.Refusal.{Refusal}
 use Rattle.scrypt.specs.Accepted.{are_accepted, Parameters}
 use Rattle.scrypt.specs.Cost.{chunks_bytes, scratch_words, table_words}
@@ -8,6 +8,7 @@ use Rattle.scrypt.specs.Reading.{Stored}
 use Rattle.scrypt.specs.WithinLimits.{within}
 use Rattle.scrypt.specs.declared.limits.Limits.{Limits}
 use Rattle.scrypt_c.specs.Texts.{bytes_reading}
+use Rattle.scrypt_c.specs.declared.statuses.TheConstants.{OK, INVALID_PARAMS, TOO_COSTLY}
 
 -- these limits
 abbrev pub limits_of : ℕ → ℕ → ℕ → Limits
@@ -36,9 +37,9 @@ bytes_that_pay max_tables max_mem c =
     if nat_lt (table_words c.log_n c.r) (2 ^ 14) then 0
     else min (chunks_bytes c.r c.p + 4 * (tables * table_words c.log_n c.r) + 4 * (tables * scratch_words c.r)) max_mem
 
--- the status of a cost: 0, or that the parameters are not accepted or exceed the limits
+-- the status of a cost: `OK`, or that the parameters are not accepted or exceed the limits
 pub record IsNeedStatus (max_mem max_work log_n r p : ℕ) (status : ℤ) : Type 0 where
-  pub params : (status ≡ pos 3) ↔ (¬ IsTrue (are_accepted log_n r p))
-  pub costly : (status ≡ pos 14)
+  pub params : (status ≡ INVALID_PARAMS) ↔ (¬ IsTrue (are_accepted log_n r p))
+  pub costly : (status ≡ TOO_COSTLY)
       ↔ (IsTrue (are_accepted log_n r p) × (¬ IsTrue (are_within (limits_of max_mem max_work 0) (params_of log_n r p))))
-  pub one : (status ≡ pos 0) ⊎ (status ≡ pos 3) ⊎ (status ≡ pos 14)
+  pub one : (status ≡ OK) ⊎ (status ≡ INVALID_PARAMS) ⊎ (status ≡ TOO_COSTLY)

@@ -1,11 +1,13 @@
 -- A key in steps, in the caller's buffers.
-use Rattle.std.specs.Prelude.{◌≡◌, ◌≢◌, ◌⊎◌, ◌↔◌, Bool, ℕ, ℤ, pos, ◌+◌, ◌*◌, ◌<◌, ◌≤◌, List, [], ◌∷◌, length, min, IsTrue}
+use Rattle.std.specs.Prelude.{◌≡◌, ◌≢◌, ◌⊎◌, ◌↔◌, Bool, ℕ, ℤ, ◌+◌, ◌*◌, ◌<◌, ◌≤◌, List, [], ◌∷◌, length, min, IsTrue}
 use Rattle.scrypt.specs.Accepted.{Parameters, are_accepted, is_output_len}
 use Rattle.scrypt.specs.Cost.{chunks_bytes, scratch_words, table_words}
 use Rattle.scrypt.specs.Key.{derived_key}
 use Rattle.scrypt.specs.Stepping.{AreMixable, IsUnderWay, IsWithin, lacking, mixes_done}
 use Rattle.scrypt.specs.declared.stepping.Progress.{Progress}
 use Rattle.scrypt_c.specs.Limits.{params_of}
+use Rattle.scrypt_c.specs.declared.statuses.TheConstants.{OK, INVALID_PARAMS, INVALID_OUTPUT_LEN}
+use Rattle.scrypt_c.specs.declared.statuses.TheConstants.{BUFFER_SIZE, UNFINISHED, INVALID_PROGRESS}
 
 -- the chunks have their length, and the table and the scratch have capacity for `tables` chunks
 pub record AreForSteps (c : Parameters) (tables : ℕ) (chunks table scratch : List ℕ) : Type 0 where
@@ -42,48 +44,48 @@ kept_of chunks table scratch at = record { chunks = chunks; table = table; scrat
 
 -- what `scrypt_key_begin` returns, and what it makes of the buffers and the progress
 pub record HasBegun (most : ℕ) (scalar : Bool) (password salt : List ℕ) (log_n r p : ℕ) (old new : Kept) (status : ℤ) : Type 0 where
-  pub params : (status ≡ pos 3) ↔ (¬ IsTrue (are_accepted log_n r p))
-  pub buffers : (status ≡ pos 13) ↔ (IsTrue (are_accepted log_n r p)
+  pub params : (status ≡ INVALID_PARAMS) ↔ (¬ IsTrue (are_accepted log_n r p))
+  pub buffers : (status ≡ BUFFER_SIZE) ↔ (IsTrue (are_accepted log_n r p)
       × ¬ AreForSteps (params_of log_n r p) 1 old.chunks old.table old.scratch)
-  pub one : (status ≡ pos 0) ⊎ (status ≡ pos 3) ⊎ (status ≡ pos 13)
-  pub begun : status ≡ pos 0 → IsBegun most scalar password salt (params_of log_n r p) new.at new.chunks new.table new.scratch
-  pub unchanged : status ≢ pos 0 → new ≡ old
+  pub one : (status ≡ OK) ⊎ (status ≡ INVALID_PARAMS) ⊎ (status ≡ BUFFER_SIZE)
+  pub begun : status ≡ OK → IsBegun most scalar password salt (params_of log_n r p) new.at new.chunks new.table new.scratch
+  pub unchanged : status ≢ OK → new ≡ old
 
 -- what `scrypt_key_step` returns, and what it makes of the buffers and the progress
 pub record HasStepped (most : ℕ) (scalar : Bool) (log_n r p count : ℕ) (old new : Kept) (status : ℤ) : Type 0 where
-  pub params : (status ≡ pos 3) ↔ (¬ IsTrue (are_accepted log_n r p))
-  pub buffers : (status ≡ pos 13) ↔ (IsTrue (are_accepted log_n r p)
+  pub params : (status ≡ INVALID_PARAMS) ↔ (¬ IsTrue (are_accepted log_n r p))
+  pub buffers : (status ≡ BUFFER_SIZE) ↔ (IsTrue (are_accepted log_n r p)
       × ¬ AreForSteps (params_of log_n r p) old.at.interleaved old.chunks old.table old.scratch)
-  pub one : (status ≡ pos 0) ⊎ (status ≡ pos 3) ⊎ (status ≡ pos 13) ⊎ (status ≡ pos 22)
-  pub before : status ≡ pos 0 → CanBe most scalar (params_of log_n r p) old.at
-  pub outside : status ≡ pos 22 → ¬ CanBe most scalar (params_of log_n r p) old.at
-  pub after : status ≡ pos 0 → IsAt most scalar (params_of log_n r p) new.at new.chunks new.table new.scratch
-  pub under_way : status ≡ pos 0 → (password salt : List ℕ)
+  pub one : (status ≡ OK) ⊎ (status ≡ INVALID_PARAMS) ⊎ (status ≡ BUFFER_SIZE) ⊎ (status ≡ INVALID_PROGRESS)
+  pub before : status ≡ OK → CanBe most scalar (params_of log_n r p) old.at
+  pub outside : status ≡ INVALID_PROGRESS → ¬ CanBe most scalar (params_of log_n r p) old.at
+  pub after : status ≡ OK → IsAt most scalar (params_of log_n r p) new.at new.chunks new.table new.scratch
+  pub under_way : status ≡ OK → (password salt : List ℕ)
       → IsUnderWay password salt (params_of log_n r p) old.at old.chunks old.table old.scratch
       → IsUnderWay password salt (params_of log_n r p) new.at new.chunks new.table new.scratch
-  pub exact : status ≡ pos 0 → mixes_done (params_of log_n r p) new.at
+  pub exact : status ≡ OK → mixes_done (params_of log_n r p) new.at
       ≡ mixes_done (params_of log_n r p) old.at + old.at.interleaved * min count (lacking (params_of log_n r p) old.at)
-  pub ended : status ≡ pos 0 → old.at.chunks ≡ p → new.at ≡ old.at
-  pub going_on : status ≡ pos 0 → old.at.chunks < p → count < lacking (params_of log_n r p) old.at
+  pub ended : status ≡ OK → old.at.chunks ≡ p → new.at ≡ old.at
+  pub going_on : status ≡ OK → old.at.chunks < p → count < lacking (params_of log_n r p) old.at
       → new.at ≡ record old.at { mixes = old.at.mixes + count }
-  pub next : status ≡ pos 0 → old.at.chunks < p → lacking (params_of log_n r p) old.at ≤ count
+  pub next : status ≡ OK → old.at.chunks < p → lacking (params_of log_n r p) old.at ≤ count
       → (new.at.chunks ≡ old.at.chunks + old.at.interleaved) × (new.at.mixes ≡ 0)
-  pub unchanged : status ≢ pos 0 → new ≡ old
+  pub unchanged : status ≢ OK → new ≡ old
 
 -- what `scrypt_key_finish` returns and writes
 pub record HasFinished (password : List ℕ) (log_n r p : ℕ) (chunks : List ℕ) (at : Progress) (old new : List ℕ) (status : ℤ) : Type 0 where
-  pub params : (status ≡ pos 3) ↔ (¬ IsTrue (are_accepted log_n r p))
-  pub buffers : (status ≡ pos 13) ↔ (IsTrue (are_accepted log_n r p) × (length chunks ≢ chunks_bytes r p))
-  pub one : (status ≡ pos 0) ⊎ (status ≡ pos 3) ⊎ (status ≡ pos 13) ⊎ (status ≡ pos 21) ⊎ (status ≡ pos 4)
-  pub unfinished : (status ≡ pos 21)
+  pub params : (status ≡ INVALID_PARAMS) ↔ (¬ IsTrue (are_accepted log_n r p))
+  pub buffers : (status ≡ BUFFER_SIZE) ↔ (IsTrue (are_accepted log_n r p) × (length chunks ≢ chunks_bytes r p))
+  pub one : (status ≡ OK) ⊎ (status ≡ INVALID_PARAMS) ⊎ (status ≡ BUFFER_SIZE) ⊎ (status ≡ UNFINISHED) ⊎ (status ≡ INVALID_OUTPUT_LEN)
+  pub unfinished : (status ≡ UNFINISHED)
       ↔ (IsTrue (are_accepted log_n r p) × (length chunks ≡ chunks_bytes r p) × (at.chunks ≢ p))
-  pub length_is : (status ≡ pos 4) ↔ (IsTrue (are_accepted log_n r p) × (length chunks ≡ chunks_bytes r p)
+  pub length_is : (status ≡ INVALID_OUTPUT_LEN) ↔ (IsTrue (are_accepted log_n r p) × (length chunks ≡ chunks_bytes r p)
       × (at.chunks ≡ p) × ¬ IsTrue (is_output_len (length old)))
-  pub ended : status ≡ pos 0 → (at.chunks ≡ p) × IsTrue (is_output_len (length old))
-  pub value : status ≡ pos 0 → (salt table scratch : List ℕ)
+  pub ended : status ≡ OK → (at.chunks ≡ p) × IsTrue (is_output_len (length old))
+  pub value : status ≡ OK → (salt table scratch : List ℕ)
       → IsUnderWay password salt (params_of log_n r p) at chunks table scratch
       → new ≡ derived_key password salt log_n r p (length old)
-  pub refused : status ≢ pos 0 → new ≡ old
+  pub refused : status ≢ OK → new ≡ old
 
 -- Steps one after another, each with its count and its status, and with the buffers and the progress
 -- as the step before it left them.
