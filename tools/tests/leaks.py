@@ -15,24 +15,23 @@ CRATES = "build/rust/workspace/"
 # A read of a table at a byte. The value is kept, because valgrind drops a load that nothing uses.
 READ = "core::hint::black_box(core::hint::black_box(&[0u8; 256])[({}) as usize & 255]);\n    "
 
-# What is planted; the file, a text that occurs once in it, and what stands there instead; and the statuses of test_secrets with
-# N = 1, and with N = 64, where addresses in the walk are suppressed.
+# What is planted; the file, a text that occurs once in it, and what stands there instead.
 LEAKS = [
     ("PHC's keys are compared up to the first byte that differs", CRATES + "password_hash/src/phc/short_bytes.rs",
-     "same &= a[i] == b[i];", "if a[i] != b[i] { return false; }", [1, 1]),
+     "same &= a[i] == b[i];", "if a[i] != b[i] { return false; }"),
     ("$7$ keys are compared up to the first letter that differs", CRATES + "password_hash/src/mcf/crypt64.rs",
-     "same &= rest.next() == Some(&letter);", "if rest.next() != Some(&letter) { return false; }", [1, 1]),
+     "same &= rest.next() == Some(&letter);", "if rest.next() != Some(&letter) { return false; }"),
     ("keys are compared up to the first piece of 96 bytes that differs", CRATES + "scrypt/src/comparing.rs",
-     "same &= parts.key.matches_at(at, piece);", "if !parts.key.matches_at(at, piece) { return false; }", [1, 1]),
+     "same &= parts.key.matches_at(at, piece);", "if !parts.key.matches_at(at, piece) { return false; }"),
     ("the letters of $7$ are read from a table", CRATES + "password_hash/src/mcf/alphabet.rs",
-     "(value + 46 + 7", READ.format("value") + "(value + 46 + 7", [1, 1]),
+     "(value + 46 + 7", READ.format("value") + "(value + 46 + 7"),
     ("HMAC reads a table at a byte of the key", CRATES + "scrypt_kernel/src/hmac.rs",
      "let mut out = [0u8; 64];\n    for i in 0..64 {\n        out[i] = mask", READ.format("block[0]")
-     + "let mut out = [0u8; 64];\n    for i in 0..64 {\n        out[i] = mask", [1, 1]),
+     + "let mut out = [0u8; 64];\n    for i in 0..64 {\n        out[i] = mask"),
     ("the walk reads a table at a byte of X", CRATES + "scrypt_kernel/src/walk.rs",
-     "let starts = take_rows::<O>(x, v,", READ.format("x[0]") + "let starts = take_rows::<O>(x, v,", [1, 0]),
+     "let starts = take_rows::<O>(x, v,", READ.format("x[0]") + "let starts = take_rows::<O>(x, v,"),
     ("scrypt_key drops zero bytes at the end of a password", "bindings/c/calls.c", "  return cleared_scrypt_kdf(",
-     "  while (password_len > 0 && bytes_of(password)[password_len - 1] == 0) password_len--;\n  return cleared_scrypt_kdf(", [1, 1]),
+     "  while (password_len > 0 && bytes_of(password)[password_len - 1] == 0) password_len--;\n  return cleared_scrypt_kdf("),
 ]
 
 
@@ -43,15 +42,15 @@ def run(*words, cwd):
         sys.exit(f"{ran.stdout}{words} failed")
 
 
-def is_found(copy, what, wanted):
-    """Whether the test ends with these statuses."""
+def is_found(copy, what, wanted=1):
+    """Whether the test ends with this status."""
     run("env", "ERASED=1", "rust/build.sh", "c", cwd=copy)
     run("cmake", "--preset", "native", cwd=copy / "bindings/c")
     run("cmake", "--build", "build/native", "--target", "test_secrets_level1", cwd=copy)
-    command = ["bindings/c/tests/test_secrets.sh", "build/native/tests/test_secrets_level1"]
-    ran = [subprocess.run([*command, log_n], cwd=copy, capture_output=True, check=False).returncode for log_n in ("0", "6")]
-    said = [{0: "passes", 1: "fails"}.get(it, f"ended with {it}") for it in ran]
-    print(f"{what}: N = 1 {said[0]}, N = 64 {said[1]}{'' if ran == wanted else ': WRONG'}", flush=True)
+    command = ["valgrind", "-q", "--error-limit=no", "--num-callers=1", "build/native/tests/test_secrets_level1"]
+    ran = subprocess.run(command, cwd=copy, capture_output=True, check=False).returncode
+    said = {0: "passes", 1: "fails"}.get(ran, f"ended with {ran}")
+    print(f"{what}: {said}{'' if ran == wanted else ': WRONG'}", flush=True)
     return ran == wanted
 
 
@@ -60,14 +59,14 @@ def main():
         copy = Path(folder, "tree")
         shutil.copytree(TOP, copy, ignore=shutil.ignore_patterns(".git", "build", "out", "target", "node_modules"))
         run("rust/build.sh", "erase", cwd=copy)
-        right = [is_found(copy, "nothing is planted", [0, 0])]
-        for what, name, old, new, wanted in LEAKS:
+        right = [is_found(copy, "nothing is planted", 0)]
+        for what, name, old, new in LEAKS:
             path = copy / name
             text = path.read_text("utf-8")
             if text.count(old) != 1:
                 sys.exit(f"{name}: not as this script knows it")
             path.write_text(text.replace(old, new), "utf-8")
-            right.append(is_found(copy, what, wanted))
+            right.append(is_found(copy, what))
             path.write_text(text, "utf-8")
     print(f"{sum(right)} of {len(right)}")
     return not all(right)

@@ -1,8 +1,7 @@
 /* No branch and no address depends on a password or a key, in any call of the header: valgrind's memcheck
  * reports each that depends on undefined bytes, and passwords and keys are undefined here, as in ctgrind. N = 1
- * leaves a single row, so that its address depends on nothing, and nothing is suppressed. With a larger N,
- * secrets.supp suppresses the addresses in the function that reads the row which scrypt requires.
- * usage: test_secrets LOG_N, by test_secrets.sh */
+ * leaves a single row, so that its address depends on nothing. tools/tests/compiled has any N, for the proved
+ * calls. usage: valgrind -q --error-limit=no --num-callers=1 test_secrets */
 #include "arguments.h"
 
 #include <valgrind/memcheck.h>
@@ -67,7 +66,8 @@ static void check_call(const char *name, int status, int is_mismatch, unsigned r
 
 /* Each call, except two that choose their own parameters, and a login without a hash. The key of a $7$ hash is
  * compared in three pieces. */
-static void all_calls(size_t len, uint32_t log_n, uint32_t r, uint32_t p, size_t tables, int mcf) {
+static void all_calls(size_t len, uint32_t r, uint32_t p, size_t tables, int mcf) {
+  const uint32_t log_n = 0;
   static uint8_t key[200];
   static char text[SCRYPT_PHC_CAPACITY + 2 * (4 + sizeof key)];
   static scrypt_login logins[LOGINS];
@@ -97,17 +97,13 @@ static void all_calls(size_t len, uint32_t log_n, uint32_t r, uint32_t p, size_t
   free_arguments();
 }
 
-int main(int count, char **words) {
+int main(void) {
   static const size_t LENS[] = {0, 1, 63, 64, 65, 200};
-  const uint32_t log_n = count > 1 ? (uint32_t)atoi(words[1]) : 0;
   size_t i = 0;
   if (!RUNNING_ON_VALGRIND) return 3;
   check(strcmp(scrypt_version(), SCRYPT_VERSION_STRING " " PROCESSOR) == 0, scrypt_version());
-  for (uint32_t p = 1; p <= 5; p++) {
-    const size_t most = p < 4 ? p : 4; /* a larger N takes longer, and has only these */
-    for (size_t tables = log_n > 0 ? most : 1; tables <= most; tables++, i++) all_calls(8, log_n, 8, p, tables, i % 3 > 0);
-  }
-  if (log_n > 0) return failed;
-  for (i = 0; i < 4 * sizeof LENS / sizeof *LENS; i++) all_calls(LENS[i / 4], 0, 1, 1, 1, i % 4 > 1);
+  for (uint32_t p = 1; p <= 5; p++)
+    for (size_t tables = 1; tables <= (p < 4 ? p : 4); tables++, i++) all_calls(8, 8, p, tables, i % 3 > 0);
+  for (i = 0; i < 4 * sizeof LENS / sizeof *LENS; i++) all_calls(LENS[i / 4], 1, 1, 1, i % 4 > 1);
   return failed;
 }
