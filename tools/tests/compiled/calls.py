@@ -12,7 +12,7 @@ from tools.tests.compiled.program import Unknown
 from tools.tests.compiled.words import WIDE, atom, is_zero, product, swapped, xor
 
 LEVELS = "x86-64", "x86-64-avx2", "x86-64-avx512vl"  # as in scrypt_version's text
-STACK = 0x7000_0000
+STACK = 0x7FFD_5A5B_E7F0
 AFTER = 16  # bytes after each buffer, which have to stay as they are
 OK, MISMATCH, TOO_COSTLY, KEY_TOO_SHORT = 0, 1, 14, 15
 
@@ -76,7 +76,7 @@ class Call:
     """The library at a level, and the buffers of a call."""
 
     def __init__(self, compression, level):
-        self.program, self.found, self.next, self.ends = compression.program, compression.found, 1 << 32, []
+        self.program, self.found, self.next, self.ends = compression.program, compression.found, 0x7E3B_5D6C_9000, []
         self.machine = Machine(self.program, [Region("stack", STACK - 0x8000, 0x8000, writable=True)], compression.cuts)
         self.memory = self.machine.memory
         for name in ("TAKEN", "FOUND"):  # the level that is chosen at run time, and what the processor has
@@ -85,7 +85,7 @@ class Call:
 
     def buffer(self, name, size, unit=1, odd=0, content=None, writable=True):
         """The arguments for a buffer: its address, and its length in units of so many bytes."""
-        start = self.next + odd
+        start = self.next + (odd or unit // 4 * 4)  # a table is at no multiple of more than its unit
         self.next += (size + AFTER + 0x1FFF) & ~0xFFF
         content = content and content + bytes(AFTER)
         self.memory.regions.insert(0, Region(name, start, size + AFTER, content, writable))

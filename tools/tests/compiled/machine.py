@@ -161,6 +161,10 @@ class Machine:
         for register, factor in ((it.base, 1), (it.index, it.scale)):
             if register is not None:
                 made = total(size, made, self.registers[register][: size // 4], factor)
+        if it.is_aligned and it.size >= 16:
+            addends, constant = words.wide_addends(made)
+            if any(number % it.size for number in (constant, *addends.values())):
+                raise Unknown("an address that is not aligned")
         return made
 
     def load(self, address, size):

@@ -17,6 +17,10 @@ PART = re.compile(r"(?P<sign>[-+]?)(?P<what>\w+)(?:\*(?P<scale>\d))?")
 THREAD = 0x0D00_0000  # the data of the thread, where fs points
 
 
+# The names of the instructions whose places of 16 bytes and more have to be aligned.
+ALIGNED = re.compile("(?!v|movu|movdqu|lddqu)|vmov(ap|dqa)")
+
+
 class Unknown(Exception):
     """What is not run here."""
 
@@ -28,7 +32,7 @@ def output(*command):
 class Program:
     """A function of another library has an address of its own. `decoded` has the instructions that were run."""
 
-    BASE, EXTERNAL = 0x1000_0000, 0x0E00_0000
+    BASE, EXTERNAL = 0x5A5B_7C39_3000, 0x7E3A_6D4C_5000
 
     def __init__(self, path):
         elf = Path(path).read_bytes()
@@ -164,3 +168,4 @@ class Instruction:
             size = self.operands[0].size if self.operands else 8
             it = "0x" + it if is_jump and re.fullmatch("[0-9a-f]+", it) else it
             self.operands.append(Operand(it, size, after))
+            self.operands[-1].is_aligned = bool(ALIGNED.match(self.name))
