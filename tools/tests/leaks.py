@@ -1,7 +1,7 @@
 """Plants leaks of secrets into the C library, and fails unless bindings/c/tests/test_secrets.c finds each.
 
 It changes a copy: the erased crates, where no proof has to accept the change, or the C around them. It needs valgrind and a
-processor with AVX2, and takes about ten minutes.
+processor with AVX2, and takes some minutes.
 """
 
 import shutil
