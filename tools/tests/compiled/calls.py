@@ -12,7 +12,7 @@ from tools.tests.compiled.program import Unknown
 from tools.tests.compiled.words import WIDE, atom, is_zero, product, swapped, xor
 
 LEVELS = "x86-64", "x86-64-avx2", "x86-64-avx512vl"  # as in scrypt_version's text
-STACK = 0x7FFD_5A5B_E7F0
+STACK = 0x2FFD_5A5B_E7F0
 AFTER = 16  # bytes after each buffer, which have to stay as they are
 OK, MISMATCH, TOO_COSTLY, KEY_TOO_SHORT = 0, 1, 14, 15
 
@@ -76,7 +76,7 @@ class Call:
     """The library at a level, and the buffers of a call."""
 
     def __init__(self, compression, level):
-        self.program, self.found, self.next, self.ends = compression.program, compression.found, 0x7E3B_5D6C_9000, []
+        self.program, self.found, self.next, self.ends = compression.program, compression.found, 0x3E3B_5D6C_9000, []
         self.machine = Machine(self.program, [Region("stack", STACK - 0x8000, 0x8000, writable=True)], compression.cuts)
         self.memory = self.machine.memory
         for name in ("TAKEN", "FOUND"):  # the level that is chosen at run time, and what the processor has

@@ -32,7 +32,7 @@ def output(*command):
 class Program:
     """A function of another library has an address of its own. `decoded` has the instructions that were run."""
 
-    BASE, EXTERNAL = 0x5A5B_7C39_3000, 0x7E3A_6D4C_5000
+    BASE, EXTERNAL = 0x1A5B_7C39_3000, 0x1B3A_6D4C_5000
 
     def __init__(self, path):
         elf = Path(path).read_bytes()
