@@ -3,11 +3,11 @@
 - a broken link, or a link whose words name a definition that its file doesn't have
 - a name that no source has: text between backquotes that is a path (`mcf::Base64`), a word with an
   underscore (`scrypt_ro_mix`), a call (`new()`, `.verify(&hash)`), or a file of the repository
-- a public function of the crate scrypt that neither docs/RATTLE.md nor crates/scrypt/DIFFERENCES.md names
 - a call of the C header that the table at its top doesn't name, or that C's page marks differently
 - a number with a unit that tools/gate/numbers.py doesn't find where it is from
 
-tools/generate/make.py compares docs/PROMISES.md, and bindings/readme_examples.py runs the examples.
+tools/generate/make.py compares docs/PROMISES.md and docs/contracts.txt, which lists each public function, and
+bindings/readme_examples.py runs the examples.
 """
 
 import glob
@@ -18,7 +18,6 @@ import sys
 
 from tools.gate.numbers import wrong_numbers
 from tools.generate import header, specs
-from tools.generate.library import Library
 from tools.generate.sources import read
 
 SOURCES = ("crates/", "examples/", "bindings/", "rust/", "Makefile")
@@ -83,14 +82,6 @@ def broken_links(path, text):
             yield from (f"{path}: {file} has no definition {name}" for name in missing)
 
 
-def unnamed_calls(paths, library):
-    """The public functions of the crate scrypt that none of these documents names."""
-    words = {word for path in paths for word in re.findall(r"\w+", read(path))}
-    functions = (it for source in library.sources["scrypt"].values() for it in source.items if it.kind == "fn")
-    yield from (f"{paths[0]}: {it.path}:{it.line}: the public function {it.name} isn't named" for it in functions
-                if it.name not in words and " for " not in it.owner and library.is_public(it))
-
-
 def unlisted_calls():
     """The calls of the C header that its table doesn't name: `.._limited` and `_run` are ends of names, and `..` is any."""
     rows = [it.split("; ") for it in re.findall(r"^ \*   .{48} (scrypt_.*?) +(?:yes|no|steps)$", header.TEXT, re.M)]
@@ -116,8 +107,7 @@ def main():
     documents = {path: read(path) for path in paths if path.endswith(".md")}
     found = [it for path, text in documents.items() for it in (*unknown_names(path, text, names), *broken_links(path, text))]
     pages = [path for path in documents if path not in ("CHANGELOG.md", "docs/PROMISES.md")]  # made, and of former versions
-    found += [*unnamed_calls(("docs/RATTLE.md", "crates/scrypt/DIFFERENCES.md"), Library()), *unlisted_calls(),
-              *wrong_marks("bindings/c/README.md"), *wrong_numbers(pages)]
+    found += [*unlisted_calls(), *wrong_marks("bindings/c/README.md"), *wrong_numbers(pages)]
     sys.exit("\n".join(found) or 0)
 
 
