@@ -34,30 +34,26 @@ def quoted_function(source, name):
 
 
 def quoted(library, path, names):
-    """A block of code from a file, after the file's name and its first comment."""
+    """A block of code from a file, after the file's name."""
     file = next(it for it in library.files() if it.path == path)
     if path.endswith(".rt"):
-        language, comment, parts = "rust", "", [quoted_function(file, name) for name in names]
+        language, parts = "rust", [quoted_function(file, name) for name in names]
     else:
-        found = [file.definitions[name] for name in names]
-        language, comment, parts = "agda", f": {file.comment.replace('-- ', '')}", [it.comment + it.text for it in found]
+        language, parts = "agda", [(it := file.definitions[name]).comment + it.text for name in names]
     text = "\n\n".join(parts)
-    return filled(f"[{path}](../{path}){comment}") + f"\n\n```{language}\n{text}\n```"
+    return f"[{path}](../{path})\n\n```{language}\n{text}\n```"
 
 
 def reading(proof):
-    """The definitions to read for each promise, in reading order, with the lines of each file."""
+    """How much there is to read for each promise, and the files that have it, in reading order."""
     known = set()
     for title, clauses in LISTS.items():
         modules = proof.reading(proof.clauses(clauses))
-        every = [it for _, those in modules for it in those]
-        yield filled(f"{title}: {len(every)} definitions of {sum(it.lines for it in every)} lines.", "- ")
-        for module, those in modules:
-            if new := [it for it in those if it not in known]:
-                file = f"[{module.name.split('.')[1]}/{module.short}](../{module.path})"
-                names = ", ".join(f"`{it.name}`" for it in new)
-                yield filled(f"{file}, {sum(it.lines for it in new)} lines: {names}", "  - ")
-        known.update(every)
+        every = {it for _, those in modules for it in those}
+        files = (module for module, those in modules if not known.issuperset(those))
+        links = ", ".join(f"[{it.name.split('.')[1]}/{it.short}](../{it.path})" for it in files)
+        yield filled(f"{title}: {len(every)} definitions of {sum(it.lines for it in every)} lines. {links}.", "- ")
+        known |= every
 
 
 def filled(text, begin="", after=None):
@@ -65,13 +61,9 @@ def filled(text, begin="", after=None):
     return textwrap.fill(text, 100, initial_indent=begin, subsequent_indent=after or " " * len(begin), **options)
 
 
-def headline(proof):
-    """The headline as a quotation, and how much its clauses depend on; headline.json has the clauses of each phrase."""
-    phrases = [(*row, [])[:2] for row in ROWS["headline"]]
-    every = [it for _, those in proof.reading(proof.clauses([name for _, names in phrases for name in names])) for it in those]
-    more = sum(it.lines for it in every) - lines(proof, COUNT)
-    depends = f"It depends on {len(every)} definitions: those of a key and its cores, [below](#what-to-review), "
-    return filled("".join(text for text, _ in phrases), "> ", "> ") + "\n\n" + filled(f"{depends}and {more} more lines.")
+def headline():
+    """The headline as a quotation; headline.json has the clauses of each phrase."""
+    return filled("".join(row[0] for row in ROWS["headline"]), "> ", "> ")
 
 
 def page(proof):
@@ -80,7 +72,7 @@ def page(proof):
         path, names = found[2], found[3]
         if names:
             return found[1] + quoted(proof.library, path, names.split()) + found[4]
-        return found[1] + (headline(proof) if path == "the headline" else "\n".join(reading(proof))) + found[4]
+        return found[1] + (headline() if path == "the headline" else "\n".join(reading(proof))) + found[4]
 
     return GENERATED.sub(part, read(PAGE))
 
@@ -91,10 +83,5 @@ def lines(proof, clauses):
 
 
 def wrong(proof):
-    """The errors in PROMISES, and in the numbers of lines to read that other pages state."""
-    found = [] if read(PAGE) == page(proof) else [f"{PAGE} differs from the sources: make promises"]
-    key, verdict = lines(proof, KEY), lines(proof, VERDICT)
-    stated = {"docs/TRUST.md": [key, verdict], "README.md": [verdict], "docs/EVIDENCE.md": [key]}
-    found += [f"{path} doesn't state {number}, the number of lines to read" for path, numbers in stated.items()
-              for number in numbers if str(number) not in re.findall(r"\d+", read(path))]
-    return found
+    """The errors in PROMISES."""
+    return [] if read(PAGE) == page(proof) else [f"{PAGE} differs from the sources: make promises"]
