@@ -16,7 +16,7 @@
 #   make dist      makes packages for Debian, Python, Go, Rust and npm, archives, and their hashes, in build/dist
 # With the kit, which is not public:
 #   make prove     proves everything; some kits do not prove again what an earlier run on this machine has proved
-#                  (docs/TRUST.md)
+#                  (docs/EVIDENCE.md)
 #   make check     proves and tests the changes since the last check
 # To change it:
 #   make generate  generates the packages' declarations from the C header, as make lib does

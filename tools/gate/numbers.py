@@ -64,11 +64,6 @@ class Names(dict):
         text = found[1].replace("n", "").strip(" <")
         return text if "." in text else eval(text, dict(header.NUMBERS))
 
-    def lines(self, part):
-        """The lines of a part of all crates, to hundreds, without the crates of tests."""
-        files = (it for it in glob.glob(f"crates/*/{part}/**/*.*t", recursive=True) if "_tests/" not in it)
-        return round(sum(read(it).count("\n") for it in files), -2)
-
     def column(self, *names):
         """The cells of columns, by the beginnings of their names, each with the beginning of its line."""
         for table in re.findall(r"(?:^\|.*\n)+", self.text, re.M):
