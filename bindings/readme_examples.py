@@ -24,7 +24,6 @@ DEBIANS = "/usr/bin/python3"  # which has Debian's packages
 
 # A rejected hash has the response of a wrong password, and at least a quarter of its time: about all, but other programs run.
 PYTHON_CHECKS = {
-    "docs/HASHER.md": "assert status_of_login('$2b$05$abc', 'x') == status_of_login(None, 'x') == 401",
     "bindings/python/README.md": "assert is_right('$2b$05$abc', 'x') is False",
 }
 QUICK_PYTHON = {
@@ -149,7 +148,7 @@ def lacks(what, *packages):
 
 def run_python(room):
     env = os.environ | {"PYTHONPATH": str(TOP / "bindings/python"), "SCRYPT_C_LIBRARY": str(LIBRARY)}
-    for page in ["README.md", "docs/HASHER.md", "bindings/python/README.md"]:
+    for page in ["README.md", "bindings/python/README.md"]:
         for example in examples("python", page):
             if "passlib" in example:  # bindings/python/tests has it
                 continue
