@@ -2,10 +2,10 @@
 
 usage: python3 -m tools.bench.here LIBRARY parameters [PICTURE]   *Time and attack*, and its picture parameters.svg
        python3 -m tools.bench.here LIBRARY thin                   *Smaller tables*
-       python3 -m tools.bench.here LIBRARY logins                 *Tables for each CPU*
+       python3 -m tools.bench.here LIBRARY logins                 *Tables for each CPU*, with 1, 2 and 4 tables
 
 LIBRARY is libscrypt_c.so. `parameters` and `thin` print the minimum of RUNS runs (an environment variable, 7 by default), and
-a row of `logins` takes SECONDS seconds (10). SMALL=1 tries each table with small parameters.
+each number of `logins` takes SECONDS seconds (10). SMALL=1 tries each table with small parameters.
 """
 
 import concurrent.futures
@@ -93,16 +93,16 @@ def waits_of(library, hasher, login, clients):
 
 def logins(library, clients=16):
     processors = len(os.sched_getaffinity(0))
-    print(ours.line("log_n (r = 8, p = 1)", "tables for each CPU", "MiB of the hasher", "logins a second",
-                    "median wait, ms", "99th percentile, ms", head=True))
+    print(ours.line("log_n (r = 8, p = 1)", "logins a second", "median wait, ms", "99th percentile, ms", head=True))
     for log_n in (10, 11) if SMALL else range(14, 19):
+        measured = []
         for tables in 1, 2, 4:
             hasher = ours.hasher(library, (log_n, 8, 1), max_tables=tables * processors)
             waits = waits_of(library, hasher, login_of(library, log_n), clients)
             library.scrypt_hasher_free(ctypes.byref(hasher))
             cuts = statistics.quantiles(waits, n=100)
-            print(ours.line(log_n, tables, f"{tables * processors << (log_n - 10):,}", f"{len(waits) / (0.9 * SECONDS):.1f}",
-                            *(f"{1e3 * cuts[at]:.0f}" for at in (49, 98))), flush=True)
+            measured.append((f"{len(waits) / (0.9 * SECONDS):.1f}", *(f"{1e3 * cuts[at]:.0f}" for at in (49, 98))))
+        print(ours.line(log_n, *map(", ".join, zip(*measured))), flush=True)
 
 
 if __name__ == "__main__":

@@ -64,24 +64,25 @@ class Names(dict):
         text = found[1].replace("n", "").strip(" <")
         return text if "." in text else eval(text, dict(header.NUMBERS))
 
-    def column(self, *names):
-        """The cells of columns, by the beginnings of their names, each with the beginning of its line."""
+    def column(self, *names, at=0):
+        """The cells of columns, by the beginnings of their names, each with the beginning of its line. A cell can have
+        several numbers, as `15.1, 27.6`."""
         for table in re.findall(r"(?:^\|.*\n)+", self.text, re.M):
             head, _, *lines = ([cell.strip() for cell in line.split("|")[1:-1]] for line in table.splitlines())
             for place in (place for place, it in enumerate(head) if it.startswith(names)):
                 for line in filter(lambda it: it[place], lines):
-                    yield f"{' | '.join(line)} |", float(line[place].replace(",", ""))
+                    yield f"{' | '.join(line)} |", float(line[place].split(", ")[at].replace(",", ""))
 
-    def cell(self, row, name="milliseconds"):
+    def cell(self, row, name="milliseconds", at=0):
         """A cell, by the beginnings of its line and of its column's name."""
-        found = [cell for line, cell in self.column(name) if line.startswith(f"{row} |")]
+        found = [cell for line, cell in self.column(name, at=at) if line.startswith(f"{row} |")]
         if not found:
             raise LookupError(f"{self.path} has no table with a line {row} and a column {name}, as {TABLE} wants")
         return found[0]
 
     def growth(self, few, many):
-        """How many times as many logins `many` tables for each CPU serve as `few`."""
-        few, many = ([self.cell(f"{log_n} | {it}", "logins") for log_n in range(14, 19)] for it in (few, many))
+        """How many times as many logins the second of two numbers of tables for each CPU serves."""
+        few, many = ([cell for _, cell in self.column("logins", at=it)] for it in (few, many))
         return spread([more / less for less, more in zip(few, many)])
 
     def spread(self, *names):
