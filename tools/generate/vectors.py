@@ -196,14 +196,14 @@ def main(*words):
         sys.exit(__doc__)
     if checks:
         resource.setrlimit(resource.RLIMIT_AS, (2 * MEMORY, 2 * MEMORY))
+    if not jsonschema:
+        subprocess.run(["tools/lacks", "the schema of vectors/", "python3-jsonschema"], check=True)
     schema = json.loads((FOLDER / "scrypt_test_schema.json").read_text("utf-8"))
     for name, cases in all_cases().items():
         file, it = FOLDER / f"scrypt_{name}_test.json", made(name, cases, library, checks)
         text = lines(it) + "\n"
         if jsonschema:
             jsonschema.validate(it, schema)
-        else:
-            subprocess.run(["tools/lacks", "the schema of vectors/", "python3-jsonschema"], check=True)
         if not checks:
             file.write_text(text, "utf-8")
         elif file.read_text("utf-8") != text:
