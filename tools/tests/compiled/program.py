@@ -14,7 +14,7 @@ SIZES = {"BYTE": 1, "WORD": 2, "DWORD": 4, "QWORD": 8, "XMMWORD": 16, "YMMWORD":
 PREFIXES = re.compile("^((data16|addr32|cs|ds|bnd|notrack) )*")
 PLACE = re.compile(r"(?:(\w+) PTR )?(fs:)?(?:\[(.*)\]|(?<=:)(0x\w+))")
 PART = re.compile(r"(?P<sign>[-+]?)(?P<what>\w+)(?:\*(?P<scale>\d))?")
-THREAD = 0x0D00_0000  # the data of the thread, where fs points
+THREAD = 0x0D5E_7F4A_6000  # the data of the thread, where fs points
 
 
 # The names of the instructions whose places of 16 bytes and more have to be aligned.
