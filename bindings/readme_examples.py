@@ -80,7 +80,7 @@ LOGIN = """#include <scrypt_c.h>
 #include <stdio.h>
 #include <string.h>
 #include <time.h>
-enum {{ LOGGED_IN, LOGGED_IN_AND_REHASH, WRONG_NAME_OR_PASSWORD, TRY_LATER }};
+enum {{ LOGGED_IN, WRONG_NAME_OR_PASSWORD, TRY_LATER }};
 static scrypt_hasher *hasher;
 static const char *find_hash(const char *name) {{
   return strcmp(name, "damaged") == 0 ? "$2b$05$abc" : NULL;
