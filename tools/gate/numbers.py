@@ -5,7 +5,6 @@ each number that a row gives it, in any words, and no other number with a unit.
 import builtins
 import glob
 import itertools
-import math
 import os
 import re
 from fractions import Fraction
@@ -25,7 +24,7 @@ class Names(dict):
 
     def __init__(self, path):
         self.path, self.text = path, read(path) if os.path.isfile(path) else ""
-        super().__init__(header.NUMBERS, MIB=1 << 20, ceil=math.ceil, glob=glob.glob, Fraction=Fraction, Names=Names)
+        super().__init__(header.NUMBERS, MIB=1 << 20, glob=glob.glob, Fraction=Fraction, Names=Names)
 
     def __missing__(self, name):
         owner = next((it for it in (self, builtins) if hasattr(it, name)), None)
