@@ -3,12 +3,12 @@
 usage: python3 -m tools.bench.compare LIBRARY [NAME=WORKER..] [--params 14,8,1:17,8,1] [--alike]
        python3 -m tools.bench.compare LIBRARY [NAME=WORKER..] --picture FILE
 
-It prints *Compared with other libraries* of docs/BENCHMARKS.md in Markdown, with, for p from 1 to 4, the nanoseconds of a core;
-or it draws speed.svg, the verifications a second of as many processes as there are CPUs. LIBRARY is libscrypt_c.so, and a WORKER
-is a program that tools/tests/worker.py describes. For the Rust crate, cargo build --release --target-dir build/rust_crate
---manifest-path tools/bench/rust_crate/Cargo.toml makes build/rust_crate/release/rust_crate. The environment variable RUNS (7) is
-the number of runs in a process. For the table the minimum of the runs of three processes counts, since one whose tables lie badly
-in memory is slow in each run; for the picture the median of one.
+It prints *Compared with other libraries* of docs/BENCHMARKS.md in Markdown, or it draws speed.svg, the verifications a second
+of as many processes as there are CPUs. LIBRARY is libscrypt_c.so, and a WORKER is a program that tools/tests/worker.py
+describes. For the Rust crate, cargo build --release --target-dir build/rust_crate --manifest-path tools/bench/rust_crate/Cargo.toml
+makes build/rust_crate/release/rust_crate. The environment variable RUNS (7) is the number of runs in a process. For the table the
+minimum of the runs of three processes counts, since one whose tables lie badly in memory is slow in each run; for the picture
+the median of one.
 
 All verify one hash, in each run in a new random order; if p is 1, this library verifies it also in batches of two and four.
 The processes of the picture run concurrently, each on its own CPU, and all with the same implementation. This library
@@ -64,10 +64,10 @@ def table(args):
         least = {name: min(time for it in taken for time in it[name]) for name in taken[0]}
         if others is None:
             others = [name for name in least if name not in DRAWN]
-            print(ours.line("(log_n, r, p)", "milliseconds", "nanoseconds for a core", *others, head=True))
+            print(ours.line("(log_n, r, p)", "milliseconds", *others, head=True))
         for name in (it for it in DRAWN if it in least):
             batch, own = "" if name == OURS else f", {name}", least[name]
-            print(ours.line(f"({log_n}, {r}, {p}){batch}", f"{own / 1e6:.3g}", f"{own / (4 * r * p << log_n):.0f}",
+            print(ours.line(f"({log_n}, {r}, {p}){batch}", f"{own / 1e6:.3g}",
                             *(f"{own / least[it]:.2f}" for it in others)), flush=True)
 
 

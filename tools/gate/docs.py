@@ -24,9 +24,8 @@ SOURCES = ("crates/", "examples/", "bindings/", "rust/", "Makefile")
 SUFFIXES = (".rt", ".antt", ".c", ".h", ".py", ".go", ".rs", ".js", "Makefile")
 
 # Names of other programs and libraries.
-OTHERS = {"check_password", "crypt_data", "crypt_r", "find_package", "maxmem_bytes", "must_use", "needs_update", "rattle_alloc",
-          "rattle_arg", "rattle_dealloc", "rattle_env", "rattle_env_at", "rattle_errno", "rattle_realloc", "rattle_set_errno",
-          "run_in_executor", "sodium_init"}
+OTHERS = {"crypt_data", "find_package", "maxmem_bytes", "rattle_alloc", "rattle_arg", "rattle_dealloc", "rattle_env", "rattle_env_at",
+          "rattle_errno", "rattle_realloc", "rattle_set_errno", "run_in_executor"}
 
 
 def files():
@@ -82,19 +81,16 @@ def broken_links(path, text):
             yield from (f"{path}: {file} has no definition {name}" for name in missing)
 
 
-def unlisted_calls():
-    """The calls of the C header that its table doesn't name: `.._limited` and `_run` are ends of names, and `..` is any."""
-    rows = [it.split("; ") for it in re.findall(r"^ \*   .{48} (scrypt_.*?) +(?:yes|no|steps)$", header.TEXT, re.M)]
+def wrong_marks(path):
+    """The calls of the C header that its table doesn't name: `.._limited` and `_run` are ends of names, and `..` is any; and
+    those that C's page marks as proved, or not, where that table differs."""
+    rows = re.findall(r"^ \*   .{48} (scrypt_.*?) +(yes|no|steps)$", header.TEXT, re.M)
+    listed = [names.split("; ") for names, _ in rows]
     for _, name, _ in header.CALLS:
         family = "_".join(name.split("_")[:2])
-        ends = [it.lstrip(".") for first, *others in rows if first.startswith(family) for it in others if it[0] in "._"]
-        if not name.endswith(tuple(ends)) and not any(name in row for row in rows):
+        ends = [it.lstrip(".") for first, *others in listed if first.startswith(family) for it in others if it[0] in "._"]
+        if not name.endswith(tuple(ends)) and not any(name in row for row in listed):
             yield f"bindings/c/scrypt_c.h: the table doesn't name {name}"
-
-
-def wrong_marks(path):
-    """The calls that C's page marks as proved, or not, where the table of the header differs."""
-    rows = re.findall(r"^ \*   .{48} (scrypt_.*?) +(yes|no|steps)$", header.TEXT, re.M)
     marks = {name: mark for names, mark in rows for name in re.findall(r"\bscrypt_\w+", names)}
     for names, mark in re.findall(r"^\|.*\| (.*) \| (yes|no|steps) \|$", read(path), re.M):
         yield from (f"{path}: the header marks {it} {marks[it]}" for it in re.findall(r"`(scrypt_\w+)`", names)
@@ -107,7 +103,7 @@ def main():
     documents = {path: read(path) for path in paths if path.endswith(".md")}
     found = [it for path, text in documents.items() for it in (*unknown_names(path, text, names), *broken_links(path, text))]
     pages = [path for path in documents if path not in ("CHANGELOG.md", "docs/PROMISES.md")]  # made, and of former versions
-    found += [*unlisted_calls(), *wrong_marks("bindings/c/README.md"), *wrong_numbers(pages)]
+    found += [*wrong_marks("bindings/c/README.md"), *wrong_numbers(pages)]
     sys.exit("\n".join(found) or 0)
 
 
