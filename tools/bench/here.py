@@ -5,7 +5,7 @@ usage: python3 -m tools.bench.here LIBRARY parameters [PICTURE]   *Time and atta
        python3 -m tools.bench.here LIBRARY logins                 *Tables for each CPU*, with 1, 2 and 4 tables
 
 LIBRARY is libscrypt_c.so. `parameters` and `thin` print the minimum of RUNS runs (an environment variable, 7 by default), and
-each number of `logins` takes SECONDS seconds (10). SMALL=1 tries each table with small parameters.
+each number of `logins` takes SECONDS seconds (10).
 """
 
 import concurrent.futures
@@ -18,7 +18,7 @@ import time
 from tools.bench import ours, picture
 from tools.shared_library import buffers, loaded
 
-SECONDS, SMALL = float(os.environ.get("SECONDS", 10)), "SMALL" in os.environ
+SECONDS = float(os.environ.get("SECONDS", 10))
 PASSWORD, SALT = b"pleaseletmein", b"SodiumChloride"
 SECRETS = PASSWORD, len(PASSWORD), SALT, len(SALT)
 YEAR = 365.25 * 86400
@@ -47,7 +47,7 @@ def login_of(library, log_n):
 def parameters(library, to=None):
     print(ours.line("log_n (r = 8, p = 1)", "MiB", "seconds", "CPU-years per 10^9 guesses", head=True))
     points = []
-    for log_n in (10, 11, 12) if SMALL else (10, 12, 13, 14, 15, 16, 17, 18, 20):
+    for log_n in (10, 12, 13, 14, 15, 16, 17, 18, 20):
         mib, taken = 1 << (log_n - 10), seconds(library.scrypt_verify_unlimited, *login_of(library, log_n))
         points.append((mib, taken, f"{log_n}: {taken:.2g}"))
         print(ours.line(log_n, f"{mib:,}", f"{taken:.2g}", f"{taken * 1e9 / YEAR:.2g}"), flush=True)
@@ -66,11 +66,10 @@ def thin_seconds(library, log_n, s):
 
 
 def thin(library):
-    small, large = (10, 12) if SMALL else (17, 20)
-    print(ours.line("s", f"MiB at ({small}, 8, 1)", "seconds", f"seconds at ({large}, 8, 1)", head=True))
+    print(ours.line("s", "MiB at (17, 8, 1)", "seconds", "seconds at (20, 8, 1)", head=True))
     for s in 0, 1, 2, 3, 4, 6:
-        taken = [f"{thin_seconds(library, log_n, s):.3g}" for log_n in (small, large)]
-        print(ours.line(s, f"{2.0 ** (small - s - 10):g}", *taken), flush=True)
+        taken = [f"{thin_seconds(library, log_n, s):.3g}" for log_n in (17, 20)]
+        print(ours.line(s, f"{2.0 ** (7 - s):g}", *taken), flush=True)
 
 
 def waits_of(library, hasher, login, clients):
@@ -94,7 +93,7 @@ def waits_of(library, hasher, login, clients):
 def logins(library, clients=16):
     processors = len(os.sched_getaffinity(0))
     print(ours.line("log_n (r = 8, p = 1)", "logins a second", "median wait, ms", "99th percentile, ms", head=True))
-    for log_n in (10, 11) if SMALL else range(14, 19):
+    for log_n in range(14, 19):
         measured = []
         for tables in 1, 2, 4:
             hasher = ours.hasher(library, (log_n, 8, 1), max_tables=tables * processors)

@@ -3,8 +3,7 @@
 # without rights, in a clone, finds that they stop immediately. Root, in the sources of an archive, without .git, runs
 # `make setup run`, `make setup test` and `make run install`; then the user can `make run`. Needs root, mmdebstrap, a
 # network, and half an hour of four CPUs. build/fresh.log has what each prints, and its time. If one fails, the root is kept.
-# usage: fresh.sh [kit|setup]    with `kit`, the machine has the kit too, and proves; with `setup`, it ends with
-#                                `make documents`
+# usage: fresh.sh [kit]    with `kit`, the machine has the kit too, and proves
 set -euo pipefail
 cd "$(dirname "$0")/../.."
 room=$(mktemp -d)
@@ -47,13 +46,9 @@ try user "make test" "^make test $lacks" 5
 try user "make run install" "^make install cannot write to /usr/local" 5
 try user "make setup run" "^make setup installs packages only as root on Debian" 5
 try root "make setup run" "^$key"
-if [ "${1:-}" = setup ]; then
-  try root "make setup && make documents" "^[0-9]* passed, 0 failed"
-else
-  try root "make setup test" "^[0-9]* passed, 0 failed"
-  try root "make run install" "^$key"
-  try root "scrypt_tool key 4 1 1 64 '' < /dev/null" "^$key"
-  try user "make run" "^$key"
-fi
+try root "make setup test" "^[0-9]* passed, 0 failed"
+try root "make run install" "^$key"
+try root "scrypt_tool key 4 1 1 64 '' < /dev/null" "^$key"
+try user "make run" "^$key"
 if [ $failed = 0 ]; then rm -rf "$room"; else echo "failed: $log; the root is $root"; fi
 exit $failed
