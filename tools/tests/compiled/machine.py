@@ -15,7 +15,7 @@ from tools.tests.compiled.words import ALL, WIDE, atom, conj, is_zero, product, 
 RAX, RCX, RDX, RBX, RSP, RBP, RSI, RDI = range(8)
 ARGUMENTS = (RDI, RSI, RDX, RCX, 8, 9)
 KEPT = (RBX, RSP, RBP, 12, 13, 14, 15)  # the registers that a call preserves
-RETURN = 0x0FEE_0000  # what a call returns to
+RETURN = 0x0FEE_4B7D_2A60  # what a call returns to
 MAX_RUN = 500_000  # instructions of a run, which otherwise does not end
 CLOBBERED = 1024  # bytes below the stack pointer that a call may have changed
 
