@@ -67,7 +67,7 @@ class AnyRows(Case):
         self.paths(lambda: self.end(walk))
         indexes = {it for index in self.indexes for it in words.atoms_of(index)}
         expect(indexes.issuperset(words.atoms_of(sum(self.branches, ()))), "a symbolic branch")
-        self.call.check_reports([*self.indexes, *self.branches, *self.verdicts])
+        self.call.check_reports([*self.indexes, *self.branches])
 
     # The pieces
 
@@ -147,7 +147,7 @@ class AnyRows(Case):
             self.entry.expect(mixed)
         self.machine.jumped = None
         self.machine.run(loop.head)
-        self.verdicts = self.entry.check(self.call.status(), mixed)
+        self.entry.check(self.call.status(), mixed)
 
     # Rows
 

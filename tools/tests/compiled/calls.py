@@ -8,8 +8,7 @@ from tools.tests.compiled import definition, words, x86_64
 from tools.tests.compiled.definition import LITTLE, bytes_of, compress, compressed, pbkdf2, words_of
 from tools.tests.compiled.machine import CLOBBERED, KEPT, RAX, RDI, RDX, RETURN, RSI, RSP, Machine
 from tools.tests.compiled.memory import Region, concrete, number_of, parts, value_of, vector_of
-from tools.tests.compiled.program import Unknown
-from tools.tests.compiled.words import WIDE, atom, is_zero, product, swapped, xor
+from tools.tests.compiled.words import ALL, WIDE, atom, conj, is_zero, product, swapped, xor
 
 LEVELS = "x86-64", "x86-64-avx2", "x86-64-avx512vl"  # as in scrypt_version's text
 STACK = 0x2FFD_5A5B_E7F0
@@ -150,7 +149,6 @@ class Derivation:
         if self.chunks:
             self.call.check(self.chunks, [0] * len(mixed) if self.wipes else mixed, "the chunks")
         self.call.check(self.output, pbkdf2(self.password, mixed, self.key_len), "the key")
-        return []
 
 
 class Verification:
@@ -162,7 +160,7 @@ class Verification:
     def __init__(self, call, case, pattern, form=phc.text):
         self.call, self.params, self.pattern, self.key_len = call, case.params, pattern, case.key_len
         self.s, self.size, (log_n, _, p), count = 0, 128 * case.params[1], case.params, len(pattern)
-        self.passwords, self.read, self.stored, self.begin, logins = [], [], [], [], []
+        self.passwords, self.read, self.stored, self.begin, self.right, logins = [], [], [], [], [], []
         for i in range(count):
             read = (hashlib.sha512(f"{case} {i}".encode()).digest() * 2)[: case.key_len]
             salt = bytes(range(65 + i, 65 + i + case.texts[1][1]))
@@ -188,11 +186,12 @@ class Verification:
             self.name, self.given = "proved_scrypt_verify_batch_with_buffers", (
                 *logins, *salt, *case.params, case.key_len, self.statuses[0], *buffers)
         comparing = call.program.functions["scrypt::comparing::is_derived_key"]
-        call.machine.before = dict.fromkeys(comparing, self.make_symbolic)
+        call.machine.before = dict.fromkeys(comparing, self.comparing)
 
-    def make_symbolic(self, m):
-        """Replaces each copy on the stack of the keys that were read."""
+    def comparing(self, m):
+        """Replaces each copy on the stack of the keys that were read, when two keys are to be compared."""
         start, there = concrete(m.registers[RSP]), bytearray()
+        m.before[number_of(m.memory.load(start, 8))] = self.compared
         for index in range(start // 4, STACK // 4):
             word = m.memory.get(index)
             there += word.to_bytes(4, "little") if type(word) is int else bytes(4)
@@ -201,24 +200,23 @@ class Verification:
                 m.memory.store(start + it.start(), vector_of(stored, 1), len(read))
 
     def expect(self, mixed):
-        """Takes what follows the walk, before it is run: the code's conditions are whether all bits are equal."""
+        """Takes what follows the walk, before it is run: a comparison has to return whether all bits are equal."""
         each = zip(self.passwords, parts(mixed, len(mixed) // len(self.passwords)), self.stored)
         self.right = [product(map(is_zero, map(xor, pbkdf2(its, chunks, self.key_len), stored)))
                       for its, chunks, stored in each]
-        self.call.machine.decide = self.decide
 
-    def decide(self, condition, operands):
-        for it, is_equal in zip(self.right, self.pattern):
-            if condition in (it, xor(it, 1)):
-                return is_equal == (condition == it)
-        raise Unknown("a condition that is not the comparison of all bits")
+    def compared(self, m):
+        """Decides what a comparison has returned, so that nothing symbolic is left for conditions."""
+        low, high = m.registers[RAX]
+        is_equal = dict(zip(self.right, self.pattern)).get(conj(low, 0xFF))
+        expect(is_equal is not None, "a comparison that is not of all bits")
+        m.registers[RAX] = xor(conj(low, ~0xFF & ALL), int(is_equal)), high
 
     def check(self, status, mixed):
         statuses = [status] if len(self.right) == 1 else self.call.memory.load(self.statuses[0], 4 * len(self.right))
         for is_equal, status in zip(self.pattern, statuses):
             expect(status == (OK if is_equal else MISMATCH), "the verdict")
         self.call.check(self.chunks, [0] * len(mixed), "the chunks")
-        return [(it, 0) for right in self.right for it in (right, xor(right, 1))]
 
 
 class Case:
@@ -240,9 +238,8 @@ class Case:
             mixed += bytes_of(definition.ro_mix(words_of(chunk, LITTLE), 1 << self.params[0], indexes), LITTLE)
         if entry.pattern:
             entry.expect(mixed)
-        status = entry.call.run(entry.name, *entry.given)
-        verdicts = entry.check(status, mixed)
-        entry.call.check_reports([(it & (1 << self.params[0]) - 1, 0) for it in indexes] + verdicts)
+        entry.check(entry.call.run(entry.name, *entry.given), mixed)
+        entry.call.check_reports([(it & (1 << self.params[0]) - 1, 0) for it in indexes])
 
     def in_buffers(self, tables, compression, level):
         self.run(Derivation(Call(compression, level), self, tables=tables))

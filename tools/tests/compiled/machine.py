@@ -172,11 +172,7 @@ class Machine:
         if at is not None:
             return self.memory.load(at, size)
         self.report("address", [address])
-        value = self.memory.at_index(address, size)
-        made_of = value[0].made_of if type(value[0]) is words.Word else ("", 0, ())
-        if made_of[0] == "choice" and all(type(it) is int for it in made_of[2]):  # a table of the program
-            return (made_of[2][self.decide(made_of[1], [address])],)
-        return value
+        return self.memory.at_index(address, size)
 
     def store(self, address, value, size):
         at = number_of(address)
