@@ -2,9 +2,9 @@
 """Runs the examples of pages over build/lib: of README, of HASHER, of Python's, Go's and C's pages, and the quick starts
 of examples/README.
 
-Most have code around them. `cargo test` runs the example of Rust's page, bindings/js/test the quick start for Express, and
-tools/release/test.sh the example of JavaScript's page. Missing tools are named with their Debian package. The script fails
-if an example fails or is missing.
+Most have code around them. `cargo test` runs the example of Rust's page, and bindings/js/test the quick start for Express
+and the examples of JavaScript's page. Missing tools are named with their Debian package. The script fails if an example
+fails or is missing.
 """
 
 import json
@@ -26,14 +26,7 @@ DEBIANS = "/usr/bin/python3"  # which has Debian's packages
 PYTHON_CHECKS = {
     "bindings/python/README.md": "assert is_right('$2b$05$abc', 'x') is False",
 }
-QUICK_PYTHON = {
-    "django": """
-from django.conf import settings
-settings.configure(PASSWORD_HASHERS=PASSWORD_HASHERS)
-from django.contrib.auth.hashers import check_password, make_password
-assert make_password("x").startswith("scrypt_c$scrypt$") and check_password("x", make_password("x"))
-""",
-    "fastapi": """
+QUICK_PYTHON = """
 def status(**form):
     try:
         return log_in(**form) or 204
@@ -41,8 +34,7 @@ def status(**form):
         return error.status_code
 assert status(name="ann", password="correct horse") == 204
 assert [status(name=it, password=that) for it, that in (("ann", "x"), ("eve", "x"), ("ann", "\\ud800"))] == [401] * 3
-""",
-}
+"""
 
 QUICK_GO = """package main
 
@@ -95,18 +87,6 @@ int main(void) {{
   return scrypt_hasher_new(NULL, &hasher) || !(seconds_of("nobody") > 0 && seconds_of("damaged") > seconds_of("nobody") / 4);
 }}
 """
-QUICK_C = """#include <scrypt_c.h>
-#include <string.h>
-{example}
-int main(void) {{
-  char text[SCRYPT_PHC_CAPACITY];
-  scrypt_hasher *hasher = NULL;
-  return scrypt_hasher_new(NULL, &hasher) ||
-         scrypt_hasher_hash(hasher, "x", 1, NULL, 0, text, sizeof text, -1) || status_of_login(hasher, text, "x") != 204 ||
-         status_of_login(hasher, text, "y") != 401 || status_of_login(hasher, NULL, "x") != 401 ||
-         status_of_login(hasher, "$2b$05$abc", "x") != 503;
-}}
-"""
 QUICK_RUST = """use scrypt_c::{{Error, Hasher}};
 
 {example}
@@ -154,11 +134,10 @@ def run_python(room):
                 continue
             login = written(room, "login.py", example + PYTHON_CHECKS.pop(page, ""))
             run([sys.executable, "-B", login], env=env)
-    for example, (module, check) in zip(examples("python", QUICK), QUICK_PYTHON.items(), strict=True):
-        if subprocess.run([DEBIANS, "-c", f"import {module}"], stderr=subprocess.DEVNULL, env=env).returncode:
-            lacks(module, f"python3-{module}")
-        else:
-            run([DEBIANS, "-B", written(room, "login.py", example + check)], env=env)
+    if subprocess.run([DEBIANS, "-c", "import fastapi"], stderr=subprocess.DEVNULL, env=env).returncode:
+        lacks("fastapi", "python3-fastapi")
+    else:
+        run([DEBIANS, "-B", written(room, "login.py", examples("python", QUICK)[0] + QUICK_PYTHON)], env=env)
 
 
 def run_go(room):
@@ -173,8 +152,7 @@ def run_go(room):
 
 
 def run_c(room):
-    around = [(LOGIN, "docs/HASHER.md"), (QUICK_C, QUICK)]
-    for example in [*examples("c", "bindings/c/README.md"), *(it.format(example=examples("c", page)[0]) for it, page in around)]:
+    for example in [*examples("c", "bindings/c/README.md"), LOGIN.format(example=examples("c", "docs/HASHER.md")[0])]:
         source, program = written(room, "login.c", example), room / "login"
         run(["cc", "-std=c99", "-Wall", "-Wextra", "-Werror", f"-I{LIBRARY}", source, f"{LIBRARY}/libscrypt_c.a", "-o", program])
         run([program])
