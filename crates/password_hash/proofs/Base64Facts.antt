@@ -1,8 +1,8 @@
 -- Base64 of bytes, and the bytes that letters decode to.
-use Rattle.std.proofs.Common.{◌≡◌, ℕ, zero, suc, ◌+◌, ◌*◌, ◌/◌, ◌%◌, ◌<◌, ◌==◌, false, List, [], ◌∷◌, ◌++◌, take, drop, length, slice_index, ap, arith, ◌∙◌, refl}
+use Rattle.std.proofs.Common.{◌≡◌, ℕ, zero, suc, ◌+◌, ◌-◌, ◌*◌, ◌/◌, ◌%◌, ◌<◌, ◌==◌, false, List, [], ◌∷◌, ◌++◌, take, drop, length, slice_index, ap, arith, ◌∙◌, refl}
 use Rattle.std.specs.Prelude.{All, IsTrue, Ok}
 use Rattle.std.specs.List.{AllByRecursion as ByRecursion}
-use Rattle.std.proofs.lemmas.List.{append-nil}
+use Rattle.std.proofs.lemmas.List.{append-nil, places}
 use Rattle.std.proofs.lemmas.List.Elements.{All-get_or, All-from_recursion}
 use Rattle.std.proofs.lemmas.List.Sums.{AllPass-from_list_all}
 use Rattle.base64.specs.Rfc4648.{encode_symbols}
@@ -10,8 +10,7 @@ use Rattle.base64.specs.GeneralPurpose.{IsBytes, decode_of}
 use Rattle.base64.specs.Engines.{standard_no_pad}
 use Rattle.base64.proofs.EngineFacts.{decode_of-encode_of}
 use Rattle.base64.proofs.RoundTrip.{length-encode_symbols}
-use Rattle.password_hash.specs.Letters.{is_base64_letter, is_value_letter}
-use Rattle.password_hash.specs.Phc.{base64}
+use Rattle.password_hash.specs.{base64, is_base64_letter, is_value_letter}
 use Rattle.password_hash.proofs.ParamsFacts.{Lacks, letters_lack}
 
 -- lists of bytes
@@ -21,19 +20,13 @@ IsBytes-cons byte bytes first rest zero = first
 IsBytes-cons byte bytes first rest (suc i) = rest i
 
 pub IsBytes-append : (xs ys : List ℕ) → IsBytes xs → IsBytes ys → IsBytes (xs ++ ys)
-IsBytes-append [] ys first second = second
-IsBytes-append (x ∷ xs) ys first second =
-    IsBytes-cons x (xs ++ ys) (first 0) (IsBytes-append xs ys (λ i. first (suc i)) second)
+IsBytes-append xs ys first second = λ i. grind (arith, places, first i, second (i - length xs))
 
 pub IsBytes-take : (n : ℕ) (xs : List ℕ) → IsBytes xs → IsBytes (take n xs)
-IsBytes-take zero xs are = λ i. omega arith
-IsBytes-take (suc n) [] are = λ i. omega arith
-IsBytes-take (suc n) (x ∷ xs) are = IsBytes-cons x (take n xs) (are 0) (IsBytes-take n xs (λ i. are (suc i)))
+IsBytes-take n xs are = λ i. grind (arith, places, are i)
 
 pub IsBytes-drop : (n : ℕ) (xs : List ℕ) → IsBytes xs → IsBytes (drop n xs)
-IsBytes-drop zero xs are = are
-IsBytes-drop (suc n) [] are = are
-IsBytes-drop (suc n) (x ∷ xs) are = IsBytes-drop n xs (λ i. are (suc i))
+IsBytes-drop n xs are = λ i. grind (arith, places, are (n + i))
 
 -- Base64
 

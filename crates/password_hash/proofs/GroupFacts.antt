@@ -1,14 +1,15 @@
 -- Bytes and letters by groups: how many there are, what a group encodes, and what letters decode to.
-use Rattle.std.proofs.Common.{◌≡◌, ◌∙◌, sym, ap, refl, arith, ℕ, zero, suc, ◌+◌, ◌-◌, ◌*◌, ◌/◌, ◌%◌, ◌^◌, ◌<◌, ◌≤◌, min, Some, List, [], ◌∷◌, length, None, true}
+use Rattle.std.proofs.Common.{◌≡◌, ◌∙◌, sym, ap, refl, arith, rules, ℕ, zero, suc, ◌+◌, ◌-◌, ◌*◌, ◌/◌, ◌%◌, ◌^◌, ◌<◌, ◌≤◌, min, Some, List, [], ◌∷◌, length, None, true}
 use Rattle.std.proofs.Common.{◌++◌, take, drop, replicate, append_assoc, length-append, length-drop}
 use Rattle.std.specs.Int.{to_le_bytes, from_le_bytes, w32}
-use Rattle.std.proofs.lemmas.List.{append-nil, take_at, drop_at, take_min, drop_min, take-append-drop, length-take, length-take-le}
-use Rattle.std.specs.Prelude.{Option, unwrap_or}
+use Rattle.std.proofs.lemmas.List.{append-nil, places, take_at, drop_at, take_min, drop_min, take-append-drop, length-take, length-take-le}
+use Rattle.std.specs.Prelude.{unwrap_or}
 use Rattle.std.specs.Str.{bytes_eq}
 use Rattle.std.proofs.lemmas.Option.{cond_some}
 use Rattle.std.proofs.lemmas.Slice.Eq.{bytes_eq-Decides}
 use Rattle.password_hash.specs.Crypt64.{letters_of, number_of, crypt64_of, Crypt64, IsBytes, IsCrypt64, encoded_len, Begins, bytes_of_number, decoded}
 use Rattle.password_hash.proofs.Base64Facts.{IsBytes-append, IsBytes-cons, IsBytes-drop, IsBytes-take}
+use Rattle.password_hash.proofs.PhcReadingFacts.{none_exact}
 use Rattle.password_hash.proofs.Crypt64Facts.{letter_value-letter, length-letters_of, number_of-letters_of, letters_of-number_of}
 
 -- the number of letters is the one that is stated
@@ -157,18 +158,11 @@ begins_with_group letters number is =
     let as_many : length (take len bytes) ≡ len = length-take-le len bytes (omega (arith, length-take 4 letters)) in
     let group : letters_of (suc len) number ≡ take 4 letters = rw (← count) (letters_of-number_of (take 4 letters) number is.read).0 in
     record {
-      are_bytes = IsBytes-take len bytes small;
+      are_bytes = IsBytes-take len bytes (λ i. search (rules, places));
       whole = sym (take-append-drop 4 letters) ∙ ap (λ first. first ++ drop 4 letters)
           (sym group ∙ letters_of_bytes len number (omega (arith, is.some)) (omega (arith, length-take 4 letters)) is.fits);
       groups = λ some. omega (arith, as_many, length-take 4 letters, length-drop 4 letters);
     }
-  where
-    small : IsBytes (to_le_bytes w32 number)
-    small zero = omega arith
-    small (suc zero) = omega arith
-    small (suc (suc zero)) = omega arith
-    small (suc (suc (suc zero))) = omega arith
-    small (suc (suc (suc (suc i)))) = omega arith
 
 -- letters that are read group by group
 
@@ -248,11 +242,8 @@ encoded_is bytes letters is =
 
 -- others are not decoded
 pub not_decoded : (letters : List ℕ) → ¬ IsCrypt64 letters → decoded letters ≡ None
-not_decoded letters none = at (decoded letters) refl
-  where
-    at : (answer : Option (List ℕ)) → decoded letters ≡ answer → decoded letters ≡ None
-    at None is = is
-    at (Some bytes) is = absurd (none (bytes, encoded_is bytes letters is))
+not_decoded letters none = none_exact (λ bytes. Crypt64 bytes letters) (decoded letters)
+    (λ bytes. (encoded_is bytes letters, decoded_is bytes letters)) (λ bytes is. none (bytes, is))
 
 -- one text is the encoding of one list of bytes
 pub Crypt64-one : (letters xs ys : List ℕ) → Crypt64 xs letters → Crypt64 ys letters → xs ≡ ys

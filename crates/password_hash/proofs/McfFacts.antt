@@ -7,10 +7,8 @@ use Rattle.std.proofs.lemmas.List.{append-nil}
 use Rattle.std.proofs.lemmas.List.Elements.{All-nil, All-cons, All-weaker, All-push, All-from_recursion}
 use Rattle.password_hash.specs.declared.mcf.error.Error.{Error}
 use Rattle.password_hash.specs.declared.mcf.error.Error.TheVariants.{EncodingInvalid, OutOfMemory}
-use Rattle.password_hash.specs.Crypt64.{crypt64_of}
-use Rattle.password_hash.specs.Letters.{is_identifier_letter}
-use Rattle.password_hash.specs.Mcf.{IsId, IsField, IsMcfText, IsMcf, id_of, fields_of}
-use Rattle.password_hash.specs.Parts.{dollar, parts_of}
+use Rattle.password_hash.specs.{IsField, IsId, IsMcf, IsMcfText, crypt64_of, dollar, fields_of, id_of}
+use Rattle.password_hash.specs.{is_identifier_letter, parts_of}
 use Rattle.password_hash.proofs.Crypt64Facts.{IsPlain, crypt64_of-plain}
 use Rattle.password_hash.proofs.ParamsFacts.{Lacks, letters_lack, parts_of-parts_text, parts_text-push, text_of_parts}
 

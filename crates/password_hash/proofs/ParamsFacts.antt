@@ -15,9 +15,8 @@ use Rattle.std.specs.Bool.{Decides}
 use Rattle.std.specs.Cmp.Lexicographic.{pointwise}
 use Rattle.std.proofs.lemmas.Bool.Decides.{same_from_decides, Decides-and, Decides-like, Decides-by_and, Decides-eqb, Decides-not, nat_tests}
 use Rattle.std.proofs.lemmas.Slice.Eq.{bytes_eq-Decides, slice_eq-Decides}
-use Rattle.password_hash.specs.Letters.{is_identifier, is_identifier_letter, is_value_letter}
-use Rattle.password_hash.specs.Pairs.{IsPair, pair_text, pairs_text, ArePairs, pair_of, pairs_of, pair_eq, with_pair}
-use Rattle.password_hash.specs.Parts.{dollar, parts_text, parts_of}
+use Rattle.password_hash.specs.{ArePairs, IsPair, dollar, is_identifier, is_identifier_letter, is_value_letter, pair_eq}
+use Rattle.password_hash.specs.{pair_of, pair_text, pairs_of, pairs_text, parts_of, parts_text, with_pair}
 
 -- no byte is c
 abbrev pub Lacks : ℕ → List ℕ → Type 0

@@ -17,14 +17,12 @@ use Rattle.std.proofs.lemmas.Option.{cond_some, option_and_then_some}
 use Rattle.std.proofs.lemmas.Slice.Eq.{bytes_eq-Decides, starts_is}
 use Rattle.base64.specs.Engines.{standard_no_pad}
 use Rattle.base64.specs.GeneralPurpose.{IsBytes, decoded_of}
-use Rattle.password_hash.specs.Decimal.{decimal_below}
-use Rattle.password_hash.specs.Letters.{is_identifier, is_identifier_letter, is_value_letter}
-use Rattle.password_hash.specs.Pairs.{IsPair, is_pair, ArePairs, pairs_of, pairs_text, pair_text}
-use Rattle.password_hash.specs.Parts.{parts_left, parts_of, parts_text}
-use Rattle.password_hash.specs.Phc.{IsHashText, IsKey, IsSalt, base64, hash_parts, hash_text, params_part, salt_and_key_parts, version_part}
-use Rattle.password_hash.specs.PhcReading.{are_bytes_from_to, are_pairs, decoded_bytes, hash_after, hash_of_parts}
-use Rattle.password_hash.specs.PhcReading.{names_differ, params_and_rest, parsed_pairs, read_hash, salt_and_key, version_and_rest}
-use Rattle.password_hash.specs.ShortBytes.{AreBytesFromTo}
+use Rattle.password_hash.specs.{AreBytesFromTo, ArePairs, IsHashText, IsKey, IsPair, IsSalt, are_bytes_from_to}
+use Rattle.password_hash.specs.{are_pairs, base64, decimal_below, decoded_bytes, hash_after, hash_of_parts, hash_parts}
+use Rattle.password_hash.specs.{hash_text, is_identifier, is_identifier_letter, is_pair, is_value_letter, names_differ}
+use Rattle.password_hash.specs.{pair_text, pairs_of, pairs_text, params_and_rest, params_part, parsed_pairs, parts_left}
+use Rattle.password_hash.specs.{parts_of, parts_text, read_hash, salt_and_key, salt_and_key_parts, version_and_rest}
+use Rattle.password_hash.specs.{version_part}
 use Rattle.password_hash.specs.declared.phc.hash.PasswordHash.{PasswordHash}
 use Rattle.base64.proofs.Streams.{decoded_of-ok}
 use Rattle.password_hash.proofs.Base64Facts.{IsBytes-cons, decode_of-base64, base64_lacks}

@@ -7,10 +7,9 @@ use Rattle.std.specs.List.{range_with_len}
 unfoldable pub use Rattle.base64.specs.Decode.{groups_bytes, groups_error, scan_steps}
 unfoldable pub use Rattle.base64.specs.GeneralPurpose.{decoded_of}
 unfoldable pub use Rattle.base64.specs.Rfc4648.{encode_symbols}
-use Rattle.password_hash.specs.Crypt64.{bytes_of_number, crypt64_of, decoded, letter, letter_value, letters_of, number_of}
-use Rattle.password_hash.specs.Decimal.{decimal_below, has_plus_or_leading_zero}
-use Rattle.password_hash.specs.Phc.{hash_text}
-use Rattle.password_hash.specs.PhcReading.{decoded_bytes, parsed_pairs, read_hash}
+use Rattle.password_hash.specs.{bytes_of_number, crypt64_of, decimal_below, decoded, decoded_bytes}
+use Rattle.password_hash.specs.{has_plus_or_leading_zero, hash_text, letter, letter_value, letters_of, number_of}
+use Rattle.password_hash.specs.{parsed_pairs, read_hash}
 use Rattle.password_hash.specs.declared.phc.hash.PasswordHash.{PasswordHash}
 
 -- the bytes that hexadecimal digits spell, two for each

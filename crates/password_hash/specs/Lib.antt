@@ -26,3 +26,17 @@ pub mod Crypt64
 pub mod Mcf
 -- borrowed MCF strings
 pub mod McfViews
+-- the definitions of all these files, for clauses and proofs
+unfoldable pub use Refusal.*
+unfoldable pub use Verifying.*
+unfoldable pub use ShortBytes.*
+unfoldable pub use Letters.*
+unfoldable pub use Decimal.*
+unfoldable pub use Parts.*
+unfoldable pub use Value.*
+unfoldable pub use Pairs.*
+unfoldable pub use Phc.*
+unfoldable pub use PhcReading.*
+unfoldable pub use Crypt64.*
+unfoldable pub use Mcf.*
+unfoldable pub use McfViews.*

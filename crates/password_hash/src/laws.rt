@@ -1,10 +1,8 @@
 //! Laws of the definitions. Each function does nothing at run time: its contract is the law.
 ghost use Rattle.std.specs.Prelude.{◌≡◌, ◌↔◌, ℕ, List, Some, All, IsSome, IsTrue};
 ghost use Rattle.base64.specs.GeneralPurpose.{IsBytes};
-ghost use Rattle.password_hash.specs.Crypt64.{Crypt64, crypt64_of, decoded, letter_value};
-ghost use Rattle.password_hash.specs.Letters.{is_base64_letter};
-ghost use Rattle.password_hash.specs.Phc.{IsHashText, base64};
-ghost use Rattle.password_hash.specs.PhcReading.{read_hash};
+ghost use Rattle.password_hash.specs.Crypt64.{Crypt64};
+ghost use Rattle.password_hash.specs.{IsHashText, base64, crypt64_of, decoded, is_base64_letter, letter_value, read_hash};
 ghost use Rattle.password_hash.specs.declared.phc.hash.PasswordHash.{PasswordHash};
 
 /// A PHC string is read as the hash that it is printed from, if this hash is allowed, and as no

@@ -3,6 +3,8 @@
 //! It derives no keys and makes no hashes: the crate `scrypt` does so, through these traits.
 #![tactic(auto)]
 
+// Hidden items are only for the crates of this repository.
+#[doc(hidden)]
 pub mod decimal;
 mod error;
 pub mod kdf;

@@ -1,6 +1,7 @@
 //! Texts in the modular crypt format (MCF) of crypt(5), such as `$7$..`, and the Base64 of their
 //! fields.
 
+#[doc(hidden)]
 pub mod alphabet;
 mod crypt64;
 mod error;

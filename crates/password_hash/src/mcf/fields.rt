@@ -58,6 +58,7 @@ impl<'a> Field<'a> {
     ///
     /// The field is an encoding of at least `at + bytes.len()` bytes. `at` is a multiple of 3, and
     /// so is `bytes.len()` unless `bytes` reach the end.
+    #[doc(hidden)]
     pub fn base64_matches_at(&self, at: usize, bytes: &[u8]) -> bool
         requires piece { (all : List ℕ) × Crypt64 all (field_text self.now)
             × IsPiece at (length bytes.now) (length all) }

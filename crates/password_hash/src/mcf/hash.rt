@@ -2,9 +2,7 @@
 ghost use Rattle.std.specs.Prelude.{◌≡◌, ◌↔◌, ◌∷◌, ◌++◌, nat_eq, IsOk, IfOk, OnOk, IfErr, OnErr, IsErrOf, MatchResult, string_bytes};
 ghost use Rattle.std.specs.Cmp.{partial_equiv_from_equiv};
 ghost use Rattle.std.specs.Cmp.Lexicographic.{pointwise, nat_list_eq_equiv};
-ghost use Rattle.password_hash.specs.Crypt64.{crypt64_of};
-ghost use Rattle.password_hash.specs.Mcf.{IsId, IsField, IsMcfText, IsMcf, id_of, fields_of};
-ghost use Rattle.password_hash.specs.Parts.{dollar};
+ghost use Rattle.password_hash.specs.{IsField, IsId, IsMcf, IsMcfText, crypt64_of, dollar, fields_of, id_of};
 
 use super::crypt64::Base64;
 use super::fields::{Fields, is_field};
@@ -152,17 +150,6 @@ impl PasswordHash {
         PasswordHashRef {
             text: self.text.as_str(),
         }
-    }
-}
-
-impl From<PasswordHash> for String {
-    ghost use Rattle.std.specs.Prelude.{◌≡◌, string_bytes};
-
-    ghost from_gives = { λ hash text. string_bytes text ≡ hash };
-
-    /// Returns the whole text, which is moved out of the hash and not copied.
-    fn from(hash: PasswordHash) -> String {
-        hash.into_string()
     }
 }
 

@@ -1,8 +1,6 @@
 //! A password hash in the PHC string format.
 ghost use Rattle.std.specs.Prelude.{◌≡◌, IfOk, ok_or};
-ghost use Rattle.password_hash.specs.Parts.{parts_left};
-ghost use Rattle.password_hash.specs.Phc.{hash_text};
-ghost use Rattle.password_hash.specs.PhcReading.{hash_after, read_hash};
+ghost use Rattle.password_hash.specs.{hash_after, hash_text, parts_left, read_hash};
 ghost use Rattle.password_hash.specs.declared.error.Error.TheVariants.{EncodingInvalid};
 
 use crate::parts::split_first;

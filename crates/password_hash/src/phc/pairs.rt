@@ -17,8 +17,7 @@ pub struct Pairs<'a> {
 
 impl<'a> Model for Pairs<'a> {
     ghost use Rattle.std.specs.Prelude.{ℕ, List, All, IsTrue};
-    ghost use Rattle.password_hash.specs.Letters.{is_identifier};
-    ghost use Rattle.password_hash.specs.Pairs.{pairs_left};
+    ghost use Rattle.password_hash.specs.{is_identifier, pairs_left};
 
     ghost Value = { List (List ℕ × List ℕ) };
 

@@ -3,10 +3,8 @@ ghost use Rattle.std.specs.Prelude.{◌≡◌, ◌≢◌, ◌↔◌, ◌≤◌, 
 ghost use Rattle.std.specs.Prelude.{IsOk, IfErr, IfSome, IfNone, OnOk, OnErr, ok_or};
 ghost use Rattle.std.specs.Cmp.{and_equiv, on_equiv, partial_equiv_from_equiv};
 ghost use Rattle.std.specs.Cmp.Lexicographic.{lists_equiv, nat_list_eq_equiv, pointwise};
-ghost use Rattle.password_hash.specs.Letters.{is_value};
-ghost use Rattle.password_hash.specs.Pairs.{ArePairs, IsPair, pair_eq, pairs_left, pairs_of, pairs_text, with_pair};
-ghost use Rattle.password_hash.specs.PhcReading.{parsed_pairs};
-ghost use Rattle.password_hash.specs.Value.{value_text};
+ghost use Rattle.password_hash.specs.{ArePairs, IsPair, is_value, pair_eq, pairs_left, pairs_of, pairs_text};
+ghost use Rattle.password_hash.specs.{parsed_pairs, value_text, with_pair};
 ghost use Rattle.password_hash.specs.declared.error.Error.TheVariants.{ParamsInvalid};
 
 use crate::letters::are_value_letters;

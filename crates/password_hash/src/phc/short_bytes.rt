@@ -126,6 +126,7 @@ impl Output {
     /// difference.
     ///
     /// The key has at least `at + bytes.len()` bytes.
+    #[doc(hidden)]
     pub fn matches_at(&self, at: usize, bytes: &[u8]) -> bool
         requires inside { at + length bytes.now ≤ length self.now }
         ensures exact { IsTrue result ↔ (bytes.now ≡ take (length bytes.now) (drop at self.now)) }

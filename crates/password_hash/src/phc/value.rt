@@ -1,7 +1,6 @@
 //! The value of a parameter.
 ghost use Rattle.std.specs.Prelude.{◌≡◌, ◌^◌, ok_or};
-ghost use Rattle.password_hash.specs.Decimal.{decimal_below};
-ghost use Rattle.password_hash.specs.Value.{value_text};
+ghost use Rattle.password_hash.specs.{decimal_below, value_text};
 ghost use Rattle.password_hash.specs.declared.error.Error.TheVariants.{EncodingInvalid};
 
 use crate::decimal::read_u32;

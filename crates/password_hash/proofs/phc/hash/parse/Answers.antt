@@ -1,7 +1,6 @@
 use Rattle.std.proofs.Common.{◌∙◌, sym, refl}
 use Rattle.std.proofs.lemmas.Bool.{false≢true, false_from_ne_true}
-use Rattle.password_hash.specs.Letters.{is_identifier}
-use Rattle.password_hash.specs.PhcReading.{read_hash}
+use Rattle.password_hash.specs.{is_identifier, read_hash}
 use Rattle.password_hash.proofs.PhcReadingFacts.{not_begun}
 use Rattle.password_hash.proofs.phc.hash.parse.Goals as goal
 

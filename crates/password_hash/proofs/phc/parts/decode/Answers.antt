@@ -4,9 +4,7 @@ use Rattle.std.proofs.lemmas.Bool.{false≢true}
 use Rattle.base64.specs.Engines.{standard_no_pad}
 use Rattle.base64.specs.GeneralPurpose.{IsBytes, decode_of, decoded_of}
 use Rattle.base64.proofs.EngineFacts.{decode_of_strict}
-use Rattle.password_hash.specs.Phc.{base64}
-use Rattle.password_hash.specs.PhcReading.{decoded_bytes}
-use Rattle.password_hash.specs.ShortBytes.{AreBytesFromTo}
+use Rattle.password_hash.specs.{AreBytesFromTo, base64, decoded_bytes}
 use Rattle.password_hash.proofs.Base64Facts.{decode_of-base64, length-base64}
 use Rattle.password_hash.proofs.PhcReadingFacts.{bytes_exact, none_exact}
 use Rattle.password_hash.proofs.phc.parts.decode.Goals as goal

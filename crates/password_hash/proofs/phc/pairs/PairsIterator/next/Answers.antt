@@ -2,8 +2,7 @@ use Rattle.std.proofs.Common.{◌≡◌, ◌∷◌, ◌∙◌, ap, subst, map}
 use Rattle.std.specs.Prelude.{All, IsTrue}
 use Rattle.std.proofs.lemmas.Bool.{false≢true}
 use Rattle.std.proofs.lemmas.List.Elements.{All-head, All-tail}
-use Rattle.password_hash.specs.Letters.{is_identifier}
-use Rattle.password_hash.specs.Pairs.{pair_of, pairs_left}
+use Rattle.password_hash.specs.{is_identifier, pair_of, pairs_left}
 use Rattle.password_hash.proofs.phc.pairs.PairsIterator.next.Goals as goal
 use Rattle.password_hash.proofs.phc.pairs.PairsIterator.next.Goals.{After-cut}
 

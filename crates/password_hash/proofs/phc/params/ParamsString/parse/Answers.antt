@@ -1,8 +1,7 @@
 use Rattle.std.proofs.Common.{◌≡◌, ◌∷◌, ◌++◌, ◌∙◌, [], append_assoc, map, ap, sym, rules}
 use Rattle.std.proofs.lemmas.Bool.{false≢true, false_from_ne_true}
 use Rattle.std.proofs.lemmas.List.{append-nil}
-use Rattle.password_hash.specs.Pairs.{pair_of, pairs_left, pairs_of}
-use Rattle.password_hash.specs.PhcReading.{are_pairs, parsed_pairs}
+use Rattle.password_hash.specs.{are_pairs, pair_of, pairs_left, pairs_of, parsed_pairs}
 use Rattle.password_hash.proofs.ParamsFacts.{ArePairs-front}
 use Rattle.password_hash.proofs.PhcReadingFacts.{pairs_decided}
 use Rattle.password_hash.proofs.phc.params.ParamsString.parse.Goals as goal
