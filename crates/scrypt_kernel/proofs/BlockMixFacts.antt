@@ -3,20 +3,18 @@ use Rattle.std.proofs.Common.{◌≡◌, ◌≢◌, ℕ, zero, suc, ◌+◌, ◌
 use Rattle.std.proofs.lemmas.List.{append-nil, length-append}
 use Rattle.std.proofs.lemmas.Simd.{length-zip2}
 use Rattle.std.specs.List.{flat_map, range_with_len}
-use Rattle.scrypt_kernel.specs.Words.{block, xor_words}
-use Rattle.scrypt_kernel.specs.Salsa.{salsa20_8}
-use Rattle.scrypt_kernel.specs.BlockMix.{block_mix, chain, y}
-use Rattle.scrypt_kernel.specs.Diagonal.{AfterTurns, AreInverse, IsBlockMixBy, chain_in, permuted}
+use Rattle.scrypt_kernel.specs.{AfterTurns, AreInverse, IsBlockMixBy, IsRowLen, block, block_mix, chain, chain_in, permuted}
+use Rattle.scrypt_kernel.specs.{salsa20_8, xor_words, y}
 use Rattle.scrypt_kernel.proofs.PartFacts.{halves_all, length-part, length-parts, part_after, part_of_parts}
 use Rattle.scrypt_kernel.proofs.SalsaFacts.{length-salsa20_8}
 use Rattle.scrypt_kernel.proofs.OrderFacts.{block_in, length-permuted, out_then_in, standard_of, zip_in}
 
 -- one more step of the chain
-pub chain_more : (b : List ℕ) (i : ℕ) → chain b (i + 1) ≡ salsa20_8 (xor_words (chain b i) (block b i))
+chain_more : (b : List ℕ) (i : ℕ) → chain b (i + 1) ≡ salsa20_8 (xor_words (chain b i) (block b i))
 unfolding chain
 chain_more b i = rw add-one refl
 
-pub length-chain : (b : List ℕ) → 16 ≤ length b → length b % 16 ≡ 0 → (i : ℕ) → i * 16 ≤ length b → length (chain b i) ≡ 16
+length-chain : (b : List ℕ) → 16 ≤ length b → length b % 16 ≡ 0 → (i : ℕ) → i * 16 ≤ length b → length (chain b i) ≡ 16
 unfolding chain
 length-chain b some whole zero room = length-part 16 (length b / 16 - 1) b (omega arith)
 length-chain b some whole (suc i) room =
@@ -39,13 +37,13 @@ module _ (b : List ℕ) (some : 0 < length b) (whole : length b % 32 ≡ 0) wher
       let odd = length-parts (λ k. y b (2 * k + 1)) 16 0 r (λ k h. length-y (2 * (0 + k) + 1) (omega arith)) in
       length-append (flat_map (λ k. y b (2 * k)) (range_with_len 0 r)) _ ∙ omega (arith, length-even, odd)
 
-  pub even_block : (k : ℕ) → k < length b / 32 → block (block_mix b) k ≡ y b (2 * k)
+  even_block : (k : ℕ) → k < length b / 32 → block (block_mix b) k ≡ y b (2 * k)
   unfolding block_mix
   even_block k inside =
       part_of_parts (λ k. y b (2 * k)) 16 0 (length b / 32) k _ (λ k h. length-y (2 * (0 + k)) (omega arith)) inside
       ∙ ap (λ i. y b (2 * i)) (zero-add k)
 
-  pub odd_block : (k : ℕ) → k < length b / 32 → block (block_mix b) (length b / 32 + k) ≡ y b (2 * k + 1)
+  odd_block : (k : ℕ) → k < length b / 32 → block (block_mix b) (length b / 32 + k) ≡ y b (2 * k + 1)
   unfolding block_mix
   odd_block k inside =
       let r : ℕ = length b / 32 in
@@ -56,11 +54,11 @@ module _ (b : List ℕ) (some : 0 < length b) (whole : length b % 32 ≡ 0) wher
       ∙ ap (λ i. y b (2 * i + 1)) (zero-add k)
 
 -- the core of words in another order
-abbrev pub core_in : List ℕ → List ℕ → List ℕ → List ℕ
+abbrev core_in : List ℕ → List ℕ → List ℕ → List ℕ
 core_in p q x = permuted p (salsa20_8 (permuted q x))
 
 -- the block mix of words in another order, by the core in that order
-module _ (p q : List ℕ) (inverse : AreInverse p q) (b : List ℕ) (some : 0 < length b) (whole : length b % 32 ≡ 0) where
+module _ {p q : List ℕ} (inverse : AreInverse p q) (b : List ℕ) (some : 0 < length b) (whole : length b % 32 ≡ 0) where
   next_in : (i : ℕ) → i * 16 + 16 ≤ length b
       → permuted p (chain b (i + 1)) ≡ core_in p q (xor_words (permuted p (chain b i)) (block (permuted p b) i))
   next_in i room =
@@ -69,8 +67,8 @@ module _ (p q : List ℕ) (inverse : AreInverse p q) (b : List ℕ) (some : 0 < 
       let one : length z ≡ 16 = length-chain b (omega arith) (omega arith) i (omega arith) in
       let same : length z ≡ length w = one ∙ sym (length-part 16 i b room) in
       let size : length (permuted p (xor_words z w)) ≡ 16 = length-permuted p _ ∙ length-zip2 bit_xor z w same ∙ one in
-      let joined = ap (xor_words (permuted p z)) (block_in p q inverse b i room) ∙ zip_in p q inverse bit_xor z w same (omega arith) in
-      let back = standard_of p q inverse _ (xor_words z w) (omega (arith, ap length joined)) joined in
+      let joined = ap (xor_words (permuted p z)) (block_in inverse b i room) ∙ zip_in inverse bit_xor z w same (omega arith) in
+      let back = standard_of inverse _ (xor_words z w) (omega (arith, ap length joined)) joined in
       ap (permuted p) (chain_more b i ∙ ap salsa20_8 (sym back))
 
   pub block_mix_by : IsBlockMixBy (core_in p q) (permuted p b) (permuted p (block_mix b))
@@ -80,11 +78,11 @@ module _ (p q : List ℕ) (inverse : AreInverse p q) (b : List ℕ) (some : 0 < 
       let mixed : length (block_mix b) ≡ length b = length-block_mix b some whole in
       record {
         x = λ i. permuted p (chain b i);
-        first = rw long (sym (block_in p q inverse b (length b / 16 - 1) (omega arith)));
+        first = rw long (sym (block_in inverse b (length b / 16 - 1) (omega arith)));
         next = λ i h. next_in i (omega arith);
         long = length-permuted p (block_mix b) ∙ mixed ∙ sym long;
-        even = λ k h. block_in p q inverse (block_mix b) k (omega arith) ∙ ap (permuted p) (even_block b some whole k (omega arith));
-        odd = λ k h. rw long (block_in p q inverse (block_mix b) (length b / 32 + k) (omega arith)
+        even = λ k h. block_in inverse (block_mix b) k (omega arith) ∙ ap (permuted p) (even_block b some whole k (omega arith));
+        odd = λ k h. rw long (block_in inverse (block_mix b) (length b / 32 + k) (omega arith)
             ∙ ap (permuted p) (odd_block b some whole k (omega arith)));
       }
 
@@ -123,33 +121,33 @@ block_mix_by_once f b out other whole one two =
     first ∙ sym second
 
 -- the block mix by the core in another order is that of the words in standard order
-pub mixed_in : (p q : List ℕ) → AreInverse p q → (input : List ℕ) → 0 < length input → length input % 32 ≡ 0
+pub mixed_in : {p q : List ℕ} → AreInverse p q → (input : List ℕ) → 0 < length input → length input % 32 ≡ 0
     → IsBlockMixBy (core_in p q) input (permuted p (block_mix (permuted q input)))
-mixed_in p q inverse input some whole =
+mixed_in {p} {q} inverse input some whole =
     let long : length (permuted q input) ≡ length input = length-permuted q input in
-    let standard = block_mix_by p q inverse (permuted q input) (omega arith) (omega arith) in
-    rw (out_then_in p q inverse input (omega arith)) at standard
+    let standard = block_mix_by inverse (permuted q input) (omega arith) (omega arith) in
+    rw (out_then_in inverse input (omega arith)) at standard
 
 -- the turns of the block mix of b, which is in another order
-module _ (p q : List ℕ) (inverse : AreInverse p q) (b : List ℕ) (some : 0 < length b) (whole : length b % 32 ≡ 0) where
+module _ {p q : List ℕ} (inverse : AreInverse p q) (b : List ℕ) {len : ℕ} (row : IsRowLen len) (long : length b ≡ len) where
   chain_first : chain_in p q b 0 ≡ block b (length b / 16 - 1)
   unfolding chain
   chain_first =
-      let long : length (permuted q b) ≡ length b = length-permuted q b in
-      sym (block_in p q inverse (permuted q b) (length (permuted q b) / 16 - 1) (omega arith))
-      ∙ ap (λ z. block z (length (permuted q b) / 16 - 1)) (out_then_in p q inverse b (omega arith))
-      ∙ ap (λ n. block b (n / 16 - 1)) long
+      let same : length (permuted q b) ≡ length b = length-permuted q b in
+      sym (block_in inverse (permuted q b) (length (permuted q b) / 16 - 1) (omega arith))
+      ∙ ap (λ z. block z (length (permuted q b) / 16 - 1)) (out_then_in inverse b (omega arith))
+      ∙ ap (λ n. block b (n / 16 - 1)) same
 
   chain_next : (i : ℕ) → i < length b / 16 → chain_in p q b (i + 1) ≡ core_in p q (xor_words (chain_in p q b i) (block b i))
   chain_next i inside =
-      let long : length (permuted q b) ≡ length b = length-permuted q b in
-      let next = next_in p q inverse (permuted q b) (omega arith) (omega arith) i (omega arith) in
-      rw (out_then_in p q inverse b (omega arith)) at next
+      let same : length (permuted q b) ≡ length b = length-permuted q b in
+      let next = next_in inverse (permuted q b) (omega arith) (omega arith) i (omega arith) in
+      rw (out_then_in inverse b (omega arith)) at next
 
   -- before the first turn
-  pub no_turn : (x output : List ℕ) → x ≡ block b (2 * (length b / 32) - 1) → AfterTurns p q b 0 x output
+  pub no_turn : (x output : List ℕ) → x ≡ block b (2 * (len / 32) - 1) → AfterTurns p q b 0 x output
   no_turn x output first =
-      let last : 2 * (length b / 32) - 1 ≡ length b / 16 - 1 = omega arith in
+      let last : 2 * (len / 32) - 1 ≡ length b / 16 - 1 = omega arith in
       record {
         chained = first ∙ ap (block b) last ∙ sym chain_first;
         even = λ k h. absurd (omega arith);
@@ -157,33 +155,34 @@ module _ (p q : List ℕ) (inverse : AreInverse p q) (b : List ℕ) (some : 0 < 
       }
 
   -- one more turn, whose steps give x1 and x2
-  pub one_more_turn : (i : ℕ) (x output x1 output1 x2 output2 : List ℕ) → i < length b / 32 → AfterTurns p q b i x output
+  pub one_more_turn : (i : ℕ) (x output x1 output1 x2 output2 : List ℕ) → i < len / 32 → AfterTurns p q b i x output
       → x1 ≡ core_in p q (xor_words x (block b (2 * i)))
       → block output1 i ≡ x1 → ((k : ℕ) → k ≢ i → block output1 k ≡ block output k)
       → x2 ≡ core_in p q (xor_words x1 (block b (2 * i + 1)))
-      → block output2 (length b / 32 + i) ≡ x2 → ((k : ℕ) → k ≢ length b / 32 + i → block output2 k ≡ block output1 k)
+      → block output2 (len / 32 + i) ≡ x2 → ((k : ℕ) → k ≢ len / 32 + i → block output2 k ≡ block output1 k)
       → AfterTurns p q b (i + 1) x2 output2
   one_more_turn i x output x1 output1 x2 output2 inside before is1 written1 others1 is2 written2 others2 =
       let first : x1 ≡ chain_in p q b (2 * i + 1) = rw (chain_next (2 * i) (omega arith), ← before.chained) is1 in
       let second : x2 ≡ chain_in p q b (2 * i + 1 + 1) = rw (chain_next (2 * i + 1) (omega arith), ← first) is2 in
       let even_next : 2 * i + 1 + 1 ≡ 2 * (i + 1) = omega arith in
+      let half = ap (λ n. n / 32) long in
       record {
         chained = rw even_next at second;
         even = λ k h. grind (arith, others2 k, others1 k, before.even k);
-        odd = λ k h. grind (arith, others2 (length b / 32 + k), others1 (length b / 32 + k), before.odd k);
+        odd = λ k h. rw half (grind (arith, others2 (len / 32 + k), others1 (len / 32 + k), rw half at before.odd k));
       }
 
   -- after the last turn
-  pub all_turns : (i : ℕ) (x output : List ℕ) → i ≡ length b / 32 → length output ≡ length b → AfterTurns p q b i x output
+  pub all_turns : (i : ℕ) (x output : List ℕ) → i ≡ len / 32 → length output ≡ len → AfterTurns p q b i x output
       → output ≡ permuted p (block_mix (permuted q b))
-  all_turns i x output done long after = block_mix_by_once (core_in p q) b output _ whole (record {
+  all_turns i x output done full after = block_mix_by_once (core_in p q) b output _ (omega arith) (record {
     x = chain_in p q b;
     first = chain_first;
     next = chain_next;
-    long = long;
+    long = full ∙ sym long;
     even = λ k h. after.even k (omega arith);
     odd = λ k h. after.odd k (omega arith);
-  }) (mixed_in p q inverse b some whole)
+  }) (mixed_in inverse b (omega arith) (omega arith))
 
 -- a turn, in other words for the same lists
 pub turns_at : (p q b b' : List ℕ) (i j : ℕ) (x y old old' new new' : List ℕ) → b ≡ b' → old ≡ old' → new ≡ new'

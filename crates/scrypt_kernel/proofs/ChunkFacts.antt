@@ -1,29 +1,17 @@
 -- Facts on the words and the bytes of several chunks.
-use Rattle.std.proofs.Common.{◌≡◌, Bool, ℕ, ◌<◌, ◌≤◌, ◌+◌, ◌*◌, ◌/◌, ◌%◌, List, length, get_or, take, drop, refl, sym, ap, ◌∙◌, arith}
+use Rattle.std.proofs.Common.{◌≡◌, Bool, ℕ, ◌<◌, ◌≤◌, ◌+◌, ◌*◌, ◌/◌, ◌%◌, List, length, take, drop, refl, sym, ap, ◌∙◌, arith}
 use Rattle.std.proofs.lemmas.Grind.{flat_map-append}
 use Rattle.std.proofs.lemmas.List.{drop_at, ext_get_or, get_or-take, get_or-drop, length-drop, length-take-le, take-append-drop, take_at}
-use Rattle.std.proofs.lemmas.List.FromFn.{length-map-range_with_len, get_or-map-range_with_len}
 use Rattle.std.specs.Int.{w32, to_le_bytes}
-use Rattle.scrypt_kernel.specs.Words.{bytes_of, le_number, part, words_of}
-use Rattle.scrypt_kernel.specs.RoMix.{ro_mix}
-use Rattle.scrypt_kernel.specs.Diagonal.{AreInverse, permuted}
+use Rattle.scrypt_kernel.specs.{AreCountedAs, AreInverse, bytes_of, le_number, part, permuted, ro_mix, ro_mix_cost}
+use Rattle.scrypt_kernel.specs.{thin_ro_mix_cost, words_of}
 use Rattle.scrypt_kernel.specs.declared.cores.count.CoreCount.{CoreCount}
-use Rattle.scrypt_kernel.specs.Count.{AreCountedAs}
-use Rattle.scrypt_kernel.specs.RoMixCost.{ro_mix_cost}
-use Rattle.scrypt_kernel.specs.Table.{thin_ro_mix_cost}
 use Rattle.scrypt_kernel.proofs.CountFacts.{counted_both, counted_none}
 use Rattle.scrypt_kernel.proofs.PartFacts.{length-part, only_part, part_inside}
 use Rattle.scrypt_kernel.proofs.OrderFacts.{length-permuted, part_permuted, standard_of, within}
 use Rattle.scrypt_kernel.proofs.WalkFacts.{whole_cost}
-use Rattle.scrypt_kernel.proofs.WordFacts.{length-bytes_of}
+use Rattle.scrypt_kernel.proofs.WordFacts.{get_or-words_of, length-bytes_of, length-words_of}
 use Rattle.scrypt_kernel.proofs.RoMixFacts.{part_of_row}
-
--- the words of bytes
-length-words_of : (b : List ℕ) → length (words_of b) ≡ length b / 4
-length-words_of b = length-map-range_with_len _ 0 (length b / 4)
-
-get_or-words_of : (b : List ℕ) (i : ℕ) → i < length b / 4 → get_or (words_of b) i 0 ≡ le_number (part 4 b i)
-get_or-words_of b i h = get_or-map-range_with_len (λ i. le_number (part 4 b i)) 0 (length b / 4) i i 0 h (omega arith)
 
 -- those of part k, which has n words
 part_words : (n k : ℕ) (b : List ℕ) → k * (n * 4) + n * 4 ≤ length b → part n (words_of b) k ≡ words_of (part (n * 4) b k)
@@ -49,18 +37,18 @@ part_bytes n k x room =
     rw (at, (cut_bytes (k * n) x (omega arith)).1) ((cut_bytes n (drop (k * n) x) (omega (arith, length-drop (k * n) x))).0)
 
 -- chunk k of the bytes of words that are in the order p
-pub chunk_out : (p q : List ℕ) → AreInverse p q → (n r k : ℕ) (x b w : List ℕ) → k < n → length x ≡ n * (32 * r) → b ≡ bytes_of (permuted q x)
+pub chunk_out : {p q : List ℕ} → AreInverse p q → (n r k : ℕ) (x b w : List ℕ) → k < n → length x ≡ n * (32 * r) → b ≡ bytes_of (permuted q x)
     → part (32 * r) x k ≡ permuted p w → part (128 * r) b k ≡ bytes_of w
-chunk_out p q inverse n r k x b w below long written is =
+chunk_out {p} {q} inverse n r k x b w below long written is =
     let bytes : 128 * r ≡ 32 * r * 4 = omega arith in
     let room = part_inside (32 * r) k n (length x) below (omega arith) in
     ap (λ c. part (128 * r) c k) written ∙ ap (λ s. part s (bytes_of (permuted q x)) k) bytes
     ∙ part_bytes (32 * r) k (permuted q x) (omega (arith, length-permuted q x, room))
     ∙ ap bytes_of (part_permuted q (within q inverse.inverse_places) (32 * r) k x (omega arith) room
-    ∙ standard_of p q inverse (part (32 * r) x k) w (omega (arith, length-part (32 * r) k x room)) is)
+    ∙ standard_of inverse (part (32 * r) x k) w (omega (arith, length-part (32 * r) k x room)) is)
 
 -- chunk k of bytes b: its words in the order p are x, whose scryptROMix is end, and the bytes of that are b'
-module _ (p q : List ℕ) (inverse : AreInverse p q) (n r k log_n : ℕ) (b x : List ℕ) (below : k < n) (long : length b ≡ n * (128 * r))
+module _ {p q : List ℕ} (inverse : AreInverse p q) (n r k log_n : ℕ) (b x : List ℕ) (below : k < n) (long : length b ≡ n * (128 * r))
     (read : x ≡ permuted p (words_of b)) where
   -- the words of the chunk
   pub chunk_in : part (32 * r) x k ≡ permuted p (words_of (part (128 * r) b k))
@@ -76,13 +64,13 @@ module _ (p q : List ℕ) (inverse : AreInverse p q) (n r k log_n : ℕ) (b x : 
   chunk_words =
       let room = part_inside (32 * r * 4) k n (length b) below (omega (arith, long)) in
       let part_long = length-part (32 * r) k x (omega (arith, ap length read, length-permuted p (words_of b), length-words_of b, room)) in
-      standard_of p q inverse (part (32 * r) x k) _ (omega (arith, part_long)) chunk_in
+      standard_of inverse (part (32 * r) x k) _ (omega (arith, part_long)) chunk_in
 
   pub chunk_mixed : (end b' : List ℕ) → length end ≡ n * (32 * r) → b' ≡ bytes_of (permuted q end)
       → part (32 * r) end k ≡ permuted p (ro_mix (permuted q (part (32 * r) x k)) log_n)
       → part (128 * r) b' k ≡ bytes_of (ro_mix (words_of (part (128 * r) b k)) log_n)
   chunk_mixed end b' end_long written mixed_in_order =
-      chunk_out p q inverse n r k end b' _ below end_long written mixed_in_order ∙ ap (λ w. bytes_of (ro_mix w log_n)) chunk_words
+      chunk_out inverse n r k end b' _ below end_long written mixed_in_order ∙ ap (λ w. bytes_of (ro_mix w log_n)) chunk_words
 
 -- a chunk alone
 pub counted_alone : {diagonal : Bool} {before after : CoreCount} (b c : List ℕ) (log_n s r : ℕ) → b ≡ c

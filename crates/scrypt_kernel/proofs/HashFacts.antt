@@ -4,10 +4,9 @@ use Rattle.std.proofs.lemmas.Bool.{cases_lt, le-ltb, lt-ltb}
 use Rattle.std.proofs.lemmas.Grind.{common_steps}
 use Rattle.sha2.proofs.Facts256.{length-sha256}
 use Rattle.sha2.specs.Hashers.{Holds256}
+use Rattle.scrypt_kernel.specs.{AreHashed, padded_key}
 use Rattle.sha2.specs.Sha256.{Holds}
 use Rattle.sha2.specs.declared.Sha256.{Sha256}
-use Rattle.scrypt_kernel.specs.Count.{AreHashed}
-use Rattle.scrypt_kernel.specs.Hmac.{padded_key}
 use Rattle.scrypt_kernel.specs.declared.cores.count.CoreCount.{CoreCount}
 use Rattle.scrypt_kernel.proofs.CountFacts.{hashed_none}
 

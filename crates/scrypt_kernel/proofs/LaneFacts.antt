@@ -8,12 +8,11 @@ use Rattle.std.specs.Int.Bits.{and_shifted, xor_assoc, xor_disjoint}
 use Rattle.std.specs.Simd.Lanes.{Each1, pick_l, zip2}
 use Rattle.std.proofs.lemmas.Nat.{mod-pow-add, mod_low, or_shifted, pow_pos, shl-shr, shr_below}
 use Rattle.std.proofs.lemmas.List.FromFn.{fill_by_all}
-use Rattle.scrypt_kernel.specs.Words.{add32, block, part}
-use Rattle.scrypt_kernel.specs.Salsa.{double_round, quarter_round, salsa20_8}
-use Rattle.scrypt_kernel.specs.Diagonal.{diagonal_core, diagonal_order, diagonal_round, inverse_pivot, permuted, pivot, standard_order}
-use Rattle.scrypt_kernel.specs.Lanes.{AreFourEach, lanes_of, quarter_rounds, turned, turned_left, xor_rotated}
+use Rattle.scrypt_kernel.specs.{AreFourEach, add32, block, diagonal_core, diagonal_order, diagonal_round, double_round}
+use Rattle.scrypt_kernel.specs.{inverse_pivot, lanes_of, part, permuted, pivot, quarter_round, quarter_rounds}
+use Rattle.scrypt_kernel.specs.{salsa20_8, standard_order, turned, turned_left, xor_rotated}
 use Rattle.scrypt_kernel.proofs.PartFacts.{length-part, part-take, part_of_block, parts_all}
-use Rattle.scrypt_kernel.proofs.OrderFacts.{diagonal_inverse, in_then_out, length-permuted, out_then_in, zip_in}
+use Rattle.scrypt_kernel.proofs.OrderFacts.{diagonal_inverse, length-permuted, out_then_in, standard_of, zip_in}
 use Rattle.scrypt_kernel.proofs.SalsaFacts.{length-double_round}
 
 -- the two parts of a rotation share no bit, and an exclusive or joins them as an or does
@@ -31,7 +30,7 @@ rotation_parts x k fits low high =
     rw upper (xor_disjoint (x % 2 ^ j * 2 ^ k) (x / 2 ^ j) apart ∙ sym (or_shifted (x % 2 ^ j) k (x / 2 ^ j) lower))
 
 -- a word xor a rotated word, by two exclusive ors
-pub xor_parts : (x y k : ℕ) → y < 2 ^ 32 → 0 < k → k < 32
+xor_parts : (x y k : ℕ) → y < 2 ^ 32 → 0 < k → k < 32
     → bit_xor (bit_xor x (y * 2 ^ k % 2 ^ 32)) (y / 2 ^ (32 - k)) ≡ bit_xor x (rotate_left w32 y k)
 xor_parts x y k fits low high =
     let left : k % 32 ≡ k = omega arith in
@@ -64,7 +63,7 @@ xor_rotated_by_parts k low high (suc n) (a ∷ x) (b ∷ y) long fits =
     ap₂ (λ v z. v ∷ z) (xor_parts a b k fits.0.fits low high) (xor_rotated_by_parts k low high n x y (omega arith) fits.1)
 
 -- the four steps of the quarter rounds on whole vectors
-abbrev pub quarter_steps : List ℕ → List ℕ → List ℕ → List ℕ → List ℕ × List ℕ × List ℕ × List ℕ
+abbrev quarter_steps : List ℕ → List ℕ → List ℕ → List ℕ → List ℕ × List ℕ × List ℕ × List ℕ
 quarter_steps a b c d =
     let b' = xor_rotated 7 b (zip2 add32 a d) in
     let c' = xor_rotated 9 c (zip2 add32 b' a) in
@@ -118,10 +117,14 @@ zip_joined f l m four_l four_m =
     (λ w0 w1 w2 w3 x0 x1 x2 x3 y0 y1 y2 y3 z0 z1 z2 z3. refl) m.0 four_m.a m.1 four_m.b m.2 four_m.c m.3 four_m.d)
     l.0 four_l.a l.1 four_l.b l.2 four_l.c l.3 four_l.d
 
--- a double round of a block that is in standard order
-next_round : (s : List ℕ) → length s ≡ 16 → diagonal_round (diagonal_order s) ≡ diagonal_order (double_round s)
-next_round s long =
-    ap (λ z. diagonal_order (double_round z)) (in_then_out pivot inverse_pivot diagonal_inverse s (omega arith))
+-- the words x in diagonal order, of a block s in standard order
+abbrev IsInOrder : List ℕ → List ℕ → Type 0
+IsInOrder x s = (x ≡ diagonal_order s) × (length s ≡ 16)
+
+next_round : (x s : List ℕ) → IsInOrder x s → IsInOrder (diagonal_round x) (double_round s)
+next_round x s (is, long) =
+    let whole : length x ≡ 16 = ap length is ∙ length-permuted pivot s ∙ long in
+    (ap (λ z. diagonal_order (double_round z)) (standard_of diagonal_inverse x s (omega arith) is), length-double_round s ∙ long)
 
 -- the core is the sum of a block and of what four double rounds make of it
 pub core_of_rounds : (x : List ℕ) → length x ≡ 16
@@ -129,19 +132,9 @@ pub core_of_rounds : (x : List ℕ) → length x ≡ 16
 unfolding salsa20_8
 core_of_rounds x long =
     let s = standard_order x in
-    let s1 = double_round s in
-    let s2 = double_round s1 in
-    let s3 = double_round s2 in
-    let s4 = double_round s3 in
-    let long0 : length s ≡ 16 = length-permuted inverse_pivot x ∙ long in
-    let long1 : length s1 ≡ 16 = length-double_round s ∙ long0 in
-    let long2 : length s2 ≡ 16 = length-double_round s1 ∙ long1 in
-    let long3 : length s3 ≡ 16 = length-double_round s2 ∙ long2 in
-    let long4 : length s4 ≡ 16 = length-double_round s3 ∙ long3 in
-    let rounds = ap (λ z. diagonal_round (diagonal_round z)) (next_round s1 long1)
-    ∙ ap diagonal_round (next_round s2 long2) ∙ next_round s3 long3 in
-    ap₂ (zip2 add32) (sym (out_then_in pivot inverse_pivot diagonal_inverse x (omega arith))) rounds
-    ∙ zip_in pivot inverse_pivot diagonal_inverse add32 s s4 (long0 ∙ sym long4) (omega arith)
+    let is : IsInOrder x s = (sym (out_then_in diagonal_inverse x (omega arith)), length-permuted inverse_pivot x ∙ long) in
+    let (rounds, same) = next_round _ _ (next_round _ _ (next_round _ _ (next_round x s is))) in
+    ap₂ (zip2 add32) is.0 rounds ∙ zip_in diagonal_inverse add32 s _ (is.1 ∙ sym same) (omega (arith, is.1))
 
 -- what holds of both parts of all vectors of eight lanes
 pub eight_lanes : (P : List ℕ → ℕ → Type 0)

@@ -9,14 +9,13 @@ use Rattle.std.specs.List.{list_all, range_with_len}
 use Rattle.std.specs.Prelude.{IsTrue, nat_lt}
 use Rattle.std.specs.Simd.Lanes.{zip2}
 use Rattle.std.proofs.lemmas.Simd.{length-zip2, get_or-zip2}
-use Rattle.scrypt_kernel.specs.Words.{block, part, le_number, bytes_of, last_block}
-use Rattle.scrypt_kernel.specs.Diagonal.{AreInverse, inverse_pivot, permuted, pivot}
+use Rattle.scrypt_kernel.specs.{AreInverse, block, bytes_of, integerify, inverse_pivot, last_block, le_number, part}
+use Rattle.scrypt_kernel.specs.{permuted, pivot}
 use Rattle.scrypt_kernel.proofs.PartFacts.{length-part}
 use Rattle.std.proofs.Common.{◌-◌, ◌^◌, ◌∷◌, ◌++◌, take, drop, bit_and, bit_or}
 use Rattle.std.specs.Int.{w32, to_le_bytes}
 use Rattle.std.proofs.lemmas.Nat.{pow-add, and_mask, one_shl, or_shifted, shl_whole}
 use Rattle.std.proofs.Math.Nat.{add-mul-mod_self_left, mul_assoc}
-use Rattle.scrypt_kernel.specs.RoMix.{integerify}
 
 pub length-permuted : (p x : List ℕ) → length (permuted p x) ≡ length x
 unfolding permuted
@@ -74,7 +73,7 @@ module _ (p : List ℕ) (inside : IsWithin p) where
       ∙ get_or-drop (k * s) x _ 0)))
 
   -- an operation word by word
-  pub zip_permuted : (f : ℕ → ℕ → ℕ) (x y : List ℕ) → length x ≡ length y → length x % 16 ≡ 0
+  zip_permuted : (f : ℕ → ℕ → ℕ) (x y : List ℕ) → length x ≡ length y → length x % 16 ≡ 0
       → zip2 f (permuted p x) (permuted p y) ≡ permuted p (zip2 f x y)
   zip_permuted f x y same whole =
       let both = length-zip2 f x y same in
@@ -108,7 +107,7 @@ permuted_in_place x =
     get_or-permuted (range_with_len 0 16) x i below ∙ rw (same, at) refl)
 
 -- two tables that undo each other
-module _ (p q : List ℕ) (inverse : AreInverse p q) where
+module _ {p q : List ℕ} (inverse : AreInverse p q) where
   pub in_then_out : (x : List ℕ) → length x % 16 ≡ 0 → permuted q (permuted p x) ≡ x
   in_then_out x whole = permuted_back p q (within q inverse.inverse_places) (undoes p q inverse.undone) x whole
 

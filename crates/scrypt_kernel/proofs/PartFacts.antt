@@ -10,8 +10,7 @@ use Rattle.std.proofs.lemmas.List.Folds.{flat_map-map}
 use borrow.Rule.Slice.PartMut.{put_mid}
 use Rattle.std.specs.List.{flat_map, range_with_len}
 use Rattle.std.proofs.Math.Seq.{take-add}
-use Rattle.scrypt_kernel.specs.Words.{block, part}
-use Rattle.scrypt_kernel.specs.Parts.{AreParts, part_of}
+use Rattle.scrypt_kernel.specs.{AreParts, block, part, part_of}
 use Rattle.scrypt_kernel.specs.declared.parts.Parts.{Parts}
 
 -- a later part begins where an earlier one has ended, or later
@@ -126,10 +125,6 @@ part_of_parts f s a (suc n) (suc k) ys long inside =
     let next : suc k ≡ 1 + k = omega arith in
     rw (← next_place a k, append_assoc, next, part_after s 1 k (f a) _ first)
     (part_of_parts f s (a + 1) n k ys (λ i h. rw next_place (long (suc i) (omega arith))) (omega arith))
-
--- what is before the rest of a list
-pub take_both : (xs ys rest : List ℕ) (n : ℕ) → length xs + length ys ≡ n → take n (xs ++ (ys ++ rest)) ≡ xs ++ ys
-take_both xs ys rest n long = same_lists _ _ (search (rules, places)) (λ i d h. grind (arith, places))
 
 -- the parts of a list, with more appended to it
 pub part_append_front : (s k : ℕ) (xs ys : List ℕ) → k * s + s ≤ length xs → part s (xs ++ ys) k ≡ part s xs k

@@ -1,5 +1,5 @@
 -- Facts on HMAC and PBKDF2.
-use Rattle.std.proofs.Common.{◌≡◌, ℕ, zero, inl, inr, ◌<◌, ◌≤◌, ◌+◌, ◌-◌, ◌*◌, ◌/◌, ◌%◌, suc, List, [], ◌∷◌, ◌++◌, refl, sym, ◌∙◌, arith, rules}
+use Rattle.std.proofs.Common.{◌≡◌, ℕ, zero, inl, inr, ◌<◌, ◌≤◌, ◌+◌, ◌*◌, ◌/◌, ◌%◌, suc, List, [], ◌∷◌, ◌++◌, refl, sym, ◌∙◌, arith, rules}
 use Rattle.std.proofs.Common.{length, map, take, drop, get_or, slice_index, replicate, false, nat_lt}
 use Rattle.std.proofs.lemmas.Bool.{cases_lt, le-ltb, lt-ltb}
 use Rattle.std.proofs.lemmas.List.{drop-replicate, get_or_append_left, get_or-append_right, get_or-take, get_or-drop, ext_get_or, get_or_past, places, same_lists}
@@ -10,9 +10,7 @@ use Rattle.sha2.specs.Sha256.{digest_bytes, sha256}
 use Rattle.std.specs.Int.{to_be_bytes, w32}
 use Rattle.std.proofs.lemmas.Grind.{common_steps}
 use borrow.Rule.Slice.PartMut.{put_mid}
-use Rattle.scrypt_kernel.specs.Hmac.{hmac_sha256, padded_key}
-use Rattle.scrypt_kernel.specs.Pbkdf2.{pbkdf2, pbkdf2_block, pbkdf2_byte, pbkdf2_from}
-use Rattle.scrypt_kernel.specs.Words.{part}
+use Rattle.scrypt_kernel.specs.{hmac_sha256, padded_key, part, pbkdf2, pbkdf2_block, pbkdf2_byte, pbkdf2_from}
 use Rattle.scrypt_kernel.proofs.PartFacts.{length-part, parts_all}
 
 -- a key that fits a block
@@ -22,23 +20,13 @@ padded_short secret ys fits same =
     let short : nat_lt 64 (length secret) ≡ false = le-ltb 64 (length secret) fits in
     rw (same, drop-replicate {X = ℕ} (length secret) 64 0, short) refl
 
--- the elements of a list below a part that was written
-pub put_below : (a n : ℕ) (xs ys : List ℕ) (k : ℕ) → k < a → a ≤ length xs
-    → get_or (put_mid a n xs ys) k 0 ≡ get_or xs k 0
-put_below a n xs ys k h room = grind (arith, places)
-
--- the elements of the part
-pub put_inside : (a n : ℕ) (xs ys : List ℕ) (k : ℕ) → a ≤ k → k < a + length ys → a ≤ length xs
-    → get_or (put_mid a n xs ys) k 0 ≡ get_or ys (k - a) 0
-put_inside a n xs ys k low high room = grind (arith, places)
-
--- byte k after so many blocks is in block k / 32 after them
-pub byte_in_block : (password salt made cut : List ℕ) (skipped i k size : ℕ)
-    → 32 * i ≤ k → k < 32 * (i + 1) → k - 32 * i < size
-    → made ≡ pbkdf2_block password salt (skipped + i + 1) → cut ≡ take size made
-    → get_or cut (k - 32 * i) 0 ≡ pbkdf2_byte password salt (32 * skipped + k)
+-- byte k after block i was written at its place, or as much of it as fits
+pub block_written : (password salt out made ys : List ℕ) (skipped i size n k : ℕ) → 32 * i + size ≤ length out → length ys ≡ size
+    → k < 32 * (i + 1) → k < 32 * i + size → made ≡ pbkdf2_block password salt (skipped + i + 1) → ys ≡ take size made
+    → (k < 32 * i → get_or out k 0 ≡ pbkdf2_byte password salt (32 * skipped + k))
+    → get_or (put_mid (32 * i) n out ys) k 0 ≡ pbkdf2_byte password salt (32 * skipped + k)
 unfolding pbkdf2_byte
-byte_in_block password salt made cut skipped i k size low high inside is_made is_cut = grind (arith, places)
+block_written password salt out made ys skipped i size n k room long next inside is_made is_cut before = grind (arith, places)
 
 pub length-pbkdf2 : (password salt : List ℕ) (n : ℕ) → length (pbkdf2 password salt n) ≡ n
 length-pbkdf2 password salt n = length-map-range_with_len (pbkdf2_byte password salt) 0 n

@@ -2,23 +2,19 @@
 use Rattle.std.proofs.Common.{◌≡◌, Bool, ℕ, zero, suc, ◌<◌, ◌+◌, ◌*◌, ◌/◌, ◌%◌, ◌^◌, List, ◌++◌, length, bit_xor, refl, ◌≤◌, take, drop, inl, inr}
 use Rattle.std.proofs.Common.{sym, ap, ap₂, ◌∙◌, arith, add-one, add-zero, length-append}
 use Rattle.std.proofs.lemmas.Simd.{length-zip2}
-use Rattle.scrypt_kernel.specs.Words.{part, xor_words}
+use Rattle.scrypt_kernel.specs.{AddsRow, AfterRowTurns, AreCountedAs, AreInverse, block_mix, integerify, mixed_in, part}
+use Rattle.scrypt_kernel.specs.{permuted, place, ro_mix, row, walk, xor_words}
 use Rattle.scrypt_kernel.specs.declared.cores.count.CoreCount.{CoreCount}
-use Rattle.scrypt_kernel.specs.Count.{AreCountedAs}
-use Rattle.scrypt_kernel.specs.BlockMix.{block_mix}
-use Rattle.scrypt_kernel.specs.RoMix.{integerify, ro_mix, row, walk}
-use Rattle.scrypt_kernel.specs.Diagonal.{AreInverse, permuted}
 use Rattle.scrypt_kernel.proofs.BlockMixFacts.{length-block_mix}
 use Rattle.scrypt_kernel.proofs.OrderFacts.{length-permuted, out_then_in, standard_of, zip_out}
 use Rattle.scrypt_kernel.proofs.CountFacts.{counted_both, counted_none}
-use Rattle.scrypt_kernel.specs.KeptRows.{AddsRow, AfterRowTurns, mixed_in, place}
 use Rattle.scrypt_kernel.proofs.PartFacts.{length-part, part-take, part_after, part_append_front, part_inside, part_longer, parts_apart, take_longer}
 use Rattle.std.proofs.lemmas.Bool.{cases_lt}
 use Rattle.std.proofs.lemmas.List.{drop-drop, length-take, length-take-le}
 use Rattle.std.proofs.Math.Nat.{mul-le-mul_right}
 
 -- the rows after a row are rows
-pub row_after : (b : List ℕ) (i k : ℕ) → row (row b i) k ≡ row b (i + k)
+row_after : (b : List ℕ) (i k : ℕ) → row (row b i) k ≡ row b (i + k)
 unfolding row
 row_after b i zero = ap (row b) (sym (add-zero i))
 row_after b i (suc k) =
@@ -27,7 +23,7 @@ row_after b i (suc k) =
 
 -- scryptROMix keeps the length of its input
 module _ (b : List ℕ) (some : 0 < length b) (whole : length b % 32 ≡ 0) where
-  pub length-row : (i : ℕ) → length (row b i) ≡ length b
+  length-row : (i : ℕ) → length (row b i) ≡ length b
   unfolding row
   length-row zero = refl
   length-row (suc i) = let before = length-row i in length-block_mix (row b i) (omega arith) (omega arith) ∙ before
@@ -84,10 +80,10 @@ pub length-part_of_row : (n s k : ℕ) (x : List ℕ) → k < n → length x ≡
 length-part_of_row n s k x below long = length-part s k x (part_inside s k n (length x) below (omega arith))
 
 -- a row that is written after row m
-pub adds_row : (f : List ℕ → List ℕ) (n s m a : ℕ) (before after added : List ℕ)
+pub adds_row : {f : List ℕ → List ℕ} {n s m a : ℕ} {before after : List ℕ} (added : List ℕ)
     → a ≡ (m + 1) * (n * s) → a ≤ length before → length added ≡ n * s → take (a + length added) after ≡ take a before ++ added
     → ((k : ℕ) → k < n → part s added k ≡ f (part s (part (n * s) before m) k)) → AddsRow f n s m before after
-adds_row f n s m a before after added at room long is each =
+adds_row {f} {n} {s} {m} {a} {before} {after} added at room long is each =
     let front = length-take-le a before room in
     let end = ap length is ∙ length-append (take a before) added in
     record {
@@ -117,17 +113,17 @@ begun_longer {n = n} {s = s} {m = m} {after = after} longer begun room is = reco
 }
 
 -- the row after one that is in another order
-module _ (p q : List ℕ) (inverse : AreInverse p q) where
+module _ {p q : List ℕ} (inverse : AreInverse p q) where
   -- the first row is the block itself
   pub row_zero_in : (x : List ℕ) → length x % 16 ≡ 0 → x ≡ permuted p (row (permuted q x) 0)
   unfolding row
-  row_zero_in x whole = sym (out_then_in p q inverse x whole)
+  row_zero_in x whole = sym (out_then_in inverse x whole)
 
   -- and the row that is n rows after it
   pub row_after_in : (b x : List ℕ) (i n : ℕ) → length x % 16 ≡ 0 → x ≡ permuted p (row b i)
       → permuted p (row (permuted q x) n) ≡ permuted p (row b (i + n))
   row_after_in b x i n whole is =
-      ap (λ z. permuted p (row z n)) (standard_of p q inverse x (row b i) whole is) ∙ ap (permuted p) (row_after b i n)
+      ap (λ z. permuted p (row z n)) (standard_of inverse x (row b i) whole is) ∙ ap (permuted p) (row_after b i n)
 
   -- before the first block mix, and after one more
   module _ (n s : ℕ) (whole : s % 32 ≡ 0) {diagonal : Bool} {begin : CoreCount} (kept : List ℕ) (long : length kept ≡ n * s) where
@@ -147,9 +143,9 @@ module _ (p q : List ℕ) (inverse : AreInverse p q) where
     })
 
   -- the first row of a table
-  pub first_row : (n s t : ℕ) (x v : List ℕ) → length x ≡ n * s → s % 32 ≡ 0 → take (length x) v ≡ x
+  pub first_row : {n s t : ℕ} {x v : List ℕ} → length x ≡ n * s → s % 32 ≡ 0 → take (length x) v ≡ x
       → HoldsRows p q n s t 1 x v
-  first_row n s t x v size whole is =
+  first_row {n} {s} {t} {x} {v} size whole is =
       let none : 0 * t ≡ 0 = omega arith in
       record {
         len = omega (arith, size, ap length is, length-take (length x) v);
@@ -163,9 +159,9 @@ module _ (p q : List ℕ) (inverse : AreInverse p q) where
       }
 
   -- and one more, which is t rows after the last
-  pub more_rows : (n s t i : ℕ) (x v v' : List ℕ) → s % 32 ≡ 0 → HoldsRows p q n s t (i + 1) x v
+  pub more_rows : {n s t i : ℕ} {x v v' : List ℕ} → s % 32 ≡ 0 → HoldsRows p q n s t (i + 1) x v
       → AddsRow (mixed_in p q t) n s i v v' → HoldsRows p q n s t (i + 1 + 1) x v'
-  more_rows n s t i x v v' whole held added = record {
+  more_rows {n} {s} {t} {i} {x} {v} whole held added = record {
     len = omega (arith, added.len);
     each = λ m k inside h. elim (cases_lt m (i + 1)) [
       | inl lt ↦
@@ -188,8 +184,8 @@ module _ (p q : List ℕ) (inverse : AreInverse p q) where
   unfolding walk
   next_step_in b log_n k x u j whole same is names taken =
       let w = walk b log_n k in
-      let standard = standard_of p q inverse x w whole is in
+      let standard = standard_of inverse x w whole is in
       let number : j ≡ integerify w % 2 ^ log_n = names ∙ ap (λ z. integerify z % 2 ^ log_n) standard in
-      let row_is = standard_of p q inverse u (row b j) (omega arith) taken in
-      ap (λ z. permuted p (block_mix z)) (zip_out p q inverse bit_xor x u (sym same) whole
+      let row_is = standard_of inverse u (row b j) (omega arith) taken in
+      ap (λ z. permuted p (block_mix z)) (zip_out inverse bit_xor x u (sym same) whole
       ∙ ap₂ xor_words standard (row_is ∙ ap (row b) number)) ∙ rw add-one refl

@@ -3,10 +3,7 @@ use Rattle.std.proofs.Common.{◌≡◌, ◌∙◌, ◌<◌, ◌%◌, ◌^◌, �
 use Rattle.std.proofs.lemmas.Bool.{cases_lt}
 use Rattle.std.proofs.lemmas.List.{get_or_append_left, get_or_push}
 use Rattle.std.proofs.lemmas.Nat.{mod_below, pow_pos}
-use Rattle.scrypt_kernel.specs.Words.{xor_words}
-use Rattle.scrypt_kernel.specs.BlockMix.{block_mix}
-use Rattle.scrypt_kernel.specs.RoMix.{integerify, ro_mix, row, walk}
-use Rattle.scrypt_kernel.specs.RoMixLoops.{filled, ro_mix_by_loops, walked}
+use Rattle.scrypt_kernel.specs.{block_mix, filled, integerify, ro_mix, ro_mix_by_loops, row, walk, walked, xor_words}
 
 -- after n turns of the first loop X is row n, and V holds the rows before it
 x_filled : (b : List ℕ) (n : ℕ) → (filled b n).x ≡ row b n

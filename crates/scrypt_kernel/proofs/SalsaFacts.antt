@@ -2,8 +2,7 @@
 use Rattle.std.proofs.Common.{◌≡◌, ℕ, List, length}
 use Rattle.std.proofs.lemmas.List.{length-set}
 use Rattle.std.proofs.lemmas.Simd.{length-zip2}
-use Rattle.scrypt_kernel.specs.Words.{add32}
-use Rattle.scrypt_kernel.specs.Salsa.{double_round, salsa20_8}
+use Rattle.scrypt_kernel.specs.{add32, double_round, salsa20_8}
 
 pub length-double_round : (x : List ℕ) → length (double_round x) ≡ length x
 unfolding double_round

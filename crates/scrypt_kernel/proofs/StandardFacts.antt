@@ -1,21 +1,14 @@
 -- The standards' own vectors, computed by the definitions, so that a wrong step or constant in a
 -- definition does not check.
-use Rattle.std.proofs.Common.{◌≡◌, ℕ, List, [], ◌∷◌, ◌++◌, ◌+◌, ◌-◌, ◌*◌, ◌%◌, ◌^◌, if◌then◌else◌, nat_lt, codes, replicate, refl, ◌∙◌}
+use Rattle.std.proofs.Common.{◌≡◌, ℕ, List, [], ◌∷◌, ◌++◌, ◌+◌, ◌*◌, ◌%◌, ◌^◌, codes, replicate, refl, ◌∙◌}
+use Rattle.std.specs.Char.{digit_value}
 use Rattle.std.specs.List.{flat_map, range_with_len}
 use Rattle.sha2.specs.Sha256.{sha256, first_words, schedule, rounds, compress, hash_after, digest_bytes}
-use Rattle.scrypt_kernel.specs.Words.{bytes_of, words_of}
-use Rattle.scrypt_kernel.specs.Hmac.{hmac_sha256}
-use Rattle.scrypt_kernel.specs.Pbkdf2.{pbkdf2, pbkdf2_block}
-use Rattle.scrypt_kernel.specs.Salsa.{double_round, quarter_round, salsa20_8}
-use Rattle.scrypt_kernel.specs.BlockMix.{block_mix, chain}
-use Rattle.scrypt_kernel.specs.RoMix.{integerify, ro_mix, row, walk}
+use Rattle.scrypt_kernel.specs.{block_mix, bytes_of, chain, double_round, hmac_sha256, integerify, pbkdf2, pbkdf2_block}
+use Rattle.scrypt_kernel.specs.{quarter_round, ro_mix, row, salsa20_8, walk, words_of}
 use Rattle.scrypt_kernel.proofs.Pbkdf2Facts.{pbkdf2_by_blocks}
 
--- the number of a hexadecimal digit, `0` to `9` or `a` to `f`
-abbrev digit_value : ℕ → ℕ
-digit_value c = if nat_lt c 58 then c - 48 else c - 87
-
--- the bytes that these digits spell, two for each
+-- the bytes that these hexadecimal digits spell, two for each
 abbrev pub bytes : List ℕ → List ℕ
 bytes (c ∷ d ∷ digits) = (16 * digit_value c + digit_value d) ∷ bytes digits
 bytes digits = []

@@ -3,21 +3,14 @@ use Rattle.std.proofs.Common.{◌≡◌, ℕ, ◌<◌, ◌≤◌, ◌+◌, ◌-�
 use Rattle.std.proofs.lemmas.Bool.{cases_lt}
 use Rattle.std.proofs.lemmas.List.{drop-drop, places, same_lists}
 use Rattle.std.proofs.lemmas.Nat.{pow_pos}
-use Rattle.scrypt_kernel.specs.Words.{part}
-use Rattle.scrypt_kernel.specs.RoMix.{row, ro_mix, walk}
-use Rattle.scrypt_kernel.specs.Diagonal.{AreInverse, permuted}
-use Rattle.scrypt_kernel.specs.KeptRows.{AddsRow, IsInWalk, mixed_in, place}
-use Rattle.scrypt_kernel.specs.Steps.{IsMixing, all_mixes}
+use Rattle.scrypt_kernel.specs.{AddsRow, AreInverse, IsInWalk, IsMixing, all_mixes, mixed_in, part, permuted, place}
+use Rattle.scrypt_kernel.specs.{ro_mix, row, walk}
 use Rattle.scrypt_kernel.proofs.PartFacts.{length-part, part-take, part_append_front, part_inside, parts_apart}
 use Rattle.scrypt_kernel.proofs.RoMixFacts.{part_of_row, place_inside, row_after_in}
 
 -- the cores of one more mix
 pub one_more_times : (i m c : ℕ) → i ≤ m → (m + 1 - i) * c ≡ (m - i) * c + c
 one_more_times i m c order = let next : m + 1 - i ≡ m - i + 1 = omega arith in rw next (omega arith)
-
--- the cores of n mixes and of m more
-pub times_sum : (k n m c : ℕ) → k ≡ n + m → k * c ≡ n * c + m * c
-times_sum k n m c sum = rw sum (omega arith)
 
 -- lists that are the same from index a on are the same from a later index on
 pub drop_same : (a b : ℕ) (x y : List ℕ) → a ≤ b → drop a x ≡ drop a y → drop b x ≡ drop b y
@@ -67,7 +60,7 @@ module _ {p : List ℕ} {n s log_n done : ℕ} {b : ℕ → List ℕ} {v : List 
     x = λ k below ended. part_append_front s k x x' (part_inside s k n (length x) below row) ∙ at.x k below ended;
   }
 
-module _ (p q : List ℕ) (inverse : AreInverse p q) {n s log_n done : ℕ} {b : ℕ → List ℕ} (v x : List ℕ) (whole : s % 32 ≡ 0)
+module _ {p q : List ℕ} (inverse : AreInverse p q) {n s log_n done : ℕ} {b : ℕ → List ℕ} (v x : List ℕ) (whole : s % 32 ≡ 0)
     (at : IsMixing p n b s log_n done v x) where
   -- after one more mix of step 2, which is not the last
   pub one_more_row_mixed : (v' : List ℕ) → done + 1 < 2 ^ log_n → (done + 1) * (n * s) ≤ length v
@@ -82,7 +75,7 @@ module _ (p q : List ℕ) (inverse : AreInverse p q) {n s log_n done : ℕ} {b :
           let front = place_inside n s done (done + 1) k below (omega arith) in
           let long = length-part s (place n done k) v (omega (arith, front, room)) in
           rw last (added.added k below
-          ∙ row_after_in p q inverse (b k) (part s v (place n done k)) done 1 (omega (arith, long))
+          ∙ row_after_in inverse (b k) (part s v (place n done k)) done 1 (omega (arith, long))
           (at.rows done k (omega arith) (omega arith) below))
     ];
     x = λ k below ended. absurd (omega (arith, ended, more));
@@ -99,12 +92,12 @@ module _ (p q : List ℕ) (inverse : AreInverse p q) {n s log_n done : ℕ} {b :
         let is = ap (λ z. part s z k) last_is ∙ part_of_row n s done k v below in
         let long = ap length is ∙ length-part s (place n done k) v (omega (arith, front)) in
         let none : done + 1 - 2 ^ log_n ≡ 0 = omega arith in
-        rw none (mixed k below ∙ row_after_in p q inverse (b k) (part s last k) done 1 (omega (arith, long)) (is ∙ at.rows done k (omega arith) (omega arith) below)
+        rw none (mixed k below ∙ row_after_in inverse (b k) (part s last k) done 1 (omega (arith, long)) (is ∙ at.rows done k (omega arith) (omega arith) below)
         ∙ ap (λ i. permuted p (row (b k) i)) all);
   }
 
   -- the walk
-  pub in_walk : (k : ℕ) → k < n → 2 ^ log_n ≤ done → IsInWalk p (b k) n k s log_n 0 (done - 2 ^ log_n) v x
+  in_walk : (k : ℕ) → k < n → 2 ^ log_n ≤ done → IsInWalk p (b k) n k s log_n 0 (done - 2 ^ log_n) v x
   in_walk k below ended = record {
     rows = record {
       each = λ m inside.

@@ -2,14 +2,10 @@
 use Rattle.std.proofs.Common.{◌≡◌, Bool, ℕ, zero, suc, ◌<◌, ◌≤◌, ◌+◌, ◌-◌, ◌*◌, ◌/◌, ◌%◌, ◌^◌, List, length, refl, sym, ap, subst, ◌∙◌, arith, add-one}
 use Rattle.std.proofs.lemmas.Nat.{mod_below, one_shl, pow-add, pow_pos, shr_below}
 use Rattle.std.proofs.Math.Nat.{add_assoc, div-mul-le_self, lt_of_mul-lt-mul_left}
-use Rattle.scrypt_kernel.specs.Words.{part}
+use Rattle.scrypt_kernel.specs.{AfterSteps, AreCountedAs, AreInverse, AreWalkLens, IsFilled, IsInWalk, extra_rows}
+use Rattle.scrypt_kernel.specs.{integerify, mixed_in, part, permuted, place, recomputed_rows, ro_mix_cost, row}
+use Rattle.scrypt_kernel.specs.{steps_cost, thin_ro_mix_cost, walk, x_after}
 use Rattle.scrypt_kernel.specs.declared.cores.count.CoreCount.{CoreCount}
-use Rattle.scrypt_kernel.specs.Count.{AreCountedAs}
-use Rattle.scrypt_kernel.specs.RoMix.{integerify, row, walk}
-use Rattle.scrypt_kernel.specs.RoMixCost.{ro_mix_cost}
-use Rattle.scrypt_kernel.specs.Table.{extra_rows, recomputed_rows, thin_ro_mix_cost}
-use Rattle.scrypt_kernel.specs.KeptRows.{AfterSteps, AreWalkLens, IsFilled, IsInWalk, mixed_in, place, steps_cost, x_after}
-use Rattle.scrypt_kernel.specs.Diagonal.{AreInverse, permuted}
 use Rattle.scrypt_kernel.proofs.CountFacts.{counted_both}
 use Rattle.scrypt_kernel.proofs.PartFacts.{length-part}
 use Rattle.scrypt_kernel.proofs.OrderFacts.{standard_of}
@@ -28,10 +24,10 @@ all_rows log_n s rows fits is =
     ap (λ n. n * 2 ^ s) is ∙ sym (pow-add 2 (log_n - s) s) ∙ ap (λ n. 2 ^ n) (sym parts)
 
 -- the rows that are held are those of a filled table, and the row that is 2 ^ t rows after the last is the one after them
-pub filled : (p q : List ℕ) → AreInverse p q → (n s log_n t m : ℕ) (x v last end : List ℕ) → log_n ≤ 56 → t ≤ log_n
+pub filled : {p q : List ℕ} → AreInverse p q → {n s log_n t m : ℕ} {x v last end : List ℕ} → log_n ≤ 56 → t ≤ log_n
     → m ≡ 1 * 2 ^ (log_n - t) % 2 ^ 64 - 1 → s % 32 ≡ 0 → HoldsRows p q n s (2 ^ t) (m + 1) x v
     → last ≡ part (n * s) v m → ((k : ℕ) → k < n → part s end k ≡ mixed_in p q (2 ^ t) (part s last k)) → IsFilled p q n s log_n t x v end
-filled p q inverse n s log_n t m x v last end small fits count whole held last_is end_is =
+filled {p} {q} inverse {n} {s} {log_n} {t} {m} {x} {v} {last} small fits count whole held last_is end_is =
     let step : ℕ = 2 ^ t in
     let kept = kept_rows log_n t m small count in
     let all = all_rows log_n t (m + 1) fits kept in
@@ -46,7 +42,7 @@ filled p q inverse n s log_n t m x v last end small fits count whole held last_i
           let room = place_inside n s m (m + 1) k h (omega arith) in
           let long = length-part s (place n m k) v (omega (arith, held.len, room)) in
           let row_is = ap (λ z. part s z k) last_is ∙ part_of_row n s m k v h in
-          end_is k h ∙ row_after_in p q inverse (permuted q (part s x k)) (part s last k) (m * step) step
+          end_is k h ∙ row_after_in inverse (permuted q (part s x k)) (part s last k) (m * step) step
           (omega (arith, ap length row_is, long)) (row_is ∙ held.each m k (omega arith) h)
           ∙ ap (λ i. mixed_in p q i (part s x k)) there;
     }
@@ -105,12 +101,12 @@ unfolding extra_rows
 extra_rows-more b log_n s k = rw add-one refl
 
 -- one step, from the X in x to the one in y
-pub one_step : (p q : List ℕ) → AreInverse p q → {n s log_n t a c d : ℕ} {kept : List ℕ} → AreWalkLens n s log_n t a c d (length kept)
+pub one_step : {p q : List ℕ} → AreInverse p q → {n s log_n t a c d : ℕ} {kept : List ℕ} → AreWalkLens n s log_n t a c d (length kept)
     → {diagonal : Bool} {before after : CoreCount} (x y : List ℕ) → length x ≡ n * s
     → ((k : ℕ) → k < n → part s y k ≡ x_after p q n k s log_n t kept (part s x k))
     → AreCountedAs diagonal ((recomputed_rows t (integerify (permuted q (part s x 0)) % 2 ^ log_n) + 1) * (n * (2 * (s / 32)))) before after
     → AfterSteps p n s log_n t diagonal kept 1 x before y after
-one_step p q inverse {n} {s} {log_n} {t} {kept = kept} lens x y size stepped counted = record {
+one_step {p} {q} inverse {n} {s} {log_n} {t} {kept = kept} lens x y size stepped counted = record {
   walked = λ k below b i at.
       let j : ℕ = integerify (permuted q (part s x k)) % 2 ^ log_n in
       let step : ℕ = 2 ^ t in
@@ -121,16 +117,16 @@ one_step p q inverse {n} {s} {log_n} {t} {kept = kept} lens x y size stepped cou
       let there : j / step * step + j % step ≡ j = omega arith in
       let x_long = length-part_of_row n s k x below size in
       let same = length-mixed_in p q low (j % step) (omega (arith, long, lens.row.some)) (omega (arith, long, lens.row.whole)) in
-      let taken = row_after_in p q inverse b low (j / step * step) (j % step) (omega (arith, long, lens.row.whole)) (at.rows.each (j / step) kept_row) in
+      let taken = row_after_in inverse b low (j / step * step) (j % step) (omega (arith, long, lens.row.whole)) (at.rows.each (j / step) kept_row) in
       record {
         rows = at.rows;
         walked = stepped k below
-            ∙ next_step_in p q inverse b log_n i (part s x k) _ j (omega (arith, x_long, lens.row.whole)) (same ∙ long ∙ sym x_long) at.walked refl
+            ∙ next_step_in inverse b log_n i (part s x k) _ j (omega (arith, x_long, lens.row.whole)) (same ∙ long ∙ sym x_long) at.walked refl
             (taken ∙ ap (λ i. permuted p (row b i)) there);
       };
   counted = λ b i begin at until.
       let x_long = length-part_of_row n s 0 x lens.some size in
-      let standard = standard_of p q inverse (part s x 0) (walk b log_n i) (omega (arith, x_long, lens.row.whole)) at.walked in
+      let standard = standard_of inverse (part s x 0) (walk b log_n i) (omega (arith, x_long, lens.row.whole)) at.walked in
       counted_both _ until (rw standard at counted) (rw (extra_rows-more b log_n t i) (omega arith));
   whole = λ every. let none : integerify (permuted q (part s x 0)) % 2 ^ log_n % 2 ^ t ≡ 0 = rw every (omega arith) in rw none at counted;
 }

@@ -37,3 +37,23 @@ pub mod KeptRows
 pub mod Memory
 -- scryptROMix in steps, in the caller's buffers
 pub mod Steps
+-- The definitions of all these files, which clauses and proofs import from here. `count.rt` names the files itself, since they
+-- import its struct, whose ghost fields would import this one.
+unfoldable pub use Words.*
+unfoldable pub use Hmac.*
+unfoldable pub use Pbkdf2.*
+unfoldable pub use Pbkdf2Cost.*
+unfoldable pub use Salsa.*
+unfoldable pub use Count.*
+unfoldable pub use BlockMix.*
+unfoldable pub use RoMix.*
+unfoldable pub use RoMixLoops.*
+unfoldable pub use RoMixCost.*
+unfoldable pub use Diagonal.*
+unfoldable pub use Table.*
+unfoldable pub use HmacState.*
+unfoldable pub use Lanes.*
+unfoldable pub use Parts.*
+unfoldable pub use KeptRows.*
+unfoldable pub use Memory.*
+unfoldable pub use Steps.*

@@ -1,9 +1,9 @@
 -- Words, bytes and blocks (RFC 7914, sections 2 to 5). A byte is a number below 256, a word is a
 -- number below 2 ^ 32, a block is 16 words, and a list of blocks is the list of their words.
 -- Indices are counted from 0.
-use Rattle.std.specs.Prelude.{ℕ, ◌+◌, ◌-◌, ◌*◌, ◌/◌, ◌%◌, ◌^◌, List, [], ◌∷◌, map, length, take, drop, bit_xor}
+use Rattle.std.specs.Prelude.{ℕ, ◌+◌, ◌-◌, ◌*◌, ◌/◌, ◌%◌, ◌^◌, List, [], ◌∷◌, length, take, drop, bit_xor}
 use Rattle.std.specs.Int.{w32, to_le_bytes}
-use Rattle.std.specs.List.{flat_map, range_with_len}
+use Rattle.std.specs.List.{flat_map}
 use Rattle.std.specs.Simd.Lanes.{zip2}
 
 -- the sum of two words, with the carry dropped
@@ -29,7 +29,8 @@ part len x k = take len (drop (k * len) x)
 
 -- the words that bytes encode, four bytes each in little-endian order
 abbrev pub words_of : List ℕ → List ℕ
-words_of b = map (λ i. le_number (part 4 b i)) (range_with_len 0 (length b / 4))
+words_of (a ∷ b ∷ c ∷ d ∷ bytes) = le_number (a ∷ b ∷ c ∷ d ∷ []) ∷ words_of bytes
+words_of bytes = []
 
 -- the bytes of words, four for each word in little-endian order
 abbrev pub bytes_of : List ℕ → List ℕ

@@ -1,12 +1,8 @@
 //! scryptBlockMix (RFC 7914, section 4).
 
 ghost use Rattle.std.specs.Prelude.{◌≡◌, ℕ, ◌+◌, ◌*◌, ◌/◌, ◌%◌, ◌<◌, ◌≤◌, List, length};
-ghost use Rattle.scrypt_kernel.specs.Words.{block, part, xor_words};
-ghost use Rattle.scrypt_kernel.specs.Salsa.{salsa20_8};
-ghost use Rattle.scrypt_kernel.specs.Count.{AreCountedAs};
-ghost use Rattle.scrypt_kernel.specs.BlockMix.{block_mix};
-ghost use Rattle.scrypt_kernel.specs.KeptRows.{IsRowLen};
-ghost use Rattle.scrypt_kernel.specs.Diagonal.{AfterTurns, permuted};
+ghost use Rattle.scrypt_kernel.specs.{AfterTurns, AreCountedAs, IsRowLen, block, block_mix, part, permuted, salsa20_8};
+ghost use Rattle.scrypt_kernel.specs.{xor_words};
 
 pub mod lanes;
 pub mod pivot;

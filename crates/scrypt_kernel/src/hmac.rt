@@ -1,10 +1,7 @@
 //! HMAC (RFC 2104) with SHA-256.
 
 ghost use Rattle.std.specs.Prelude.{◌≡◌, ℕ, List, ◌++◌, bit_xor, length, map};
-ghost use Rattle.scrypt_kernel.specs.Count.{AreHashed};
-ghost use Rattle.scrypt_kernel.specs.Hmac.{hmac_sha256, padded_key};
-ghost use Rattle.scrypt_kernel.specs.HmacState.{HoldsText};
-ghost use Rattle.scrypt_kernel.specs.Pbkdf2Cost.{end_cost, key_cost, state_cost};
+ghost use Rattle.scrypt_kernel.specs.{AreHashed, HoldsText, end_cost, hmac_sha256, key_cost, padded_key, state_cost};
 
 use crate::CoreCount;
 use crate::cores::sha256::{begin, copy_of, finish, update};

@@ -1,5 +1,5 @@
-//! The steps of scrypt (RFC 7914) below the derivation of a key, each proved against its
-//! definition: HMAC, PBKDF2, the Salsa20/8 core, scryptBlockMix and scryptROMix.
+//! The steps of scrypt (RFC 7914) below the derivation of a key, from source that is proved against
+//! their definitions: HMAC, PBKDF2, the Salsa20/8 core, scryptBlockMix and scryptROMix.
 //!
 //! The crate `scrypt` re-exports the parts that users need. Nothing is checked at run time: lengths
 //! and parameters are preconditions. The definitions that the preconditions and postconditions cite

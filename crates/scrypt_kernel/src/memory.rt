@@ -2,8 +2,7 @@
 
 ghost use Rattle.std.specs.Prelude.{◌≡◌, ℕ, ◌+◌, ◌*◌, ◌/◌, ◌%◌, ◌<◌, ◌≤◌, List, ◌++◌, drop, length, take};
 ghost use Rattle.std.specs.Vec.{vec_capacity};
-ghost use Rattle.scrypt_kernel.specs.Count.{AreCountedAs};
-ghost use Rattle.scrypt_kernel.specs.KeptRows.{AddsRow, AfterRowTurns, IsRowLen, mixed_in};
+ghost use Rattle.scrypt_kernel.specs.{AddsRow, AfterRowTurns, AreCountedAs, IsRowLen, mixed_in};
 
 use crate::CoreCount;
 use crate::block_mix::{mix, take_turn};

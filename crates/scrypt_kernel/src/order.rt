@@ -1,12 +1,8 @@
 //! The orders that the words of a block can be in while it is mixed.
 
 ghost use Rattle.std.specs.Prelude.{◌≡◌, ◌≢◌, Bool, ℕ, ◌+◌, ◌*◌, ◌%◌, ◌^◌, ◌<◌, ◌≤◌, List, length};
-ghost use Rattle.scrypt_kernel.specs.Words.{block, part, xor_words};
-ghost use Rattle.scrypt_kernel.specs.Salsa.{salsa20_8};
-ghost use Rattle.scrypt_kernel.specs.Count.{AreCountedAs};
-ghost use Rattle.scrypt_kernel.specs.RoMix.{integerify};
-ghost use Rattle.scrypt_kernel.specs.Diagonal.{AreInverse, permuted};
-ghost use Rattle.scrypt_kernel.specs.Parts.{AreParts, part_of};
+ghost use Rattle.scrypt_kernel.specs.{AreCountedAs, AreInverse, AreParts, block, integerify, part, part_of, permuted};
+ghost use Rattle.scrypt_kernel.specs.{salsa20_8, xor_words};
 
 pub mod diagonal;
 pub mod standard;

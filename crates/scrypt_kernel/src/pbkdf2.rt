@@ -1,10 +1,8 @@
 //! PBKDF2 (RFC 8018, section 5.2) with HMAC-SHA-256 and an iteration count of 1.
 
 ghost use Rattle.std.specs.Prelude.{◌≡◌, ℕ, ◌+◌, ◌*◌, ◌/◌, ◌≤◌, List, length};
-ghost use Rattle.scrypt_kernel.specs.Count.{AreHashed};
-ghost use Rattle.scrypt_kernel.specs.Pbkdf2.{max_output_len, pbkdf2, pbkdf2_from};
-ghost use Rattle.scrypt_kernel.specs.HmacState.{AreDerivedFrom};
-ghost use Rattle.scrypt_kernel.specs.Pbkdf2Cost.{end_cost, pbkdf2_cost, state_cost};
+ghost use Rattle.scrypt_kernel.specs.{AreDerivedFrom, AreHashed, end_cost, max_output_len, pbkdf2, pbkdf2_cost};
+ghost use Rattle.scrypt_kernel.specs.{pbkdf2_from, state_cost};
 
 use crate::CoreCount;
 use crate::hmac::Hmac;

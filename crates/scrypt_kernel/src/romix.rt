@@ -1,13 +1,9 @@
 //! scryptROMix (RFC 7914, section 5).
 
 ghost use Rattle.std.specs.Prelude.{◌≡◌, ℕ, ◌+◌, ◌-◌, ◌*◌, ◌/◌, ◌%◌, ◌^◌, ◌<◌, ◌≤◌, false, length, true};
-ghost use Rattle.scrypt_kernel.specs.Words.{bytes_of, part, words_of};
-ghost use Rattle.scrypt_kernel.specs.Count.{AreCountedAs};
-ghost use Rattle.scrypt_kernel.specs.RoMix.{ro_mix};
-ghost use Rattle.scrypt_kernel.specs.Diagonal.{permuted};
-ghost use Rattle.scrypt_kernel.specs.KeptRows.{AreWalkLens};
-ghost use Rattle.scrypt_kernel.specs.Table.{thin_ro_mix_cost};
-ghost use Rattle.scrypt_kernel.specs.RoMixCost.{AreBytesOfB, AreRoMixLens, AreThinLens, ro_mix_cost, scratch_words, table_words, thin_scratch_words};
+ghost use Rattle.scrypt_kernel.specs.{AreBytesOfB, AreCountedAs, AreRoMixLens, AreThinLens, AreWalkLens, bytes_of};
+ghost use Rattle.scrypt_kernel.specs.{part, permuted, ro_mix, ro_mix_cost, scratch_words, table_words};
+ghost use Rattle.scrypt_kernel.specs.{thin_ro_mix_cost, thin_scratch_words, words_of};
 
 use crate::CoreCount;
 use crate::memory::{Buffer, TableMemory};

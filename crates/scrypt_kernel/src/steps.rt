@@ -6,12 +6,8 @@
 //! done.
 
 ghost use Rattle.std.specs.Prelude.{◌≡◌, ℕ, ◌+◌, ◌-◌, ◌*◌, ◌/◌, ◌%◌, ◌^◌, ◌<◌, ◌≤◌, List, drop, length, max, min};
-ghost use Rattle.scrypt_kernel.specs.Words.{bytes_of, part, words_of};
-ghost use Rattle.scrypt_kernel.specs.Count.{AreCountedAs};
-ghost use Rattle.scrypt_kernel.specs.RoMix.{ro_mix};
-ghost use Rattle.scrypt_kernel.specs.KeptRows.{AreWalkLens, IsRowLen};
-ghost use Rattle.scrypt_kernel.specs.RoMixCost.{scratch_words, table_words};
-ghost use Rattle.scrypt_kernel.specs.Steps.{IsMixing, all_mixes, chunk_words};
+ghost use Rattle.scrypt_kernel.specs.{AreCountedAs, AreWalkLens, IsMixing, IsRowLen, all_mixes, bytes_of, chunk_words};
+ghost use Rattle.scrypt_kernel.specs.{part, ro_mix, scratch_words, table_words, words_of};
 
 use crate::CoreCount;
 use crate::memory::mix_next;

@@ -4,9 +4,7 @@
 //! Several chunks share a table, whose rows have `len` words of each chunk, one after another.
 
 ghost use Rattle.std.specs.Prelude.{◌≡◌, ℕ, ◌+◌, ◌-◌, ◌*◌, ◌/◌, ◌%◌, ◌^◌, ◌<◌, ◌≤◌, length};
-ghost use Rattle.scrypt_kernel.specs.Words.{part};
-ghost use Rattle.scrypt_kernel.specs.Count.{AreCountedAs};
-ghost use Rattle.scrypt_kernel.specs.KeptRows.{AddsRow, AreWalkLens, IsFilled, IsRowLen, mixed_in};
+ghost use Rattle.scrypt_kernel.specs.{AddsRow, AreCountedAs, AreWalkLens, IsFilled, IsRowLen, mixed_in, part};
 
 use crate::CoreCount;
 use crate::block_mix::mix;

@@ -1,12 +1,8 @@
 //! The walk of scryptROMix (RFC 7914, section 5, step 3).
 
 ghost use Rattle.std.specs.Prelude.{◌≡◌, ℕ, ◌+◌, ◌-◌, ◌*◌, ◌/◌, ◌%◌, ◌^◌, ◌<◌, ◌≤◌, List, length, slice_index};
-ghost use Rattle.scrypt_kernel.specs.Words.{part};
-ghost use Rattle.scrypt_kernel.specs.Count.{AreCountedAs};
-ghost use Rattle.scrypt_kernel.specs.Diagonal.{permuted};
-ghost use Rattle.scrypt_kernel.specs.RoMix.{integerify};
-ghost use Rattle.scrypt_kernel.specs.Table.{recomputed_rows};
-ghost use Rattle.scrypt_kernel.specs.KeptRows.{AfterSteps, AreWalkLens, IsRowLen, mix_of, mixed_in, place, x_after};
+ghost use Rattle.scrypt_kernel.specs.{AfterSteps, AreCountedAs, AreWalkLens, IsRowLen, integerify, mix_of, mixed_in};
+ghost use Rattle.scrypt_kernel.specs.{part, permuted, place, recomputed_rows, x_after};
 
 use crate::CoreCount;
 use crate::block_mix::{Xor, mix};

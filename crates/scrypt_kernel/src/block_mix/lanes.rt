@@ -1,9 +1,7 @@
 //! scryptBlockMix (RFC 7914, section 4) on words in diagonal order, four lanes at a time.
 
 ghost use Rattle.std.specs.Prelude.{◌≡◌, ◌+◌, ◌*◌, ◌/◌, ◌%◌, ◌<◌, length, true};
-ghost use Rattle.scrypt_kernel.specs.Count.{AreCountedAs};
-ghost use Rattle.scrypt_kernel.specs.BlockMix.{block_mix};
-ghost use Rattle.scrypt_kernel.specs.Diagonal.{diagonal_order, standard_order};
+ghost use Rattle.scrypt_kernel.specs.{AreCountedAs, block_mix, diagonal_order, standard_order};
 
 use crate::CoreCount;
 use crate::block_mix::mix;

@@ -1,8 +1,7 @@
 //! scryptBlockMix (RFC 7914, section 4) on words in standard order.
 
 ghost use Rattle.std.specs.Prelude.{◌≡◌, ◌+◌, ◌*◌, ◌/◌, ◌%◌, ◌<◌, false, length};
-ghost use Rattle.scrypt_kernel.specs.Count.{AreCountedAs};
-ghost use Rattle.scrypt_kernel.specs.BlockMix.{block_mix};
+ghost use Rattle.scrypt_kernel.specs.{AreCountedAs, block_mix};
 
 use crate::CoreCount;
 use crate::block_mix::mix;

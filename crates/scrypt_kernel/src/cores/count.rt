@@ -28,8 +28,7 @@ impl Model for CoreCount {
 
 impl CoreCount {
     ghost use Rattle.sha2.specs.Hashers.{Holds256};
-    ghost use Rattle.scrypt_kernel.specs.Count.{AreCountedAs, AreHashed};
-    ghost use Rattle.scrypt_kernel.specs.Pbkdf2Cost.{message_cost};
+    ghost use Rattle.scrypt_kernel.specs.{AreCountedAs, AreHashed, message_cost};
 
     /// Creates a count of zero.
     pub fn new() -> CoreCount

@@ -1,8 +1,7 @@
 //! The Salsa20/8 core (RFC 7914, section 3) on words in standard order.
 
 ghost use Rattle.std.specs.Prelude.{◌≡◌, ◌<◌, false};
-ghost use Rattle.scrypt_kernel.specs.Salsa.{quarter_round_at, double_round, salsa20_8};
-ghost use Rattle.scrypt_kernel.specs.Count.{AreCountedAs};
+ghost use Rattle.scrypt_kernel.specs.{AreCountedAs, double_round, quarter_round_at, salsa20_8};
 
 use crate::cores::CoreCount;
 use crate::words::add_words;

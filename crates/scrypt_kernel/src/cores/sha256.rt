@@ -3,9 +3,8 @@
 
 ghost use Rattle.std.specs.Prelude.{◌≡◌, ℕ, ◌+◌, ◌/◌, ◌%◌, ◌++◌, List, [], length};
 ghost use Rattle.sha2.specs.Hashers.{Holds256};
+ghost use Rattle.scrypt_kernel.specs.{AreHashed, message_cost};
 ghost use Rattle.sha2.specs.Sha256.{sha256};
-ghost use Rattle.scrypt_kernel.specs.Count.{AreHashed};
-ghost use Rattle.scrypt_kernel.specs.Pbkdf2Cost.{message_cost};
 
 use crate::cores::CoreCount;
 use sha2::{Digest, Sha256};

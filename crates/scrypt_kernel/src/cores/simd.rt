@@ -2,12 +2,9 @@
 //! side by side. Each vector has four lanes of every block.
 
 ghost use Rattle.std.specs.Prelude.{◌≡◌, ◌≢◌, ℕ, ◌+◌, ◌*◌, ◌/◌, ◌<◌, ◌≤◌, ◌++◌, List, length, true};
-ghost use Rattle.scrypt_kernel.specs.Words.{add_words, part, xor_words};
-ghost use Rattle.scrypt_kernel.specs.Salsa.{salsa20_8};
-ghost use Rattle.scrypt_kernel.specs.Count.{AreCountedAs};
-ghost use Rattle.scrypt_kernel.specs.Diagonal.{diagonal_core, diagonal_order, standard_order};
-ghost use Rattle.scrypt_kernel.specs.Lanes.{AreFourEach, at, block_of, quarter_rounds, turned, turned_left, xor_rotated};
-ghost use Rattle.scrypt_kernel.specs.Parts.{AreParts, part_of};
+ghost use Rattle.scrypt_kernel.specs.{AreCountedAs, AreFourEach, AreParts, add_words, at, block_of, diagonal_core};
+ghost use Rattle.scrypt_kernel.specs.{diagonal_order, part, part_of, quarter_rounds, salsa20_8, standard_order, turned};
+ghost use Rattle.scrypt_kernel.specs.{turned_left, xor_rotated, xor_words};
 
 pub mod both;
 pub mod scalars;
@@ -52,9 +49,7 @@ pub struct FourVectors<V> {
 
 impl<V: Lanes> FourVectors<V> {
     ghost use Rattle.std.specs.Prelude.{◌≡◌, ℕ, ◌<◌, true};
-    ghost use Rattle.scrypt_kernel.specs.Count.{AreCountedAs};
-    ghost use Rattle.scrypt_kernel.specs.Diagonal.{diagonal_core, diagonal_round};
-    ghost use Rattle.scrypt_kernel.specs.Lanes.{AreWhole};
+    ghost use Rattle.scrypt_kernel.specs.{AreCountedAs, AreWhole, diagonal_core, diagonal_round};
 
     /// Returns the Salsa20/8 core of each block in diagonal order, and counts them.
     #[inline(always)]

@@ -6,9 +6,8 @@
 
 ghost use Rattle.std.specs.Prelude.{◌≡◌, ◌≢◌, ℕ, ◌+◌, ◌-◌, ◌*◌, ◌%◌, ◌^◌, ◌<◌, ◌≤◌, List, length, IsTrue, nat_lt, refl, slice_index, true};
 ghost use Rattle.std.specs.List.{list_all};
-ghost use Rattle.scrypt_kernel.specs.Words.{block};
-ghost use Rattle.scrypt_kernel.specs.RoMix.{integerify};
-ghost use Rattle.scrypt_kernel.specs.Diagonal.{AreInverse, diagonal_order, inverse_pivot, permuted, pivot, standard_order};
+ghost use Rattle.scrypt_kernel.specs.{AreInverse, block, diagonal_order, integerify, inverse_pivot, permuted, pivot};
+ghost use Rattle.scrypt_kernel.specs.{standard_order};
 
 use crate::CoreCount;
 pub use crate::cores::simd::FourVectors as Diagonal;

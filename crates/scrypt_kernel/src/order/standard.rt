@@ -18,8 +18,7 @@ pub struct Standard {
 }
 
 impl OrderedBlocks for Standard {
-    ghost use Rattle.scrypt_kernel.specs.Lanes.{block_of};
-    ghost use Rattle.scrypt_kernel.specs.Words.{part};
+    ghost use Rattle.scrypt_kernel.specs.{block_of, part};
 
     ghost pivot = { range_with_len 0 16 };
 

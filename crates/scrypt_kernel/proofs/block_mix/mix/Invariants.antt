@@ -1,7 +1,5 @@
 use Rattle.std.proofs.Common.{ℕ, ◌*◌, ◌<◌}
-use Rattle.scrypt_kernel.specs.Words.{part}
-use Rattle.scrypt_kernel.specs.Count.{AreCountedAs}
-use Rattle.scrypt_kernel.specs.Diagonal.{AfterTurns}
+use Rattle.scrypt_kernel.specs.{AfterTurns, AreCountedAs, part}
 use Rattle.scrypt_kernel.proofs.block_mix.mix.Given as goal
 
 abbrev pub invariant-turns : goal.invariant-turns

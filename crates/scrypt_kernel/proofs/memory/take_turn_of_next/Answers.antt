@@ -1,7 +1,6 @@
 use Rattle.std.proofs.Common.{◌≡◌, ◌+◌, ◌*◌, length, take, drop, ap, sym, ◌∙◌, arith}
 use Rattle.std.proofs.lemmas.List.{length-take-le, take_at}
-use Rattle.scrypt_kernel.specs.Words.{part}
-use Rattle.scrypt_kernel.specs.KeptRows.{place}
+use Rattle.scrypt_kernel.specs.{part, place}
 use Rattle.scrypt_kernel.proofs.BlockMixFacts.{turns_at}
 use Rattle.scrypt_kernel.proofs.PartFacts.{part-take, part_after, part_append_front, part_inside}
 use Rattle.scrypt_kernel.proofs.RoMixFacts.{part_of_row, place_inside}

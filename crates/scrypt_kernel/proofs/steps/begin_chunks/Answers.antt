@@ -16,7 +16,7 @@ returns g c = record {
       c.copy_from_slice.ensures.len ∙ length-take-le _ c.args.table.now c.requires.room in
       part_append_front (32 * r) k c.copy_from_slice.new.self _ (part_inside (32 * r) k n _ below (omega (arith, long)))
       ∙ ap (λ z. part (32 * r) z k) c.copy_from_slice.ensures.after
-      ∙ chunk_in g.O.OrderedBlocks.pivot g.O.OrderedBlocks.inverse_pivot g.met.O.OrderedBlocks.inverse n r k log_n c.args.b.now c.shuffle_in.new.x below
+      ∙ chunk_in g.met.O.OrderedBlocks.inverse n r k log_n c.args.b.now c.shuffle_in.new.x below
       c.requires.chunks (rw c.read_words.ensures at c.shuffle_in.ensures.value));
   table_rest = drop-append-drop _ c.args.table.now c.copy_from_slice.new.self _ (omega arith)
       (c.copy_from_slice.ensures.len ∙ length-take-le _ c.args.table.now c.requires.room);

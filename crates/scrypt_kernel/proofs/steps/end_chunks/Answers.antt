@@ -13,7 +13,7 @@ returns g c = record {
       let n = c.args.n in
       let r = c.args.r in
       let front = take (n * (32 * r)) c.args.scratch.now in
-      chunk_out g.O.OrderedBlocks.pivot g.O.OrderedBlocks.inverse_pivot g.met.O.OrderedBlocks.inverse n r k front _ _ below
+      chunk_out g.met.O.OrderedBlocks.inverse n r k front _ _ below
       (length-take-le _ c.args.scratch.now c.requires.scratch)
       (c.write_words.ensures ∙ ap (λ x. bytes_of x) c.shuffle_out.ensures.value)
       (part-take (32 * r) k _ c.args.scratch.now (part_inside (32 * r) k n _ below (omega arith)) ∙ all_mixed at k below);

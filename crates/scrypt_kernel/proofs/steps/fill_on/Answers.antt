@@ -23,9 +23,8 @@ mixes-preserved g c =
           let more : m + 1 < 2 ^ c.args.log_n = omega (arith, shifted, w.if-m-log_n.true) in
           let more' : m + 2 ≤ 2 ^ c.args.log_n = omega arith in
           rw (w.table-is, w.x-is, w.cores-is) (record {
-            mixed = λ b begun. one_more_row_mixed o.pivot o.inverse_pivot g.met.O.OrderedBlocks.inverse c.mixes.table c.mixes.x
-                c.requires.lens.row.whole (c.mixes.invariant.mixed b begun) w.mix_next.new.memory more
-                room w.mix_next.ensures.words;
+            mixed = λ b begun. one_more_row_mixed g.met.O.OrderedBlocks.inverse _ _ c.requires.lens.row.whole
+                (c.mixes.invariant.mixed b begun) _ more room w.mix_next.ensures.words;
             rest = drop_same ((m + 2) * (o.count * c.args.len)) _ _ _ (mul-le-mul_right (o.count * c.args.len) more') w.mix_next.ensures.rest
                 ∙ c.mixes.invariant.rest;
             counted = counted_both _ c.mixes.invariant.counted w.mix_next.ensures.counted sum;
@@ -33,9 +32,8 @@ mixes-preserved g c =
       | else-m-log_n w ↦
           let all : m + 1 ≡ 2 ^ c.args.log_n = omega (arith, shifted, below, w.if-m-log_n.false) in
           rw (w.table-is, w.x-is, w.cores-is) (record {
-            mixed = λ b begun. last_row_mixed o.pivot o.inverse_pivot g.met.O.OrderedBlocks.inverse c.mixes.table c.mixes.x
-                c.requires.lens.row.whole (c.mixes.invariant.mixed b begun) w.recompute.new.x w.part.result.now all
-                room (rw (c.mixes.auto.x, c.requires.lens.chunks) at w.part.ensures.value) w.recompute.ensures.value;
+            mixed = λ b begun. last_row_mixed g.met.O.OrderedBlocks.inverse _ _ c.requires.lens.row.whole (c.mixes.invariant.mixed b begun)
+                _ _ all room (rw (c.mixes.auto.x, c.requires.lens.chunks) at w.part.ensures.value) w.recompute.ensures.value;
             rest = c.mixes.invariant.rest;
             counted = counted_both _ c.mixes.invariant.counted w.recompute.ensures.counted (omega (arith, sum));
           })

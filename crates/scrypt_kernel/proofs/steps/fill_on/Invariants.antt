@@ -1,6 +1,5 @@
 use Rattle.std.proofs.Common.{◌≡◌, ℕ, List, drop, ◌^◌, ◌-◌, ◌*◌, ◌/◌}
-use Rattle.scrypt_kernel.specs.Count.{AreCountedAs}
-use Rattle.scrypt_kernel.specs.Steps.{IsMixing}
+use Rattle.scrypt_kernel.specs.{AreCountedAs, IsMixing}
 use Rattle.scrypt_kernel.proofs.steps.fill_on.Given as goal
 
 abbrev pub invariant-mixes : goal.invariant-mixes

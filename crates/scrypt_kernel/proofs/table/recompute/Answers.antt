@@ -9,8 +9,8 @@ pairs-init g c =
     let kept = c.args.kept.now in
     let long = c.requires.chunks in
     let whole = c.requires.row.whole in
-    let first = no_mix o.pivot o.inverse_pivot g.met.O.OrderedBlocks.inverse o.count c.args.len whole kept long in
-    let more = one_more_mix o.pivot o.inverse_pivot g.met.O.OrderedBlocks.inverse o.count c.args.len whole kept long in
+    let first = no_mix g.met.O.OrderedBlocks.inverse o.count c.args.len whole kept long in
+    let more = one_more_mix g.met.O.OrderedBlocks.inverse o.count c.args.len whole kept long in
     elim c.if-n-eq0.branch [
       | then-n-eq0 w ↦
           let one = more _ _ _ w.mix_row.new.next 0 1 first long w.mix_row.ensures.value w.mix_row.ensures.counted (omega arith) in
@@ -28,6 +28,6 @@ pairs-preserved g c =
     let two = c.mix_row-in-pairs-2.ensures in
     let n = c.args.n in
     let i = n - 2 * ((n - 1) / 2) + 2 * c.pairs._k in
-    let more = one_more_mix o.pivot o.inverse_pivot g.met.O.OrderedBlocks.inverse o.count c.args.len c.requires.row.whole c.args.kept.now c.requires.chunks in
+    let more = one_more_mix g.met.O.OrderedBlocks.inverse o.count c.args.len c.requires.row.whole c.args.kept.now c.requires.chunks in
     more _ _ _ _ (i + 1) _ (more _ _ _ _ i _ c.pairs.invariant (omega arith) one.value one.counted refl)
     (omega arith) two.value two.counted (omega arith)

@@ -1,9 +1,6 @@
 use Rattle.std.proofs.Common.{◌≡◌, ℕ, ◌/◌, ◌%◌, ◌^◌, take, drop, sym, ap, ap₂, ◌∙◌, arith}
 use Rattle.std.proofs.lemmas.Nat.{mod_below, pow_pos}
-use Rattle.scrypt_kernel.specs.Words.{part}
-use Rattle.scrypt_kernel.specs.RoMix.{integerify}
-use Rattle.scrypt_kernel.specs.Diagonal.{permuted}
-use Rattle.scrypt_kernel.specs.KeptRows.{mix_of, mixed_in, place}
+use Rattle.scrypt_kernel.specs.{integerify, mix_of, mixed_in, part, permuted, place}
 use Rattle.scrypt_kernel.proofs.PartFacts.{length-part}
 use Rattle.scrypt_kernel.proofs.RoMixFacts.{part_of_row, row_zero_in}
 use Rattle.scrypt_kernel.proofs.WalkFacts.{all_kept, kept_place, missing_rows, some_missing}
@@ -36,7 +33,7 @@ returns-then-missing-eq0-clause-value g c k h =
     let low = part len c.args.v.now at in
     let long = length-part len at c.args.v.now (kept_place _ _ _ _ (number k) k _ lens.most inside h lens.rows) in
     let taken = c.new.ensures.parts k ∙ ap (λ a. take len (drop a c.args.v.now)) (c.take_rows-starts.ensures.starts k h) in
-    let row = row_zero_in p q g.met.O.OrderedBlocks.inverse low (omega (arith, long, lens.row.whole)) in
+    let row = row_zero_in g.met.O.OrderedBlocks.inverse low (omega (arith, long, lens.row.whole)) in
     c.mix.ensures.value k h ∙ ap₂ (mix_of p q) (c.of.ensures.parts k (omega (arith, h, c.count.ensures.value)))
     (taken ∙ row ∙ ap (λ i. mixed_in p q i low) (sym none))
 

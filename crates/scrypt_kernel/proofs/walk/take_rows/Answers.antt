@@ -2,8 +2,7 @@ use Rattle.std.proofs.Common.{◌≡◌, ◌+◌, ◌*◌, ◌/◌, ◌%◌, ◌
 use Rattle.std.proofs.lemmas.Bool.{cases_lt}
 use Rattle.std.proofs.lemmas.Grind.{common_steps}
 use Rattle.std.proofs.lemmas.List.{get_or-set_other, get_or-set_same}
-use Rattle.scrypt_kernel.specs.Diagonal.{permuted}
-use Rattle.scrypt_kernel.specs.RoMix.{integerify}
+use Rattle.scrypt_kernel.specs.{integerify, permuted}
 use Rattle.scrypt_kernel.proofs.WalkFacts.{kept_place}
 use Rattle.scrypt_kernel.proofs.walk.take_rows.Goals as goal
 

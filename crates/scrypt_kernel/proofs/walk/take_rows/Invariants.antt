@@ -1,8 +1,5 @@
 use Rattle.std.proofs.Common.{◌≡◌, ℕ, ◌<◌, ◌*◌, ◌/◌, ◌%◌, ◌^◌, get_or, length}
-use Rattle.scrypt_kernel.specs.Words.{part}
-use Rattle.scrypt_kernel.specs.Diagonal.{permuted}
-use Rattle.scrypt_kernel.specs.RoMix.{integerify}
-use Rattle.scrypt_kernel.specs.KeptRows.{place}
+use Rattle.scrypt_kernel.specs.{integerify, part, permuted, place}
 use Rattle.scrypt_kernel.proofs.walk.take_rows.Given as goal
 
 abbrev pub invariant-chunks : goal.invariant-chunks

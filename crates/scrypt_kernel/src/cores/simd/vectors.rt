@@ -1,8 +1,7 @@
 //! The vectors of four lanes and of eight, for one block and for two.
 
 ghost use Rattle.std.specs.Prelude.{◌≡◌, ℕ, ◌+◌, ◌*◌, ◌<◌, ◌≤◌, length};
-ghost use Rattle.scrypt_kernel.specs.Words.{add_words, part, xor_words};
-ghost use Rattle.scrypt_kernel.specs.Lanes.{xor_rotated};
+ghost use Rattle.scrypt_kernel.specs.{add_words, part, xor_rotated, xor_words};
 
 use crate::cores::simd::Lanes;
 use crate::cores::simd::both::Half;

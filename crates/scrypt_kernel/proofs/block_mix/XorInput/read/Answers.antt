@@ -1,7 +1,6 @@
 use Rattle.std.proofs.Common.{◌≡◌, length, bit_xor, sym, ap₂, ◌∙◌}
 use Rattle.std.proofs.lemmas.Simd.{length-zip2}
-use Rattle.scrypt_kernel.specs.Words.{xor_words}
-use Rattle.scrypt_kernel.specs.Parts.{part_of}
+use Rattle.scrypt_kernel.specs.{part_of, xor_words}
 use Rattle.scrypt_kernel.proofs.PartFacts.{length-part_of}
 use Rattle.scrypt_kernel.proofs.WordFacts.{part-zip2}
 use Rattle.scrypt_kernel.proofs.block_mix.XorInput.read.Goals as goal

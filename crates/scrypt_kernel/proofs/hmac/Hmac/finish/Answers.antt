@@ -1,8 +1,6 @@
 use Rattle.std.proofs.Common.{◌≡◌, ◌+◌, ◌/◌, ◌%◌, ◌++◌, arith, bit_xor, length, length-append, map, refl, rules}
 use Rattle.std.proofs.lemmas.List.{length-map}
-use Rattle.scrypt_kernel.specs.Count.{AreHashed}
-use Rattle.scrypt_kernel.specs.Hmac.{padded_key}
-use Rattle.scrypt_kernel.specs.Pbkdf2Cost.{message_cost}
+use Rattle.scrypt_kernel.specs.{AreHashed, message_cost, padded_key}
 use Rattle.scrypt_kernel.proofs.CountFacts.{hashed_both}
 use Rattle.scrypt_kernel.proofs.HashFacts.{length-padded_key}
 use Rattle.scrypt_kernel.proofs.hmac.Hmac.finish.Goals as goal

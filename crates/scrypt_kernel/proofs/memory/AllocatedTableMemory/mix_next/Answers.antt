@@ -1,8 +1,7 @@
 use Rattle.std.proofs.Common.{◌≡◌, ◌+◌, ◌-◌, ◌*◌, ◌/◌, ◌++◌, length, take, drop, ap, sym, ◌∙◌, arith, refl}
 use Rattle.std.proofs.lemmas.List.{length-drop, length-take-le, take_at}
 use Rattle.std.proofs.Math.Seq.{take-add}
-use Rattle.scrypt_kernel.specs.Words.{block, part}
-use Rattle.scrypt_kernel.specs.KeptRows.{mixed_in, place}
+use Rattle.scrypt_kernel.specs.{block, mixed_in, part, place}
 use Rattle.scrypt_kernel.proofs.CountFacts.{counted_both, counted_none}
 use Rattle.scrypt_kernel.proofs.BlockMixFacts.{all_turns, no_turn}
 use Rattle.scrypt_kernel.proofs.PartFacts.{length-part, part_longer, take_longer}
@@ -29,9 +28,8 @@ turns-init g c =
             ∙ ap (λ z. part len z k) row_is ∙ part_of_row n len i k c.as_slice-rows.result.now h
             ∙ ap (λ z. part len z (place n i k)) c.as_slice-rows.ensures.value
             ∙ part_longer len (place n i k) first all (omega (arith, room, c.requires.last)) c.make_room.ensures.words in
-            no_turn _ _ g.met.O.OrderedBlocks.inverse b (omega (arith, long, c.requires.row.some)) (omega (arith, long, c.requires.row.whole))
-            _ _ (c.read-x.ensures.value k h ∙ ap (λ z. block z (2 * (len / 32) - 1)) input_is
-            ∙ ap (λ w. block b (2 * (w / 32) - 1)) (sym long));
+            no_turn g.met.O.OrderedBlocks.inverse b c.requires.row long _ _
+            (c.read-x.ensures.value k h ∙ ap (λ z. block z (2 * (len / 32) - 1)) input_is);
       };
       len = omega (arith, rw row_len at c.make_room.ensures.long);
       room = c.make_room.ensures.room;
@@ -55,8 +53,6 @@ turns-preserved g c =
 
 pub returns-clause-words : goal.returns-clause-words
 returns-clause-words g c =
-    let p = g.O.OrderedBlocks.pivot in
-    let q = g.O.OrderedBlocks.inverse_pivot in
     let n = g.O.OrderedBlocks.count in
     let len = c.args.len in
     let i = c.args.i in
@@ -66,7 +62,7 @@ returns-clause-words g c =
     let added = take (n * len) (drop end all) in
     let row_long : length added ≡ n * len =
     length-take-le (n * len) _ (omega (arith, length-drop end all, c.turns.invariant.len)) in
-    adds_row (mixed_in p q 1) n len i end first all added refl c.requires.last row_long
+    adds_row added refl c.requires.last row_long
     (rw row_long (take-add end (n * len) all ∙ ap (λ z. z ++ added) c.turns.invariant.turned.kept)) (λ k h.
     let b = part len first (place n i k) in
     let room = place_inside n len i (i + 1) k h (omega arith) in
@@ -74,6 +70,5 @@ returns-clause-words g c =
     let long : length b ≡ len = length-part len (place n i k) first (omega (arith, room, c.requires.last)) in
     let full = length-part len (place n (i + 1) k) all (omega (arith, next_room, c.turns.invariant.len)) in
     part_of_row n len (i + 1) k all h
-    ∙ all_turns p q g.met.O.OrderedBlocks.inverse b (omega (arith, long, c.requires.row.some))
-    (omega (arith, long, c.requires.row.whole)) _ _ _ (omega (arith, long)) (full ∙ sym long) (c.turns.invariant.turned.mixed k h)
-    ∙ one_mix p q b ∙ ap (mixed_in p q 1) (sym (part_of_row n len i k first h)))
+    ∙ all_turns g.met.O.OrderedBlocks.inverse b c.requires.row long _ _ _ (omega arith) full (c.turns.invariant.turned.mixed k h)
+    ∙ one_mix _ _ b ∙ ap (mixed_in _ _ 1) (sym (part_of_row n len i k first h)))

@@ -1,7 +1,5 @@
 use Rattle.std.proofs.Common.{◌≤◌, ◌+◌, ◌*◌, length}
-use Rattle.scrypt_kernel.specs.Count.{AreCountedAs}
-use Rattle.scrypt_kernel.specs.KeptRows.{AfterRowTurns}
-use Rattle.scrypt_kernel.specs.Memory.{allocated_room}
+use Rattle.scrypt_kernel.specs.{AfterRowTurns, AreCountedAs, allocated_room}
 use Rattle.scrypt_kernel.proofs.memory.AllocatedTableMemory.mix_next.Given as goal
 
 abbrev pub invariant-turns : goal.invariant-turns

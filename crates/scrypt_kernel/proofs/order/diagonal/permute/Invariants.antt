@@ -1,6 +1,5 @@
 use Rattle.std.proofs.Common.{◌≡◌, ℕ, ◌<◌, ◌≤◌}
-use Rattle.scrypt_kernel.specs.Words.{block}
-use Rattle.scrypt_kernel.specs.Diagonal.{permuted}
+use Rattle.scrypt_kernel.specs.{block, permuted}
 use Rattle.scrypt_kernel.proofs.order.diagonal.permute.Given as goal
 
 abbrev pub invariant-loop-k : goal.invariant-loop-k

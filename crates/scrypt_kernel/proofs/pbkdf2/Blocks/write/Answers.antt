@@ -1,12 +1,9 @@
-use Rattle.std.proofs.Common.{◌≡◌, ℕ, ◌+◌, ◌-◌, ◌*◌, ◌/◌, min, length, ◌++◌, inl, inr, ap, sym, refl, ◌∙◌, arith}
-use Rattle.std.proofs.lemmas.Bool.{cases_lt}
+use Rattle.std.proofs.Common.{◌≡◌, ℕ, ◌+◌, ◌-◌, ◌*◌, ◌/◌, min, length, ◌++◌, ap, sym, refl, ◌∙◌, arith}
 use Rattle.std.proofs.lemmas.List.{ext_get_or}
 use Rattle.std.proofs.lemmas.List.FromFn.{get_or-map-range_with_len, length-map-range_with_len}
-use Rattle.scrypt_kernel.specs.Hmac.{hmac_sha256}
-use Rattle.scrypt_kernel.specs.Pbkdf2.{pbkdf2_byte, pbkdf2_from}
-use Rattle.scrypt_kernel.specs.Pbkdf2Cost.{end_cost}
+use Rattle.scrypt_kernel.specs.{end_cost, hmac_sha256, pbkdf2_byte, pbkdf2_from}
 use Rattle.scrypt_kernel.proofs.CountFacts.{hashed_as, hashed_both}
-use Rattle.scrypt_kernel.proofs.Pbkdf2Facts.{put_below, put_inside, byte_in_block}
+use Rattle.scrypt_kernel.proofs.Pbkdf2Facts.{block_written}
 use Rattle.scrypt_kernel.proofs.pbkdf2.Blocks.write.Goals as goal
 
 pub loop-i-preserved : goal.loop-i-preserved
@@ -15,18 +12,13 @@ loop-i-preserved c =
     let out = c.loop-i.out in
     let size = c.min-size.result in
     let most : size ≡ min (length out - 32 * i) 32 = omega (arith, c.min-size.ensures) in
-    let ys = c.copy_from_slice.new.self in
     record {
-      written = λ password salt derived k h inside. elim (cases_lt k (32 * i)) [
-        | inl lt ↦ put_below (32 * i) (32 * i + size - 32 * i) out ys k lt (omega arith)
-            ∙ c.loop-i.invariant.written password salt derived k lt inside
-        | inr ge ↦
-            let made = c.finish-block.ensures.value password salt derived.hmac
-            ∙ ap (λ z. hmac_sha256 password (salt ++ z)) c.to_be_bytes-number.ensures in
-            put_inside (32 * i) (32 * i + size - 32 * i) out ys k ge (omega arith) (omega arith)
-            ∙ byte_in_block password salt c.finish-block.result ys c.args.skipped i k size ge h (omega arith) made
-            c.copy_from_slice.ensures.after
-      ];
+      written = λ password salt derived k h inside.
+          let made = c.finish-block.ensures.value password salt derived.hmac
+          ∙ ap (λ z. hmac_sha256 password (salt ++ z)) c.to_be_bytes-number.ensures in
+          block_written password salt out c.finish-block.result c.copy_from_slice.new.self c.args.skipped i size (32 * i + size - 32 * i) k
+          (omega arith) (omega arith) h (omega arith) made c.copy_from_slice.ensures.after
+          (λ lt. c.loop-i.invariant.written password salt derived k lt inside);
       counted = λ password salt derived. hashed_both _ (c.loop-i.invariant.counted password salt derived)
           (c.finish-block.ensures.counted password salt derived.hmac) (omega arith);
     }

@@ -1,8 +1,5 @@
 use Rattle.std.proofs.Common.{◌≡◌, ℕ, ◌<◌, ◌+◌, ◌*◌, List, length, get_or}
-use Rattle.scrypt_kernel.specs.Count.{AreHashed}
-use Rattle.scrypt_kernel.specs.Pbkdf2.{pbkdf2_byte}
-use Rattle.scrypt_kernel.specs.Pbkdf2Cost.{end_cost}
-use Rattle.scrypt_kernel.specs.HmacState.{AreDerivedFrom}
+use Rattle.scrypt_kernel.specs.{AreDerivedFrom, AreHashed, end_cost, pbkdf2_byte}
 use Rattle.scrypt_kernel.proofs.pbkdf2.Blocks.write.Given as goal
 
 -- the first i blocks are written and counted

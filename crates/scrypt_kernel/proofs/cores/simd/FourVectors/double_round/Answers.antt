@@ -1,6 +1,5 @@
 use Rattle.std.proofs.Common.{◌≡◌, ◌++◌, List, ℕ, ap, ◌∙◌, length}
-use Rattle.scrypt_kernel.specs.Lanes.{AreFourEach, lanes_of, quarter_rounds, turned}
-use Rattle.scrypt_kernel.specs.Diagonal.{diagonal_round}
+use Rattle.scrypt_kernel.specs.{AreFourEach, diagonal_round, lanes_of, quarter_rounds, turned}
 use Rattle.scrypt_kernel.proofs.LaneFacts.{double_rounds_are, lanes_joined, length-joined, length-round}
 use Rattle.scrypt_kernel.proofs.cores.simd.FourVectors.double_round.Goals as goal
 

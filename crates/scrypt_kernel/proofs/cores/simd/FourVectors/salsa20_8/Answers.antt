@@ -1,8 +1,6 @@
 use Rattle.std.proofs.Common.{List, ℕ, ap, ◌∙◌}
 use Rattle.std.specs.Simd.Lanes.{zip2}
-use Rattle.scrypt_kernel.specs.Words.{add32}
-use Rattle.scrypt_kernel.specs.Diagonal.{diagonal_round}
-use Rattle.scrypt_kernel.specs.Lanes.{block_of}
+use Rattle.scrypt_kernel.specs.{add32, block_of, diagonal_round}
 use Rattle.scrypt_kernel.proofs.LaneFacts.{core_of_rounds, length-joined, zip_joined}
 use Rattle.scrypt_kernel.proofs.cores.simd.FourVectors.salsa20_8.Goals as goal
 
