@@ -81,6 +81,7 @@ RUSTFLAGS="-C relocation-model=pic $PROVED" "$top/rust/sysroot.sh" "$target" car
 case $target in *-apple-*) exec mv "$to/all.o" "$to/scrypt_c.o" ;; esac # with all its names: the library is not built for it
 "${tools}nm" "$to/all.o" | awk '$NF ~ /^_+[ZR]/ { print $NF }' | sort -u > "$to/names"
 # shellcheck disable=SC2094 # it is read twice
-c++filt < "$to/names" | sed -E 's/::h([0-9a-f]{16})$/::<#\1>/; s/ /_/g' | paste -d= "$to/names" - | sed 's/^/--redefine-sym=/' > "$to/renamed"
+c++filt < "$to/names" | sed -E 's/::h([0-9a-f]{16})$/::<#\1>/; s/ /_/g' | paste -d= "$to/names" - |
+  sed -E 's/^([^=]*)(\.[0-9]+)=.*/&\2/; s/^/--redefine-sym=/' > "$to/renamed" # LLVM numbers two of one name
 "${tools}objcopy" -w -g -G 'proved_*' -R .llvmbc -R .llvmcmd "@$to/renamed" "$to/all.o" "$to/scrypt_c.o"
 rm "$to/all.o" "$to/names" "$to/renamed"

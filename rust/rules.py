@@ -99,10 +99,13 @@ REPLACED = [
      "a compiler may leave out the zeros of `fill` if the memory is freed next"),
     ("chunks.fill(0); table.fill(0); scratch.fill(0);",
      "support::wipe(chunks); support::wipe(table); support::wipe(scratch);", "the same"),
+    *((f"pub fn {it}(", f"#[inline]\npub fn {it}(", "the loops are compiled once, in the crate for C, and not in this too")
+      for it in ("scrypt_with_buffers", "scrypt_thin")),
     ("hasher.clone().unwrap()", "hasher.clone()", "the kit's clone may fail; that of a hasher never does"),
-    ("pub(crate) use scrypt::Simd as Target;",
-     "#[cfg(not(target_arch = \"wasm32\"))] pub(crate) use scrypt::Simd as Target;"
-     " #[cfg(target_arch = \"wasm32\")] pub(crate) use scrypt::SimdPairs as Target;",
+    ("pub use backends::{Backend, Scalar, Simd, Simd as Target, SimdPairs};",
+     "pub use backends::{Backend, Scalar, Simd, SimdPairs};"
+     " #[cfg(not(target_arch = \"wasm32\"))] pub use backends::Simd as Target;"
+     " #[cfg(target_arch = \"wasm32\")] pub use backends::SimdPairs as Target;",
      "what else would be compiled makes the module for JavaScript larger"),
     *((f"pub fn {it}", f"#[must_use] pub const fn {it}", "as in the crate scrypt") for it in (
         "new() -> Scrypt", "new_with_params(params: Params)", "recommended()", "log_n(&self)", "n(&self)", "r(&self)",

@@ -12,7 +12,7 @@ int scrypt_hash_password(const void *password, size_t password_len, char *text, 
   uint8_t salt[SCRYPT_SALT_LEN];
   int status;
   if (is_null(password, password_len) || is_null(text, capacity)) return SCRYPT_E_NULL_POINTER;
-  /* scrypt_hash_with_salt would find this after the derivation. */
+  /* Before a salt is drawn, and the same for every length of a text. */
   if (capacity < SCRYPT_HASH_CAPACITY) return SCRYPT_E_BUFFER_SIZE;
   status = scrypt_generate_salt(salt, sizeof salt);
   if (status != SCRYPT_OK) return status;

@@ -256,10 +256,10 @@ int scrypt_hash_password(const void *password, size_t password_len, char *text, 
 
 /* Writes the hash of password and salt, NUL-terminated, to text: the PHC string $scrypt$ln=.. if
  * mcf is 0, and otherwise the $7$ hash of crypt(5). The key has key_len bytes, 10 to 64. The salt of
- * a PHC string has 1 to 64 bytes, and that of a $7$ hash any length. A capacity that is too small is
- * detected only after the derivation; SCRYPT_PHC_CAPACITY or SCRYPT_MCF_CAPACITY(salt_len) is enough.
+ * a PHC string has 1 to 64 bytes, and that of a $7$ hash any length. A capacity of
+ * SCRYPT_PHC_CAPACITY or SCRYPT_MCF_CAPACITY(salt_len) is enough.
  * SCRYPT_E_NULL_POINTER, SCRYPT_E_INVALID_PARAMS (also for key_len), SCRYPT_E_SALT_INVALID,
- * SCRYPT_E_OUT_OF_MEMORY, SCRYPT_E_BUFFER_SIZE. */
+ * SCRYPT_E_BUFFER_SIZE, SCRYPT_E_OUT_OF_MEMORY. */
 SCRYPT_NODISCARD
 int scrypt_hash_with_salt(const void *password, size_t password_len, const void *salt, size_t salt_len, uint32_t log_n,
                           uint32_t r, uint32_t p, size_t key_len, int mcf, char *text, size_t capacity);

@@ -60,13 +60,19 @@ class Library:
     def target(self, module, name):
         """What a name of a module of the logic stands for: an item or a definition of these crates, or None."""
         found = self.names.get(f"{module}.{name}") or self.names.get(module)
-        passed_on = self.modules[module].imports.get(name) if module in self.modules else None
+        passed_on = self.passed_on(module, name)
         return found or passed_on and self.target(*passed_on)
 
     def origin(self, module, name):
         """The module that a name comes from, through those that pass it on."""
-        passed_on = self.modules[module].imports.get(name) if module in self.modules else None
+        passed_on = self.passed_on(module, name)
         return self.origin(*passed_on) if passed_on else module
+
+    def passed_on(self, module, name):
+        """The place from which a module passes on a name, or None. A table of contents passes on what its files have."""
+        if module in self.modules:
+            return self.modules[module].imports.get(name)
+        return next(((it, name) for it in self.modules if it.rpartition(".")[0] == module and f"{it}.{name}" in self.names), None)
 
     def unknown(self, file):
         """The words that a file imports from these crates and that stand for nothing."""

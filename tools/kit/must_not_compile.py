@@ -34,8 +34,8 @@ from tools.generate import sources
 
 # Crate, file, what is replaced by what, and the error.
 RAISED = [
-    ("scrypt", "derivation.rt", "    derived.ok_or(",
-     "*cores = CoreCount::after_core(cores, &[0u32; 16], &[0u32; 16]); derived.ok_or(",
+    ("scrypt", "derivation.rt", "    with_prefix(params, p, chunks, table, scratch, cores, output, derive).unwrap();",
+     "*cores = CoreCount::after_core(cores, &[0u32; 16], &[0u32; 16]);",
      "no function or constant named `after_core` found for struct `CoreCount`"),
     ("scrypt", "derivation.rt", "CoreCount::new()", "CoreCount { seal: () }", "private-"),
     ("scrypt_kernel", "order/standard.rt", "salsa::core(&mut words, cores);",

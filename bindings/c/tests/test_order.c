@@ -244,10 +244,10 @@ TEST(first_errors) {
   meets("hash, in buffers", scrypt_hash_with_buffers("pw", 2, "", 0, PARAMS, 9, 0, NO_ROOM, &none), SCRYPT_E_INVALID_PARAMS);
 }
 
-/* The contracts leave open which of these two is returned. */
-TEST(memory_or_room) {
-  meets("phc", scrypt_hash_with_salt(SECRETS, HUGE, 1, 1, 20, 0, NO_ROOM), SCRYPT_E_OUT_OF_MEMORY);
-  meets("mcf", scrypt_hash_with_salt(SECRETS, HUGE, 1, 1, 20, 1, NO_ROOM), SCRYPT_E_OUT_OF_MEMORY);
+/* No memory is allocated, and so no key derived, for a text that does not fit. */
+TEST(room_before_memory) {
+  meets("phc", scrypt_hash_with_salt(SECRETS, HUGE, 1, 1, 20, 0, NO_ROOM), SCRYPT_E_BUFFER_SIZE);
+  meets("mcf", scrypt_hash_with_salt(SECRETS, HUGE, 1, 1, 20, 1, NO_ROOM), SCRYPT_E_BUFFER_SIZE);
 }
 
 /* A PHC string if it can have this salt and this key, or a $7$ hash. */

@@ -3,9 +3,9 @@ use Rattle.std.specs.Prelude.{ℕ, List, Result, Ok, Err}
 use Rattle.password_hash.specs.declared.error.Error.{Error}
 use Rattle.password_hash.specs.declared.error.Error.TheVariants as error
 
--- The errors, one constructor for each. The last two are errors of verifying within limits, which
--- has its own error type: the bytes and the work that the parameters need, and the length of the
--- key in bytes.
+-- The errors, one constructor for each. The last three are errors of calls with limits or in the
+-- caller's buffers, which have their own error type: the bytes and the work that the parameters need,
+-- the length of the key in bytes, and that a buffer is too short.
 pub data Refusal : Type 0 where
   Algorithm : Refusal
   EncodingInvalid : Refusal
@@ -18,6 +18,7 @@ pub data Refusal : Type 0 where
   OutOfMemory : Refusal
   TooCostly : (bytes work : ℕ) → Refusal
   KeyTooShort : (key_len : ℕ) → Refusal
+  BufferTooShort : Refusal
 
 -- the value of an error
 abbrev pub refusal : Error → Refusal

@@ -1,7 +1,7 @@
 use Rattle.std.proofs.Common.{◌≡◌, ℕ, zero, suc, ◌<◌, ◌≤◌, ◌+◌, ◌*◌, List, ◌++◌, length, take, drop, slice_index, refl, sym, ap, ap₂, ◌∙◌, arith, add-zero, zero-add, append_assoc, drop-drop, ◌-◌, length-drop, length-take-le}
 use Rattle.std.specs.List.{flat_map, range_with_len}
 use Rattle.std.proofs.lemmas.Slice.{drop-put_mid, take-put_mid}
-use Rattle.std.proofs.lemmas.List.FromFn.{length-map-range_with_len, take-map-range_with_len}
+use Rattle.std.proofs.lemmas.List.FromFn.{take-map-range_with_len}
 use borrow.Rule.Slice.PartMut.{put_mid}
 use Rattle.scrypt.specs.Terms.{AreMixed, Parameters, bytes_of, derived_key, key_by, mixed_chunk, mixed_chunks, part}
 use Rattle.scrypt.specs.Terms.{pbkdf2, words_of}
@@ -9,7 +9,7 @@ use Rattle.scrypt_kernel.specs.RoMix.{ro_mix}
 use Rattle.scrypt_kernel.specs.Hmac.{padded_key}
 use Rattle.scrypt_kernel.proofs.PartFacts.{length-part, length-parts, part-take, part_after, part_append_front, parts_apart, parts_from}
 use Rattle.scrypt_kernel.proofs.RoMixFacts.{length-ro_mix}
-use Rattle.scrypt_kernel.proofs.WordFacts.{length-bytes_of}
+use Rattle.scrypt_kernel.proofs.WordFacts.{length-bytes_of, length-words_of}
 use Rattle.scrypt_kernel.proofs.Pbkdf2Facts.{length-pbkdf2, padded_digest, padded_zero_byte, pbkdf2-are_bytes, same_pbkdf2}
 
 -- lists that are made one after another, each of a number
@@ -75,7 +75,7 @@ pub length-mixed_chunk : (b : List ℕ) (log_n r i : ℕ) → 0 < r → i * (128
 length-mixed_chunk b log_n r i some room =
     let long : length (part (128 * r) b i) ≡ 128 * r = length-part (128 * r) i b room in
     let x : List ℕ = words_of (part (128 * r) b i) in
-    let words : length x ≡ 32 * r = length-map-range_with_len _ 0 _ ∙ omega arith in
+    let words : length x ≡ 32 * r = length-words_of (part (128 * r) b i) ∙ omega arith in
     length-bytes_of (ro_mix x log_n) ∙ omega (arith, length-ro_mix x (omega arith) (omega arith) log_n)
 
 -- the chunks of two derivations, mixed as one list

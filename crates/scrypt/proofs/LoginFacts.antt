@@ -1,8 +1,7 @@
-use Rattle.std.proofs.Common.{◌≡◌, ◌∙◌, ◌<◌, ◌≤◌, ◌+◌, ◌*◌, ◌^◌, ◌++◌, ℕ, List, length, take, drop, get_or, zero, suc, false, refl, sym, ap, ap₂, add-one, arith, append_assoc, length-append, zero-add, Option, None, Some, Ok, Err, [], ◌∷◌, map, MatchBool, MatchOption, option_and_then, slice_set, IsTrue, sum, sum_by, mul-le-mul_right, take-suc-set}
-use Rattle.std.proofs.Math.ListN.{get_or-map}
+use Rattle.std.proofs.Common.{◌≡◌, ◌∙◌, ◌<◌, ◌≤◌, ◌+◌, ◌-◌, ◌*◌, ◌^◌, ◌++◌, ℕ, List, length, take, drop, zero, suc, false, refl, sym, ap, ap₂, add-one, arith, append_assoc, length-append, zero-add, Option, None, Some, Ok, Err, [], ◌∷◌, map, MatchBool, MatchOption, option_and_then, slice_set, IsTrue, sum, sum_by, mul-le-mul_right, take-suc-set}
 use Rattle.std.specs.Prelude.{All, IsOk, Result}
 use Rattle.std.proofs.lemmas.List.Elements.{All-head, All-tail}
-use Rattle.std.proofs.lemmas.List.{drop_all, drop_more, length-map, map-append, take_all}
+use Rattle.std.proofs.lemmas.List.{map-append, take_all}
 use Rattle.std.proofs.lemmas.List.Sums.{sum-map, sum_by-cons}
 use Rattle.std.proofs.lemmas.Slice.{take-put_mid}
 use borrow.Rule.Slice.PartMut.{mid_of, put_mid, same_len_mid}
@@ -12,7 +11,7 @@ use Rattle.scrypt_kernel.specs.declared.cores.count.CoreCount.{CoreCount}
 use Rattle.scrypt_kernel.proofs.CountFacts.{hashed_both}
 use Rattle.scrypt_kernel.proofs.Pbkdf2Facts.{length-pbkdf2}
 use Rattle.scrypt.specs.Terms.{◌and_then◌, AreHashed, AreLeft, Attempt, IsAlone, IsDone, IsLeft, Parameters, Refusal}
-use Rattle.scrypt.specs.Terms.{Stored, SufficeFor, Workspace, all_cost, all_of, are_enough, attempt_of, attempts}
+use Rattle.scrypt.specs.Terms.{Stored, SufficeFor, Workspace, all_cost, all_of, are_enough, attempts}
 use Rattle.scrypt.specs.Terms.{chunks_bytes, chunks_cost, chunks_of, compare_cost, cores_on, cost, cost_if_ok, count_of}
 use Rattle.scrypt.specs.Terms.{hashed_on, mixed_chunks, mixed_of, reading_of, reading_of_hash, ro_mix_cost, shared}
 use Rattle.scrypt.specs.Terms.{verdict, verdict_on, verify_cores, verify_cost, with_limited_refusal, with_more, within}
@@ -151,8 +150,8 @@ pub same_costs : {f g : Attempt → ℕ} → ((a : Attempt) → f a ≡ g a) →
 same_costs same these = λ i. sum_by (λ a. same a i) these
 
 -- the work of one, and then that of the others
-pub sum_more : (f : Attempt → ℕ) {these others : List Attempt} {a : Attempt} (n : ℕ) → these ≡ a ∷ others → n ≡ f a → n + sum_by f others ≡ sum_by f these
-sum_more f {these} {others} {a} n is same = ap (λ n. n + sum_by f others) same ∙ sym (ap (sum_by f) is ∙ sum_by-cons f a others)
+pub sum_more : (f : Attempt → ℕ) {these others : List Attempt} {a : Attempt} → these ≡ a ∷ others → f a + sum_by f others ≡ sum_by f these
+sum_more f {these} {others} {a} is = sym (ap (sum_by f) is ∙ sum_by-cons f a others)
 
 -- In buffers that suffice for limits, and with hashes within them or errors, each verdict is that
 -- of its password, and never `OutOfMemory`.
@@ -205,16 +204,14 @@ both_costs (a ∷ rest) =
 
 -- one after another
 
--- those from the i-th on
-pub from : (logins : List Login) (i : ℕ) (login : Login) → i < length logins → login ≡ get_or logins i login
-    → drop i (attempts logins) ≡ attempt_of login ∷ drop (i + 1) (attempts logins)
-from logins i login below is =
-    drop_more (attempts logins) i (attempt_of login) (rw (length-map logins attempt_of) below)
-    ∙ ap (λ a. a ∷ drop (i + 1) (attempts logins)) (get_or-map attempt_of logins i login ∙ ap attempt_of (sym is))
+-- those after the first
+pub rest_is : (logins others : List Login) (login : Login) → logins ≡ login ∷ others → take (length logins - 1) (drop 1 logins) ≡ others
+rest_is logins others login is = rw is (take_all _ others (omega arith))
 
 -- after the last
-pub none_left : (logins : List Login) (i : ℕ) → length logins ≤ i → drop i (attempts logins) ≡ []
-none_left logins i all = drop_all i (attempts logins) (rw (length-map logins attempt_of) all)
+pub none_left : (logins : List Login) → length logins ≡ 0 → attempts logins ≡ []
+none_left [] none = refl
+none_left (login ∷ rest) none = absurd (omega arith)
 
 -- the blocks of one, and then those of the others
 pub hashed_more : (f : List ℕ → Stored → ℕ) {these others : List Attempt} {a : Attempt} {x y z : CoreCount} → these ≡ a ∷ others

@@ -6,7 +6,7 @@ use Rattle.std.proofs.lemmas.List.Elements.{All-nil, All-cons, All-append, All-d
 use Rattle.scrypt.specs.Terms.{IsField, IsMcf, IsMcfHashText, IsMcfText, Parameters, Refusal, Stored, are_accepted}
 use Rattle.scrypt.specs.Terms.{crypt64_of, encoded_len, field_params, five_letter_number, is_output_len}
 use Rattle.scrypt.specs.Terms.{key_len_or_default, letter, letters_of, made_key, made_mcf, made_stored, made_text_len}
-use Rattle.scrypt.specs.Terms.{mcf_id, mcf_text, params_letters, params_text, read_mcf, without_len}
+use Rattle.scrypt.specs.Terms.{mcf_id, mcf_text, params_letters, params_text, parts_of_key, read_mcf, without_len}
 use Rattle.password_hash.specs.Parts.{dollar}
 use Rattle.password_hash.proofs.Crypt64Facts.{letter-ascii, letter_value-letter, IsPlain, crypt64_of-plain, length-letters_of, letters_of-plain}
 use Rattle.password_hash.proofs.GroupFacts.{length-crypt64_of}
@@ -134,16 +134,12 @@ made_mcf_len c password salt =
 
 -- a text that was written whole
 
--- the parts of a hash with this key
-abbrev with_key : Parameters → List ℕ → List ℕ → Stored
-with_key c salt key = record { params = without_len c; salt = crypt64_of salt; key = key }
-
-pub whole_is_made : (c : Parameters) (password salt key text : List ℕ) → text ≡ mcf_text (with_key c salt key) → key ≡ made_key c password salt
+pub whole_is_made : (c : Parameters) (password salt key text : List ℕ) → text ≡ mcf_text (parts_of_key c (crypt64_of salt) key) → key ≡ made_key c password salt
     → text ≡ made_mcf c password salt
 unfolding made_mcf
 whole_is_made c password salt key text is derived = rw (is, derived) refl
 
-pub whole_is_ascii : (c : Parameters) (salt key text : List ℕ) → text ≡ mcf_text (with_key c salt key) → IsTrue (are_accepted c.log_n c.r c.p) → IsAscii text
+pub whole_is_ascii : (c : Parameters) (salt key text : List ℕ) → text ≡ mcf_text (parts_of_key c (crypt64_of salt) key) → IsTrue (are_accepted c.log_n c.r c.p) → IsAscii text
 whole_is_ascii c salt key text is good =
     let ascii : ℕ → Type 0 = λ byte. byte < 128 in
     let plain = λ (letters : List ℕ) (each : All IsPlain letters). All-weaker IsPlain ascii (λ byte is. is.0) letters each in
@@ -157,7 +153,7 @@ whole_is_ascii c salt key text is good =
     (All-append ascii (crypt64_of salt) last (plain (crypt64_of salt) (crypt64_of-plain salt))
     (All-cons ascii dollar (crypt64_of key) (lit< tt) (plain (crypt64_of key) (crypt64_of-plain key)))))))
 
-pub whole_is_mcf : (c : Parameters) (salt key text : List ℕ) → text ≡ mcf_text (with_key c salt key) → IsTrue (are_accepted c.log_n c.r c.p) → IsMcf text
+pub whole_is_mcf : (c : Parameters) (salt key text : List ℕ) → text ≡ mcf_text (parts_of_key c (crypt64_of salt) key) → IsTrue (are_accepted c.log_n c.r c.p) → IsMcf text
 whole_is_mcf c salt key text is good = rw is (_, _, text_parts c (crypt64_of salt) key good (IsField-crypt64_of salt))
 
 pub ruleset whole_texts = (whole_is_ascii, whole_is_made)

@@ -1,7 +1,7 @@
 use Rattle.std.proofs.Common.{◌≡◌, ℕ, ◌*◌, List, [], ◌∷◌, length, map, refl, sym, ap, ap₂, ◌∙◌, Option, None, Some, Ok, Err, true, false, sum, sum_by, MatchBool, MatchOption, option_and_then}
 use Rattle.std.specs.Prelude.{Bool, option_map}
 use Rattle.std.proofs.lemmas.List.Sums.{sum-map}
-use Rattle.scrypt.specs.Terms.{AreLeft, AreSameAfter, Attempt, IsDone, IsLeft, Parameters, Stored, Workspace}
+use Rattle.scrypt.specs.Terms.{AreLeft, AreSameAfter, Attempt, IsDone, IsLeft, Parameters, Refusal, Stored, Workspace}
 use Rattle.scrypt.specs.Terms.{are_enough, cores_on, cost_by, count_of, hashed_on, params_of, public_hash, public_part}
 use Rattle.scrypt.specs.Terms.{shared, table_words, tables_used, verify_cost}
 
@@ -29,6 +29,16 @@ len_same same = ap (λ (x : Public). x.0) same
 hash_same : {m n : ℕ} {x y : Option (Parameters × ℕ × ℕ)} → ◌≡◌ {A = Public} (m, x) (n, y) → x ≡ y
 hash_same same = ap (λ (x : Public). x.1) same
 
+-- what holds of two attempts with the same public part: both hashes are errors, or they are alike
+both : (P : Attempt → Attempt → Type 0)
+    → ((password other : List ℕ) (s d : Stored) → length password ≡ length other → AreAlike s d → P (password, Ok s) (other, Ok d))
+    → ((password other : List ℕ) (why reason : Refusal) → P (password, Err why) (other, Err reason))
+    → (a b : Attempt) → public_part a ≡ public_part b → P a b
+both P read unread (password, Ok s) (other, Ok d) same = read password other s d (len_same same) (alike s d (hash_same same))
+both P read unread (password, Ok s) (other, Err why) same = let differ = hash_same same in absurd cc
+both P read unread (password, Err why) (other, Ok d) same = let differ = hash_same same in absurd cc
+both P read unread (password, Err why) (other, Err reason) same = unread password other why reason
+
 -- one verification
 
 pub same_cost : (password other : List ℕ) (s d : Stored) → public_part (password, Ok s) ≡ public_part (other, Ok d)
@@ -39,27 +49,15 @@ same_cost password other s d same =
     (rw are.params refl, rw (len, are.params, are.salt, are.key) refl)
 
 pub same_cores : (w : Workspace) (a b : Attempt) → public_part a ≡ public_part b → cores_on w a ≡ cores_on w b
-same_cores w (password, Ok s) (other, Ok d) same = let are = alike s d (hash_same same) in rw are.params refl
-same_cores w (password, Ok s) (other, Err why) same = let differ = hash_same same in absurd cc
-same_cores w (password, Err why) (other, Ok d) same = let differ = hash_same same in absurd cc
-same_cores w (password, Err why) (other, Err reason) same = refl
+same_cores w = both (λ a b. cores_on w a ≡ cores_on w b) (λ password other s d len are. rw are.params refl) (λ password other why reason. refl)
 
 pub same_hashed : (w : Workspace) (a b : Attempt) → public_part a ≡ public_part b → hashed_on w a ≡ hashed_on w b
-same_hashed w (password, Ok s) (other, Ok d) same =
-    let are = alike s d (hash_same same) in
-    let len : length password ≡ length other = len_same same in
-    rw (len, are.params, are.salt, are.key) refl
-same_hashed w (password, Ok s) (other, Err why) same = let differ = hash_same same in absurd cc
-same_hashed w (password, Err why) (other, Ok d) same = let differ = hash_same same in absurd cc
-same_hashed w (password, Err why) (other, Err reason) same = refl
+same_hashed w = both (λ a b. hashed_on w a ≡ hashed_on w b)
+    (λ password other s d len are. rw (len, are.params, are.salt, are.key) refl) (λ password other why reason. refl)
 
 pub same_left : (a b : Attempt) (before after : Workspace) → public_part a ≡ public_part b → IsLeft a.1 before after → IsLeft b.1 before after
-same_left (password, Ok s) (other, Ok d) before after same left =
-    let are = alike s d (hash_same same) in
-    rw (← are.params) left
-same_left (password, Ok s) (other, Err why) before after same left = let differ = hash_same same in absurd cc
-same_left (password, Err why) (other, Ok d) before after same left = let differ = hash_same same in absurd cc
-same_left (password, Err why) (other, Err reason) before after same left = left
+same_left a b before after = both (λ a b. IsLeft a.1 before after → IsLeft b.1 before after)
+    (λ password other s d len are left. rw (← are.params) left) (λ password other why reason left. left) a b
 
 -- the same buffers, verified in twice, are left the same, but for the part of the table that is used
 pub left_once : (s : Stored) (before one other : Workspace) → IsLeft (Ok s) before one → IsLeft (Ok s) before other
@@ -99,25 +97,15 @@ count_same : (c : Parameters) (some others : List Attempt) → map public_part s
 count_same c [] [] same = refl
 count_same c [] (b ∷ others) same = absurd cc
 count_same c (a ∷ some) [] same = absurd cc
-count_same c (a ∷ some) (b ∷ others) same = at a b first (count_same c some others rest)
-  where
-    first : public_part a ≡ public_part b
-    first = cc
-
-    rest : map public_part some ≡ map public_part others
-    rest = cc
-
-    at : (a b : Attempt) → public_part a ≡ public_part b → count_of c some ≡ count_of c others → count_of c (a ∷ some) ≡ count_of c (b ∷ others)
-    at (password, Ok s) (other, Ok d) one more = let are = alike s d (hash_same one) in rw (are.params, more) refl
-    at (password, Ok s) (other, Err why) one more = let differ = hash_same one in absurd cc
-    at (password, Err why) (other, Ok d) one more = let differ = hash_same one in absurd cc
-    at (password, Err why) (other, Err reason) one more = more
+count_same c (a ∷ some) (b ∷ others) same =
+    let first : public_part a ≡ public_part b = cc in
+    let rest : map public_part some ≡ map public_part others = cc in
+    both (λ a b. count_of c some ≡ count_of c others → count_of c (a ∷ some) ≡ count_of c (b ∷ others))
+    (λ password other s d len are more. rw (are.params, more) refl) (λ password other why reason more. more) a b first (count_same c some others rest)
 
 params_same : (a b : Attempt) → public_part a ≡ public_part b → params_of a.1 ≡ params_of b.1
-params_same (password, Ok s) (other, Ok d) same = let are = alike s d (hash_same same) in ap Some are.params
-params_same (password, Ok s) (other, Err why) same = let differ = hash_same same in absurd cc
-params_same (password, Err why) (other, Ok d) same = let differ = hash_same same in absurd cc
-params_same (password, Err why) (other, Err reason) same = refl
+params_same =
+    both (λ a b. params_of a.1 ≡ params_of b.1) (λ password other s d len are. ap Some are.params) (λ password other why reason. refl)
 
 shared_same : (some others : List Attempt) → map public_part some ≡ map public_part others → shared some ≡ shared others
 shared_same [] [] same = refl

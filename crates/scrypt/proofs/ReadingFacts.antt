@@ -2,7 +2,7 @@ use Rattle.std.proofs.Common.{◌≡◌, ◌↔◌, ◌≢◌, ◌⊎◌, ◌∙
 use Rattle.std.specs.Prelude.{Bool, IfErr, IfOk, IsOk, None, Option, Result, Some, if◌then◌else◌, max, min, ok_or, ⊤, IsTrue}
 use Rattle.std.proofs.lemmas.Bool.Decides.{Decides-and, same_from_decides}
 use Rattle.std.proofs.lemmas.Slice.Eq.{bytes_eq-Decides}
-use Rattle.scrypt.specs.Terms.{◌and_then◌, IsReadAsMade, KeyTooShort, NamesNoPassword, OutOfMemory, Parameters}
+use Rattle.scrypt.specs.Terms.{◌and_then◌, BufferTooShort, IsReadAsMade, KeyTooShort, NamesNoPassword, OutOfMemory, Parameters}
 use Rattle.scrypt.specs.Terms.{ParamsInvalid, PasswordInvalid, Refusal, Stored, SufficeFor, TooCostly, are_accepted}
 use Rattle.scrypt.specs.Terms.{are_enough, are_within, buffers_bytes, checked, chunks_bytes, is_below, is_right, key_by}
 use Rattle.scrypt.specs.Terms.{key_len_or_default, limits_for_new, made_stored, mapped, scratch_words, table_words}
@@ -32,6 +32,7 @@ IsFault PasswordInvalid = ⊥
 IsFault OutOfMemory = ⊥
 IsFault (TooCostly bytes work) = ⊥
 IsFault (KeyTooShort key_len) = ⊥
+IsFault BufferTooShort = ⊥
 IsFault why = ⊤
 
 pub part_fault : {A B : Type 0} (f : A → B) (reading : Result A Refusal) → IfErr reading IsFault → IfErr (mapped f reading) IsFault
@@ -82,7 +83,7 @@ checked_good log_n r p = at (are_accepted log_n r p) refl
 pub ruleset faults = (checked_fault, if_fault, part_fault, some_fault, then_fault)
 
 pub no_password : {A : Type 0} (reading : Result A Refusal) → IfErr reading IsFault → NamesNoPassword reading
-no_password reading fault = (λ is. rw is at fault, (λ is. rw is at fault, λ bytes work is. rw is at fault, λ key_len is. rw is at fault))
+no_password reading fault = (λ is. rw is at fault, (λ is. rw is at fault, λ bytes work is. rw is at fault, λ key_len is. rw is at fault, λ is. rw is at fault))
 
 -- the password is right exactly if the stored key is its key
 pub right_decided : (password : List ℕ) (s : Stored) → Decides (is_right password s) (s.key ≡ key_by s.params password s.salt (length s.key))

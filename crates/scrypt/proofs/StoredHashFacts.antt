@@ -1,4 +1,4 @@
-use Rattle.std.proofs.Common.{◌≡◌, List, ℕ, [], ◌∷◌, Bool, true, false, Ok, Err, refl, sym, ap, arith, inl, inr, lit<, nat_eq, ◌⊎◌, IfErr, Option, Some, None, Result, codes, is_some, length, ok_or, IsTrue, ◌<◌}
+use Rattle.std.proofs.Common.{◌≡◌, List, ℕ, [], ◌∷◌, true, false, Ok, Err, refl, sym, ap, inl, inr, lit<, nat_eq, ◌⊎◌, IfErr, Option, Some, None, Result, codes, is_some, length, ok_or, IsTrue, ◌<◌}
 use Rattle.std.specs.Prelude.{IsOk}
 use Rattle.std.proofs.lemmas.Bool.{false≢true, or_cases}
 use Rattle.std.proofs.lemmas.Slice.Eq.{bytes_eq-Decides, starts_is}
@@ -114,9 +114,9 @@ stored_none text = no_password _ (then_fault _ params_and_len (some_fault (forma
 
 phc_of_text : (params : Result Parameters Refusal) (salt key : Option (List ℕ)) → IfErr params IsFault
     → IsOfText (phc_parts params salt key)
-phc_of_text (Ok c) (Some salt) (Some key) fault = (λ is. absurd cc, λ bytes work is. absurd cc, λ key_len is. absurd cc)
-phc_of_text (Ok c) (Some salt) None fault = (λ is. absurd cc, λ bytes work is. absurd cc, λ key_len is. absurd cc)
-phc_of_text (Ok c) None key fault = (λ is. absurd cc, λ bytes work is. absurd cc, λ key_len is. absurd cc)
+phc_of_text (Ok c) (Some salt) (Some key) fault = (λ is. absurd cc, λ bytes work is. absurd cc, λ key_len is. absurd cc, λ is. absurd cc)
+phc_of_text (Ok c) (Some salt) None fault = (λ is. absurd cc, λ bytes work is. absurd cc, λ key_len is. absurd cc, λ is. absurd cc)
+phc_of_text (Ok c) None key fault = (λ is. absurd cc, λ bytes work is. absurd cc, λ key_len is. absurd cc, λ is. absurd cc)
 phc_of_text (Err why) salt key fault = (no_password (Err why) fault).1
 
 pub whole_of_text : (text : List ℕ) → IsOfText (reading text)

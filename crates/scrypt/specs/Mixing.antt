@@ -1,8 +1,7 @@
 -- Private: the groups of chunks of B that are interleaved, and the memory for them.
-use Rattle.std.specs.Prelude.{◌≡◌, Bool, ℕ, ◌+◌, ◌-◌, ◌*◌, ◌<◌, ◌≤◌, ◌&&◌, nat_eq, nat_lt, min, if◌then◌else◌, List, length, replicate, take}
-use Rattle.scrypt.specs.Accepted.{Parameters}
+use Rattle.std.specs.Prelude.{◌≡◌, Bool, ℕ, ◌+◌, ◌-◌, ◌*◌, ◌<◌, ◌≤◌, ◌&&◌, nat_eq, nat_lt, min, if◌then◌else◌, List, length, replicate}
 use Rattle.scrypt.specs.Cost.{chunks_bytes, scratch_words, table_words, thin_scratch_words}
-use Rattle.scrypt.specs.Workspace.{IsRestKept, Workspace, interleaved_chunks}
+use Rattle.scrypt.specs.Workspace.{interleaved_chunks}
 use Rattle.scrypt.specs.declared.buffers.memory.ActiveBuffers.{ActiveBuffers}
 
 -- Memory, in words, for w tables and w scratches, so that w chunks can be interleaved. A table
@@ -59,9 +58,3 @@ pub record IsSpent {M : Type 0} (room_of : M → ℕ) (before after : ActiveBuff
   pub kept : IsKept room_of before after
   pub chunks : after.chunks.now ≡ replicate (length before.chunks.now) 0
   pub scratch : after.scratch.now ≡ replicate (length before.scratch.now) 0
-
--- A derivation with these parameters turned `used`, the front of the buffers, into `left`. The
--- front of the chunks now holds the chunks of `left`, and each buffer is unchanged after its front.
-pub record IsAtFront {M : Type 0} (c : Parameters) (used left : ActiveBuffers M) (before after : Workspace) : Type 0 where
-  pub chunks : take (chunks_bytes c.r c.p) after.chunks ≡ left.chunks.now
-  pub rest : IsRestKept c before after

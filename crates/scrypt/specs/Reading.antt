@@ -1,7 +1,7 @@
 -- The result of reading a stored hash, in either format, and what is computed from it.
 use Rattle.std.specs.Prelude.{◌≡◌, ◌≢◌, ◌⊎◌, ℕ, Bool, true, false, nat_lt, ◌||◌, if◌then◌else◌, List, length, None, Result, Ok, Err, IsOk, ⊤, bytes_eq}
 use Rattle.std.specs.Result.{result_map_both}
-use Rattle.password_hash.specs.Refusal.{Refusal, KeyTooShort, OutOfMemory, ParamsInvalid, PasswordInvalid, TooCostly}
+use Rattle.password_hash.specs.Refusal.{Refusal, BufferTooShort, KeyTooShort, OutOfMemory, ParamsInvalid, PasswordInvalid, TooCostly}
 pub use Rattle.password_hash.specs.Refusal.{with_refusal}
 use Rattle.scrypt.specs.Accepted.{Parameters, are_accepted, without_len}
 use Rattle.scrypt.specs.Cost.{chunks_bytes, hash_cost}
@@ -87,7 +87,7 @@ pub record IsReadAsMade (c : Parameters) (password salt : List ℕ) (reading : R
 -- reading never gives an error that comes after it
 abbrev pub IsOfText : {A : Type 0} → Result A Refusal → Type 0
 IsOfText reading = (reading ≢ Err OutOfMemory) × ((bytes work : ℕ) → reading ≢ Err (TooCostly bytes work))
-    × ((key_len : ℕ) → reading ≢ Err (KeyTooShort key_len))
+    × ((key_len : ℕ) → reading ≢ Err (KeyTooShort key_len)) × (reading ≢ Err BufferTooShort)
 
 -- reading gives neither an error that comes after it nor `PasswordInvalid`
 abbrev pub NamesNoPassword : {A : Type 0} → Result A Refusal → Type 0

@@ -1,7 +1,7 @@
 -- Definitions for clauses and proofs, from one place: each line names the file that has them.
 -- `stored_parts.rt` names these files itself: its struct has ghost fields, so the struct would import this file, which
 -- imports the struct.
-pub use Rattle.password_hash.specs.Refusal.{Algorithm, EncodingInvalid, KeyTooShort, OutOfMemory, OutputSize}
+pub use Rattle.password_hash.specs.Refusal.{Algorithm, BufferTooShort, EncodingInvalid, KeyTooShort, OutOfMemory, OutputSize}
 pub use Rattle.password_hash.specs.Refusal.{ParamInvalid, ParamsInvalid, PasswordInvalid, Refusal, TooCostly, Version}
 pub use Rattle.password_hash.specs.Refusal.{refusal, with_refusal}
 pub use Rattle.password_hash.specs.Crypt64.{Crypt64, IsBytes, IsCrypt64, encoded_len, with_digit}
@@ -56,7 +56,7 @@ pub use Rattle.scrypt.specs.PublicPart.{AreSameAfter, public_hash, public_part}
 pub use Rattle.scrypt.specs.Stepping.{AreMixable, AreMixed, CanGoOn, IsNext, IsStopped, IsUnderWay, IsWithin, WentOn}
 pub use Rattle.scrypt.specs.Stepping.{first_b, lacking, max_step, mixes_done, words_from}
 pub use Rattle.scrypt.specs.Buffers.{AreFor, KeepLens, workspace_in}
-pub use Rattle.scrypt.specs.Mixing.{HasTables, IsAtFront, IsKept, IsReady, IsSpent, IsWidth}
+pub use Rattle.scrypt.specs.Mixing.{HasTables, IsKept, IsReady, IsSpent, IsWidth}
 unfoldable pub use Rattle.scrypt.specs.Mixing.{group_by, next_group}
 pub use Rattle.scrypt.specs.StoredKey.{key_bytes}
 pub use Rattle.scrypt.specs.StoredParts.{IsReadAs, stored}

@@ -1,6 +1,6 @@
 -- Verifying within limits.
 use Rattle.std.specs.Prelude.{nat_le, if◌then◌else◌, length, Result, Ok, Err}
-use Rattle.password_hash.specs.Refusal.{Refusal, KeyTooShort, TooCostly, refusal}
+use Rattle.password_hash.specs.Refusal.{Refusal, BufferTooShort, KeyTooShort, TooCostly, refusal}
 use Rattle.scrypt.specs.Limits.{are_within, buffers_bytes, work}
 use Rattle.scrypt.specs.Reading.{◌and_then◌, Stored}
 use Rattle.scrypt.specs.declared.errors.LimitedError.{LimitedError}
@@ -16,13 +16,14 @@ within limits reading = reading and_then λ s.
     then (if nat_le limits.min_key_len (length s.key) then Ok s else Err (KeyTooShort (length s.key)))
     else Err (TooCostly (buffers_bytes s.params.log_n s.params.r s.params.p) (work s.params.log_n s.params.r s.params.p))
 
--- the value of an error of a call with limits
+-- the value of an error of a call with limits or in the caller's buffers
 abbrev pub limited_refusal : LimitedError → Refusal
 limited_refusal (error.Hash e) = refusal e
 limited_refusal (error.TooCostly bytes work) = TooCostly bytes work
 limited_refusal (error.KeyTooShort key_len) = KeyTooShort key_len
+limited_refusal error.BufferTooShort = BufferTooShort
 
--- a result of a call with limits, with the value of its error
+-- a result of such a call, with the value of its error
 abbrev pub with_limited_refusal : {T : Type 0} → Result T LimitedError → Result T Refusal
 with_limited_refusal (Ok x) = Ok x
 with_limited_refusal (Err e) = Err (limited_refusal e)

@@ -1,7 +1,7 @@
 -- The workspace of one derivation, supplied by the caller: the verdict in it, its contents
 -- afterwards, and the work.
 use Rattle.std.specs.Prelude.{◌≡◌, ℕ, ◌*◌, ◌/◌, min, if◌then◌else◌, List, length, drop, MatchBool, Result, Ok, Err, ⊤}
-use Rattle.password_hash.specs.Refusal.{Refusal, OutOfMemory}
+use Rattle.password_hash.specs.Refusal.{Refusal, BufferTooShort}
 use Rattle.scrypt.specs.Accepted.{Parameters}
 use Rattle.scrypt.specs.Cost.{chunks_bytes, scratch_words, table_words}
 use Rattle.scrypt.specs.KeyOfParams.{cost_by}
@@ -43,10 +43,10 @@ pub record IsDone (c : Parameters) (before after : Workspace) : Type 0 where
   pub rest : let used = tables_used c before.table before.scratch * table_words c.log_n c.r in
       drop used after.table ≡ drop used before.table
 
--- the verdict of verifying in this workspace: `OutOfMemory` if keys would be compared but a buffer
+-- the verdict of verifying in this workspace: `BufferTooShort` if keys would be compared but a buffer
 -- is too short
 abbrev pub verdict_in : Workspace → List ℕ → Result Stored Refusal → Result ⊤ Refusal
-verdict_in w password reading = reading and_then λ s. if are_enough s.params w.chunks w.table w.scratch then verdict password reading else Err OutOfMemory
+verdict_in w password reading = reading and_then λ s. if are_enough s.params w.chunks w.table w.scratch then verdict password reading else Err BufferTooShort
 
 -- the cores of verifying in this workspace: 0 unless keys are compared
 abbrev pub cores_in : Workspace → Result Stored Refusal → ℕ

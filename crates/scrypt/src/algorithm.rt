@@ -12,7 +12,7 @@ ghost use Rattle.scrypt.specs.Reading.{verdict as verdict_of, weaker as weaker_t
 use crate::mcf::reading::parts_of_mcf;
 use crate::phc::reading::{parts_of_phc, read_params};
 use crate::verifying::verify_allocating;
-use crate::{CoreCount, DeriveError, Params, Simd, mcf, phc, scrypt};
+use crate::{CoreCount, DeriveError, Params, Target, mcf, phc, scrypt};
 use password_hash::kdf::{self, Kdf, Pbkdf};
 use password_hash::phc::PasswordHash;
 use password_hash::{
@@ -140,7 +140,7 @@ impl CustomizedPasswordHasher<PasswordHash> for Scrypt {
         params: Params,
     ) -> Result<PasswordHash> {
         check_call(phc::ALG_ID.as_str(), alg_id, version)?;
-        phc::hash::<Simd>(alloc, password, salt, &params, &mut CoreCount::new())
+        phc::hash::<Target>(alloc, password, salt, &params, &mut CoreCount::new())
     }
 }
 
@@ -187,7 +187,7 @@ impl CustomizedPasswordHasher<mcf::PasswordHash> for Scrypt {
         params: Params,
     ) -> Result<mcf::PasswordHash> {
         check_call("7", alg_id, version)?;
-        mcf::hash::<Simd>(alloc, password, salt, &params, &mut CoreCount::new())
+        mcf::hash::<Target>(alloc, password, salt, &params, &mut CoreCount::new())
     }
 }
 
@@ -205,8 +205,9 @@ impl PasswordVerifier<PasswordHash> for Scrypt {
     /// or the key is missing, `OutOfMemory` if an allocation fails, and `PasswordInvalid` if the
     /// keys differ.
     fn verify_password(&self, alloc: Global, password: &[u8], hash: &PasswordHash) -> Result<()> {
+        let cores = &mut CoreCount::new();
         match parts_of_phc(hash, &read_params(hash)) {
-            Ok(parts) => verify_allocating::<Simd>(alloc, password, &parts, &mut CoreCount::new()),
+            Ok(parts) => verify_allocating::<Target>(alloc, password, &parts, cores),
             Err(unread) => Err(unread),
         }
     }
@@ -232,8 +233,9 @@ impl<'a> PasswordVerifier<mcf::PasswordHashRef<'a>> for Scrypt {
         password: &[u8],
         hash: &mcf::PasswordHashRef<'a>,
     ) -> Result<()> {
+        let cores = &mut CoreCount::new();
         match parts_of_mcf(hash) {
-            Ok(found) => verify_allocating::<Simd>(alloc, password, &found, &mut CoreCount::new()),
+            Ok(found) => verify_allocating::<Target>(alloc, password, &found, cores),
             Err(refused) => Err(refused),
         }
     }

@@ -7,7 +7,7 @@ ghost use Rattle.std.specs.Prelude.{◌≡◌, Bool, ℕ, ◌<◌, ◌≤◌, fa
 ///
 /// Keys and counts of cores are the same with every backend, so no clause of a call depends on it,
 /// except for the size of a group in a derivation in steps. The calls without a backend use
-/// [`Simd`]. On another processor name the backend that is fast there:
+/// [`Target`](crate::Target). On another processor name the backend that is fast there:
 /// `scrypt_with_max_mem::<Scalar>` in place of `scrypt_counted`.
 pub trait Backend {
     // the maximum number of interleaved chunks

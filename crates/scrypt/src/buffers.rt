@@ -6,7 +6,7 @@ ghost use Rattle.scrypt.specs.Terms.{AreCompressed, AreCounted, AreFor, AreLeft,
 ghost use Rattle.scrypt.specs.Terms.{KeepLens, SufficeFor, WentOn, attempts, chunks_bytes, cores_in, cores_on, cost_by};
 ghost use Rattle.scrypt.specs.Terms.{hashed_in, hashed_on, is_output_len, key_by, max_step, reading, reading_of};
 ghost use Rattle.scrypt.specs.Terms.{scratch_words, table_words, tables_bytes, tables_within, verdict, verdict_in};
-ghost use Rattle.scrypt.specs.Terms.{verdict_on, with_limited_refusal, with_refusal, within, workspace_in};
+ghost use Rattle.scrypt.specs.Terms.{verdict_on, with_limited_refusal, within, workspace_in};
 ghost use Rattle.scrypt.specs.declared.limits.Limits.{Limits};
 ghost use Rattle.scrypt.specs.declared.errors.StepsError.TheVariants.{Cancelled, InvalidOutputLen as BadLength};
 
@@ -16,7 +16,7 @@ pub(crate) mod memory;
 use crate::size::{Size, room};
 use crate::verifying::verify_in_buffers;
 use crate::{
-    BufferLens, CoreCount, LimitedError, Limits, Login, Params, Simd, StepsError, StoredHash,
+    BufferLens, CoreCount, LimitedError, Limits, Login, Params, StepsError, StoredHash, Target,
     scrypt_in_steps, verify_logins,
 };
 use std::alloc::{AllocError, Global};
@@ -125,27 +125,27 @@ impl Buffers {
     {
         let (chunks, table, scratch) = (&mut self.chunks, &mut self.table, &mut self.scratch);
         let cores = &mut CoreCount::new();
-        scrypt_in_steps::<Simd, F>(
+        scrypt_in_steps::<Target, F>(
             password, salt, params, count, go_on, chunks, table, scratch, output, cores,
         )
     }
 
     /// Verifies `password`, and counts the work, as [`StoredHash::verify_with_buffers`] does.
     ///
-    /// Returns the errors of [`StoredHash::verify`] in the same order, and `OutOfMemory` exactly if
-    /// the hash can be read and a buffer is too short for it. So it never returns `OutOfMemory` for
-    /// a hash within limits, in the buffers of [`Buffers::for_limits`].
+    /// Returns the errors of [`StoredHash::verify`] in the same order, but `BufferTooShort` instead
+    /// of `OutOfMemory`: exactly if the hash can be read and a buffer is too short for it. So it
+    /// never returns it for a hash within limits, in the buffers of [`Buffers::for_limits`].
     pub fn verify(
         &mut self,
         hash: &StoredHash<'_>,
         password: &[u8],
         cores: &mut CoreCount,
-    ) -> password_hash::Result<()>
-        ensures verdict { with_refusal result ≡ verdict_in (workspace_in self.old) password.now (reading hash.now) }
+    ) -> Result<(), LimitedError>
+        ensures verdict { with_limited_refusal result ≡ verdict_in (workspace_in self.old) password.now (reading hash.now) }
         ensures within { (limits : Limits)
             → SufficeFor limits self.old.chunks.items self.old.table.items self.old.scratch.items
             → IsOk (within limits (reading hash.now))
-            → with_refusal result ≡ verdict password.now (reading hash.now) }
+            → with_limited_refusal result ≡ verdict password.now (reading hash.now) }
         ensures left { IsLeft (reading hash.now) (workspace_in self.old) (workspace_in self.new) }
         ensures counted { AreCounted (cores_in (workspace_in self.old) (reading hash.now)) cores.old cores.new }
         ensures hashed { AreCompressed (hashed_in (workspace_in self.old) password.now (reading hash.now))
@@ -157,16 +157,16 @@ impl Buffers {
                 parts.params.expose_invariant();
                 let chunks = &mut self.chunks;
                 let (table, scratch) = (&mut self.table, &mut self.scratch);
-                verify_in_buffers::<Simd>(password, parts, chunks, table, scratch, cores)
+                verify_in_buffers::<Target>(password, parts, chunks, table, scratch, cores)
             }
-            Err(unread) => Err(unread),
+            Err(unread) => Err(LimitedError::Hash(unread)),
         }
     }
 
     /// Verifies each password, in one batch if possible, and counts the work, as
     /// [`verify_logins`](crate::verify_logins) does: `verdicts` has the length of `logins`, and gets
-    /// the verdict of each login at the same index. No verdict is `OutOfMemory` if each hash is
-    /// within limits, in the buffers of [`Buffers::for_limits`].
+    /// the verdict of each login at the same index. No verdict is `BufferTooShort` if each hash
+    /// is within limits, in the buffers of [`Buffers::for_limits`].
     pub fn verify_logins(
         &mut self,
         logins: &[Login<'_, '_>],
@@ -186,7 +186,7 @@ impl Buffers {
         ensures lens { KeepLens self.old self.new }
     {
         let (chunks, table, scratch) = (&mut self.chunks, &mut self.table, &mut self.scratch);
-        verify_logins::<Simd>(logins, verdicts, chunks, table, scratch, cores);
+        verify_logins::<Target>(logins, verdicts, chunks, table, scratch, cores);
     }
 }
 

@@ -2,17 +2,17 @@
 
 ghost use Rattle.std.specs.Prelude.{◌≡◌, ◌↔◌, ◌-◌, ◌*◌, ◌<◌, ◌≤◌, length, replicate, IsOk, IsTrue, IsErrOf, OnOk, OnErr};
 ghost use Rattle.scrypt.specs.Terms.{AreCompressed, AreCounted, AreHashed, IsDerived, IsDone, IsReady, IsSpent};
-ghost use Rattle.scrypt.specs.Terms.{are_enough, chunks_bytes, cost, cost_by, derived_key, hash_cost, is_output_len};
+ghost use Rattle.scrypt.specs.Terms.{chunks_bytes, cost, cost_by, derived_key, hash_cost, is_output_len};
 ghost use Rattle.scrypt.specs.Terms.{max_output_len, pbkdf2, pbkdf2_cost, scratch_words, table_words, thin_cost};
 ghost use Rattle.scrypt.specs.Terms.{thin_scratch_words, workspace_of};
-ghost use Rattle.scrypt.specs.declared.errors.DeriveError.TheVariants.{InvalidOutputLen as BadLength, OutOfMemory};
+ghost use Rattle.scrypt.specs.declared.errors.DeriveError.TheVariants.{InvalidOutputLen as BadLength};
 
 pub(crate) mod mixing;
 
 use crate::buffers::memory::{ActiveBuffers, Allocation, with_prefix};
 use crate::derivation::mixing::mix_all;
 use crate::size::Size;
-use crate::{Backend, CoreCount, DeriveError, InvalidOutputLen, Params, Simd};
+use crate::{Backend, CoreCount, DeriveError, InvalidOutputLen, Params, Target};
 use scrypt_kernel::memory::{Allocated, Buffer, TableMemory};
 use scrypt_kernel::pbkdf2::pbkdf2_counted;
 use std::alloc::Global;
@@ -77,7 +77,7 @@ pub fn scrypt_counted(
     ensures uncounted { OnErr result (cores.new ≡ cores.old) }
 {
     // A limit of 0 bytes selects one table.
-    scrypt_with_max_mem::<Simd>(alloc, password, salt, params, 0, output, cores)
+    scrypt_with_max_mem::<Target>(alloc, password, salt, params, 0, output, cores)
 }
 
 /// Derives the key as [`scrypt_counted`] does, by the backend `W`, in buffers that may have
@@ -114,13 +114,13 @@ pub fn scrypt_with_max_mem<W: Backend>(
 /// Writes the scrypt key of `password` and `salt` to `output`, in the caller's buffers
 /// (RFC 7914, section 6).
 ///
-/// `chunks` has exactly the length of [`BufferLens::of`](crate::BufferLens::of) in bytes, and
-/// `table` and `scratch` have at least its lengths in words. Up to four chunks are interleaved,
-/// each with its own part of the table and of the scratch, if these are long enough
-/// ([`BufferLens::for_tables`](crate::BufferLens::for_tables)). The contents of the buffers before
-/// the call do not matter. After it `chunks` and the used part of `scratch` are zeros, the used part
-/// of `table` is unspecified, and the rest is unchanged. `cores` counts the `4 * N * r * p` cores,
-/// and the blocks that SHA-256 compresses. Does not allocate.
+/// Each buffer has at least its length of [`BufferLens::of`](crate::BufferLens::of), and only its
+/// front is used: up to four chunks are interleaved, each with its own part of the table and of the
+/// scratch, if these are long enough ([`BufferLens::for_tables`](crate::BufferLens::for_tables)).
+/// The contents of the buffers before the call do not matter. After it the used parts of `chunks`
+/// and `scratch` are zeros, the used part of `table` is unspecified, and the rest is unchanged.
+/// `cores` counts the `4 * N * r * p` cores, and the blocks that SHA-256 compresses. Does not
+/// allocate.
 ///
 /// Returns `InvalidOutputLen`, and changes nothing, exactly if the length of `output` is
 /// not allowed ([`output_len_ok`](crate::output_len_ok)).
@@ -135,7 +135,7 @@ pub fn scrypt_with_buffers(
     output: &mut [u8],
     cores: &mut CoreCount,
 ) -> Result<(), InvalidOutputLen>
-    requires chunks { length chunks.old ≡ chunks_bytes params.now.r params.now.p }
+    requires chunks { chunks_bytes params.now.r params.now.p ≤ length chunks.old }
     requires table { table_words params.now.log_n params.now.r ≤ length table.old }
     requires scratch { scratch_words params.now.r ≤ length scratch.old }
     ensures allowed { IsOk result ↔ IsTrue (is_output_len (length output.old)) }
@@ -148,58 +148,17 @@ pub fn scrypt_with_buffers(
         ≡ workspace_of chunks.old table.old scratch.old) }
     ensures uncounted { OnErr result (cores.new ≡ cores.old) }
 {
-    params.expose_invariant();
-    match scrypt_in_prefix::<Simd>(
-        password, salt, params, chunks, table, scratch, output, cores,
-    ) {
-        Ok(()) => Ok(()),
-        Err(DeriveError::InvalidOutputLen) => Err(InvalidOutputLen),
-        Err(DeriveError::OutOfMemory) => unreachable!(),
-    }
-}
-
-/// Derives the key as [`scrypt_with_buffers`] does, by the backend `W`, in buffers of any length.
-/// It uses only the front of each buffer, with the lengths of
-/// [`BufferLens::for_tables`](crate::BufferLens::for_tables) for the tables that fit, at most four
-/// and at most `p`. The rest of each buffer is unchanged. Afterwards the used parts of `chunks` and
-/// `scratch` are zeros, and the used part of `table` is unspecified.
-///
-/// Returns `InvalidOutputLen` exactly if the length of `output` is not allowed, and otherwise
-/// `OutOfMemory` exactly if a buffer is too short. On an error nothing has changed.
-#[tactic(auto, using(crate::proofs::AcceptedFacts::output_len_bound))]
-pub fn scrypt_in_prefix<W: Backend>(
-    password: &[u8],
-    salt: &[u8],
-    params: &Params,
-    chunks: &mut [u8],
-    table: &mut [u32],
-    scratch: &mut [u32],
-    output: &mut [u8],
-    cores: &mut CoreCount,
-) -> Result<(), DeriveError>
-    ensures length { IsErrOf result BadLength ↔ ¬ IsTrue (is_output_len (length output.old)) }
-    ensures short { IsErrOf result OutOfMemory
-        ↔ (IsTrue (is_output_len (length output.old))
-        × ¬ IsTrue (are_enough params.now chunks.old table.old scratch.old)) }
-    ensures derived { OnOk result (IsDerived params.now password.now salt.now
-        (cost_by params.now) output.old output.new cores.old cores.new) }
-    ensures done { OnOk result (IsDone params.now (workspace_of chunks.old table.old scratch.old)
-        (workspace_of chunks.new table.new scratch.new)) }
-    ensures refused { OnErr result (output.new ≡ output.old) }
-    ensures unchanged { OnErr result (workspace_of chunks.new table.new scratch.new
-        ≡ workspace_of chunks.old table.old scratch.old) }
-    ensures uncounted { OnErr result (cores.new ≡ cores.old) }
-{
     if !output_len_ok(output.len()) {
-        return Err(DeriveError::InvalidOutputLen);
+        return Err(InvalidOutputLen);
     }
     params.expose_invariant();
     let derive = |used: &mut ActiveBuffers<'_, Buffer<'_>>, output: &mut [u8]| {
-        derive_in::<Buffer<'_>, W>(password, salt, params, 0, used, output)
+        derive_in::<Buffer<'_>, Target>(password, salt, params, 0, used, output)
     };
     let p = params.p();
-    let derived = with_prefix(params, p, chunks, table, scratch, cores, output, derive);
-    derived.ok_or(DeriveError::OutOfMemory)
+    // The buffers are long enough.
+    with_prefix(params, p, chunks, table, scratch, cores, output, derive).unwrap();
+    Ok(())
 }
 
 /// Writes the scrypt key of `password` and `salt` to `output`, with a smaller table
@@ -218,40 +177,8 @@ pub fn scrypt_in_prefix<W: Backend>(
 ///
 /// Returns `InvalidOutputLen`, and changes nothing, exactly if the length of `output` is
 /// not allowed ([`output_len_ok`](crate::output_len_ok)).
-pub fn scrypt_thin(
-    password: &[u8],
-    salt: &[u8],
-    params: &Params,
-    s: u8,
-    chunks: &mut [u8],
-    table: &mut [u32],
-    scratch: &mut [u32],
-    output: &mut [u8],
-    cores: &mut CoreCount,
-) -> Result<(), InvalidOutputLen>
-    requires spacing { s ≤ params.now.log_n }
-    requires chunks { length chunks.old ≡ chunks_bytes params.now.r params.now.p }
-    requires table { length table.old ≡ table_words (params.now.log_n - s) params.now.r }
-    requires scratch { length scratch.old ≡ thin_scratch_words params.now.r }
-    ensures allowed { IsOk result ↔ IsTrue (is_output_len (length output.old)) }
-    ensures derived { OnOk result (IsDerived params.now password.now salt.now
-        (thin_cost password.now salt.now params.now.log_n params.now.r params.now.p s)
-        output.old output.new cores.old cores.new) }
-    ensures wiped { OnOk result ((chunks.new ≡ replicate (length chunks.old) 0)
-        × (scratch.new ≡ replicate (length scratch.old) 0)) }
-    ensures refused { OnErr result (output.new ≡ output.old) }
-    ensures unchanged { OnErr result (workspace_of chunks.new table.new scratch.new
-        ≡ workspace_of chunks.old table.old scratch.old) }
-    ensures uncounted { OnErr result (cores.new ≡ cores.old) }
-{
-    scrypt_thin_with_backend::<Simd>(
-        password, salt, params, s, chunks, table, scratch, output, cores,
-    )
-}
-
-/// Derives the key as [`scrypt_thin`] does, by the backend `W`.
 #[tactic(auto, using(crate::proofs::AcceptedFacts::output_len_bound))]
-pub fn scrypt_thin_with_backend<W: Backend>(
+pub fn scrypt_thin(
     password: &[u8],
     salt: &[u8],
     params: &Params,
@@ -283,7 +210,7 @@ pub fn scrypt_thin_with_backend<W: Backend>(
     params.expose_invariant();
     let mut rows = Buffer::new(table);
     let mut used = ActiveBuffers::new(1, chunks, &mut rows, scratch, cores);
-    derive_in::<Buffer<'_>, W>(password, salt, params, s, &mut used, output);
+    derive_in::<Buffer<'_>, Target>(password, salt, params, s, &mut used, output);
     Ok(())
 }
 

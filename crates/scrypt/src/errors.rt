@@ -45,7 +45,7 @@ impl Error for InvalidParams {}
 pub enum DeriveError {
     /// The output is empty, or has more than 137438953440 bytes.
     InvalidOutputLen,
-    /// An allocation failed, or a buffer of the caller is too short.
+    /// An allocation failed.
     OutOfMemory,
 }
 
@@ -116,10 +116,11 @@ impl From<InvalidOutputLen> for StepsError {
     }
 }
 
-/// An error from a call with [`Limits`](crate::Limits), with the cost of the hash.
+/// An error from a call with [`Limits`](crate::Limits), with the cost of the hash, or from a call in
+/// the caller's buffers.
 #[derive(Clone, Copy, Debug, PartialEq, Eq)]
 pub enum LimitedError {
-    /// An error from reading or verifying the hash.
+    /// An error from reading, verifying or making the hash.
     Hash(password_hash::Error),
     /// The hash can be read, and its parameters exceed the limit on memory or the limit on work.
     TooCostly {
@@ -134,6 +135,8 @@ pub enum LimitedError {
         /// The length of the key in bytes.
         key_len: usize,
     },
+    /// A buffer of the caller is too short.
+    BufferTooShort,
 }
 
 impl fmt::Display for LimitedError {
@@ -146,6 +149,7 @@ impl fmt::Display for LimitedError {
                 "the parameters need more than is allowed",
             ),
             LimitedError::KeyTooShort { .. } => f.write_str("the key is shorter than is allowed"),
+            LimitedError::BufferTooShort => f.write_str("a buffer is too short"),
         }
     }
 }

@@ -180,8 +180,8 @@ pub fn verdicts_compare_keys()
 {}
 
 /// Reading a `$7$` hash, or the parameters of a PHC hash or of a stored hash, never gives
-/// `PasswordInvalid`; and no reading gives `OutOfMemory`, `TooCostly` or `KeyTooShort`, which come
-/// after reading.
+/// `PasswordInvalid`; and no reading gives `OutOfMemory`, `TooCostly`, `KeyTooShort` or
+/// `BufferTooShort`, which come after reading.
 #[tactic(auto, using(crate::proofs::StoredHashFacts::errors_of_reading))]
 pub fn reading_names_no_password()
     ensures mcf { (text : List ℕ) → NamesNoPassword (read_mcf text) }

@@ -5,7 +5,7 @@ ghost use Rattle.scrypt.specs.Terms.{AreCompressed, AreCounted, AreHashed, AreLe
 ghost use Rattle.scrypt.specs.Terms.{IsSpent, all_cost, all_of, attempt_of, attempts, bytes_if_ok, chunks_cost};
 ghost use Rattle.scrypt.specs.Terms.{chunks_of, compare_cost, cores_on, cost_if_ok, count_of, hashed_on, mapped};
 ghost use Rattle.scrypt.specs.Terms.{mixed_of, params_of, reading_of, shared, stored, verdict, verdict_on};
-ghost use Rattle.scrypt.specs.Terms.{verify_cores, verify_cost, with_limited_refusal, with_refusal, workspace_of};
+ghost use Rattle.scrypt.specs.Terms.{verify_cores, verify_cost, with_limited_refusal, workspace_of};
 ghost use Rattle.scrypt_kernel.specs.Memory.{buffer_room};
 
 use crate::buffers::memory::{ActiveBuffers, with_prefix};
@@ -15,7 +15,7 @@ use crate::derivation::mixing::mix_all;
 use crate::errors::LimitedError;
 use crate::size::index;
 use crate::stored_parts::StoredParts;
-use crate::verifying::{accept_if, verify_in_buffers};
+use crate::verifying::{accept_if, limited, verify_in_buffers};
 use crate::{Backend, BufferLens, CoreCount, Decoy, Params, StoredHash};
 use scrypt_kernel::memory::Buffer;
 
@@ -143,8 +143,7 @@ impl<'p, 't> Login<'p, 't> {
     {
         match self.parts() {
             Ok(parts) => {
-                let password = self.password;
-                limited(verify_in_buffers::<W>(password, parts, chunks, table, scratch, cores))
+                verify_in_buffers::<W>(self.password, parts, chunks, table, scratch, cores)
             }
             Err(error) => Err(error),
         }
@@ -181,12 +180,15 @@ pub fn verify_logins<W: Backend>(
     ensures hashed { AreCompressed (sum_by (hashed_on (workspace_of chunks.old table.old scratch.old))
         (attempts logins.now)) cores.old cores.new }
 {
-    for i in 0..logins.len() {
-        let (_, rest) = logins.split_at(i);
-        if verified_in_batch::<W>(rest, &mut verdicts[i..], chunks, table, scratch, cores) {
+    let mut left = logins;
+    let mut at = 0;
+    while let Some((login, _)) = left.split_first() {
+        if verified_in_batch::<W>(left, &mut verdicts[at..], chunks, table, scratch, cores) {
             return;
         }
-        verdicts[i] = logins[i].verify_alone::<W>(chunks, table, scratch, cores);
+        verdicts[at] = login.verify_alone::<W>(chunks, table, scratch, cores);
+        at += 1;
+        left = &left[1..];
     }
 }
 
@@ -288,12 +290,13 @@ fn derive_all_chunks(logins: &[Login<'_, '_>], chunks: &mut [u8], cores: &mut Co
     ensures value { chunks.new ≡ all_of chunks_of (attempts logins.now) }
     ensures counted { AreHashed (all_cost chunks_cost (attempts logins.now)) cores.old cores.new }
 {
+    let mut left = logins;
     let mut at = 0;
-    for i in 0..logins.len() {
-        let login = &logins[i];
+    while let Some((login, _)) = left.split_first() {
         let end = at + login.chunks_len();
         login.derive_chunks(&mut chunks[at..end], cores);
         at = end;
+        left = &left[1..];
     }
 }
 
@@ -309,18 +312,14 @@ fn compare(
     ensures verdicts { map with_limited_refusal verdicts.new ≡ map (λ a. verdict a.0 a.1) (attempts logins.now) }
     ensures counted { AreHashed (all_cost compare_cost (attempts logins.now)) cores.old cores.new }
 {
+    let mut left = logins;
     let mut rest = mixed;
-    for i in 0..logins.len() {
-        let login = &logins[i];
+    let mut at = 0;
+    while let Some((login, _)) = left.split_first() {
         let (chunks, others) = rest.split_at(login.chunks_len());
-        verdicts[i] = login.compare(chunks, cores);
+        verdicts[at] = login.compare(chunks, cores);
+        at += 1;
+        left = &left[1..];
         rest = others;
     }
-}
-
-// Returns a verdict as the verdict of a call with limits.
-fn limited(verdict: password_hash::Result<()>) -> Result<(), LimitedError>
-    ensures { with_limited_refusal result ≡ with_refusal verdict }
-{
-    Ok(verdict?)
 }

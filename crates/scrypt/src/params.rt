@@ -139,10 +139,8 @@ impl Params {
         ensures { result ≡ record self { output_len = Some len } }
     {
         Params {
-            log_n: self.log_n,
-            r: self.r,
-            p: self.p,
             output_len: Some(len),
+            ..self
         }
     }
 
@@ -151,10 +149,8 @@ impl Params {
         ensures { result ≡ without_len self.now }
     {
         Params {
-            log_n: self.log_n,
-            r: self.r,
-            p: self.p,
             output_len: None,
+            ..*self
         }
     }
 

@@ -144,8 +144,8 @@ pub fn is_within<W: Backend>(params: &Params, at: Progress) -> bool
     }
 }
 
-/// Returns how many cores are done, of `4 * N * r * p` in all.
-pub fn cores_done(params: &Params, at: Progress) -> u128
+// Returns how many cores are done, of `4 * N * r * p` in all.
+fn cores_done(params: &Params, at: Progress) -> u128
     requires within { IsWithin params.now at }
     ensures exact { result ≡ mixes_done params.now at * (2 * params.now.r) }
 {
@@ -189,8 +189,8 @@ pub fn finish(
     Ok(())
 }
 
-/// Derives the key as [`scrypt_in_prefix`](crate::scrypt_in_prefix) does, by the backend `W`, in
-/// steps of `count` block mixes of each chunk of a group. After each step it calls `go_on` with
+/// Derives the key as [`scrypt_with_buffers`](crate::scrypt_with_buffers) does, by the backend `W`,
+/// in steps of `count` block mixes of each chunk of a group. After each step it calls `go_on` with
 /// the number of cores that are done, of `4 * N * r * p` in all.
 ///
 /// Returns `InvalidOutputLen`, and changes nothing, exactly if the length of `output` is not

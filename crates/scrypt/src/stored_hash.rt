@@ -4,7 +4,7 @@ ghost use Rattle.std.specs.Prelude.{◌≡◌, ◌⊎◌, ◌↔◌, Err, IfErr,
 ghost use Rattle.scrypt.specs.Terms.{◌and_then◌, AreCompressed, AreCounted, IsLeft, IsReadAs, IsVerdict, cores_in};
 ghost use Rattle.scrypt.specs.Terms.{cost_by, formatted, hashed_in, is_mcf_text, is_stored_text, key_len_or_zero};
 ghost use Rattle.scrypt.specs.Terms.{let_in, mapped, params_reading, reading, refusal, stored, verdict, verdict_in};
-ghost use Rattle.scrypt.specs.Terms.{verify_cost, weaker, with_refusal, workspace_of};
+ghost use Rattle.scrypt.specs.Terms.{verify_cost, weaker, with_limited_refusal, with_refusal, workspace_of};
 ghost use Rattle.password_hash.specs.declared.error.Error.TheVariants.{EncodingInvalid, OutOfMemory};
 
 mod in_steps;
@@ -14,7 +14,7 @@ use crate::mcf::reading::parts_of_mcf;
 use crate::phc::reading::{parts_of_phc, read_params};
 use crate::stored_parts::StoredParts;
 use crate::verifying::{verify_allocating, verify_in_buffers};
-use crate::{Backend, CoreCount, Params, Simd};
+use crate::{Backend, CoreCount, LimitedError, Params, Target};
 use password_hash::{Error, Result, mcf, phc};
 use std::alloc::Global;
 use std::marker::Model;
@@ -118,7 +118,7 @@ impl<'a> StoredHash<'a> {
     pub fn verify(&self, alloc: Global, password: &[u8]) -> Result<()>
         ensures verdict { IsVerdict password.now (reading self.now) (with_refusal result) }
     {
-        self.verify_counted::<Simd>(alloc, password, &mut CoreCount::new())
+        self.verify_counted::<Target>(alloc, password, &mut CoreCount::new())
     }
 
     /// Returns whether the hash accepts `password`. A hash without a salt or a key accepts no
@@ -183,9 +183,9 @@ impl<'a> StoredHash<'a> {
     /// unspecified. `cores` counts the `4 * N * r * p` cores of the hash's parameters, and the blocks
     /// that SHA-256 compresses.
     ///
-    /// Returns the same errors in the same order, and `OutOfMemory` exactly if the hash can be read
-    /// and a buffer is too short for it. Unless the keys are compared, the buffers and the count
-    /// are unchanged.
+    /// Returns the same errors in the same order, but `BufferTooShort` instead of `OutOfMemory`:
+    /// exactly if the hash can be read and a buffer is too short for it. Unless the keys are
+    /// compared, the buffers and the count are unchanged.
     pub fn verify_with_buffers<W: Backend>(
         &self,
         password: &[u8],
@@ -193,8 +193,8 @@ impl<'a> StoredHash<'a> {
         table: &mut [u32],
         scratch: &mut [u32],
         cores: &mut CoreCount,
-    ) -> Result<()>
-        ensures verdict { with_refusal result
+    ) -> std::result::Result<(), LimitedError>
+        ensures verdict { with_limited_refusal result
             ≡ verdict_in (workspace_of chunks.old table.old scratch.old) password.now (reading self.now) }
         ensures left { IsLeft (reading self.now) (workspace_of chunks.old table.old scratch.old)
             (workspace_of chunks.new table.new scratch.new) }

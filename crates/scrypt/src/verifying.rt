@@ -3,7 +3,7 @@
 ghost use Rattle.std.specs.Prelude.{◌≡◌, if◌then◌else◌, Err, IsErrOf, Ok};
 ghost use Rattle.scrypt.specs.Terms.{AreCompressed, AreCounted, IsLeft, IsReady, IsSpent, IsVerdict, PasswordInvalid};
 ghost use Rattle.scrypt.specs.Terms.{cores_in, cost_by, hashed_in, is_right, stored, verdict_in, verify_cost};
-ghost use Rattle.scrypt.specs.Terms.{with_refusal, workspace_of};
+ghost use Rattle.scrypt.specs.Terms.{with_limited_refusal, with_refusal, workspace_of};
 ghost use Rattle.password_hash.specs.declared.error.Error.TheVariants.{OutOfMemory};
 
 use crate::buffers::memory::{ActiveBuffers, Allocation, with_prefix};
@@ -11,7 +11,7 @@ use crate::comparing::is_derived_key;
 use crate::derivation::derive_chunks;
 use crate::derivation::mixing::mix_all;
 use crate::stored_parts::StoredParts;
-use crate::{Backend, CoreCount};
+use crate::{Backend, CoreCount, LimitedError};
 use password_hash::{Error, Result};
 use scrypt_kernel::memory::{Allocated, Buffer, TableMemory};
 use std::alloc::Global;
@@ -27,6 +27,13 @@ pub(crate) fn accept_if(same: bool) -> Result<()>
     } else {
         Err(Error::PasswordInvalid)
     }
+}
+
+/// Returns a verdict as the verdict of a call with limits or in the caller's buffers.
+pub(crate) fn limited(verdict: Result<()>) -> std::result::Result<(), LimitedError>
+    ensures { with_limited_refusal result ≡ with_refusal verdict }
+{
+    Ok(verdict?)
 }
 
 // Derives a key of the stored key's length, in any memory, and returns whether it is the stored
@@ -80,8 +87,8 @@ pub(crate) fn verify_allocating<W: Backend>(
 
 /// Verifies with the parts of a hash, in the caller's buffers. Does not allocate.
 ///
-/// Returns `OutOfMemory`, and changes nothing, exactly if a buffer is too short for the parameters,
-/// and otherwise `PasswordInvalid` if the keys differ.
+/// Returns `BufferTooShort`, and changes nothing, exactly if a buffer is too short for the
+/// parameters, and otherwise `PasswordInvalid` if the keys differ.
 #[tactic(auto, using(crate::proofs::ReadingFacts::not_enough))]
 pub(crate) fn verify_in_buffers<W: Backend>(
     password: &[u8],
@@ -90,10 +97,10 @@ pub(crate) fn verify_in_buffers<W: Backend>(
     table: &mut [u32],
     scratch: &mut [u32],
     cores: &mut CoreCount,
-) -> Result<()>
+) -> std::result::Result<(), LimitedError>
     ensures left { IsLeft (Ok (stored parts.now)) (workspace_of chunks.old table.old scratch.old)
         (workspace_of chunks.new table.new scratch.new) }
-    ensures verdict { with_refusal result
+    ensures verdict { with_limited_refusal result
         ≡ verdict_in (workspace_of chunks.old table.old scratch.old) password.now (Ok (stored parts.now)) }
     ensures counted { AreCounted (cores_in (workspace_of chunks.old table.old scratch.old)
         (Ok (stored parts.now))) cores.old cores.new }
@@ -106,5 +113,5 @@ pub(crate) fn verify_in_buffers<W: Backend>(
     };
     let p = params.p();
     let same = with_prefix(params, p, chunks, table, scratch, cores, &mut [], test);
-    accept_if(same.ok_or(Error::OutOfMemory)?)
+    limited(accept_if(same.ok_or(LimitedError::BufferTooShort)?))
 }

@@ -15,14 +15,15 @@ use Rattle.scrypt.specs.Decoy.{decoy_reading}
 use Rattle.scrypt.specs.InBuffers.{IsWiped, are_enough}
 use Rattle.scrypt.specs.Logins.{Attempt, verdict_on}
 use Rattle.scrypt.specs.Workspace.{IsDone, Workspace, tables_used}
-use Rattle.scrypt_c.specs.Buffers.{AreBuffers}
+use Rattle.scrypt_c.specs.Buffers.{AreBuffers, IsSpacing}
+use Rattle.scrypt_c.specs.Keys.{HasKeyIn, HasThinKey}
 use Rattle.scrypt_c.specs.Limits.{params_of}
-use Rattle.scrypt_c.specs.Statuses.{IsKeyStatus, buffers_status}
+use Rattle.scrypt_c.specs.Statuses.{result_status}
 
 -- the status of one of a group, as an array keeps it
 pub kept_status : {out : Result ⊤ Refusal} (status : ℤ) (w : Workspace) (a b : Attempt) → a ≡ b → SFits w32 status
-    → status ≡ buffers_status out → out ≡ verdict_on w a → to_z w32 (of_z w32 status) ≡ buffers_status (verdict_on w b)
-kept_status {out} status w a b same fits is verdict = to_z-of_z w32 status fits ∙ is ∙ ap buffers_status (rw (← same) verdict)
+    → status ≡ result_status out → out ≡ verdict_on w a → to_z w32 (of_z w32 status) ≡ result_status (verdict_on w b)
+kept_status {out} status w a b same fits is verdict = to_z-of_z w32 status fits ∙ is ∙ ap result_status (rw (← same) verdict)
 
 -- parameters that no new hash can have make no decoy
 pub none_decoy : (c : Parameters) (salt : List ℕ) → ¬ (IsTrue (are_accepted c.log_n c.r c.p) × IsTrue (is_stored_len c.output_len))
@@ -37,7 +38,7 @@ whole_lens log_n r p s are none =
     (rw same at are.table_is, rw none at are.scratch_is)
 
 -- buffers of these lengths are long enough
-pub enough_at_zero : (log_n r p s : ℕ) (chunks table scratch : List ℕ) → AreBuffers log_n r p s (length chunks) (length table) (length scratch)
+enough_at_zero : (log_n r p s : ℕ) (chunks table scratch : List ℕ) → AreBuffers log_n r p s (length chunks) (length table) (length scratch)
     → s ≡ 0 → IsTrue (are_enough (params_of log_n r p) chunks table scratch)
 enough_at_zero log_n r p s chunks table scratch are none =
     let lens = whole_lens log_n r p s are none in
@@ -48,7 +49,7 @@ all_wiped : (n : ℕ) (old new : List ℕ) → length old ≡ n → IsWiped n ol
 all_wiped n old new is wiped = wiped ∙ rw (← is, drop-length) (append-nil _)
 
 -- a derivation in them wipes all of the chunks and all of the scratch
-pub wiped_at_zero : (log_n r p s : ℕ) (before after : Workspace) → IsTrue (are_accepted log_n r p)
+wiped_at_zero : (log_n r p s : ℕ) (before after : Workspace) → IsTrue (are_accepted log_n r p)
     → AreBuffers log_n r p s (length before.chunks) (length before.table) (length before.scratch) → s ≡ 0
     → IsDone (params_of log_n r p) before after
     → (after.chunks ≡ replicate (length before.chunks) 0) × (after.scratch ≡ replicate (length before.scratch) 0)
@@ -59,12 +60,23 @@ wiped_at_zero log_n r p s before after accepted are none done =
     let used : length before.scratch ≡ tables_used (params_of log_n r p) before.table before.scratch * scratch_words r = rw (← one) (omega (arith, lens.1)) in
     (all_wiped _ _ _ are.chunks_are done.chunks, all_wiped _ _ _ used done.scratch)
 
--- the status of a call in such buffers, as another call returns it
-pub kept_key_status : {Accepted Other Enough Fits : Type 0} (n : ℕ) (status : ℤ) → SFits w32 status → Accepted × Other → Enough → Fits
-    → IsKeyStatus Accepted Enough n status → IsKeyStatus (Accepted × Other) Fits n (to_z w32 (of_z w32 status))
-kept_key_status n status small both enough fits known = rw (to_z-of_z w32 status small) (record {
-  params = (λ is. absurd (known.params.0 is both.0), λ refused. absurd (refused both));
-  length = (λ is. (both, (known.length.0 is).1), λ refused. known.length.1 (both.0, refused.1));
-  buffers = (λ is. absurd ((known.buffers.0 is).2 enough), λ refused. absurd (refused.2 fits));
-  one = known.one;
-})
+-- a key that was derived in such buffers
+pub thin_of_whole : (password salt old new : List ℕ) (log_n r p s : ℕ) (before after : Workspace) (status : ℤ)
+    → IsTrue (are_accepted log_n r p) × IsSpacing log_n s
+    → AreBuffers log_n r p s (length before.chunks) (length before.table) (length before.scratch) → s ≡ 0
+    → HasKeyIn password salt log_n r p old new before after status
+    → HasThinKey password salt log_n r p s old new before after status
+thin_of_whole password salt old new log_n r p s before after status both are none known =
+    let enough = enough_at_zero log_n r p s before.chunks before.table before.scratch are none in
+    record {
+      key = record {
+        params = (λ is. absurd (known.key.params.0 is both.0), λ refused. absurd (refused both));
+        length_is = (λ is. (both, (known.key.length_is.0 is).1), λ refused. known.key.length_is.1 (both.0, refused.1));
+        one = known.key.one;
+        value = known.key.value;
+        refused = known.key.refused;
+      };
+      buffers = (λ is. absurd ((known.buffers.0 is).2 enough), λ refused. absurd (refused.2 are));
+      wiped = λ ok. wiped_at_zero log_n r p s before after both.0 are none (known.used.done ok);
+      unchanged = known.used.unchanged;
+    }

@@ -10,6 +10,8 @@ pub mod Statuses
 pub mod Limits
 -- the cost of a derivation
 pub mod Cost
+-- what a derivation returns and writes, its work, and the caller's buffers
+pub mod Keys
 -- the parameters of new hashes, and how their texts are copied to the caller
 pub mod Made
 -- several verdicts in the caller's buffers

@@ -1,9 +1,10 @@
 -- The parameters of new hashes, and their texts, which are written to the caller's buffer or do not
 -- fit it.
-use Rattle.std.specs.Prelude.{◌≡◌, ℕ, ◌<◌, ◌≤◌, List, ◌++◌, drop, length, Some, IsTrue}
+use Rattle.std.specs.Prelude.{◌≡◌, ◌≢◌, ◌↔◌, ℕ, ℤ, ◌<◌, ◌≤◌, List, ◌++◌, drop, length, Some, IsTrue}
 use Rattle.std.specs.Str.{IsUtf8}
 use Rattle.scrypt.specs.Accepted.{are_accepted, is_stored_len, Parameters}
 use Rattle.scrypt.specs.InBuffers.{IsCopiedTo}
+use Rattle.scrypt_c.specs.declared.statuses.TheConstants.{OK, INVALID_PARAMS, OUT_OF_MEMORY, SALT_INVALID, BUFFER_SIZE}
 
 -- parameters with the length of a key
 abbrev pub wanted : ℕ → ℕ → ℕ → ℕ → Parameters
@@ -31,3 +32,17 @@ IsTooLong text buffer len = (len ≡ length text) × (length buffer < len)
 abbrev pub IsTooShort : List ℕ → Type 0 → List ℕ → ℕ → ℕ → Type 0
 IsTooShort text Enough buffer old new =
     (length buffer < length text → new ≡ length text) × (length text ≤ length buffer → (¬ Enough) × (new ≡ old))
+
+-- What a call returns that makes this text, and what it writes to the caller's buffer for it. `Accepted`
+-- is said of the parameters, `Salted` of the salt, and `Enough` of the caller's buffers for the
+-- derivation. The text is known to fit before memory is allocated.
+pub record HasHashed (text : List ℕ) (Accepted Salted Enough : Type 0) (old new : List ℕ) (old_len len : ℕ)
+    (status : ℤ) : Type 0 where
+  pub made : status ≡ OK → IsWritten text old new len
+  pub enough : status ≡ OK → Enough
+  pub params : (status ≡ INVALID_PARAMS) ↔ (¬ Accepted)
+  pub salt : (status ≡ SALT_INVALID) ↔ (Accepted × ¬ Salted)
+  pub size : status ≡ BUFFER_SIZE → IsTooShort text Enough old old_len len
+  pub fits : status ≡ OUT_OF_MEMORY → length text ≤ length old
+  pub refused : status ≢ OK → new ≡ old
+  pub unchanged : status ≢ OK → status ≢ BUFFER_SIZE → len ≡ old_len

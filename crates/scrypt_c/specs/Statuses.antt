@@ -1,15 +1,13 @@
 -- The statuses of readings, verdicts and errors.
-use Rattle.std.specs.Prelude.{◌≡◌, ◌⊎◌, ◌↔◌, ℕ, ℤ, Bool, true, false, List, Result, Ok, Err, IfOk, IsOk, IsTrue}
+use Rattle.std.specs.Prelude.{◌≡◌, ◌⊎◌, ℕ, ℤ, Bool, true, false, List, Result, Ok, Err, IfOk, IsOk}
 use Rattle.password_hash.specs.Refusal.{Refusal, Algorithm, EncodingInvalid, OutputSize, ParamInvalid, ParamsInvalid}
-use Rattle.password_hash.specs.Refusal.{KeyTooShort, SaltInvalid, TooCostly, Version, OutOfMemory, PasswordInvalid}
-use Rattle.scrypt.specs.Accepted.{is_output_len}
+use Rattle.password_hash.specs.Refusal.{BufferTooShort, KeyTooShort, SaltInvalid, TooCostly, Version, OutOfMemory, PasswordInvalid}
 use Rattle.scrypt.specs.Reading.{Stored, verdict}
 use Rattle.scrypt_c.specs.Texts.{bytes_params}
-use Rattle.scrypt_c.specs.declared.statuses.TheConstants.{OK, MISMATCH, NEEDS_REHASH, ALGORITHM, VERSION}
-use Rattle.scrypt_c.specs.declared.statuses.TheConstants.{INVALID_PARAMS, INVALID_OUTPUT_LEN, OUT_OF_MEMORY}
+use Rattle.scrypt_c.specs.declared.statuses.TheConstants.{OK, MISMATCH, NEEDS_REHASH, ALGORITHM, VERSION, OUT_OF_MEMORY}
 use Rattle.scrypt_c.specs.declared.statuses.TheConstants.{ENCODING_INVALID, OUTPUT_SIZE, HASH_PARAM_INVALID}
-use Rattle.scrypt_c.specs.declared.statuses.TheConstants.{HASH_PARAMS_INVALID, SALT_INVALID, BUFFER_SIZE}
-use Rattle.scrypt_c.specs.declared.statuses.TheConstants.{TOO_COSTLY, KEY_TOO_SHORT}
+use Rattle.scrypt_c.specs.declared.statuses.TheConstants.{HASH_PARAMS_INVALID, SALT_INVALID, BUFFER_SIZE, TOO_COSTLY}
+use Rattle.scrypt_c.specs.declared.statuses.TheConstants.{KEY_TOO_SHORT}
 
 -- the status of an error
 abbrev pub refusal_status : Refusal → ℤ
@@ -24,6 +22,7 @@ refusal_status Version = VERSION
 refusal_status SaltInvalid = SALT_INVALID
 refusal_status (TooCostly bytes work) = TOO_COSTLY
 refusal_status (KeyTooShort key_len) = KEY_TOO_SHORT
+refusal_status BufferTooShort = BUFFER_SIZE
 
 -- the status of a result of reading, with or without limits, or of verifying
 abbrev pub result_status : {A : Type 0} → Result A Refusal → ℤ
@@ -57,22 +56,3 @@ unread_status why = refusal_status why
 abbrev pub cost_status : {A : Type 0} → Result A Refusal → ℤ
 cost_status (Ok x) = OK
 cost_status (Err why) = unread_status why
-
--- the status of an error in the caller's buffers, where `OutOfMemory` means that a buffer is too
--- short
-abbrev pub short_status : Refusal → ℤ
-short_status OutOfMemory = BUFFER_SIZE
-short_status why = refusal_status why
-
--- the status of hashing or verifying in the caller's buffers
-abbrev pub buffers_status : {A : Type 0} → Result A Refusal → ℤ
-buffers_status (Ok x) = OK
-buffers_status (Err why) = short_status why
-
--- the status of a derivation in the caller's buffers: `OK`, or the error of the first that is not
--- accepted of the parameters, the length of the output and the buffers
-pub record IsKeyStatus (Accepted Enough : Type 0) (output_len : ℕ) (status : ℤ) : Type 0 where
-  pub params : (status ≡ INVALID_PARAMS) ↔ (¬ Accepted)
-  pub length : (status ≡ INVALID_OUTPUT_LEN) ↔ (Accepted × ¬ IsTrue (is_output_len output_len))
-  pub buffers : (status ≡ BUFFER_SIZE) ↔ (Accepted × IsTrue (is_output_len output_len) × ¬ Enough)
-  pub one : (status ≡ OK) ⊎ (status ≡ INVALID_PARAMS) ⊎ (status ≡ INVALID_OUTPUT_LEN) ⊎ (status ≡ BUFFER_SIZE)

@@ -1,11 +1,15 @@
 -- A key in steps, in the caller's buffers.
-use Rattle.std.specs.Prelude.{◌≡◌, ◌≢◌, ◌⊎◌, ◌↔◌, Bool, ℕ, ℤ, ◌+◌, ◌*◌, ◌<◌, ◌≤◌, List, [], ◌∷◌, length, min, IsTrue}
+use Rattle.std.specs.Prelude.{◌≡◌, ◌≢◌, ◌⊎◌, ◌↔◌, Bool, ℕ, ℤ, ◌+◌, ◌*◌, ◌<◌, ◌≤◌, List, [], ◌∷◌, length, min, IfOk, IsTrue, OnErr, Result}
+use Rattle.password_hash.specs.Refusal.{Refusal}
 use Rattle.scrypt.specs.Accepted.{Parameters, are_accepted, is_output_len}
 use Rattle.scrypt.specs.Cost.{chunks_bytes, scratch_words, table_words}
 use Rattle.scrypt.specs.Key.{derived_key}
+use Rattle.scrypt.specs.Reading.{Stored, verdict}
 use Rattle.scrypt.specs.Stepping.{AreMixable, IsUnderWay, IsWithin, lacking, mixes_done}
+use Rattle.scrypt.specs.Workspace.{IsRestKept, workspace_of}
 use Rattle.scrypt.specs.declared.stepping.Progress.{Progress}
 use Rattle.scrypt_c.specs.Limits.{params_of}
+use Rattle.scrypt_c.specs.Statuses.{result_status}
 use Rattle.scrypt_c.specs.declared.statuses.TheConstants.{OK, INVALID_PARAMS, INVALID_OUTPUT_LEN}
 use Rattle.scrypt_c.specs.declared.statuses.TheConstants.{BUFFER_SIZE, UNFINISHED, INVALID_PROGRESS}
 
@@ -42,6 +46,11 @@ pub record Kept : Type 0 where
 abbrev pub kept_of : List ℕ → List ℕ → List ℕ → Progress → Kept
 kept_of chunks table scratch at = record { chunks = chunks; table = table; scratch = scratch; at = at }
 
+-- each buffer is unchanged after the part that a derivation with these parameters uses
+abbrev pub IsKeptBehind : Parameters → Kept → Kept → Type 0
+IsKeptBehind c old new =
+    IsRestKept c (workspace_of old.chunks old.table old.scratch) (workspace_of new.chunks new.table new.scratch)
+
 -- what `scrypt_key_begin` returns, and what it makes of the buffers and the progress
 pub record HasBegun (most : ℕ) (scalar : Bool) (password salt : List ℕ) (log_n r p : ℕ) (old new : Kept) (status : ℤ) : Type 0 where
   pub params : (status ≡ INVALID_PARAMS) ↔ (¬ IsTrue (are_accepted log_n r p))
@@ -49,6 +58,7 @@ pub record HasBegun (most : ℕ) (scalar : Bool) (password salt : List ℕ) (log
       × ¬ AreForSteps (params_of log_n r p) 1 old.chunks old.table old.scratch)
   pub one : (status ≡ OK) ⊎ (status ≡ INVALID_PARAMS) ⊎ (status ≡ BUFFER_SIZE)
   pub begun : status ≡ OK → IsBegun most scalar password salt (params_of log_n r p) new.at new.chunks new.table new.scratch
+  pub rest : status ≡ OK → IsKeptBehind (params_of log_n r p) old new
   pub unchanged : status ≢ OK → new ≡ old
 
 -- what `scrypt_key_step` returns, and what it makes of the buffers and the progress
@@ -70,6 +80,7 @@ pub record HasStepped (most : ℕ) (scalar : Bool) (log_n r p count : ℕ) (old 
       → new.at ≡ record old.at { mixes = old.at.mixes + count }
   pub next : status ≡ OK → old.at.chunks < p → lacking (params_of log_n r p) old.at ≤ count
       → (new.at.chunks ≡ old.at.chunks + old.at.interleaved) × (new.at.mixes ≡ 0)
+  pub rest : status ≡ OK → IsKeptBehind (params_of log_n r p) old new
   pub unchanged : status ≢ OK → new ≡ old
 
 -- what `scrypt_key_finish` returns and writes
@@ -86,6 +97,31 @@ pub record HasFinished (password : List ℕ) (log_n r p : ℕ) (chunks : List �
       → IsUnderWay password salt (params_of log_n r p) at chunks table scratch
       → new ≡ derived_key password salt log_n r p (length old)
   pub refused : status ≢ OK → new ≡ old
+
+-- what `scrypt_verify_begin` returns, and what it makes of the parameters, the buffers and the
+-- progress, for a hash with this reading, and with this one within the limits
+pub record HasBegunVerifying (most : ℕ) (scalar : Bool) (password : List ℕ) (read limited : Result Stored Refusal)
+    (before after : Parameters) (old new : Kept) (status : ℤ) : Type 0 where
+  pub refused : OnErr limited (status ≡ result_status limited)
+  pub one : IfOk limited (λ s. (status ≡ OK) ⊎ (status ≡ BUFFER_SIZE))
+  pub buffers : IfOk limited (λ s. (status ≡ BUFFER_SIZE) ↔ ¬ AreForSteps s.params 1 old.chunks old.table old.scratch)
+  pub params : status ≡ OK → IfOk read (λ s. after ≡ params_of s.params.log_n s.params.r s.params.p)
+  pub begun : status ≡ OK
+      → IfOk read (λ s. IsBegun most scalar password s.salt after new.at new.chunks new.table new.scratch)
+  pub rest : status ≡ OK → IsKeptBehind after old new
+  pub unchanged : status ≢ OK → (new ≡ old) × (after ≡ before)
+
+-- what `scrypt_verify_finish` returns, for a hash with this reading
+pub record HasFinishedVerifying (password : List ℕ) (read : Result Stored Refusal) (chunks : List ℕ) (at : Progress)
+    (status : ℤ) : Type 0 where
+  pub unread : OnErr read (status ≡ result_status read)
+  pub buffers : IfOk read (λ s. (status ≡ BUFFER_SIZE) ↔ (length chunks ≢ chunks_bytes s.params.r s.params.p))
+  pub unfinished : IfOk read (λ s. (status ≡ UNFINISHED)
+      ↔ ((length chunks ≡ chunks_bytes s.params.r s.params.p) × (at.chunks ≢ s.params.p)))
+  pub verdict_is : status ≢ BUFFER_SIZE → status ≢ UNFINISHED → (table scratch : List ℕ)
+      → IfOk read (λ s. IsUnderWay password s.salt (params_of s.params.log_n s.params.r s.params.p)
+      at chunks table scratch)
+      → status ≡ result_status (verdict password read)
 
 -- Steps one after another, each with its count and its status, and with the buffers and the progress
 -- as the step before it left them.

@@ -1,17 +1,11 @@
 //! Hashes: making their texts, and verifying passwords against them.
 
-ghost use Rattle.std.specs.Prelude.{◌≡◌, ◌≢◌, ◌⊎◌, ◌↔◌, length, IfOk, IsTrue, OnErr};
-ghost use Rattle.password_hash.specs.Crypt64.{crypt64_of};
-ghost use Rattle.password_hash.specs.Phc.{hash_text};
-ghost use Rattle.password_hash.specs.Refusal.{with_refusal};
-ghost use Rattle.scrypt.specs.McfHash.{made_mcf};
-ghost use Rattle.scrypt.specs.PhcHash.{is_salt_len, made_phc};
-ghost use Rattle.scrypt.specs.Cost.{AreCompressed, AreCounted, cost, hash_cost};
-ghost use Rattle.scrypt.specs.KeyOfParams.{cost_by};
-ghost use Rattle.scrypt.specs.Reading.{verify_cost, weaker};
-ghost use Rattle.scrypt.specs.StoredHash.{reading};
+ghost use Rattle.std.specs.Prelude.{◌≡◌, ◌≢◌, ◌⊎◌, length, ⊤, IfOk, IsTrue, OnErr};
+ghost use Rattle.scrypt.specs.Terms.{AreCompressed, AreCounted, cost, cost_by, crypt64_of, hash_cost, hash_text};
+ghost use Rattle.scrypt.specs.Terms.{is_salt_len, made_mcf, made_phc, verify_cost, weaker, with_refusal};
+ghost use Rattle.scrypt_c.specs.Keys.{IsWork};
 ghost use Rattle.scrypt_c.specs.Limits.{limited_reading};
-ghost use Rattle.scrypt_c.specs.Made.{AreHashParams, IsTooLong, IsWritten, wanted};
+ghost use Rattle.scrypt_c.specs.Made.{AreHashParams, HasHashed, wanted};
 ghost use Rattle.scrypt_c.specs.Statuses.{IsVerifyStatus, ReadsParams, rehash_status};
 ghost use Rattle.scrypt_c.specs.Texts.{bytes_reading};
 
@@ -19,21 +13,20 @@ use crate::statuses::{
     BUFFER_SIZE, INVALID_PARAMS, MISMATCH, NEEDS_REHASH, OK, OUT_OF_MEMORY, SALT_INVALID,
     limited_status_of, status_of,
 };
-use crate::target::Target;
 use crate::texts::{copy_to, limited_hash, stored_hash};
 use password_hash::{Error, Result};
 use scrypt::laws::reading_names_no_password;
-use scrypt::{CoreCount, Params, Size, StoredHash, mcf, phc};
+use scrypt::{CoreCount, Params, Size, Target, mcf, phc};
 use std::alloc::Global;
 
 /// Writes the PHC string of the hash of `password` and `salt` to the start of `text`, and its
 /// length to `text_len`. The key has `key_len` bytes.
 ///
 /// Returns `OK`, or the first of these: `INVALID_PARAMS` unless `log_n`, `r` and `p` are accepted
-/// and the key has 10 to 64 bytes; `SALT_INVALID` unless the salt has 1 to 64 bytes;
-/// `OUT_OF_MEMORY` if an allocation fails; and `BUFFER_SIZE` if the new text is longer than `text`,
-/// and then `text_len` is its length. On an error `text` is unchanged, and on any but `BUFFER_SIZE`
-/// so is `text_len`.
+/// and the key has 10 to 64 bytes; `SALT_INVALID` unless the salt has 1 to 64 bytes; `BUFFER_SIZE`
+/// if the new text is longer than `text`, and then `text_len` is its length; and `OUT_OF_MEMORY` if
+/// an allocation fails. On an error `text` is unchanged, and on any but `BUFFER_SIZE` so is
+/// `text_len`: a key is derived only after all of these.
 #[unsafe(no_mangle)]
 pub extern "C" fn scrypt_hash_phc(
     alloc: Global,
@@ -46,17 +39,11 @@ pub extern "C" fn scrypt_hash_phc(
     text: &mut [u8],
     text_len: &mut usize,
 ) -> i32
-    ensures made { result ≡ OK
-        → IsWritten (hash_text (made_phc (wanted log_n r p key_len) password.now salt.now))
-        text.old text.new text_len.new }
-    ensures params { (result ≡ INVALID_PARAMS) ↔ (¬ AreHashParams log_n r p key_len) }
-    ensures salt { (result ≡ SALT_INVALID) ↔ (AreHashParams log_n r p key_len × ¬ IsTrue (is_salt_len (length salt.now))) }
-    ensures size { result ≡ BUFFER_SIZE
-        → IsTooLong (hash_text (made_phc (wanted log_n r p key_len) password.now salt.now)) text.old text_len.new }
-    ensures status { (result ≡ OK) ⊎ (result ≡ INVALID_PARAMS) ⊎ (result ≡ SALT_INVALID)
-        ⊎ (result ≡ OUT_OF_MEMORY) ⊎ (result ≡ BUFFER_SIZE) }
-    ensures refused { result ≢ OK → text.new ≡ text.old }
-    ensures unchanged { result ≢ OK → result ≢ BUFFER_SIZE → text_len.new ≡ text_len.old }
+    ensures made { HasHashed (hash_text (made_phc (wanted log_n r p key_len) password.now salt.now))
+        (AreHashParams log_n r p key_len) (IsTrue (is_salt_len (length salt.now))) ⊤
+        text.old text.new text_len.old text_len.new result }
+    ensures status { (result ≡ OK) ⊎ (result ≡ INVALID_PARAMS) ⊎ (result ≡ SALT_INVALID) ⊎ (result ≡ BUFFER_SIZE)
+        ⊎ (result ≡ OUT_OF_MEMORY) }
 {
     let cores = &mut CoreCount::new();
     hash_phc(
@@ -77,25 +64,24 @@ pub fn hash_phc(
     text_len: &mut usize,
     cores: &mut CoreCount,
 ) -> i32
-    ensures made { result ≡ OK
-        → IsWritten (hash_text (made_phc (wanted log_n r p key_len) password.now salt.now))
-        text.old text.new text_len.new }
-    ensures params { (result ≡ INVALID_PARAMS) ↔ (¬ AreHashParams log_n r p key_len) }
-    ensures salt { (result ≡ SALT_INVALID) ↔ (AreHashParams log_n r p key_len × ¬ IsTrue (is_salt_len (length salt.now))) }
-    ensures size { result ≡ BUFFER_SIZE
-        → IsTooLong (hash_text (made_phc (wanted log_n r p key_len) password.now salt.now)) text.old text_len.new }
-    ensures status { (result ≡ OK) ⊎ (result ≡ INVALID_PARAMS) ⊎ (result ≡ SALT_INVALID)
-        ⊎ (result ≡ OUT_OF_MEMORY) ⊎ (result ≡ BUFFER_SIZE) }
-    ensures counted { (result ≡ OK) ⊎ (result ≡ BUFFER_SIZE) → AreCounted (cost log_n r p) cores.old cores.new }
-    ensures hashed { (result ≡ OK) ⊎ (result ≡ BUFFER_SIZE) → AreCompressed (hash_cost (length password.now)
-        (length salt.now) r p key_len) cores.old cores.new }
-    ensures refused { result ≢ OK → text.new ≡ text.old }
-    ensures unchanged { result ≢ OK → result ≢ BUFFER_SIZE → text_len.new ≡ text_len.old }
-    ensures uncounted { result ≢ OK → result ≢ BUFFER_SIZE → cores.new ≡ cores.old }
+    ensures made { HasHashed (hash_text (made_phc (wanted log_n r p key_len) password.now salt.now))
+        (AreHashParams log_n r p key_len) (IsTrue (is_salt_len (length salt.now))) ⊤
+        text.old text.new text_len.old text_len.new result }
+    ensures status { (result ≡ OK) ⊎ (result ≡ INVALID_PARAMS) ⊎ (result ≡ SALT_INVALID) ⊎ (result ≡ BUFFER_SIZE)
+        ⊎ (result ≡ OUT_OF_MEMORY) }
+    ensures work { IsWork (cost log_n r p) (hash_cost (length password.now) (length salt.now) r p key_len)
+        cores.old cores.new result }
 {
     let Ok(params) = Params::new_with_output_len(log_n, r, p, key_len) else {
         return INVALID_PARAMS;
     };
+    let Ok(len) = phc::hash_len(&params, salt) else {
+        return SALT_INVALID;
+    };
+    if text.len() < len {
+        *text_len = len;
+        return BUFFER_SIZE;
+    }
     match phc::hash::<Target>(alloc, password, salt, &params, cores) {
         Ok(hash) => copy_to(hash.to_array_string().as_str(), text, text_len),
         Err(error) => status_of(error),
@@ -106,9 +92,8 @@ pub fn hash_phc(
 /// length to `text_len`. The key has `key_len` bytes.
 ///
 /// Returns `OK`, or the first of these: `INVALID_PARAMS` unless `log_n`, `r` and `p` are accepted
-/// and the key has 10 to 64 bytes; `OUT_OF_MEMORY` if an allocation fails; and `BUFFER_SIZE` if the
-/// new text is longer than `text`, and then `text_len` is its length. On an error `text` is
-/// unchanged, and on any but `BUFFER_SIZE` so is `text_len`.
+/// and the key has 10 to 64 bytes; and `BUFFER_SIZE` and `OUT_OF_MEMORY` as `scrypt_hash_phc` does,
+/// and on an error leaves the same unchanged.
 #[unsafe(no_mangle)]
 pub extern "C" fn scrypt_hash_mcf(
     alloc: Global,
@@ -121,14 +106,9 @@ pub extern "C" fn scrypt_hash_mcf(
     text: &mut [u8],
     text_len: &mut usize,
 ) -> i32
-    ensures made { result ≡ OK → IsWritten (made_mcf (wanted log_n r p key_len) password.now salt.now)
-        text.old text.new text_len.new }
-    ensures params { (result ≡ INVALID_PARAMS) ↔ (¬ AreHashParams log_n r p key_len) }
-    ensures size { result ≡ BUFFER_SIZE
-        → IsTooLong (made_mcf (wanted log_n r p key_len) password.now salt.now) text.old text_len.new }
-    ensures status { (result ≡ OK) ⊎ (result ≡ INVALID_PARAMS) ⊎ (result ≡ OUT_OF_MEMORY) ⊎ (result ≡ BUFFER_SIZE) }
-    ensures refused { result ≢ OK → text.new ≡ text.old }
-    ensures unchanged { result ≢ OK → result ≢ BUFFER_SIZE → text_len.new ≡ text_len.old }
+    ensures made { HasHashed (made_mcf (wanted log_n r p key_len) password.now salt.now)
+        (AreHashParams log_n r p key_len) ⊤ ⊤ text.old text.new text_len.old text_len.new result }
+    ensures status { (result ≡ OK) ⊎ (result ≡ INVALID_PARAMS) ⊎ (result ≡ BUFFER_SIZE) ⊎ (result ≡ OUT_OF_MEMORY) }
 {
     let cores = &mut CoreCount::new();
     hash_mcf(
@@ -149,22 +129,20 @@ pub fn hash_mcf(
     text_len: &mut usize,
     cores: &mut CoreCount,
 ) -> i32
-    ensures made { result ≡ OK → IsWritten (made_mcf (wanted log_n r p key_len) password.now salt.now)
-        text.old text.new text_len.new }
-    ensures params { (result ≡ INVALID_PARAMS) ↔ (¬ AreHashParams log_n r p key_len) }
-    ensures size { result ≡ BUFFER_SIZE
-        → IsTooLong (made_mcf (wanted log_n r p key_len) password.now salt.now) text.old text_len.new }
-    ensures status { (result ≡ OK) ⊎ (result ≡ INVALID_PARAMS) ⊎ (result ≡ OUT_OF_MEMORY) ⊎ (result ≡ BUFFER_SIZE) }
-    ensures counted { (result ≡ OK) ⊎ (result ≡ BUFFER_SIZE) → AreCounted (cost log_n r p) cores.old cores.new }
-    ensures hashed { (result ≡ OK) ⊎ (result ≡ BUFFER_SIZE) → AreCompressed (hash_cost (length password.now)
-        (length (crypt64_of salt.now)) r p key_len) cores.old cores.new }
-    ensures refused { result ≢ OK → text.new ≡ text.old }
-    ensures unchanged { result ≢ OK → result ≢ BUFFER_SIZE → text_len.new ≡ text_len.old }
-    ensures uncounted { result ≢ OK → result ≢ BUFFER_SIZE → cores.new ≡ cores.old }
+    ensures made { HasHashed (made_mcf (wanted log_n r p key_len) password.now salt.now)
+        (AreHashParams log_n r p key_len) ⊤ ⊤ text.old text.new text_len.old text_len.new result }
+    ensures status { (result ≡ OK) ⊎ (result ≡ INVALID_PARAMS) ⊎ (result ≡ BUFFER_SIZE) ⊎ (result ≡ OUT_OF_MEMORY) }
+    ensures work { IsWork (cost log_n r p) (hash_cost (length password.now) (length (crypt64_of salt.now)) r p key_len)
+        cores.old cores.new result }
 {
     let Ok(params) = Params::new_with_output_len(log_n, r, p, key_len) else {
         return INVALID_PARAMS;
     };
+    let len = mcf::hash_len(&params, salt);
+    if text.len() < len {
+        *text_len = len;
+        return BUFFER_SIZE;
+    }
     match mcf::hash::<Target>(alloc, password, salt, &params, cores) {
         Ok(hash) => copy_to(hash.as_str(), text, text_len),
         Err(error) => status_of(error),
@@ -252,9 +230,13 @@ pub fn verify_limited(
     ensures unread { OnErr (limited_reading max_mem max_work min_key_len text.now) (cores.new ≡ cores.old) }
     ensures memory { result ≡ OUT_OF_MEMORY → cores.new ≡ cores.old }
 {
-    match limited_hash(text, max_mem, max_work, min_key_len) {
-        Ok(hash) => verify_allocating(alloc, password, &hash, cores),
-        Err(error) => limited_status_of(error),
+    let hash = match limited_hash(text, max_mem, max_work, min_key_len) {
+        Ok(hash) => hash,
+        Err(error) => return limited_status_of(error),
+    };
+    match hash.verify_counted::<Target>(alloc, password, cores) {
+        Ok(()) => OK,
+        Err(error) => status_of(error),
     }
 }
 
@@ -277,27 +259,6 @@ pub extern "C" fn scrypt_needs_rehash(text: &[u8], log_n: u8, r: u32, p: u32, ke
     match stored_hash(text) {
         Ok(hash) => rehash_status(hash.needs_rehash(&wanted)),
         Err(error) => rehash_status(Err(error)),
-    }
-}
-
-// Verifies a password against a hash that was read.
-fn verify_allocating(
-    alloc: Global,
-    password: &[u8],
-    hash: &StoredHash<'_>,
-    cores: &mut CoreCount,
-) -> i32
-    ensures status { IsVerifyStatus password.now (reading hash.now) result }
-    ensures counted { IfOk (reading hash.now) (λ s. result ≢ OUT_OF_MEMORY
-        → AreCounted (cost_by s.params) cores.old cores.new) }
-    ensures hashed { IfOk (reading hash.now) (λ s. result ≢ OUT_OF_MEMORY
-        → AreCompressed (verify_cost password.now s) cores.old cores.new) }
-    ensures memory { result ≡ OUT_OF_MEMORY → cores.new ≡ cores.old }
-{
-    match hash.verify_counted::<Target>(alloc, password, cores) {
-        Ok(()) => OK,
-        Err(Error::OutOfMemory) => OUT_OF_MEMORY,
-        Err(error) => status_of(error),
     }
 }
 

@@ -9,9 +9,8 @@ ghost use Rattle.scrypt_c.specs.Steps.{AreForSteps, HasBegun, HasFinished, HasSt
 use crate::statuses::{
     BUFFER_SIZE, INVALID_OUTPUT_LEN, INVALID_PARAMS, INVALID_PROGRESS, OK, UNFINISHED,
 };
-use crate::target::Target;
 use scrypt::steps::{begin, finish, is_within, step};
-use scrypt::{Backend, BufferLens, CoreCount, InvalidOutputLen, Params, Progress, Size};
+use scrypt::{Backend, BufferLens, CoreCount, InvalidOutputLen, Params, Progress, Size, Target};
 
 /// Begins a key in steps. It runs no core yet: `scrypt_key_step` does, and `scrypt_key_finish`
 /// writes the key. Up to four chunks are interleaved, one for each table and scratch.

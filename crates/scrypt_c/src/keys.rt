@@ -1,20 +1,15 @@
 //! Keys, derived in allocated memory or in the caller's buffers.
 
-ghost use Rattle.std.specs.Prelude.{◌≡◌, ◌≢◌, ◌⊎◌, ◌↔◌, length, replicate, IsSome, IfSome, IsTrue};
-ghost use Rattle.scrypt.specs.Accepted.{are_accepted, is_output_len};
-ghost use Rattle.scrypt.specs.InBuffers.{are_enough};
-ghost use Rattle.scrypt.specs.Cost.{AreCompressed, AreCounted, chunks_bytes, cost, hash_cost, thin_cost};
-ghost use Rattle.scrypt.specs.Key.{derived_key};
-ghost use Rattle.scrypt.specs.Workspace.{IsDone, workspace_of};
+ghost use Rattle.std.specs.Prelude.{◌≡◌, ◌≢◌, ◌⊎◌, ◌↔◌, length, IsSome, IfSome, IsTrue};
+ghost use Rattle.scrypt.specs.Terms.{are_accepted, cost, hash_cost, thin_cost, workspace_of};
 ghost use Rattle.scrypt_c.specs.Buffers.{AreBuffers, IsSpacing};
+ghost use Rattle.scrypt_c.specs.Keys.{HasKey, HasKeyIn, HasThinKey, IsWork};
 ghost use Rattle.scrypt_c.specs.Limits.{bytes_that_pay, params_of};
-ghost use Rattle.scrypt_c.specs.Statuses.{IsKeyStatus};
 
 use crate::statuses::{BUFFER_SIZE, INVALID_OUTPUT_LEN, INVALID_PARAMS, OK, OUT_OF_MEMORY};
-use crate::target::Target;
 use scrypt::{
-    BufferLens, CoreCount, DeriveError, Params, Size, output_len_ok, scrypt_in_prefix,
-    scrypt_thin_with_backend, scrypt_with_max_mem,
+    BufferLens, CoreCount, DeriveError, Params, Size, Target, output_len_ok, scrypt_thin,
+    scrypt_with_buffers, scrypt_with_max_mem,
 };
 use std::alloc::Global;
 
@@ -41,13 +36,8 @@ pub extern "C" fn scrypt_kdf(
     max_mem: Size,
     output: &mut [u8],
 ) -> i32
-    ensures value { result ≡ OK → output.new ≡ derived_key password.now salt.now log_n r p (length output.old) }
-    ensures params { (result ≡ INVALID_PARAMS) ↔ (¬ IsTrue (are_accepted log_n r p)) }
-    ensures length { (result ≡ INVALID_OUTPUT_LEN)
-        ↔ (IsTrue (are_accepted log_n r p) × ¬ IsTrue (is_output_len (length output.old))) }
-    ensures status { (result ≡ OK) ⊎ (result ≡ INVALID_PARAMS) ⊎ (result ≡ INVALID_OUTPUT_LEN)
-        ⊎ (result ≡ OUT_OF_MEMORY) }
-    ensures refused { result ≢ OK → output.new ≡ output.old }
+    ensures key { HasKey (IsTrue (are_accepted log_n r p)) OUT_OF_MEMORY password.now salt.now log_n r p
+        output.old output.new result }
 {
     let cores = &mut CoreCount::new();
     kdf(
@@ -68,17 +58,10 @@ pub fn kdf(
     output: &mut [u8],
     cores: &mut CoreCount,
 ) -> i32
-    ensures value { result ≡ OK → output.new ≡ derived_key password.now salt.now log_n r p (length output.old) }
-    ensures params { (result ≡ INVALID_PARAMS) ↔ (¬ IsTrue (are_accepted log_n r p)) }
-    ensures length { (result ≡ INVALID_OUTPUT_LEN)
-        ↔ (IsTrue (are_accepted log_n r p) × ¬ IsTrue (is_output_len (length output.old))) }
-    ensures status { (result ≡ OK) ⊎ (result ≡ INVALID_PARAMS) ⊎ (result ≡ INVALID_OUTPUT_LEN)
-        ⊎ (result ≡ OUT_OF_MEMORY) }
-    ensures counted { result ≡ OK → AreCounted (cost log_n r p) cores.old cores.new }
-    ensures hashed { result ≡ OK → AreCompressed (hash_cost (length password.now) (length salt.now) r p (length
-        output.old)) cores.old cores.new }
-    ensures refused { result ≢ OK → output.new ≡ output.old }
-    ensures uncounted { result ≢ OK → cores.new ≡ cores.old }
+    ensures key { HasKey (IsTrue (are_accepted log_n r p)) OUT_OF_MEMORY password.now salt.now log_n r p
+        output.old output.new result }
+    ensures work { IsWork (cost log_n r p) (hash_cost (length password.now) (length salt.now) r p (length output.old))
+        cores.old cores.new result }
 {
     let Ok(params) = Params::new(log_n, r, p) else {
         return INVALID_PARAMS;
@@ -145,10 +128,9 @@ pub extern "C" fn scrypt_buffer_lens(
 /// Chunks are interleaved if the buffers are longer: up to four, no more than `p`, and no more than
 /// both the table and the scratch have capacity for. The derivation uses a prefix of each buffer:
 /// the length that `scrypt_buffer_lens` returns, which for the table and the scratch is multiplied
-/// by the number of interleaved chunks. On arm64 two chunks are not interleaved: one table and one
-/// scratch serve both. The initial contents of the buffers do not matter. After `OK` the used prefix
-/// of the chunks and of the scratch is zeros, that of the table is unspecified, and nothing after it
-/// has changed. On an error the buffers and the output are unchanged.
+/// by the number of interleaved chunks. The initial contents of the buffers do not matter. After
+/// `OK` the used prefix of the chunks and of the scratch is zeros, that of the table is unspecified,
+/// and nothing after it has changed. On an error the buffers and the output are unchanged.
 #[unsafe(no_mangle)]
 pub extern "C" fn scrypt_kdf_with_buffers(
     password: &[u8],
@@ -161,15 +143,8 @@ pub extern "C" fn scrypt_kdf_with_buffers(
     table: &mut [u32],
     scratch: &mut [u32],
 ) -> i32
-    ensures status { IsKeyStatus (IsTrue (are_accepted log_n r p))
-        (IsTrue (are_enough (params_of log_n r p) chunks.old table.old scratch.old)) (length output.old) result }
-    ensures value { result ≡ OK → output.new ≡ derived_key password.now salt.now log_n r p (length output.old) }
-    ensures used { result ≡ OK
-        → IsDone (params_of log_n r p) (workspace_of chunks.old table.old scratch.old)
-        (workspace_of chunks.new table.new scratch.new) }
-    ensures refused { result ≢ OK → output.new ≡ output.old }
-    ensures unchanged { result ≢ OK
-        → (chunks.new ≡ chunks.old) × (table.new ≡ table.old) × (scratch.new ≡ scratch.old) }
+    ensures key { HasKeyIn password.now salt.now log_n r p output.old output.new
+        (workspace_of chunks.old table.old scratch.old) (workspace_of chunks.new table.new scratch.new) result }
 {
     let cores = &mut CoreCount::new();
     kdf_with_buffers(
@@ -179,6 +154,7 @@ pub extern "C" fn scrypt_kdf_with_buffers(
 
 /// Does what [`scrypt_kdf_with_buffers`] does, and counts its cores and the blocks that SHA-256
 /// compresses.
+#[tactic(auto, using(std::proofs::lemmas::Bool::Decides::nat_tests), unfolding(scrypt::specs::InBuffers::are_enough))]
 pub fn kdf_with_buffers(
     password: &[u8],
     salt: &[u8],
@@ -191,31 +167,30 @@ pub fn kdf_with_buffers(
     scratch: &mut [u32],
     cores: &mut CoreCount,
 ) -> i32
-    ensures status { IsKeyStatus (IsTrue (are_accepted log_n r p))
-        (IsTrue (are_enough (params_of log_n r p) chunks.old table.old scratch.old)) (length output.old) result }
-    ensures value { result ≡ OK → output.new ≡ derived_key password.now salt.now log_n r p (length output.old) }
-    ensures used { result ≡ OK
-        → IsDone (params_of log_n r p) (workspace_of chunks.old table.old scratch.old)
-        (workspace_of chunks.new table.new scratch.new) }
-    ensures counted { result ≡ OK → AreCounted (cost log_n r p) cores.old cores.new }
-    ensures hashed { result ≡ OK → AreCompressed (hash_cost (length password.now) (length salt.now) r p (length
-        output.old)) cores.old cores.new }
-    ensures refused { result ≢ OK → output.new ≡ output.old }
-    ensures unchanged { result ≢ OK
-        → (chunks.new ≡ chunks.old) × (table.new ≡ table.old) × (scratch.new ≡ scratch.old) }
-    ensures uncounted { result ≢ OK → cores.new ≡ cores.old }
+    ensures key { HasKeyIn password.now salt.now log_n r p output.old output.new
+        (workspace_of chunks.old table.old scratch.old) (workspace_of chunks.new table.new scratch.new) result }
+    ensures work { IsWork (cost log_n r p) (hash_cost (length password.now) (length salt.now) r p (length output.old))
+        cores.old cores.new result }
 {
     let Ok(params) = Params::new(log_n, r, p) else {
         return INVALID_PARAMS;
     };
-    let derived = scrypt_in_prefix::<Target>(
-        password, salt, &params, chunks, table, scratch, output, cores,
-    );
-    match derived {
-        Ok(()) => OK,
-        Err(DeriveError::InvalidOutputLen) => INVALID_OUTPUT_LEN,
-        Err(DeriveError::OutOfMemory) => BUFFER_SIZE,
+    if !output_len_ok(output.len()) {
+        return INVALID_OUTPUT_LEN;
     }
+    let lens = BufferLens::of(&params);
+    if (chunks.len() as Size) < lens.chunks
+        || (table.len() as Size) < lens.table
+        || (scratch.len() as Size) < lens.scratch
+    {
+        return BUFFER_SIZE;
+    }
+    // The length of the output was checked above.
+    scrypt_with_buffers(
+        password, salt, &params, chunks, table, scratch, output, cores,
+    )
+    .unwrap();
+    OK
 }
 
 /// Does what `scrypt_kdf_with_buffers` does, with a time-memory trade-off: the table keeps one row
@@ -240,14 +215,8 @@ pub extern "C" fn scrypt_kdf_thin(
     table: &mut [u32],
     scratch: &mut [u32],
 ) -> i32
-    ensures status { IsKeyStatus (IsTrue (are_accepted log_n r p) × IsSpacing log_n s)
-        (AreBuffers log_n r p s (length chunks.old) (length table.old) (length scratch.old)) (length output.old) result }
-    ensures value { result ≡ OK → output.new ≡ derived_key password.now salt.now log_n r p (length output.old) }
-    ensures wiped { result ≡ OK → (chunks.new ≡ replicate (length chunks.old) 0)
-        × (scratch.new ≡ replicate (length scratch.old) 0) }
-    ensures refused { result ≢ OK → output.new ≡ output.old }
-    ensures unchanged { result ≢ OK
-        → (chunks.new ≡ chunks.old) × (table.new ≡ table.old) × (scratch.new ≡ scratch.old) }
+    ensures key { HasThinKey password.now salt.now log_n r p s output.old output.new
+        (workspace_of chunks.old table.old scratch.old) (workspace_of chunks.new table.new scratch.new) result }
 {
     let cores = &mut CoreCount::new();
     kdf_thin(
@@ -269,18 +238,10 @@ pub fn kdf_thin(
     scratch: &mut [u32],
     cores: &mut CoreCount,
 ) -> i32
-    ensures status { IsKeyStatus (IsTrue (are_accepted log_n r p) × IsSpacing log_n s)
-        (AreBuffers log_n r p s (length chunks.old) (length table.old) (length scratch.old)) (length output.old) result }
-    ensures value { result ≡ OK → output.new ≡ derived_key password.now salt.now log_n r p (length output.old) }
-    ensures wiped { result ≡ OK → (chunks.new ≡ replicate (length chunks.old) 0)
-        × (scratch.new ≡ replicate (length scratch.old) 0) }
-    ensures counted { result ≡ OK → AreCounted (thin_cost password.now salt.now log_n r p s) cores.old cores.new }
-    ensures hashed { result ≡ OK → AreCompressed (hash_cost (length password.now) (length salt.now) r p (length
-        output.old)) cores.old cores.new }
-    ensures refused { result ≢ OK → output.new ≡ output.old }
-    ensures unchanged { result ≢ OK
-        → (chunks.new ≡ chunks.old) × (table.new ≡ table.old) × (scratch.new ≡ scratch.old) }
-    ensures uncounted { result ≢ OK → cores.new ≡ cores.old }
+    ensures key { HasThinKey password.now salt.now log_n r p s output.old output.new
+        (workspace_of chunks.old table.old scratch.old) (workspace_of chunks.new table.new scratch.new) result }
+    ensures work { IsWork (thin_cost password.now salt.now log_n r p s)
+        (hash_cost (length password.now) (length salt.now) r p (length output.old)) cores.old cores.new result }
 {
     let Some((params, lens)) = params_and_lens(log_n, r, p, s) else {
         return INVALID_PARAMS;
@@ -288,10 +249,7 @@ pub fn kdf_thin(
     if !output_len_ok(output.len()) {
         return INVALID_OUTPUT_LEN;
     }
-    if chunks.len() as Size != lens.chunks
-        || table.len() as Size != lens.table
-        || scratch.len() as Size != lens.scratch
-    {
+    if !are_exact(&lens, chunks, table, scratch) {
         return BUFFER_SIZE;
     }
     if s == 0 {
@@ -299,7 +257,7 @@ pub fn kdf_thin(
             password, salt, log_n, r, p, output, chunks, table, scratch, cores,
         );
     }
-    let derived = scrypt_thin_with_backend::<Target>(
+    let derived = scrypt_thin(
         password, salt, &params, s, chunks, table, scratch, output, cores,
     );
     // The length of the output was checked above.
@@ -319,4 +277,14 @@ fn params_and_lens(log_n: u8, r: u32, p: u32, s: u8) -> Option<(Params, BufferLe
         _ => BufferLens::thin(&params, s)?,
     };
     Some((params, lens))
+}
+
+// Whether the buffers have exactly these lengths.
+fn are_exact(lens: &BufferLens, chunks: &[u8], table: &[u32], scratch: &[u32]) -> bool
+    ensures exact { IsTrue result ↔ ((length chunks.now ≡ lens.now.chunks) × (length table.now ≡ lens.now.table)
+        × (length scratch.now ≡ lens.now.scratch)) }
+{
+    chunks.len() as Size == lens.chunks
+        && table.len() as Size == lens.table
+        && scratch.len() as Size == lens.scratch
 }

@@ -13,7 +13,6 @@ pub mod laws;
 pub mod logins;
 pub mod statuses;
 pub mod stored_text;
-mod target;
 mod texts;
 pub mod verify_in_steps;
 pub mod with_buffers;

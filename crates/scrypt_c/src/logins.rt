@@ -1,20 +1,14 @@
 //! Several logins, verified together in the caller's buffers; nothing is allocated.
 
-ghost use Rattle.std.specs.Prelude.{◌≡◌, List, [], ◌∷◌, sum_by};
-ghost use Rattle.password_hash.specs.Refusal.{with_refusal};
-ghost use Rattle.scrypt.specs.Cost.{AreCompressed, AreCounted};
-ghost use Rattle.scrypt.specs.Decoy.{decoy_reading};
-ghost use Rattle.scrypt.specs.Logins.{AreLeft, Attempt, attempt_of, cores_on, hashed_on};
-ghost use Rattle.scrypt.specs.Reading.{◌and_then◌};
-ghost use Rattle.scrypt.specs.Workspace.{workspace_of};
-ghost use Rattle.scrypt_c.specs.InBuffers.{login_attempt, statuses_in};
+ghost use Rattle.std.specs.Prelude.{◌≡◌, [], ◌∷◌};
+ghost use Rattle.scrypt.specs.Terms.{◌and_then◌, attempt_of, decoy_reading, with_refusal, workspace_of};
+ghost use Rattle.scrypt_c.specs.InBuffers.{AreVerified, IsWorkOn, batch_of, login_attempt};
 ghost use Rattle.scrypt_c.specs.Made.{wanted};
 
 use crate::statuses::verdict_status;
-use crate::target::Target;
 use crate::texts::stored_hash;
 use password_hash::{Error, Result};
-use scrypt::{CoreCount, Decoy, LimitedError, Login, LoginHash, Params, verify_logins};
+use scrypt::{CoreCount, Decoy, LimitedError, Login, LoginHash, Params, Target, verify_logins};
 
 /// Verifies up to four passwords, each against its own hash and with its own verdict, in the
 /// caller's buffers. If there are fewer, pass empty texts for the last ones: an empty text is
@@ -55,16 +49,10 @@ pub extern "C" fn scrypt_verify_batch_with_buffers<'a>(
     table: &mut [u32],
     scratch: &mut [u32],
 )
-    ensures statuses { let decoy = decoy_reading (wanted log_n r p key_len) salt.now in
-        statuses.new ≡ statuses_in (workspace_of chunks.old table.old scratch.old)
-        (login_attempt decoy password.now text.now unknown ∷ login_attempt decoy password_2.now text_2.now unknown_2
-        ∷ login_attempt decoy password_3.now text_3.now unknown_3
-        ∷ login_attempt decoy password_4.now text_4.now unknown_4 ∷ []) }
-    ensures left { let decoy = decoy_reading (wanted log_n r p key_len) salt.now in
-        AreLeft (login_attempt decoy password.now text.now unknown ∷ login_attempt decoy password_2.now text_2.now unknown_2
-        ∷ login_attempt decoy password_3.now text_3.now unknown_3
-        ∷ login_attempt decoy password_4.now text_4.now unknown_4 ∷ [])
-        (workspace_of chunks.old table.old scratch.old) (workspace_of chunks.new table.new scratch.new) }
+    ensures verified { AreVerified (batch_of (decoy_reading (wanted log_n r p key_len) salt.now)
+        ((password.now, text.now, unknown) ∷ (password_2.now, text_2.now, unknown_2)
+        ∷ (password_3.now, text_3.now, unknown_3) ∷ (password_4.now, text_4.now, unknown_4) ∷ []))
+        (workspace_of chunks.old table.old scratch.old) (workspace_of chunks.new table.new scratch.new) statuses.new }
 {
     let cores = &mut CoreCount::new();
     verify_batch_with_buffers(
@@ -100,30 +88,14 @@ pub fn verify_batch_with_buffers<'a>(
     scratch: &mut [u32],
     cores: &mut CoreCount,
 )
-    ensures statuses { let decoy = decoy_reading (wanted log_n r p key_len) salt.now in
-        statuses.new ≡ statuses_in (workspace_of chunks.old table.old scratch.old)
-        (login_attempt decoy password.now text.now unknown ∷ login_attempt decoy password_2.now text_2.now unknown_2
-        ∷ login_attempt decoy password_3.now text_3.now unknown_3
-        ∷ login_attempt decoy password_4.now text_4.now unknown_4 ∷ []) }
-    ensures left { let decoy = decoy_reading (wanted log_n r p key_len) salt.now in
-        AreLeft (login_attempt decoy password.now text.now unknown ∷ login_attempt decoy password_2.now text_2.now unknown_2
-        ∷ login_attempt decoy password_3.now text_3.now unknown_3
-        ∷ login_attempt decoy password_4.now text_4.now unknown_4 ∷ [])
-        (workspace_of chunks.old table.old scratch.old) (workspace_of chunks.new table.new scratch.new) }
-    ensures counted { let decoy = decoy_reading (wanted log_n r p key_len) salt.now in
-        let before = workspace_of chunks.old table.old scratch.old in
-        let these : List Attempt = login_attempt decoy password.now text.now unknown ∷ login_attempt decoy
-        password_2.now text_2.now unknown_2
-        ∷ login_attempt decoy password_3.now text_3.now unknown_3
-        ∷ login_attempt decoy password_4.now text_4.now unknown_4 ∷ [] in
-        AreCounted (sum_by (cores_on before) these) cores.old cores.new }
-    ensures hashed { let decoy = decoy_reading (wanted log_n r p key_len) salt.now in
-        let before = workspace_of chunks.old table.old scratch.old in
-        let these : List Attempt = login_attempt decoy password.now text.now unknown ∷ login_attempt decoy
-        password_2.now text_2.now unknown_2
-        ∷ login_attempt decoy password_3.now text_3.now unknown_3
-        ∷ login_attempt decoy password_4.now text_4.now unknown_4 ∷ [] in
-        AreCompressed (sum_by (hashed_on before) these) cores.old cores.new }
+    ensures verified { AreVerified (batch_of (decoy_reading (wanted log_n r p key_len) salt.now)
+        ((password.now, text.now, unknown) ∷ (password_2.now, text_2.now, unknown_2)
+        ∷ (password_3.now, text_3.now, unknown_3) ∷ (password_4.now, text_4.now, unknown_4) ∷ []))
+        (workspace_of chunks.old table.old scratch.old) (workspace_of chunks.new table.new scratch.new) statuses.new }
+    ensures work { IsWorkOn (batch_of (decoy_reading (wanted log_n r p key_len) salt.now)
+        ((password.now, text.now, unknown) ∷ (password_2.now, text_2.now, unknown_2)
+        ∷ (password_3.now, text_3.now, unknown_3) ∷ (password_4.now, text_4.now, unknown_4) ∷ []))
+        (workspace_of chunks.old table.old scratch.old) cores.old cores.new }
 {
     let logins = [
         login(password, text, unknown, salt, log_n, r, p, key_len),

@@ -3,7 +3,7 @@
 ghost use Rattle.std.specs.Prelude.{◌≡◌};
 ghost use Rattle.password_hash.specs.Refusal.{refusal};
 ghost use Rattle.scrypt.specs.WithinLimits.{limited_refusal, with_limited_refusal};
-ghost use Rattle.scrypt_c.specs.Statuses.{buffers_status, refusal_status, short_status, unread_status};
+ghost use Rattle.scrypt_c.specs.Statuses.{refusal_status, result_status, unread_status};
 
 use password_hash::Error;
 use scrypt::LimitedError;
@@ -103,7 +103,7 @@ pub(crate) fn unread_status_of(error: Error) -> i32
     }
 }
 
-// Returns the status of an error of a call with limits.
+// Returns the status of an error of a call with limits or in the caller's buffers.
 pub(crate) fn limited_status_of(error: LimitedError) -> i32
     ensures { result ≡ refusal_status (limited_refusal error) }
 {
@@ -111,26 +111,16 @@ pub(crate) fn limited_status_of(error: LimitedError) -> i32
         LimitedError::Hash(error) => status_of(error),
         LimitedError::TooCostly { .. } => TOO_COSTLY,
         LimitedError::KeyTooShort { .. } => KEY_TOO_SHORT,
+        LimitedError::BufferTooShort => BUFFER_SIZE,
     }
 }
 
 // Returns the status of a verdict in the caller's buffers.
 pub(crate) fn verdict_status(verdict: Result<(), LimitedError>) -> i32
-    ensures { result ≡ buffers_status (with_limited_refusal verdict) }
+    ensures { result ≡ result_status (with_limited_refusal verdict) }
 {
     match verdict {
         Ok(()) => OK,
-        Err(LimitedError::Hash(error)) => short_status_of(error),
         Err(error) => limited_status_of(error),
-    }
-}
-
-// Returns the status of an error in the caller's buffers.
-pub(crate) fn short_status_of(error: Error) -> i32
-    ensures { result ≡ short_status (refusal error) }
-{
-    match error {
-        Error::OutOfMemory => BUFFER_SIZE,
-        _ => status_of(error),
     }
 }

@@ -12,7 +12,7 @@ ghost use Rattle.scrypt_c.specs.Made.{IsTooLong, IsWrittenTo};
 use crate::statuses::{BUFFER_SIZE, INVALID_OUTPUT_LEN, INVALID_PARAMS, OK, SALT_INVALID};
 use crate::texts::copy_to;
 use password_hash::Error;
-use scrypt::{Params, mcf, phc};
+use scrypt::{LimitedError, Params, mcf, phc};
 
 /// Writes the PHC string of this salt and this key, which any program has derived with these
 /// parameters, to the start of `text`, and its length to `text_len`. Nothing is allocated.
@@ -99,8 +99,8 @@ pub extern "C" fn scrypt_stored_mcf(
             *text_len = len;
             OK
         }
-        Err(Error::SaltInvalid) => SALT_INVALID,
-        Err(Error::OutputSize) => INVALID_OUTPUT_LEN,
+        Err(LimitedError::Hash(Error::SaltInvalid)) => SALT_INVALID,
+        Err(LimitedError::Hash(Error::OutputSize)) => INVALID_OUTPUT_LEN,
         Err(_) => BUFFER_SIZE,
     }
 }

@@ -1,20 +1,16 @@
 //! Verifying in steps, in the caller's buffers. The steps are those of a key.
 
-ghost use Rattle.std.specs.Prelude.{◌≡◌, ◌≢◌, ◌⊎◌, ◌↔◌, List, ℕ, length, IfOk, OnErr};
-ghost use Rattle.scrypt.specs.Cost.{AreHashed, chunks_bytes, pbkdf2_cost};
-ghost use Rattle.scrypt.specs.Reading.{verdict};
-ghost use Rattle.scrypt.specs.Stepping.{IsUnderWay};
+ghost use Rattle.std.specs.Prelude.{◌≡◌, ◌≢◌, ◌⊎◌, length, IfOk, OnErr};
+ghost use Rattle.scrypt.specs.Terms.{AreHashed, chunks_bytes, pbkdf2_cost};
 ghost use Rattle.scrypt_c.specs.Limits.{limited_reading, params_of};
-ghost use Rattle.scrypt_c.specs.Statuses.{result_status};
-ghost use Rattle.scrypt_c.specs.Steps.{AreForSteps, IsBegun};
+ghost use Rattle.scrypt_c.specs.Steps.{HasBegunVerifying, HasFinishedVerifying, kept_of};
 ghost use Rattle.scrypt_c.specs.Texts.{bytes_reading};
 
 use crate::in_steps::are_for_steps;
 use crate::statuses::{BUFFER_SIZE, OK, UNFINISHED, limited_status_of, status_of};
-use crate::target::Target;
 use crate::texts::{limited_hash, stored_hash, whole_params};
 use scrypt::steps::begin;
-use scrypt::{Backend, BufferLens, CoreCount, Progress, Size};
+use scrypt::{Backend, BufferLens, CoreCount, Progress, Size, Target};
 
 /// Begins verifying a password against the text of a hash, in steps, if the cost of the hash is
 /// within the limits. Continue with `scrypt_key_step`, with the parameters that this call writes;
@@ -37,20 +33,10 @@ pub extern "C" fn scrypt_verify_begin(
     scratch: &mut [u32],
     at: &mut Progress,
 ) -> i32
-    ensures refused { OnErr (limited_reading max_mem max_work min_key_len text.now)
-        (result ≡ result_status (limited_reading max_mem max_work min_key_len text.now)) }
-    ensures status { IfOk (limited_reading max_mem max_work min_key_len text.now)
-        (λ s. (result ≡ OK) ⊎ (result ≡ BUFFER_SIZE)) }
-    ensures buffers { IfOk (limited_reading max_mem max_work min_key_len text.now)
-        (λ s. (result ≡ BUFFER_SIZE) ↔ ¬ AreForSteps s.params 1 chunks.old table.old scratch.old) }
-    ensures params { result ≡ OK → IfOk (bytes_reading text.now)
-        (λ s. (log_n.new ≡ s.params.log_n) × (r.new ≡ s.params.r) × (p.new ≡ s.params.p)) }
-    ensures begun { result ≡ OK → IfOk (bytes_reading text.now)
-        (λ s. IsBegun ⟦<Target as Backend>⟧.most ⟦<Target as Backend>⟧.scalar
-        password.now s.salt (params_of log_n.new r.new p.new) at.new chunks.new table.new scratch.new) }
-    ensures unchanged { result ≢ OK
-        → (chunks.new ≡ chunks.old) × (table.new ≡ table.old) × (scratch.new ≡ scratch.old)
-        × (at.new ≡ at.old) × (log_n.new ≡ log_n.old) × (r.new ≡ r.old) × (p.new ≡ p.old) }
+    ensures begun { HasBegunVerifying ⟦<Target as Backend>⟧.most ⟦<Target as Backend>⟧.scalar
+        password.now (bytes_reading text.now) (limited_reading max_mem max_work min_key_len text.now)
+        (params_of log_n.old r.old p.old) (params_of log_n.new r.new p.new)
+        (kept_of chunks.old table.old scratch.old at.old) (kept_of chunks.new table.new scratch.new at.new) result }
 {
     let cores = &mut CoreCount::new();
     verify_begin(
@@ -86,20 +72,10 @@ pub fn verify_begin(
     at: &mut Progress,
     cores: &mut CoreCount,
 ) -> i32
-    ensures refused { OnErr (limited_reading max_mem max_work min_key_len text.now)
-        (result ≡ result_status (limited_reading max_mem max_work min_key_len text.now)) }
-    ensures status { IfOk (limited_reading max_mem max_work min_key_len text.now)
-        (λ s. (result ≡ OK) ⊎ (result ≡ BUFFER_SIZE)) }
-    ensures buffers { IfOk (limited_reading max_mem max_work min_key_len text.now)
-        (λ s. (result ≡ BUFFER_SIZE) ↔ ¬ AreForSteps s.params 1 chunks.old table.old scratch.old) }
-    ensures params { result ≡ OK → IfOk (bytes_reading text.now)
-        (λ s. (log_n.new ≡ s.params.log_n) × (r.new ≡ s.params.r) × (p.new ≡ s.params.p)) }
-    ensures begun { result ≡ OK → IfOk (bytes_reading text.now)
-        (λ s. IsBegun ⟦<Target as Backend>⟧.most ⟦<Target as Backend>⟧.scalar
-        password.now s.salt (params_of log_n.new r.new p.new) at.new chunks.new table.new scratch.new) }
-    ensures unchanged { result ≢ OK
-        → (chunks.new ≡ chunks.old) × (table.new ≡ table.old) × (scratch.new ≡ scratch.old)
-        × (at.new ≡ at.old) × (log_n.new ≡ log_n.old) × (r.new ≡ r.old) × (p.new ≡ p.old) }
+    ensures begun { HasBegunVerifying ⟦<Target as Backend>⟧.most ⟦<Target as Backend>⟧.scalar
+        password.now (bytes_reading text.now) (limited_reading max_mem max_work min_key_len text.now)
+        (params_of log_n.old r.old p.old) (params_of log_n.new r.new p.new)
+        (kept_of chunks.old table.old scratch.old at.old) (kept_of chunks.new table.new scratch.new at.new) result }
     ensures counted { result ≡ OK → IfOk (bytes_reading text.now) (λ s. AreHashed
         (pbkdf2_cost (length password.now) (length s.salt) (chunks_bytes s.params.r s.params.p)) cores.old cores.new) }
     ensures uncounted { result ≢ OK → cores.new ≡ cores.old }
@@ -108,10 +84,7 @@ pub fn verify_begin(
         Ok(hash) => hash,
         Err(error) => return limited_status_of(error),
     };
-    let Ok((params, _)) = whole_params(&hash) else {
-        unreachable!();
-    };
-    let Ok(salt) = hash.salt() else {
+    let (Ok((params, _)), Ok(salt)) = (whole_params(&hash), hash.salt()) else {
         unreachable!();
     };
     if !are_for_steps(&params, 1, chunks, table, scratch) {
@@ -136,15 +109,7 @@ pub extern "C" fn scrypt_verify_finish(
     chunks: &[u8],
     at: &Progress,
 ) -> i32
-    ensures unread { OnErr (bytes_reading text.now) (result ≡ result_status (bytes_reading text.now)) }
-    ensures buffers { IfOk (bytes_reading text.now)
-        (λ s. (result ≡ BUFFER_SIZE) ↔ (length chunks.now ≢ chunks_bytes s.params.r s.params.p)) }
-    ensures unfinished { IfOk (bytes_reading text.now) (λ s. (result ≡ UNFINISHED)
-        ↔ ((length chunks.now ≡ chunks_bytes s.params.r s.params.p) × (at.now.chunks ≢ s.params.p))) }
-    ensures verdict { result ≢ BUFFER_SIZE → result ≢ UNFINISHED → (table scratch : List ℕ)
-        → IfOk (bytes_reading text.now) (λ s. IsUnderWay password.now s.salt
-        (params_of s.params.log_n s.params.r s.params.p) at.now chunks.now table scratch)
-        → result ≡ result_status (verdict password.now (bytes_reading text.now)) }
+    ensures finished { HasFinishedVerifying password.now (bytes_reading text.now) chunks.now at.now result }
 {
     let cores = &mut CoreCount::new();
     verify_finish(password, text, chunks, at, cores)
@@ -158,15 +123,7 @@ pub fn verify_finish(
     at: &Progress,
     cores: &mut CoreCount,
 ) -> i32
-    ensures unread { OnErr (bytes_reading text.now) (result ≡ result_status (bytes_reading text.now)) }
-    ensures buffers { IfOk (bytes_reading text.now)
-        (λ s. (result ≡ BUFFER_SIZE) ↔ (length chunks.now ≢ chunks_bytes s.params.r s.params.p)) }
-    ensures unfinished { IfOk (bytes_reading text.now) (λ s. (result ≡ UNFINISHED)
-        ↔ ((length chunks.now ≡ chunks_bytes s.params.r s.params.p) × (at.now.chunks ≢ s.params.p))) }
-    ensures verdict { result ≢ BUFFER_SIZE → result ≢ UNFINISHED → (table scratch : List ℕ)
-        → IfOk (bytes_reading text.now) (λ s. IsUnderWay password.now s.salt
-        (params_of s.params.log_n s.params.r s.params.p) at.now chunks.now table scratch)
-        → result ≡ result_status (verdict password.now (bytes_reading text.now)) }
+    ensures finished { HasFinishedVerifying password.now (bytes_reading text.now) chunks.now at.now result }
     ensures counted { result ≢ BUFFER_SIZE → result ≢ UNFINISHED → IfOk (bytes_reading text.now) (λ s. AreHashed
         (pbkdf2_cost (length password.now) (chunks_bytes s.params.r s.params.p) (length s.key)) cores.old cores.new) }
     ensures unread_uncounted { OnErr (bytes_reading text.now) (cores.new ≡ cores.old) }

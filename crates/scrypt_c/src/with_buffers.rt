@@ -4,25 +4,18 @@
 //! prefixes of the chunks and of the scratch are zeros, the prefix of the table is unspecified, and
 //! nothing after them has changed. Without one the buffers are unchanged.
 
-ghost use Rattle.std.specs.Prelude.{◌≡◌, ◌≢◌, ◌↔◌, ◌⊎◌, length, replicate, IsTrue};
-ghost use Rattle.password_hash.specs.Crypt64.{crypt64_of};
-ghost use Rattle.password_hash.specs.Phc.{hash_text};
-ghost use Rattle.scrypt.specs.Cost.{AreCompressed, AreCounted, cost, hash_cost};
-ghost use Rattle.scrypt.specs.InBuffers.{are_enough};
-ghost use Rattle.scrypt.specs.McfHash.{made_mcf};
-ghost use Rattle.scrypt.specs.PhcHash.{is_salt_len, made_phc};
-ghost use Rattle.scrypt.specs.StoredHash.{reading};
-ghost use Rattle.scrypt.specs.Workspace.{IsDone, IsLeft, cores_in, hashed_in, verdict_in, workspace_of};
+ghost use Rattle.std.specs.Prelude.{◌≡◌, ◌⊎◌, length, replicate, ⊤, IsTrue};
+ghost use Rattle.scrypt.specs.Terms.{AreCompressed, AreCounted, IsLeft, are_enough, cores_in, cost, crypt64_of};
+ghost use Rattle.scrypt.specs.Terms.{hash_cost, hash_text, hashed_in, is_salt_len, made_mcf, made_phc, verdict_in};
+ghost use Rattle.scrypt.specs.Terms.{workspace_of};
+ghost use Rattle.scrypt_c.specs.Keys.{IsUsed, IsWork};
 ghost use Rattle.scrypt_c.specs.Limits.{limited_reading};
-ghost use Rattle.scrypt_c.specs.Made.{AreHashParams, IsTooShort, IsWritten, wanted};
-ghost use Rattle.scrypt_c.specs.Statuses.{buffers_status};
+ghost use Rattle.scrypt_c.specs.Made.{AreHashParams, HasHashed, wanted};
+ghost use Rattle.scrypt_c.specs.Statuses.{result_status};
 
-use crate::statuses::{
-    BUFFER_SIZE, INVALID_PARAMS, OK, SALT_INVALID, short_status_of, verdict_status,
-};
-use crate::target::Target;
+use crate::statuses::{BUFFER_SIZE, INVALID_PARAMS, OK, SALT_INVALID, verdict_status};
 use crate::texts::{copy_to, limited_hash};
-use scrypt::{CoreCount, Params, Size, StoredHash, mcf, phc, wipe};
+use scrypt::{CoreCount, Params, Size, Target, mcf, phc, wipe};
 
 /// Does what `scrypt_hash_phc` does, in the caller's buffers.
 ///
@@ -46,20 +39,13 @@ pub extern "C" fn scrypt_hash_phc_with_buffers(
     table: &mut [u32],
     scratch: &mut [u32],
 ) -> i32
-    ensures made { result ≡ OK
-        → IsWritten (hash_text (made_phc (wanted log_n r p key_len) password.now salt.now)) text.old text.new text_len.new }
-    ensures params { (result ≡ INVALID_PARAMS) ↔ (¬ AreHashParams log_n r p key_len) }
-    ensures salt { (result ≡ SALT_INVALID) ↔ (AreHashParams log_n r p key_len × ¬ IsTrue (is_salt_len (length salt.now))) }
-    ensures buffers { result ≡ OK → IsTrue (are_enough (wanted log_n r p key_len) chunks.old table.old scratch.old) }
-    ensures size { result ≡ BUFFER_SIZE
-        → IsTooShort (hash_text (made_phc (wanted log_n r p key_len) password.now salt.now))
-        (IsTrue (are_enough (wanted log_n r p key_len) chunks.old table.old scratch.old)) text.old text_len.old text_len.new }
+    ensures made { HasHashed (hash_text (made_phc (wanted log_n r p key_len) password.now salt.now))
+        (AreHashParams log_n r p key_len) (IsTrue (is_salt_len (length salt.now)))
+        (IsTrue (are_enough (wanted log_n r p key_len) chunks.old table.old scratch.old))
+        text.old text.new text_len.old text_len.new result }
     ensures status { (result ≡ OK) ⊎ (result ≡ INVALID_PARAMS) ⊎ (result ≡ SALT_INVALID) ⊎ (result ≡ BUFFER_SIZE) }
-    ensures used { result ≡ OK → IsDone (wanted log_n r p key_len)
-        (workspace_of chunks.old table.old scratch.old) (workspace_of chunks.new table.new scratch.new) }
-    ensures unchanged { result ≢ OK → (text.new ≡ text.old) × (chunks.new ≡ chunks.old) × (table.new ≡ table.old)
-        × (scratch.new ≡ scratch.old) }
-    ensures len { (result ≡ INVALID_PARAMS) ⊎ (result ≡ SALT_INVALID) → text_len.new ≡ text_len.old }
+    ensures used { IsUsed (wanted log_n r p key_len) (workspace_of chunks.old table.old scratch.old)
+        (workspace_of chunks.new table.new scratch.new) result }
 {
     let cores = &mut CoreCount::new();
     hash_phc_with_buffers(
@@ -83,24 +69,15 @@ pub fn hash_phc_with_buffers(
     scratch: &mut [u32],
     cores: &mut CoreCount,
 ) -> i32
-    ensures made { result ≡ OK
-        → IsWritten (hash_text (made_phc (wanted log_n r p key_len) password.now salt.now)) text.old text.new text_len.new }
-    ensures params { (result ≡ INVALID_PARAMS) ↔ (¬ AreHashParams log_n r p key_len) }
-    ensures salt { (result ≡ SALT_INVALID) ↔ (AreHashParams log_n r p key_len × ¬ IsTrue (is_salt_len (length salt.now))) }
-    ensures buffers { result ≡ OK → IsTrue (are_enough (wanted log_n r p key_len) chunks.old table.old scratch.old) }
-    ensures size { result ≡ BUFFER_SIZE
-        → IsTooShort (hash_text (made_phc (wanted log_n r p key_len) password.now salt.now))
-        (IsTrue (are_enough (wanted log_n r p key_len) chunks.old table.old scratch.old)) text.old text_len.old text_len.new }
+    ensures made { HasHashed (hash_text (made_phc (wanted log_n r p key_len) password.now salt.now))
+        (AreHashParams log_n r p key_len) (IsTrue (is_salt_len (length salt.now)))
+        (IsTrue (are_enough (wanted log_n r p key_len) chunks.old table.old scratch.old))
+        text.old text.new text_len.old text_len.new result }
     ensures status { (result ≡ OK) ⊎ (result ≡ INVALID_PARAMS) ⊎ (result ≡ SALT_INVALID) ⊎ (result ≡ BUFFER_SIZE) }
-    ensures used { result ≡ OK → IsDone (wanted log_n r p key_len)
-        (workspace_of chunks.old table.old scratch.old) (workspace_of chunks.new table.new scratch.new) }
-    ensures counted { result ≡ OK → AreCounted (cost log_n r p) cores.old cores.new }
-    ensures hashed { result ≡ OK → AreCompressed (hash_cost (length password.now) (length salt.now) r p key_len)
-        cores.old cores.new }
-    ensures unchanged { result ≢ OK → (text.new ≡ text.old) × (chunks.new ≡ chunks.old) × (table.new ≡ table.old)
-        × (scratch.new ≡ scratch.old) }
-    ensures len { (result ≡ INVALID_PARAMS) ⊎ (result ≡ SALT_INVALID) → text_len.new ≡ text_len.old }
-    ensures uncounted { result ≢ OK → cores.new ≡ cores.old }
+    ensures used { IsUsed (wanted log_n r p key_len) (workspace_of chunks.old table.old scratch.old)
+        (workspace_of chunks.new table.new scratch.new) result }
+    ensures work { IsWork (cost log_n r p) (hash_cost (length password.now) (length salt.now) r p key_len)
+        cores.old cores.new result }
 {
     let Ok(params) = Params::new_with_output_len(log_n, r, p, key_len) else {
         return INVALID_PARAMS;
@@ -136,19 +113,13 @@ pub extern "C" fn scrypt_hash_mcf_with_buffers(
     table: &mut [u32],
     scratch: &mut [u32],
 ) -> i32
-    ensures made { result ≡ OK
-        → IsWritten (made_mcf (wanted log_n r p key_len) password.now salt.now) text.old text.new text_len.new }
-    ensures params { (result ≡ INVALID_PARAMS) ↔ (¬ AreHashParams log_n r p key_len) }
-    ensures buffers { result ≡ OK → IsTrue (are_enough (wanted log_n r p key_len) chunks.old table.old scratch.old) }
-    ensures size { result ≡ BUFFER_SIZE
-        → IsTooShort (made_mcf (wanted log_n r p key_len) password.now salt.now)
-        (IsTrue (are_enough (wanted log_n r p key_len) chunks.old table.old scratch.old)) text.old text_len.old text_len.new }
+    ensures made { HasHashed (made_mcf (wanted log_n r p key_len) password.now salt.now)
+        (AreHashParams log_n r p key_len) ⊤
+        (IsTrue (are_enough (wanted log_n r p key_len) chunks.old table.old scratch.old))
+        text.old text.new text_len.old text_len.new result }
     ensures status { (result ≡ OK) ⊎ (result ≡ INVALID_PARAMS) ⊎ (result ≡ BUFFER_SIZE) }
-    ensures used { result ≡ OK → IsDone (wanted log_n r p key_len)
-        (workspace_of chunks.old table.old scratch.old) (workspace_of chunks.new table.new scratch.new) }
-    ensures unchanged { result ≢ OK → (text.new ≡ text.old) × (chunks.new ≡ chunks.old) × (table.new ≡ table.old)
-        × (scratch.new ≡ scratch.old) }
-    ensures len { result ≡ INVALID_PARAMS → text_len.new ≡ text_len.old }
+    ensures used { IsUsed (wanted log_n r p key_len) (workspace_of chunks.old table.old scratch.old)
+        (workspace_of chunks.new table.new scratch.new) result }
 {
     let cores = &mut CoreCount::new();
     hash_mcf_with_buffers(
@@ -172,23 +143,15 @@ pub fn hash_mcf_with_buffers(
     scratch: &mut [u32],
     cores: &mut CoreCount,
 ) -> i32
-    ensures made { result ≡ OK
-        → IsWritten (made_mcf (wanted log_n r p key_len) password.now salt.now) text.old text.new text_len.new }
-    ensures params { (result ≡ INVALID_PARAMS) ↔ (¬ AreHashParams log_n r p key_len) }
-    ensures buffers { result ≡ OK → IsTrue (are_enough (wanted log_n r p key_len) chunks.old table.old scratch.old) }
-    ensures size { result ≡ BUFFER_SIZE
-        → IsTooShort (made_mcf (wanted log_n r p key_len) password.now salt.now)
-        (IsTrue (are_enough (wanted log_n r p key_len) chunks.old table.old scratch.old)) text.old text_len.old text_len.new }
+    ensures made { HasHashed (made_mcf (wanted log_n r p key_len) password.now salt.now)
+        (AreHashParams log_n r p key_len) ⊤
+        (IsTrue (are_enough (wanted log_n r p key_len) chunks.old table.old scratch.old))
+        text.old text.new text_len.old text_len.new result }
     ensures status { (result ≡ OK) ⊎ (result ≡ INVALID_PARAMS) ⊎ (result ≡ BUFFER_SIZE) }
-    ensures used { result ≡ OK → IsDone (wanted log_n r p key_len)
-        (workspace_of chunks.old table.old scratch.old) (workspace_of chunks.new table.new scratch.new) }
-    ensures counted { result ≡ OK → AreCounted (cost log_n r p) cores.old cores.new }
-    ensures hashed { result ≡ OK → AreCompressed (hash_cost (length password.now) (length (crypt64_of salt.now)) r
-        p key_len) cores.old cores.new }
-    ensures unchanged { result ≢ OK → (text.new ≡ text.old) × (chunks.new ≡ chunks.old) × (table.new ≡ table.old)
-        × (scratch.new ≡ scratch.old) }
-    ensures len { result ≡ INVALID_PARAMS → text_len.new ≡ text_len.old }
-    ensures uncounted { result ≢ OK → cores.new ≡ cores.old }
+    ensures used { IsUsed (wanted log_n r p key_len) (workspace_of chunks.old table.old scratch.old)
+        (workspace_of chunks.new table.new scratch.new) result }
+    ensures work { IsWork (cost log_n r p) (hash_cost (length password.now) (length (crypt64_of salt.now)) r p key_len)
+        cores.old cores.new result }
 {
     let Ok(params) = Params::new_with_output_len(log_n, r, p, key_len) else {
         return INVALID_PARAMS;
@@ -198,16 +161,13 @@ pub fn hash_mcf_with_buffers(
         *text_len = len;
         return BUFFER_SIZE;
     }
-    let hashed = mcf::hash_with_buffers::<Target>(
+    let Ok(len) = mcf::hash_with_buffers::<Target>(
         password, salt, &params, text, chunks, table, scratch, cores,
-    );
-    match hashed {
-        Ok(len) => {
-            *text_len = len;
-            OK
-        }
-        Err(_) => BUFFER_SIZE,
-    }
+    ) else {
+        return BUFFER_SIZE;
+    };
+    *text_len = len;
+    OK
 }
 
 /// Does what `scrypt_verify_limited` does, in the caller's buffers. A key is derived if keys are
@@ -228,7 +188,7 @@ pub extern "C" fn scrypt_verify_limited_with_buffers(
     table: &mut [u32],
     scratch: &mut [u32],
 ) -> i32
-    ensures status { result ≡ buffers_status (verdict_in (workspace_of chunks.old table.old scratch.old) password.now
+    ensures status { result ≡ result_status (verdict_in (workspace_of chunks.old table.old scratch.old) password.now
         (limited_reading max_mem max_work min_key_len text.now)) }
     ensures left { IsLeft (limited_reading max_mem max_work min_key_len text.now)
         (workspace_of chunks.old table.old scratch.old) (workspace_of chunks.new table.new scratch.new) }
@@ -260,7 +220,7 @@ pub fn verify_limited_with_buffers(
     scratch: &mut [u32],
     cores: &mut CoreCount,
 ) -> i32
-    ensures status { result ≡ buffers_status (verdict_in (workspace_of chunks.old table.old scratch.old) password.now
+    ensures status { result ≡ result_status (verdict_in (workspace_of chunks.old table.old scratch.old) password.now
         (limited_reading max_mem max_work min_key_len text.now)) }
     ensures left { IsLeft (limited_reading max_mem max_work min_key_len text.now)
         (workspace_of chunks.old table.old scratch.old) (workspace_of chunks.new table.new scratch.new) }
@@ -270,35 +230,11 @@ pub fn verify_limited_with_buffers(
         AreCompressed (hashed_in (workspace_of chunks.old table.old scratch.old) password.now reading) cores.old
         cores.new }
 {
-    match limited_hash(text, max_mem, max_work, min_key_len) {
-        Ok(hash) => verify(password, &hash, chunks, table, scratch, cores),
-        Err(error) => verdict_status(Err(error)),
-    }
-}
-
-// Verifies a password against a hash that was read.
-fn verify(
-    password: &[u8],
-    hash: &StoredHash<'_>,
-    chunks: &mut [u8],
-    table: &mut [u32],
-    scratch: &mut [u32],
-    cores: &mut CoreCount,
-) -> i32
-    ensures status { result
-        ≡ buffers_status (verdict_in (workspace_of chunks.old table.old scratch.old)
-        password.now (reading hash.now)) }
-    ensures left { IsLeft (reading hash.now) (workspace_of chunks.old table.old scratch.old)
-        (workspace_of chunks.new table.new scratch.new) }
-    ensures counted { AreCounted (cores_in (workspace_of chunks.old table.old scratch.old) (reading hash.now))
-        cores.old cores.new }
-    ensures hashed { AreCompressed (hashed_in (workspace_of chunks.old table.old scratch.old) password.now (reading
-        hash.now)) cores.old cores.new }
-{
-    match hash.verify_with_buffers::<Target>(password, chunks, table, scratch, cores) {
-        Ok(()) => OK,
-        Err(error) => short_status_of(error),
-    }
+    let hash = match limited_hash(text, max_mem, max_work, min_key_len) {
+        Ok(hash) => hash,
+        Err(error) => return verdict_status(Err(error)),
+    };
+    verdict_status(hash.verify_with_buffers::<Target>(password, chunks, table, scratch, cores))
 }
 
 /// Writes zeros to the buffers of a derivation.

@@ -18,10 +18,7 @@ use crate::invocation::Machine;
 use crate::limit_options::LimitOptions;
 use crate::progress::derive_shown;
 use password_hash::Error;
-use scrypt::{
-    Backend, CoreCount, DeriveError, LimitedError, Limits, Params, StoredHash, mcf, phc,
-    scrypt_with_max_mem,
-};
+use scrypt::{CoreCount, LimitedError, Limits, Params, Simd, StoredHash, mcf, phc, scrypt};
 use std::alloc::Global;
 
 /// The answer to a command.
@@ -72,7 +69,7 @@ impl<'a> Command<'a> {
         match self {
             Command::Make(making) => make::<M>(alloc, shown_by, password, making),
             Command::Verify(hash, wanted) => {
-                if !verify::<M>(alloc, hash, password, limits_by(options, wanted), cores)? {
+                if !verify(alloc, hash, password, limits_by(options, wanted), cores)? {
                     return Ok(Answer::Wrong);
                 }
                 replace::<M>(alloc, shown_by, hash, password, wanted)
@@ -112,7 +109,7 @@ fn replace<M: Machine>(
 }
 
 // Returns whether the password matches the hash. A hash that exceeds the limits is an error.
-fn verify<M: Machine>(
+fn verify(
     alloc: Global,
     hash: &StoredHash<'_>,
     password: &[u8],
@@ -124,7 +121,7 @@ fn verify<M: Machine>(
     ensures cores { AreOfHash password.now (bounded limits (reading hash.now))
         (IsErrOf result OutOfMemory) cores.old cores.new }
 {
-    match verify_within::<M::Backend>(alloc, hash, password, limits, cores) {
+    match verify_within(alloc, hash, password, limits, cores) {
         Ok(()) => Ok(true),
         Err(LimitedError::Hash(Error::PasswordInvalid)) => Ok(false),
         Err(why) => Err(CliError::of(why, limits.unwrap_or(Limits::DEFAULT))),
@@ -132,7 +129,7 @@ fn verify<M: Machine>(
 }
 
 // Verifies the password against the hash, if the hash is within the limits.
-fn verify_within<M: Backend>(
+fn verify_within(
     alloc: Global,
     hash: &StoredHash<'_>,
     password: &[u8],
@@ -146,10 +143,7 @@ fn verify_within<M: Backend>(
     if let Some(limits) = limits {
         hash.within(&limits)?;
     }
-    match hash.verify_counted::<M>(alloc, password, cores) {
-        Ok(()) => Ok(()),
-        Err(refused) => Err(LimitedError::Hash(refused)),
-    }
+    Ok(hash.verify_counted::<Simd>(alloc, password, cores)?)
 }
 
 // Makes a key or a hash from the password.
@@ -167,7 +161,7 @@ fn make<M: Machine>(
             key::<M>(alloc, shown_by, password, salt, params, len, is_raw)
         }
         Target::Hash { format } => {
-            let mut text = make_hash::<M::Backend>(alloc, password, salt, params, format)?;
+            let mut text = make_hash(alloc, password, salt, params, format)?;
             text.push('\n')?;
             Ok(Answer::Made(text.into_bytes()))
         }
@@ -176,7 +170,7 @@ fn make<M: Machine>(
 
 // Returns the text of the hash of this format.
 #[tactic(auto, using(crate::proofs::OutcomeFacts::phc_refused))]
-fn make_hash<M: Backend>(
+fn make_hash(
     alloc: Global,
     password: &[u8],
     salt: &[u8],
@@ -187,11 +181,11 @@ fn make_hash<M: Backend>(
 {
     match format {
         Format::Phc => {
-            let hash = phc::hash::<M>(alloc, password, salt, params, &mut CoreCount::new())?;
+            let hash = phc::hash::<Simd>(alloc, password, salt, params, &mut CoreCount::new())?;
             Ok(hash.to_string(alloc)?)
         }
         Format::Mcf => {
-            let hash = mcf::hash::<M>(alloc, password, salt, params, &mut CoreCount::new())?;
+            let hash = mcf::hash::<Simd>(alloc, password, salt, params, &mut CoreCount::new())?;
             Ok(hash.into_string())
         }
     }
@@ -214,7 +208,7 @@ fn key<M: Machine>(
     // The length is allowed, so this fails only if an allocation does.
     let derived = match shown_by {
         Some(machine) => derive_shown::<M>(alloc, machine, password, salt, params, &mut key),
-        None => derive::<M::Backend>(alloc, password, salt, params, &mut key),
+        None => scrypt(alloc, password, salt, params, &mut key),
     };
     if derived.is_err() {
         return Err(CliError::OutOfMemory);
@@ -226,18 +220,4 @@ fn key<M: Machine>(
     let _ = hex::encode_to_slice(key.as_slice(), &mut line);
     line.extend_from_slice(b"\n")?;
     Ok(Answer::Made(line))
-}
-
-// Derives a key of an allowed length.
-fn derive<M: Backend>(
-    alloc: Global,
-    password: &[u8],
-    salt: &[u8],
-    params: &Params,
-    key: &mut [u8],
-) -> std::result::Result<(), DeriveError>
-    ensures { OnOk result (key.new ≡ key_by params.now password.now salt.now (length key.old)) }
-{
-    let mut cores = CoreCount::new();
-    scrypt_with_max_mem::<M>(alloc, password, salt, params, 0, key, &mut cores)
 }

@@ -109,6 +109,7 @@ fn write_refused<F: Write>(faults: &mut F, why: LimitedError, limits: Limits) ->
             faults,
             "hash refused: KeyTooShort, its key has {key_len} bytes, and --min-key-len is {min_key_len}\n"
         ),
+        LimitedError::BufferTooShort => faults.write_all(b""),
     }
 }
 

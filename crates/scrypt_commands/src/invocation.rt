@@ -13,16 +13,12 @@ use crate::error::CliError;
 use crate::options::{NONE, Options, parse_options};
 use crate::run::{Ended, answered, end, run_command, write_line};
 use crate::usage::{HELP, VERSION};
-use scrypt::Backend;
 use std::alloc::Global;
 use std::io;
 use std::io::{Read, Write};
 
 /// The machine that the program runs on.
 pub trait Machine {
-    /// how this machine mixes chunks
-    type Backend: Backend;
-
     /// the salts that it draws
     ghost draws: { Self → List ℕ → Type 0 };
 

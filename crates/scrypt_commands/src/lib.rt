@@ -13,5 +13,3 @@ mod options;
 mod progress;
 pub mod run;
 mod usage;
-
-pub use scrypt::{Backend, Scalar, Simd, SimdPairs};

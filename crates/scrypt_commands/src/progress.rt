@@ -4,7 +4,7 @@ ghost use Rattle.std.specs.Prelude.{◌≡◌, ◌<◌, OnOk, length};
 ghost use Rattle.scrypt.specs.KeyOfParams.{key_by};
 
 use crate::invocation::Machine;
-use scrypt::{BufferLens, Buffers, CoreCount, DeriveError, Params, output_len_ok, scrypt_in_steps};
+use scrypt::{BufferLens, Buffers, DeriveError, Params, output_len_ok};
 use std::alloc::Global;
 
 // With SSE2 three interleaved chunks take the least time.
@@ -40,12 +40,7 @@ pub(crate) fn derive_shown<M: Machine>(
         true
     };
     let count = mixes_of_hundredth(params, all, tables);
-    let (chunks, table, scratch) = (&mut own.chunks, &mut own.table, &mut own.scratch);
-    let mut cores = CoreCount::new();
-    let derived = scrypt_in_steps::<M::Backend, _>(
-        password, salt, params, count, go_on, chunks, table, scratch, key, &mut cores,
-    );
-    match derived {
+    match own.derive_key_in_steps(password, salt, params, count, go_on, key) {
         Ok(()) => Ok(()),
         Err(_) => unreachable!(),
     }

@@ -15,7 +15,7 @@ use crate::command_line::CommandLine;
 use crate::error::{CliError, Result};
 use crate::invocation::Machine;
 use crate::options::NONE;
-use scrypt::{CoreCount, Simd};
+use scrypt::CoreCount;
 use std::alloc::Global;
 use std::io;
 use std::io::{ErrorKind, Read, Write};
@@ -87,8 +87,6 @@ pub(crate) fn run_command<M: Machine, R: Read, W: Write, F: Write>(
 struct Bare;
 
 impl Machine for Bare {
-    type Backend = Simd;
-
     ghost draws = { λ _ _. ⊤ };
 
     fn draw_salt(&self) -> io::Result<[u8; 16]> {

@@ -45,8 +45,7 @@ impl BoundedLogins {
     /// Whether the password matches the stored text. Does not allocate.
     ///
     /// Returns the error of reading the text, `TooCostly` if its parameters exceed the limit on
-    /// memory or on work, and `KeyTooShort` if its key is shorter than the limits allow. It never
-    /// returns `OutOfMemory`.
+    /// memory or on work, and `KeyTooShort` if its key is shorter than the limits allow.
     pub fn log_in(&mut self, stored: &str, password: &[u8]) -> Result<bool, LimitedError>
         ensures limits { self.new ≡ self.old }
         ensures verdict { with_limited_refusal result
@@ -55,21 +54,19 @@ impl BoundedLogins {
         let hash = StoredHash::read(stored)?;
         let verified = match hash.within(&self.limits) {
             Ok(hash) => self.own.verify(hash, password, &mut CoreCount::new()),
-            Err(LimitedError::Hash(error)) => Err(error),
-            Err(error) => return Err(error),
+            Err(error) => Err(error),
         };
         match verified {
             Ok(()) => Ok(true),
-            Err(Error::PasswordInvalid) => Ok(false),
-            Err(error) => Err(LimitedError::Hash(error)),
+            Err(LimitedError::Hash(Error::PasswordInvalid)) => Ok(false),
+            Err(error) => Err(error),
         }
     }
 
     /// The verdicts of two logins, each a stored text and a password. Does not allocate.
     ///
     /// Both keys are derived at once, which takes less time, if the hashes have the same `N` and
-    /// `r` and both fit into the buffers. Neither verdict depends on the other login, and none is
-    /// `OutOfMemory`.
+    /// `r` and both fit into the buffers. Neither verdict depends on the other login.
     pub fn log_in_both(
         &mut self,
         first: (&str, &[u8]),
@@ -114,7 +111,7 @@ fn hash_within<'a>(stored: &'a str, limits: &Limits) -> Result<LoginHash<'a>, Li
 /// Whether the password matches the stored text, in buffers that are kept from login to login.
 ///
 /// Returns the error of reading the text, `TooCostly` if its parameters exceed the limit on memory
-/// or on work, `KeyTooShort` if its key is shorter than the limits allow, and `OutOfMemory` if and
+/// or on work, `KeyTooShort` if its key is shorter than the limits allow, and `BufferTooShort` if and
 /// only if a text within the limits needs longer buffers, which never happens if the buffers
 /// suffice for the limits.
 ///
@@ -152,7 +149,7 @@ pub fn log_in(
     };
     match hash.verify_with_buffers::<Simd>(password, chunks, table, scratch, cores) {
         Ok(()) => Ok(true),
-        Err(Error::PasswordInvalid) => Ok(false),
-        Err(error) => Err(LimitedError::Hash(error)),
+        Err(LimitedError::Hash(Error::PasswordInvalid)) => Ok(false),
+        Err(error) => Err(error),
     }
 }

@@ -10,10 +10,8 @@
 ghost use Rattle.std.specs.Prelude.{⊤};
 
 mod host;
-mod target;
 
 use crate::host::{ExitCode, HostRuntime};
-use crate::target::Target;
 use scrypt_commands::invocation::{Invocation, Machine};
 use std::io::{self, ErrorKind, Write};
 
@@ -53,13 +51,11 @@ fn main(rt: HostRuntime) -> ExitCode {
     ExitCode::from(ended.status)
 }
 
-// The system's random bytes, its processor, and its standard error.
+// The system's random bytes, and its standard error.
 #[derive(Drop)]
 struct System<'a>(&'a HostRuntime);
 
 impl Machine for System<'_> {
-    type Backend = Target;
-
     ghost draws = { λ _ _. ⊤ };
 
     fn draw_salt(&self) -> io::Result<[u8; 16]> {

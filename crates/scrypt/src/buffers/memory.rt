@@ -2,7 +2,7 @@
 
 ghost use Rattle.std.specs.Prelude.{◌≡◌, ◌⊎◌, ◌↔◌, ◌*◌, ◌<◌, length, IfOk, IfSome, IsSome, IsTrue, None};
 ghost use Rattle.scrypt_kernel.specs.Memory.{allocated_room, buffer_room};
-ghost use Rattle.scrypt.specs.Terms.{HasTables, IsAtFront, IsDone, IsKept, IsReady, IsSpent, IsWidth, are_enough};
+ghost use Rattle.scrypt.specs.Terms.{HasTables, IsDone, IsReady, IsSpent, IsWidth, are_enough};
 ghost use Rattle.scrypt.specs.Terms.{chunks_bytes, interleaved_chunks, scratch_words, table_words, tables_within};
 ghost use Rattle.scrypt.specs.Terms.{workspace_of};
 
@@ -90,23 +90,17 @@ pub(crate) fn with_prefix<V, T, F: FnOnce(&mut ActiveBuffers<'_, Buffer<'_>>, &m
     requires callable { (used : _) (shown : _)
         → IsReady buffer_room params.now.log_n 0 params.now.r count used.now → shown.now ≡ output.old
         → F.pre derive used shown }
-    requires keeps { (used : _) (shown : _) (made : T) (after : _) (left : _)
+    requires spends { (used : _) (shown : _) (made : T) (after : _) (left : _)
         → IsReady buffer_room params.now.log_n 0 params.now.r count used.now
-        → F.post derive used shown made after left → IsKept buffer_room used.now after.now }
+        → F.post derive used shown made after left → IsSpent buffer_room used.now after.now }
     ensures exact { IsSome result
         ↔ IsTrue (are_enough (record params.now { p = count }) chunks.old table.old scratch.old) }
     ensures made { IfSome result (λ made. (used : _) × (shown : _) × (after : _) × (left : _)
         × IsReady buffer_room params.now.log_n 0 params.now.r count used.now
-        × IsAtFront (record params.now { p = count }) used.now after.now
-        (workspace_of chunks.old table.old scratch.old) (workspace_of chunks.new table.new scratch.new)
         × (used.now.cores.now ≡ cores.old) × (after.now.cores.now ≡ cores.new) × (shown.now ≡ output.old)
         × (left.now ≡ output.new) × F.post derive used shown made after left) }
-    ensures done { ((used : _) (shown : _) (made : T) (after : _) (left : _)
-        → IsReady buffer_room params.now.log_n 0 params.now.r count used.now
-        → F.post derive used shown made after left
-        → IsSpent buffer_room used.now after.now) → IsSome result → IsDone
-        (record params.now { p = count }) (workspace_of chunks.old table.old scratch.old)
-        (workspace_of chunks.new table.new scratch.new) }
+    ensures done { IsSome result → IsDone (record params.now { p = count })
+        (workspace_of chunks.old table.old scratch.old) (workspace_of chunks.new table.new scratch.new) }
     ensures unchanged { result ≡ None
         → (output.new ≡ output.old) × (cores.new ≡ cores.old)
         × (workspace_of chunks.new table.new scratch.new ≡ workspace_of chunks.old table.old scratch.old) }

@@ -1,24 +1,22 @@
 // Making `$7$` hashes.
 
-ghost use Rattle.std.specs.Prelude.{◌≡◌, ◌↔◌, ◌⊎◌, ◌+◌, ◌++◌, ◌<◌, ◌≤◌, ◌&&◌, true, nat_le, ℕ, List, if◌then◌else◌, Ok, Err, drop, length, IfOk, IfErr, take, IsErrOf, OnErr, OnOk, IsTrue, IsAscii};
+ghost use Rattle.std.specs.Prelude.{◌≡◌, ◌↔◌, ◌⊎◌, ◌+◌, ◌++◌, ◌<◌, ◌&&◌, true, nat_le, ℕ, List, if◌then◌else◌, Ok, Err, drop, length, IfOk, IfErr, take, IsErrOf, OnErr, OnOk, IsTrue, IsAscii};
 ghost use Rattle.std.specs.Str.{IsUtf8};
 ghost use Rattle.scrypt.specs.Terms.{AreCompressed, AreCounted, IsCopiedTo, IsDone, IsField, IsMcf, IsReady, IsSpent};
 ghost use Rattle.scrypt.specs.Terms.{IsTextOfKey, are_enough, cost_by, crypt64_of, encoded_len, hash_cost};
-ghost use Rattle.scrypt.specs.Terms.{is_output_len, key_len_or_default, made_key, made_mcf, made_text_len, mcf_text};
-ghost use Rattle.scrypt.specs.Terms.{params_text, parts_of_key, with_refusal, workspace_of};
+ghost use Rattle.scrypt.specs.Terms.{is_output_len, key_len_or_default, made_mcf, made_text_len, mcf_text};
+ghost use Rattle.scrypt.specs.Terms.{params_text, parts_of_key, workspace_of};
 ghost use Rattle.password_hash.specs.declared.error.Error.TheVariants.{OutOfMemory, OutputSize, SaltInvalid};
-ghost use Rattle.password_hash.specs.Refusal.{OutOfMemory as NoMemory};
-ghost use Rattle.scrypt_kernel.specs.Memory.{buffer_room};
+ghost use Rattle.scrypt.specs.declared.errors.LimitedError.TheVariants.{BufferTooShort, Hash};
 
-use crate::buffers::memory::{ActiveBuffers, with_prefix};
-use crate::hashing::{key_allocating, stored_key};
+use crate::buffers::memory::{ActiveBuffers, Allocation, with_prefix};
+use crate::hashing::stored_key;
 use crate::mcf::five_letters::five_letters;
-use crate::{Backend, CoreCount, Params, output_len_ok};
+use crate::{Backend, CoreCount, LimitedError, Params, output_len_ok};
 use password_hash::mcf::alphabet::letter;
 use password_hash::mcf::{Base64, PasswordHash};
-use password_hash::phc::Output;
 use password_hash::{Error, Result};
-use scrypt_kernel::memory::Buffer;
+use scrypt_kernel::memory::{Allocated, Buffer, TableMemory};
 use std::alloc::Global;
 
 // The number of bytes before the salt: `$7$` and the eleven letters of the parameters.
@@ -45,36 +43,11 @@ pub fn hash<W: Backend>(
 {
     // The whole text is allocated before the buffers of the derivation.
     let mut text = vec![in alloc; 0u8; hash_len(params, salt)]?;
-    let key = match key_by_letters::<W>(alloc, password, salt, params, &mut text, cores) {
-        Ok(key) => key,
-        Err(error) => return Err(error),
-    };
-    write_text(&mut text, params, salt, &key);
+    // A limit of 0 bytes selects one table.
+    let (w, mut own) = Allocation::allocate_within(alloc, params, 0)?;
+    let mut used = ActiveBuffers::new(w, &mut own.chunks, &mut own.table, &mut own.scratch, cores);
+    fill_with_hash::<Allocated, W>(password, salt, params, &mut text, &mut used);
     Ok(hash_of_text(text))
-}
-
-// Derives the key of a hash. The letters of the salt are the salt of the derivation: they are in
-// `text` until it is written.
-#[tactic(auto, using(crate::proofs::KeyFacts::lengths))]
-fn key_by_letters<W: Backend>(
-    alloc: Global,
-    password: &[u8],
-    salt: &[u8],
-    params: &Params,
-    text: &mut [u8],
-    cores: &mut CoreCount,
-) -> Result<Output>
-    requires { encoded_len (length salt.now) ≤ length text.old }
-    ensures value { IfOk result (λ key. key ≡ made_key params.now password.now salt.now) }
-    ensures counted { OnOk result (AreCounted (cost_by params.now) cores.old cores.new) }
-    ensures hashed { OnOk result (AreCompressed (hash_cost (length password.now) (length (crypt64_of salt.now))
-        params.now.r params.now.p (key_len_or_default params.now)) cores.old cores.new) }
-    ensures memory { IfErr result (λ e. e ≡ OutOfMemory) }
-    ensures uncounted { OnErr result (cores.new ≡ cores.old) }
-{
-    let letters = &mut text[..Base64::Crypt.encoded_len(salt.len())];
-    encode(salt, letters);
-    key_allocating::<W>(alloc, password, letters, params, cores)
 }
 
 /// Returns the length in bytes of the text that hashing with these parameters and this salt makes.
@@ -99,26 +72,6 @@ fn params_letters(params: &Params) -> [u8; PARAMS_LEN]
     letters[4..9].copy_from_slice(&five_letters(params.r()));
     letters[9..].copy_from_slice(&five_letters(params.p()));
     letters
-}
-
-// Writes the text of a hash, which fills `out`.
-#[tactic(auto, using(crate::proofs::McfTextFacts::whole_texts))]
-fn write_text(out: &mut [u8], params: &Params, salt: &[u8], key: &Output)
-    requires len { length out.old ≡ made_text_len params.now (length salt.now) }
-    requires key_len { length key.now ≡ key_len_or_default params.now }
-    ensures made { (password : List ℕ) → key.now ≡ made_key params.now password salt.now
-        → out.new ≡ made_mcf params.now password salt.now }
-    ensures ascii { IsAscii out.new }
-    ensures modular { IsMcf out.new }
-{
-    params.expose_invariant();
-    let (front, rest) = out.split_at_mut(PARAMS_LEN);
-    front.copy_from_slice(&params_letters(params));
-    let (letters, rest) = rest.split_at_mut(Base64::Crypt.encoded_len(salt.len()));
-    encode(salt, letters);
-    let (sign, last) = rest.split_at_mut(1);
-    sign.copy_from_slice(b"$");
-    encode(key.as_bytes(), last);
 }
 
 // Writes the letters that encode `bytes`, which fill `out`.
@@ -151,7 +104,7 @@ fn hash_of_text(text: Vec<u8>) -> PasswordHash
 /// [`StoredHash::verify_with_buffers`](crate::StoredHash::verify_with_buffers) uses and leaves
 /// them.
 ///
-/// Returns `OutOfMemory` exactly if `text` or another buffer is too short, and then changes
+/// Returns `BufferTooShort` exactly if `text` or another buffer is too short, and then changes
 /// nothing.
 #[tactic(auto, using(std::proofs::lemmas::Bool::Decides::nat_tests))]
 pub fn hash_with_buffers<W: Backend>(
@@ -163,10 +116,10 @@ pub fn hash_with_buffers<W: Backend>(
     table: &mut [u32],
     scratch: &mut [u32],
     cores: &mut CoreCount,
-) -> Result<usize>
-    ensures len { with_refusal result ≡ if nat_le (made_text_len params.now (length salt.now)) (length text.old)
+) -> std::result::Result<usize, LimitedError>
+    ensures len { result ≡ if nat_le (made_text_len params.now (length salt.now)) (length text.old)
         && are_enough params.now chunks.old table.old scratch.old
-        then Ok (made_text_len params.now (length salt.now)) else Err NoMemory }
+        then Ok (made_text_len params.now (length salt.now)) else Err BufferTooShort }
     ensures made { IfOk result (λ len. text.new ≡ made_mcf params.now password.now salt.now ++ drop len text.old) }
     ensures ascii { IfOk result (λ len. IsAscii (take len text.new)) }
     ensures unwritten { OnErr result (text.new ≡ text.old) }
@@ -181,40 +134,48 @@ pub fn hash_with_buffers<W: Backend>(
 {
     let len = hash_len(params, salt);
     if text.len() < len {
-        return Err(Error::OutOfMemory);
+        return Err(LimitedError::BufferTooShort);
     }
     params.expose_invariant();
     let fill = |used: &mut ActiveBuffers<'_, Buffer<'_>>, text: &mut [u8]| {
-        fill_with_hash::<W>(password, salt, params, text, used)
+        fill_with_hash::<Buffer<'_>, W>(password, salt, params, text, used)
     };
     let (p, text) = (params.p(), &mut text[..len]);
     let made = with_prefix(params, p, chunks, table, scratch, cores, text, fill);
-    made.ok_or(Error::OutOfMemory)?;
+    made.ok_or(LimitedError::BufferTooShort)?;
     Ok(len)
 }
 
-// Hashes a password. The text fills `text`.
-#[tactic(auto, using(crate::proofs::KeyFacts::lengths))]
-fn fill_with_hash<W: Backend>(
+// Hashes a password, in any memory. The text fills `text`. Afterwards the chunks and the scratch are
+// zeros.
+#[tactic(auto, using(crate::proofs::McfTextFacts::whole_texts))]
+fn fill_with_hash<M: TableMemory, W: Backend>(
     password: &[u8],
     salt: &[u8],
     params: &Params,
     text: &mut [u8],
-    used: &mut ActiveBuffers<'_, Buffer<'_>>,
+    used: &mut ActiveBuffers<'_, M>,
 )
     requires len { length text.old ≡ made_text_len params.now (length salt.now) }
-    requires ready { IsReady buffer_room params.now.log_n 0 params.now.r params.now.p used.old }
+    requires ready { IsReady M.room params.now.log_n 0 params.now.r params.now.p used.old }
     ensures made { text.new ≡ made_mcf params.now password.now salt.now }
     ensures ascii { IsAscii text.new }
-    ensures spent { IsSpent buffer_room used.old used.new }
+    ensures modular { IsMcf text.new }
+    ensures spent { IsSpent M.room used.old used.new }
     ensures counted { AreCounted (cost_by params.now) used.old.cores.now used.new.cores.now }
     ensures hashed { AreCompressed (hash_cost (length password.now) (length (crypt64_of salt.now))
         params.now.r params.now.p (key_len_or_default params.now)) used.old.cores.now used.new.cores.now }
 {
-    let letters = &mut text[..Base64::Crypt.encoded_len(salt.len())];
+    params.expose_invariant();
+    let (front, rest) = text.split_at_mut(PARAMS_LEN);
+    front.copy_from_slice(&params_letters(params));
+    // The letters of the salt are the salt of the derivation.
+    let (letters, rest) = rest.split_at_mut(Base64::Crypt.encoded_len(salt.len()));
     encode(salt, letters);
-    let key = stored_key::<Buffer<'_>, W>(password, letters, params, used);
-    write_text(text, params, salt, &key);
+    let key = stored_key::<M, W>(password, letters, params, used);
+    let (sign, last) = rest.split_at_mut(1);
+    sign.copy_from_slice(b"$");
+    encode(key.as_bytes(), last);
 }
 
 /// Writes the text of the hash of this salt and this key, which any program has derived with these
@@ -222,28 +183,33 @@ fn fill_with_hash<W: Backend>(
 /// and stands in the text as it is. The length in `params` is ignored. Does not allocate.
 ///
 /// Returns the first of these errors, and then changes nothing: `SaltInvalid` if `salt` has a `$`,
-/// `OutputSize` if the length of `key` is not allowed, and `OutOfMemory` if `text` is too short.
-pub fn write_hash_of_key(params: &Params, salt: &str, key: &[u8], text: &mut [u8]) -> Result<usize>
+/// `OutputSize` if the length of `key` is not allowed, and `BufferTooShort` if `text` is too short.
+pub fn write_hash_of_key(
+    params: &Params,
+    salt: &str,
+    key: &[u8],
+    text: &mut [u8],
+) -> std::result::Result<usize, LimitedError>
     ensures read { IfOk result (IsCopiedTo
         (λ made. IsUtf8 made × IsTextOfKey true params.now salt.now key.now made) text.old text.new) }
-    ensures salt { IsErrOf result SaltInvalid ↔ (¬ IsField salt.now) }
-    ensures key { IsErrOf result OutputSize ↔ (IsField salt.now × ¬ IsTrue (is_output_len (length key.now))) }
-    ensures short { IsErrOf result OutOfMemory → (made : List ℕ)
+    ensures salt { IsErrOf result (Hash SaltInvalid) ↔ (¬ IsField salt.now) }
+    ensures key { IsErrOf result (Hash OutputSize) ↔ (IsField salt.now × ¬ IsTrue (is_output_len (length key.now))) }
+    ensures short { IsErrOf result BufferTooShort → (made : List ℕ)
         × IsTextOfKey true params.now salt.now key.now made × (length text.old < length made) }
-    ensures err { IfErr result (λ e. (e ≡ SaltInvalid) ⊎ (e ≡ OutputSize) ⊎ (e ≡ OutOfMemory)) }
+    ensures err { IfErr result (λ e. (e ≡ Hash SaltInvalid) ⊎ (e ≡ Hash OutputSize) ⊎ (e ≡ BufferTooShort)) }
     ensures refused { OnErr result (text.new ≡ text.old) }
 {
     params.expose_invariant();
     if salt.as_bytes().contains(&b'$') {
-        return Err(Error::SaltInvalid);
+        return Err(LimitedError::Hash(Error::SaltInvalid));
     }
     if !output_len_ok(key.len()) {
-        return Err(Error::OutputSize);
+        return Err(LimitedError::Hash(Error::OutputSize));
     }
     let around = PARAMS_LEN + 1 + Base64::Crypt.encoded_len(key.len());
     let len = around.saturating_add(salt.len());
     if len > text.len() {
-        return Err(Error::OutOfMemory);
+        return Err(LimitedError::BufferTooShort);
     }
     write_parts(&mut text[..len], params, salt.as_bytes(), key);
     Ok(len)

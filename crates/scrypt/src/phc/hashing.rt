@@ -1,20 +1,20 @@
 // Making PHC hashes.
 
 ghost use Rattle.std.specs.Prelude.{◌≡◌, ◌↔◌, ◌⊎◌, ℕ, List, length, if◌then◌else◌, Some, Ok, Err, false, IfErr, IfOk, IsErrOf, IsOk, OnErr, OnOk, IsTrue};
-ghost use Rattle.scrypt.specs.Terms.{AreCompressed, AreCounted, IsDone, IsTextOfKey, OutOfMemory, are_enough, cost_by};
+ghost use Rattle.scrypt.specs.Terms.{AreCompressed, AreCounted, BufferTooShort, IsDone, IsTextOfKey, are_enough, cost_by};
 ghost use Rattle.scrypt.specs.Terms.{hash_cost, hash_text, is_salt_len, is_stored_len, key_len_or_default, made_phc};
-ghost use Rattle.scrypt.specs.Terms.{phc_hash, refusal, salt_refusal, with_refusal, workspace_of};
+ghost use Rattle.scrypt.specs.Terms.{phc_hash, refusal, salt_refusal, with_limited_refusal, workspace_of};
 ghost use Rattle.password_hash.specs.Refusal.{SaltInvalid as BadSalt};
 ghost use Rattle.password_hash.specs.declared.error.Error.TheVariants.{OutputSize, SaltInvalid};
 
-use crate::buffers::memory::{ActiveBuffers, with_prefix};
-use crate::hashing::{key_allocating, stored_key};
+use crate::buffers::memory::{ActiveBuffers, Allocation, with_prefix};
+use crate::hashing::stored_key;
 use crate::phc::ALG_ID;
 use crate::phc::params::written;
-use crate::{Backend, CoreCount, Params};
+use crate::{Backend, CoreCount, LimitedError, Params};
 use password_hash::phc::{Output, PasswordHash, Salt};
 use password_hash::{Error, Result};
-use scrypt_kernel::memory::Buffer;
+use scrypt_kernel::memory::{Allocated, Buffer};
 use std::alloc::Global;
 
 /// Hashes `password` as [`Scrypt`](crate::Scrypt) does with these parameters, by the backend `W`.
@@ -42,10 +42,11 @@ pub fn hash<W: Backend>(
     let Ok(salt) = Salt::new(salt) else {
         return Err(Error::SaltInvalid);
     };
-    match key_allocating::<W>(alloc, password, salt.as_bytes(), params, cores) {
-        Ok(key) => Ok(hash_of(params, salt, key)),
-        Err(error) => Err(error),
-    }
+    // A limit of 0 bytes selects one table.
+    let (w, mut own) = Allocation::allocate_within(alloc, params, 0)?;
+    let mut used = ActiveBuffers::new(w, &mut own.chunks, &mut own.table, &mut own.scratch, cores);
+    let key = stored_key::<Allocated, W>(password, salt.as_bytes(), params, &mut used);
+    Ok(hash_of(params, salt, key))
 }
 
 // Returns the hash with this salt and this key.
@@ -115,8 +116,8 @@ pub fn hash_of_key(params: &Params, salt: &[u8], key: &[u8]) -> Result<PasswordH
 /// [`StoredHash::verify_with_buffers`](crate::StoredHash::verify_with_buffers) uses and leaves
 /// them.
 ///
-/// Returns `SaltInvalid` if `salt` does not have 1 to 64 bytes, and otherwise `OutOfMemory` exactly
-/// if a buffer is too short. On an error the buffers and the count are unchanged.
+/// Returns `SaltInvalid` if `salt` does not have 1 to 64 bytes, and otherwise `BufferTooShort`
+/// exactly if a buffer is too short. On an error the buffers and the count are unchanged.
 #[tactic(auto, using(std::proofs::lemmas::Bool::Decides::nat_tests), unfolding(crate::specs::PhcHash::is_salt_len, crate::specs::PhcHash::made_phc))]
 pub fn hash_with_buffers<W: Backend>(
     password: &[u8],
@@ -126,10 +127,10 @@ pub fn hash_with_buffers<W: Backend>(
     table: &mut [u32],
     scratch: &mut [u32],
     cores: &mut CoreCount,
-) -> Result<PasswordHash>
-    ensures made { with_refusal result ≡ if is_salt_len (length salt.now)
+) -> std::result::Result<PasswordHash, LimitedError>
+    ensures made { with_limited_refusal result ≡ if is_salt_len (length salt.now)
         then if are_enough params.now chunks.old table.old scratch.old
-        then Ok (made_phc params.now password.now salt.now) else Err OutOfMemory else Err BadSalt }
+        then Ok (made_phc params.now password.now salt.now) else Err BufferTooShort else Err BadSalt }
     ensures done { OnOk result (IsDone params.now (workspace_of chunks.old table.old scratch.old)
         (workspace_of chunks.new table.new scratch.new)) }
     ensures counted { OnOk result (AreCounted (cost_by params.now) cores.old cores.new) }
@@ -140,7 +141,7 @@ pub fn hash_with_buffers<W: Backend>(
     ensures uncounted { OnErr result (cores.new ≡ cores.old) }
 {
     let Ok(salt) = Salt::new(salt) else {
-        return Err(Error::SaltInvalid);
+        return Err(LimitedError::Hash(Error::SaltInvalid));
     };
     params.expose_invariant();
     let bytes = salt.as_bytes();
@@ -151,6 +152,6 @@ pub fn hash_with_buffers<W: Backend>(
     let key = with_prefix(params, p, chunks, table, scratch, cores, &mut [], derive);
     match key {
         Some(key) => Ok(hash_of(params, salt, key)),
-        None => Err(Error::OutOfMemory),
+        None => Err(LimitedError::BufferTooShort),
     }
 }

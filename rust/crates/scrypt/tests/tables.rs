@@ -144,6 +144,7 @@ fn named(result: Result<(), LimitedError>) -> (&'static str, String) {
                 format!("its length is {key_len}, and at least {least} is required"),
             );
         }
+        Err(LimitedError::BufferTooShort) => unreachable!(),
     };
     (status, String::new())
 }
@@ -163,7 +164,7 @@ fn cases() {
 
 /// The text of a key that another program has derived: a PHC string of the first 64 bytes if it can hold the salt and the
 /// key, and otherwise a `$7$` hash.
-fn stored_text(salt: &[u8], key: &[u8], params: &Params) -> Result<String, Error> {
+fn stored_text(salt: &[u8], key: &[u8], params: &Params) -> Result<String, LimitedError> {
     match phc::hash_of_key(params, salt, &key[..key.len().min(64)]) {
         Ok(hash) => Ok(hash.to_string()),
         Err(_) => {

@@ -1,4 +1,4 @@
-use Rattle.std.proofs.Common.{ℕ, ◌*◌, ◌++◌, refl, sym, ap, ap₂, ◌∙◌, take, arith}
+use Rattle.std.proofs.Common.{ℕ, ◌*◌, ◌++◌, refl, sym, ap, ap₂, ◌∙◌, take}
 use Rattle.std.proofs.lemmas.List.{length-take-le, take-append-drop}
 use Rattle.scrypt.specs.Terms.{chunks_bytes, derived_key, first_b, key_by}
 use Rattle.scrypt.proofs.SteppingFacts.{all_chunks_mixed}

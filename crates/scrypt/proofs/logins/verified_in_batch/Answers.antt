@@ -8,23 +8,16 @@ pub returns-in-Some-verified-clause-verdicts : goal.returns-in-Some-verified-cla
 returns-in-Some-verified-clause-verdicts g c = λ _.
     let before = workspace_of c.args.chunks.now c.args.table.now c.args.scratch.now in
     let batch : map with_limited_refusal c.with_prefix-verified.new.output ≡ map (λ (a : Attempt). verdict a.0 a.1) (attempts c.args.logins.now) = search rules in
-    batch ∙ (alone c.in-Some.params (attempts c.args.logins.now) c.in-Some.count before c.in-Some.ensures'.count (search rules)).0
+    batch ∙ (alone _ _ _ before c.in-Some.ensures'.count (search rules)).0
 
 pub returns-in-Some-verified-clause-counted : goal.returns-in-Some-verified-clause-counted
 returns-in-Some-verified-clause-counted g c = λ _.
     let before = workspace_of c.args.chunks.now c.args.table.now c.args.scratch.now in
-    let these = attempts c.args.logins.now in
-    let batch : AreCounted (all_cost verify_cores these) c.args.cores.now c.with_prefix-verified.new.cores = search rules in
-    rw ((alone c.in-Some.params these c.in-Some.count before c.in-Some.ensures'.count (search rules)).1) at batch
+    let batch : AreCounted (all_cost verify_cores (attempts c.args.logins.now)) c.args.cores.now c.with_prefix-verified.new.cores = search rules in
+    rw ((alone c.in-Some.params (attempts c.args.logins.now) c.in-Some.count before c.in-Some.ensures'.count (search rules)).1) at batch
 
 pub returns-in-Some-verified-clause-hashed : goal.returns-in-Some-verified-clause-hashed
 returns-in-Some-verified-clause-hashed g c = λ _.
     let before = workspace_of c.args.chunks.now c.args.table.now c.args.scratch.now in
-    let these = attempts c.args.logins.now in
-    let batch : AreCompressed (all_cost verify_cost these) c.args.cores.now c.with_prefix-verified.new.cores = search rules in
-    rw ((alone c.in-Some.params these c.in-Some.count before c.in-Some.ensures'.count (search rules)).2) at batch
-
-pub returns-in-Some-verified-clause-left : goal.returns-in-Some-verified-clause-left
-returns-in-Some-verified-clause-left g c = λ _.
-    let done = c.with_prefix-verified.ensures.done (λ used shown made after left ready ran. search rules) (search rules) in
-    search (rules, done)
+    let batch : AreCompressed (all_cost verify_cost (attempts c.args.logins.now)) c.args.cores.now c.with_prefix-verified.new.cores = search rules in
+    rw ((alone c.in-Some.params (attempts c.args.logins.now) c.in-Some.count before c.in-Some.ensures'.count (search rules)).2) at batch

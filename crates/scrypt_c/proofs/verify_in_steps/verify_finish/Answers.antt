@@ -14,13 +14,23 @@ under_way : (password : List ℕ) (at : Progress) (chunks table scratch : List �
 under_way password at chunks table scratch (Ok s) come = record { mixed = come.mixed; next = come.next }
 under_way password at chunks table scratch (Err why) come = tt
 
-pub returns-in-Ok-finish_verify-clause-verdict : goal.returns-in-Ok-finish_verify-clause-verdict
-returns-in-Ok-finish_verify-clause-verdict c long all table scratch come =
-    let its = under_way _ _ _ table scratch _ (rw c.in-Ok.ensures.reading at come) in
-    rw c.in-Ok.ensures.reading (ap result_status (c.in-Ok-finish_verify.ensures.verdict table scratch its))
+pub returns-in-Ok-finish_verify-clause-finished : goal.returns-in-Ok-finish_verify-clause-finished
+returns-in-Ok-finish_verify-clause-finished c = record {
+  unread = search rules;
+  buffers = search rules;
+  unfinished = search rules;
+  verdict_is = λ long all table scratch come.
+      let its = under_way _ _ _ table scratch _ (rw c.in-Ok.ensures.reading at come) in
+      rw c.in-Ok.ensures.reading (ap result_status (c.in-Ok-finish_verify.ensures.verdict table scratch its));
+}
 
-pub returns-in-Err-finish_verify-clause-verdict : goal.returns-in-Err-finish_verify-clause-verdict
-returns-in-Err-finish_verify-clause-verdict c long all table scratch come =
-    let its = under_way _ _ _ table scratch _ (rw c.in-Ok.ensures.reading at come) in
-    let verdict = c.in-Err-finish_verify.ensures.verdict table scratch its in
-    rw (c.in-Ok.ensures.reading, ← verdict) (search rules)
+pub returns-in-Err-finish_verify-clause-finished : goal.returns-in-Err-finish_verify-clause-finished
+returns-in-Err-finish_verify-clause-finished c = record {
+  unread = search rules;
+  buffers = search rules;
+  unfinished = search rules;
+  verdict_is = λ long all table scratch come.
+      let its = under_way _ _ _ table scratch _ (rw c.in-Ok.ensures.reading at come) in
+      let verdict = c.in-Err-finish_verify.ensures.verdict table scratch its in
+      rw (c.in-Ok.ensures.reading, ← verdict) (search rules);
+}

@@ -9,9 +9,3 @@ returns-in-Ok-verify_with_buffers-clause-both_bounded c =
     both_bounded c.args.limits.now (c.work_bounds_both_counts.ensures.within c.args.limits.now)
     (workspace_of c.args.chunks.now c.args.table.now c.args.scratch.now) c.args.password.now (reading c.args.stored.now)
     c.args.cores.now c.verify_with_buffers.new.cores (search rules) (search rules)
-
-pub returns-in-Err-PasswordInvalid-clause-both_bounded : goal.returns-in-Err-PasswordInvalid-clause-both_bounded
-returns-in-Err-PasswordInvalid-clause-both_bounded c =
-    both_bounded c.args.limits.now (c.work_bounds_both_counts.ensures.within c.args.limits.now)
-    (workspace_of c.args.chunks.now c.args.table.now c.args.scratch.now) c.args.password.now (reading c.args.stored.now)
-    c.args.cores.now c.verify_with_buffers.new.cores (search rules) (search rules)
