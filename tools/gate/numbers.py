@@ -1,9 +1,10 @@
 """Compares the numbers of the pages with the code and the measurements, by the rows of numbers.txt. A page has to state
-each number that a row gives it, in any words, and no other number with a unit.
+each number that a row gives it, in any words, and no other number with a unit, or before a noun in the plural.
 """
 
 import builtins
 import glob
+import importlib
 import itertools
 import os
 import re
@@ -17,6 +18,10 @@ WORDS = "no one two three four five six seven eight nine ten eleven twelve".spli
 DIGITS = r"(?:\d[\d,]*\.\d+|\d[\d,]*\d|\d)"
 ONE = {"n": DIGITS, "N": rf"(?:(?:\d+/)?{DIGITS}|(?i:{'|'.join(WORDS[1:])}))"}
 BLANK = r"[\s*/!#]+"  # also in comments
+UNIT = r"(?:bit|byte|second|minute|hour|day|year)s\b|[KMGT]i?B\b|[GM]Hz\b|[mnµ]s\b|%"
+NOUN = r"(?:[a-z]+\s+)?(?!(?:does|has|takes|was)\b)[a-zA-Z][a-zA-Z-]*[^\Ws]s\b"  # in the plural, perhaps after another word
+COUNTED = re.compile(rf"(?<![\w.,/^*=$-])(?:({ONE['N']})\s*(?:{UNIT})|({DIGITS})\s+{NOUN})")
+CODE = re.compile(r"^```.*?^```|^    .*?$|`[^`]*`", re.M | re.S)
 
 
 class Names(dict):
@@ -37,6 +42,10 @@ class Names(dict):
             raise LookupError(f"{self.path} has no number after {before}, as {TABLE} wants")
         text = found[1].replace("n", "").strip(" <")
         return Fraction(text) if "." in text else eval(text, dict(header.NUMBERS))
+
+    def size(self, name):
+        """How many there are in a collection of the row's file, a module of Python."""
+        return len(getattr(importlib.import_module(self.path.removesuffix(".py").replace("/", ".")), name))
 
     def cells(self, row, *names, at=0):
         """The numbers of tables, in the lines and columns that begin so; of several in a cell (`15.1, 27.6`), one."""
@@ -59,16 +68,17 @@ class Names(dict):
 
 
 def stated(form, text):
-    """The numbers of a text in a form, with the digits after the point, and the place: for N stands a number, and for n
+    """The numbers of a text in a form, with the digits after the point, and their places: for N stands a number, and for n
     one in digits. Two may have one unit (`1 to 64 bytes`). A part, such as 0.69, needs none: its form is N."""
     before, name, after = re.split(r"\b([nN])\b", form.strip('"'))
     before, after = (BLANK.join(map(re.escape, it.split(" "))) for it in (before, after))
     first = "" if before else rf"(?:({ONE[name]}){BLANK}(?:to|or|and){BLANK})?"
     one = r"0\.\d+(?!\.)" if form == "N" else ONE[name]
     for found in re.finditer(rf"(?<![\w.,/^*-]){before}{first}({one})(?!,?\d){after}(?!\w)", text):
-        for it in filter(None, found.groups()):
+        for group in filter(found.group, range(1, found.re.groups + 1)):
+            it = found[group]
             number = WORDS.index(it.lower()) if it.lower() in WORDS else it.replace(",", "")
-            yield Fraction(number), len(it.partition(".")[2]), found.start()
+            yield Fraction(number), len(it.partition(".")[2]), found.start(group)
 
 
 def rows():
@@ -110,3 +120,8 @@ def wrong_numbers(pages):
                 if not any(is_given(number, digits, *it) for it in given) and (number >= 1 or form == "N" or not digits):
                     what = re.sub(r"\b[nN]\b", f"{float(number):g}", form)
                     yield f"{page}:{text.count(chr(10), 0, place) + 1}: no row of {TABLE} gives this page {what}"
+        known = {place for file, numbers, form, named in table if form[0] != '"' or page in named
+                 for *it, place in stated(form, text) if form[0] != '"' or is_given(*it, file, numbers)}
+        for found in COUNTED.finditer(CODE.sub(lambda it: re.sub(r"\d", "x", it[0]), text)):
+            if found.start(found.lastindex) not in known:
+                yield f"{page}:{text.count(chr(10), 0, found.start()) + 1}: no row of {TABLE} has the unit of {found[0]!r}"

@@ -1,5 +1,5 @@
 """Flips a random bit of a random instruction, COUNT times at each level, and says how many of these miscompilations no
-case of check.py finds. README.md says what those that survived were.
+case of check.py finds. README.md says what to look for in those that survive.
 
 usage: python3 -m tools.tests.compiled.flips LIBRARY COUNT SEED [LEVEL ..]
 """
