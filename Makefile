@@ -6,8 +6,9 @@
 #   make lib       builds the C libraries into build/lib, in about a minute; with PRESET=arm64 for that
 #                  CPU, and the program, or with PRESET=windows for Windows, into build/PRESET
 #   make js        builds the module for JavaScript into bindings/js, and tests it
-#   make test      is the gate: runs every test. With the Rattle kit it also proves everything, and checks that wrong
-#                  code is rejected; without it, its last lines say that nothing was proved
+#   make test      is the gate: runs all tests but those before a release (CONTRIBUTING.md). With the Rattle kit it also
+#                  proves everything, and checks that wrong code is rejected; without it, its last lines say that
+#                  nothing was proved
 #   make install   installs the built files below prefix=/usr/local, and honours DESTDIR; after make run alone, the
 #                  program with its man page and its completion
 #   make uninstall removes the last installation; use the same DESTDIR
