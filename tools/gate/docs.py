@@ -5,6 +5,7 @@
   underscore (`scrypt_ro_mix`), a call (`new()`, `.verify(&hash)`), or a file of the repository
 - a call of the C header that the table at its top doesn't name, or that C's page marks differently
 - a number with a unit that tools/gate/numbers.py doesn't find where it is from
+- a package of Debian that a test.sh says it lacks, and that tools/packages.txt doesn't name
 
 tools/generate/make.py compares docs/PROMISES.md and docs/contracts.txt, which lists each public function, and
 bindings/readme_examples.py runs the examples.
@@ -97,12 +98,20 @@ def wrong_marks(path):
                     if marks.get(it, mark) != mark)
 
 
+def unlisted_packages(path):
+    listed = re.split(r"[\s:|]+", read("tools/packages.txt"))
+    code = re.sub(r"(^|\s)#.*", "", read(path), flags=re.M)
+    lacking = re.findall(r"(?:\bhas|/lacks) (?:\"[^\"]+\"|\S+) ([\w.+-]+)", code)
+    yield from (f"{path}: tools/packages.txt doesn't name {it}" for it in lacking if it not in listed)
+
+
 def main():
     paths = files()
     names = known_names(paths)
     documents = {path: read(path) for path in paths if path.endswith(".md")}
     found = [it for path, text in documents.items() for it in (*unknown_names(path, text, names), *broken_links(path, text))]
     pages = [path for path in documents if path not in ("CHANGELOG.md", "docs/PROMISES.md")]  # made, and of former versions
+    found += [it for path in paths if path.endswith("/test.sh") for it in unlisted_packages(path)]
     found += [*wrong_marks("bindings/c/README.md"), *wrong_numbers(pages)]
     sys.exit("\n".join(found) or 0)
 

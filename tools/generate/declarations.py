@@ -156,7 +156,8 @@ def javascript():
     for name, words in re.findall(r'ROW\((?:E_)?(\w+), ((?:"[^"]*"\s*)+)\)', status_c):
         in_n = re.sub(r'"\s*"|"', "", words).replace("2^log_n", "N").replace("; log_n is the logarithm of N, 14 for 16384", "")
         if "log_n" in in_n:
-            sys.exit(f"bindings/c/status.c: the words of {name} speak of log_n in JavaScript too: {in_n}")
+            sys.exit(f"bindings/c/status.c: the words of {name} speak of log_n, and tools/generate/declarations.py doesn't "
+                     f"replace that for JavaScript: {in_n}")
         if name in proved:
             yield f"  [{name}, ['{name}', '{in_n}']],"
     yield "]);"

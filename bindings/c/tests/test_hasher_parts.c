@@ -268,7 +268,7 @@ TEST(windows) {
     uint32_t p;
     int64_t ns;
   } WINDOWS[] = {{4, 1, 0},       {12, 1, 0},      {12, 2, 52428},  {13, 1, 52428},
-                 {14, 1, 104857}, {17, 1, 838860}, {18, 1, 1000000}};
+                 {14, 1, 104857}, {17, 1, 838860}, {18, 1, MAX_LINGER_NS}};
   scrypt_cost cost;
   for (size_t i = 0; i < sizeof WINDOWS / sizeof WINDOWS[0]; i++) {
     IS(scrypt_params_cost(WINDOWS[i].log_n, 8, WINDOWS[i].p, SIZE_MAX, UINT64_MAX, &cost), 0);
