@@ -58,7 +58,7 @@ def words_of(name):
 def unknown_names(path, text, names):
     for number, line in enumerate(text.splitlines(), 1):
         for name in re.findall(r"`([^`]+)`", line):
-            file = re.fullmatch(r"(crates|docs|tools|bindings|examples)/[\w./-]+", name)
+            file = re.fullmatch(r"(crates|docs|tools|bindings|examples|rust|vectors)/[\w./-]+", name)
             if file and "NAME" not in name and not glob.glob(name):
                 yield f"{path}:{number}: no file {name}"
             missing = (word for word in words_of(name) if word not in names and word not in OTHERS)
