@@ -8,10 +8,10 @@ import "C"
 type Error int
 
 const (
-	// ErrRefused matches (errors.Is) each error that rejects a stored hash, whatever the password
+	// ErrRejected matches (errors.Is) each error that rejects a stored hash, whatever the password
 	// is: ErrTooCostly, ErrKeyTooShort, and all that ErrInvalidHash matches. A login should log it,
 	// and respond as to a wrong password.
-	ErrRefused Error = -3
+	ErrRejected Error = -3
 	// ErrInvalidOption is for an option of a Hasher that is out of range.
 	ErrInvalidOption Error = -2
 	// ErrInvalidHash matches (errors.Is) ErrAlgorithm to ErrVersion: the text is not a hash that
@@ -56,7 +56,7 @@ const (
 // Error returns the message of the error.
 func (e Error) Error() string {
 	switch e {
-	case ErrRefused:
+	case ErrRejected:
 		return "scrypt: the stored hash is rejected"
 	case ErrInvalidOption:
 		return "scrypt: an option of a Hasher is out of range"
@@ -69,14 +69,14 @@ func (e Error) Error() string {
 	}
 }
 
-// Is reports whether target is this error, or ErrInvalidHash or ErrRefused if that matches it.
+// Is reports whether target is this error, or ErrInvalidHash or ErrRejected if that matches it.
 func (e Error) Is(target error) bool {
 	isInvalid := C.scrypt_status_is_invalid_hash(C.int(e)) != 0
 	switch target {
 	case ErrInvalidHash:
 		return isInvalid || e == ErrInvalidHash
-	case ErrRefused:
-		return isInvalid || e == ErrTooCostly || e == ErrKeyTooShort || e == ErrRefused
+	case ErrRejected:
+		return isInvalid || e == ErrTooCostly || e == ErrKeyTooShort || e == ErrRejected
 	}
 	return target == e
 }

@@ -21,7 +21,7 @@ func logIn(ctx context.Context, hasher *scrypt.Hasher, users map[string]string, 
 	text := users[name] // SELECT hash FROM users WHERE name = $1
 	stronger, err := hasher.VerifyAndUpdate(ctx, text, []byte(password))
 	// Rejected hash: it is logged, and looks like a wrong password, with the same time.
-	if errors.Is(err, scrypt.ErrRefused) {
+	if errors.Is(err, scrypt.ErrRejected) {
 		log.Printf("the hash of %q is rejected: %v", name, err)
 		err = hasher.Verify(ctx, "", []byte(password))
 	}

@@ -230,7 +230,7 @@ func (h *Hasher) Key(ctx context.Context, password, salt []byte, keyLen int) ([]
 // see docs/HASHER.md of the repository.
 //
 // Other errors match (errors.Is) the context's error, ErrClosed, ErrBusy or ErrOutOfMemory. If the hash is
-// rejected, Verify returns, without waiting, an error that matches ErrRefused: ErrInvalidHash,
+// rejected, Verify returns, without waiting, an error that matches ErrRejected: ErrInvalidHash,
 // ErrTooCostly if the hash exceeds the limits, or ErrKeyTooShort if its key has fewer bytes than
 // MinKeyLen.
 func (h *Hasher) Verify(ctx context.Context, text string, password []byte) error {

@@ -38,9 +38,9 @@ func TestCases(t *testing.T) {
 		if text == "" { // as for an unknown user
 			want = ErrMismatch
 		}
-		err, isRefused := hasher.Verify(ctx, text, []byte(words[1])), want != nil && want != ErrMismatch
-		check(t, errors.Is(err, want) && errors.Is(err, ErrRefused) == isRefused, text, err, words[0])
-		isUnread := isRefused && want != ErrTooCostly && want != ErrKeyTooShort
+		err, isRejected := hasher.Verify(ctx, text, []byte(words[1])), want != nil && want != ErrMismatch
+		check(t, errors.Is(err, want) && errors.Is(err, ErrRejected) == isRejected, text, err, words[0])
+		isUnread := isRejected && want != ErrTooCostly && want != ErrKeyTooShort
 		_, unread := ParamsOf(text)
 		_, unreadToo := hasher.NeedsRehash(text)
 		isRight := !isUnread || unread == want && unreadToo == want

@@ -14,10 +14,10 @@ export class ScryptError extends Error {
 
 /** A stored hash was rejected: it is not a scrypt hash, costs more than the limits allow, or has
  * too short a key. */
-export class RefusedHashError extends ScryptError {
+export class RejectedHashError extends ScryptError {
   constructor(code, message) {
     super(code, message);
-    this.name = 'RefusedHashError';
+    this.name = 'RejectedHashError';
   }
 }
 
@@ -32,12 +32,12 @@ export function errorOfHash(error, password = new Uint8Array()) {
   if (!isNoHash && !OUTSIDE_LIMITS.includes(error.code)) return error;
   const isHash = /^\$(scrypt|7)\$/.test(new TextDecoder().decode(password.subarray(0, 8)));
   const hint = isNoHash && isHash ? ': the password comes first, and then the hash' : '';
-  return new RefusedHashError(error.code, error.message + hint);
+  return new RejectedHashError(error.code, error.message + hint);
 }
 
 /** The error that a worker reported. */
 export const errorNamed = ({ name, code = 'INTERNAL', message }) =>
-  new (name === 'RefusedHashError' ? RefusedHashError : ScryptError)(code, message);
+  new (name === 'RejectedHashError' ? RejectedHashError : ScryptError)(code, message);
 
 /**
  * The error for the status of a proved call, with a longer message. A buffer that is too short is a

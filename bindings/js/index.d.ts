@@ -165,7 +165,7 @@ export class ScryptError extends Error {
  * A stored hash is rejected: the text is not a scrypt hash, it costs more than the limits allow, or
  * its key is too short.
  */
-export class RefusedHashError extends ScryptError {
+export class RejectedHashError extends ScryptError {
   private constructor();
 }
 
@@ -177,7 +177,7 @@ export function scrypt(
 export function hash(password: Bytes, options?: HashOptions & CallOptions): Promise<string>;
 /**
  * Verifies a password against a hash string, in a worker. A string that is not a scrypt hash is a
- * `RefusedHashError`. Without one, for an unknown user, the result is `false` after the work of a
+ * `RejectedHashError`. Without one, for an unknown user, the result is `false` after the work of a
  * new hash. While hashes of older parameters are stored, their time tells who exists: see
  * docs/HASHER.md of the repository.
  */

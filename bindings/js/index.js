@@ -1,11 +1,11 @@
 // scrypt (RFC 7914) and its password hashes. The module is proved, then changed; this is tested.
 import { attempt, copiesOf, isNone, optionsOf } from './arguments.js';
 import { Scrypt } from './core.js';
-import { RefusedHashError, ScryptError } from './errors.js';
+import { RejectedHashError, ScryptError } from './errors.js';
 import { compile, isSupported, load } from './load.js';
 import { call, configure } from './workers.js';
 
-export { RefusedHashError, ScryptError, configure, isSupported, load };
+export { RejectedHashError, ScryptError, configure, isSupported, load };
 
 // Separates the options for this thread from the options for the worker.
 const parted = ({ onProgress, signal, timeout, ...options }) =>

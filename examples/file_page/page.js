@@ -50,7 +50,7 @@ function messageOf(error) {
   if (error.name === 'AbortError') return 'Cancelled.';
   if (error.code !== 'TOO_COSTLY') return error.message;
   const limit = Number(memory.value);
-  return `Refused: the limits are ${inMiB(limit)}, N * r * p = ${inWords(limit / 32)}.`;
+  return `Rejected: the limits are ${inMiB(limit)}, N * r * p = ${inWords(limit / 32)}.`;
 }
 
 async function run({ name, bytes, params }) {

@@ -106,7 +106,7 @@ class FilePageTest(unittest.TestCase):
             costly = whole[:at] + bytes([byte]) + whole[at + 1 : 48]
             costly += hashlib.sha256(costly).digest()[:16] + whole[64:]
             self.submit(costly, "a.scrypt")
-            self.shows("Refused: the limits are 256 MiB, N * r * p = 8,388,608.")
+            self.shows("Rejected: the limits are 256 MiB, N * r * p = 8,388,608.")
             self.assertIn(costs, self.find("#drop").text)
 
     def test_makes_what_scrypt_opens(self):

@@ -4,7 +4,7 @@ import { compile } from '../load.js';
 import { OF, bytes, equal, hex, instead, opened, refused, utf8, wiping } from './support.js';
 import { workerChecks } from './worker_checks.js';
 
-const { RefusedHashError } = workers;
+const { RejectedHashError } = workers;
 
 // A view of a buffer that has shrunk, or was detached: its password would be empty.
 function gone(isShrunk) {
@@ -63,8 +63,8 @@ const REFUSED = [
 // Above the default limits, but fast.
 const COSTLY = `$scrypt$ln=4,r=8,p=11000$AAAAAAAA$${'A'.repeat(43)}`;
 
-// The code of a RefusedHashError, or the result.
-const outcome = (call) => call.catch((error) => error instanceof RefusedHashError && error.code);
+// The code of a RejectedHashError, or the result.
+const outcome = (call) => call.catch((error) => error instanceof RejectedHashError && error.code);
 
 /** The checks of each kind of calls: in workers, on a module, and in steps. */
 const OF_EACH = {

@@ -1,5 +1,5 @@
 // Compiled and not run: the types accept correct calls, and reject wrong ones.
-import { Bytes, ErrorCode, RefusedHashError, Scrypt, ScryptError, configure, hash, isSupported, Verification, load, needsRehash, params, scrypt, storedText, verify, verifyAndUpdate } from 'scrypt-proved';
+import { Bytes, ErrorCode, RejectedHashError, Scrypt, ScryptError, configure, hash, isSupported, Verification, load, needsRehash, params, scrypt, storedText, verify, verifyAndUpdate } from 'scrypt-proved';
 
 const signal = new AbortController().signal;
 // An undefined option is left out.
@@ -21,7 +21,7 @@ export async function calls(password: Bytes): Promise<unknown> {
   try {
     return own.verifyAndUpdate(password, stored ?? own.hash(password)).verified && own.scrypt(password, key, same);
   } catch (error) {
-    const code: ErrorCode | null = error instanceof RefusedHashError || error instanceof ScryptError ? error.code : null;
+    const code: ErrorCode | null = error instanceof RejectedHashError || error instanceof ScryptError ? error.code : null;
     return code === 'TOO_COSTLY' || isRight || isOfNobody || needs && isSupported() ? own.memory : undefined;
   }
 }

@@ -17,7 +17,7 @@ which is C, and this package are tested, not proved.
 An untrusted hash chooses its own cost. A hash that needs more than DEFAULT_MAX_MEM of memory, or more
 work than DEFAULT_MAX_WORK, four times the recommended work, raises TooCostlyError before any work. Both
 limits are arguments of PasswordHasher. A hash with a key of fewer than DEFAULT_MIN_KEY_LEN bytes raises
-KeyTooShortError. RefusedHashError is the base class of both, and of InvalidHashError.
+KeyTooShortError. RejectedHashError is the base class of both, and of InvalidHashError.
 
 `scrypt` has the signature of hashlib.scrypt. The GIL is released while a key is derived.
 
@@ -36,7 +36,7 @@ from .errors import (
     InvalidParamsError,
     InvalidSaltError,
     KeyTooShortError,
-    RefusedHashError,
+    RejectedHashError,
     ScryptError,
     TooCostlyError,
     VerifyMismatchError,
@@ -64,7 +64,7 @@ __all__ = [
     "Params",
     "Password",
     "PasswordHasher",
-    "RefusedHashError",
+    "RejectedHashError",
     "ScryptError",
     "Stats",
     "Status",

@@ -27,11 +27,11 @@ attributes. To change them, put your own subclass into the list; `hasher` lets t
 
 A hash that is longer than the column raises HashTooLongError before anything is derived.
 
-For a hash that is damaged or exceeds the limits, check_password raises a RefusedHashError. If no
-view catches it, put FalseIfRefused before the class: check_password returns False after the time of
-a wrong password, and the logger has the reason:
+For a hash that is damaged or exceeds the limits, check_password raises a RejectedHashError. If no
+view catches it, put FalseIfRejected before the class: check_password returns False after the time
+of a wrong password, and the logger has the reason:
 
-    class OurPasswordHasher(FalseIfRefused, PHCPasswordHasher):
+    class OurPasswordHasher(FalseIfRejected, PHCPasswordHasher):
         pass
 """
 
@@ -58,7 +58,7 @@ from .declared import MAX_SALT_LEN, RECOMMENDED_R, Status
 from .errors import (
     HashTooLongError,
     InvalidHashError,
-    RefusedHashError,
+    RejectedHashError,
     TooCostlyError,
     VerifyMismatchError,
 )
@@ -70,14 +70,14 @@ from .params import accepted, params_of
 LOG = logging.getLogger(__name__)
 
 
-class FalseIfRefused:
+class FalseIfRejected:
     """A base class to put before one of the hashers below: no password matches a rejected hash,
     verifying takes the time of a wrong password, and the log has the reason."""
 
     def verify(self, password: str, encoded: str) -> bool:
         try:
             return super().verify(password, encoded)  # type: ignore[misc]
-        except RefusedHashError as error:
+        except RejectedHashError as error:
             LOG.error("a stored hash is rejected: %s", error)
         return self.verify_no_hash(password)  # type: ignore[attr-defined]
 
@@ -233,7 +233,7 @@ class OverPasswordHasher(PHCPasswordHasher):
     _key: str  # the pattern of what follows them in a hash of `inner`
 
     def wrap(self, old: str) -> str:
-        """Returns what to store in place of a hash of `inner`. Raises a RefusedHashError, or
+        """Returns what to store in place of a hash of `inner`. Raises a RejectedHashError, or
         ValueError if `hasher` makes `$7$` hashes: no password would match them."""
         if self.hasher.options.mcf:  # a `$7$` hash encodes a new salt
             raise ValueError("hasher has mcf=True, but a hash over another is a PHC string")

@@ -25,20 +25,20 @@ class VerifyMismatchError(ScryptError):
     """The password does not match the hash."""
 
 
-class RefusedHashError(ScryptError, ValueError):
+class RejectedHashError(ScryptError, ValueError):
     """The stored hash is rejected, whatever the password is: one of the next three errors. A login
     should log it, and respond as to a wrong password."""
 
 
-class InvalidHashError(RefusedHashError):
+class InvalidHashError(RejectedHashError):
     """The text is not a hash that this package reads; `status` and the message give the reason."""
 
 
-class TooCostlyError(RefusedHashError):
+class TooCostlyError(RejectedHashError):
     """The parameters need more memory or more work than the limits allow. Nothing was derived."""
 
 
-class KeyTooShortError(RefusedHashError):
+class KeyTooShortError(RejectedHashError):
     """The key in the hash is shorter than the hasher allows, so that too many wrong passwords match
     it. Nothing was derived."""
 

@@ -205,7 +205,7 @@ class PasswordHasher:
     ) -> Literal[True]:
         """Returns True if the password matches the hash, in either format.
 
-        Otherwise raises VerifyMismatchError. If the hash is rejected, raises a RefusedHashError
+        Otherwise raises VerifyMismatchError. If the hash is rejected, raises a RejectedHashError
         without waiting: InvalidHashError if it is not a scrypt hash, or has no key, TooCostlyError
         if it exceeds the limits, KeyTooShortError if its key is too short. For an unknown user,
         pass None: the call takes the time of a wrong password for a new hash, and raises
@@ -254,7 +254,7 @@ class PasswordHasher:
         return call(self._c, *arguments, math.ceil(1000 * most))
 
     def _judge(self, hash: str) -> None:
-        """Raises the RefusedHashError of `verify` for this hash, without deriving."""
+        """Raises the RejectedHashError of `verify` for this hash, without deriving."""
         raw, options = raw_text(hash), self.options
         limits = options.max_mem, options.max_work, options.min_key_len
         self._check(lib.scrypt_hash_cost(raw, len(raw), *limits, declared.Cost()), text=raw)

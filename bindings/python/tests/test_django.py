@@ -27,7 +27,7 @@ from django.core.management import call_command  # noqa: E402
 from django.utils.module_loading import import_string  # noqa: E402
 
 import scrypt_c  # noqa: E402
-from scrypt_c.django import FalseIfRefused, OverBCrypt, OverPBKDF2  # noqa: E402
+from scrypt_c.django import FalseIfRejected, OverBCrypt, OverPBKDF2  # noqa: E402
 from scrypt_c.django import PHCPasswordHasher, ScryptPasswordHasher, wrap_all  # noqa: E402
 from scrypt_c.hasher import shared  # noqa: E402
 from scrypt_c.migration import from_django, from_libscrypt, from_werkzeug, stored_text  # noqa: E402
@@ -62,7 +62,7 @@ class Small(PHCPasswordHasher):
 
 
 def or_false(kind, **attributes):
-    return type(kind.__name__, (FalseIfRefused, kind), attributes)()
+    return type(kind.__name__, (FalseIfRejected, kind), attributes)()
 
 
 class Hashers(unittest.TestCase):
@@ -143,10 +143,10 @@ class Hashers(unittest.TestCase):
 
     def test_rejected_hashes(self):
         """check_password raises, whichever hasher is preferred: a broken database is not a wrong
-        password. With FalseIfRefused it returns False, logs one line, and stores no new hash."""
+        password. With FalseIfRejected it returns False, logs one line, and stores no new hash."""
         of_all = {it.algorithm: or_false(it, work_factor=64) for it in (Small, ScryptPasswordHasher)}
         for stored in COSTLY + DAMAGED:
-            error = scrypt_c.TooCostlyError if stored in COSTLY else scrypt_c.RefusedHashError
+            error = scrypt_c.TooCostlyError if stored in COSTLY else scrypt_c.RejectedHashError
             for preferred in (Small(), ScryptPasswordHasher()):
                 with self.assertRaises(error, msg=stored):
                     hashers.check_password("pw", stored, preferred=preferred)
@@ -345,7 +345,7 @@ class Over(unittest.TestCase):
 
     def test_rejected_settings(self):
         """The limit is exact, and nothing is derived above it, nor for a damaged hash, nor if the
-        outer hash is rejected. With FalseIfRefused the time is that of a wrong password."""
+        outer hash is rejected. With FalseIfRejected the time is that of a wrong password."""
         for kind, kept, error in SETTINGS:
             if kind not in self.kinds:
                 continue
@@ -365,7 +365,7 @@ class Over(unittest.TestCase):
         with mock.patch.object(it.inner, "encode", side_effect=AssertionError("derived")):
             with mock.patch.object(scrypt_c.PasswordHasher, "verify", side_effect=AssertionError("derived")):
                 with self.assertRaises(error, msg=stored):
-                    super(FalseIfRefused, it).verify("pw", stored)
+                    super(FalseIfRejected, it).verify("pw", stored)
         with mock.patch.object(it.inner, "encode", autospec=True, side_effect=it.inner.encode) as old:
             with mock.patch.object(it.hasher, "verify_and_update", return_value=(False, None)) as new:
                 with self.assertLogs("scrypt_c.django"):

@@ -155,7 +155,7 @@ class Hashes(unittest.TestCase):
             self.assertEqual(hasher.verify_and_update(text, password), (False, None))
         verified, new = hasher.verify_and_update(weak, "pw")
         self.assertEqual((verified, params_of(new)), (hasher.verify(new, "pw"), hasher.params))
-        self.assertRaises(scrypt_c.RefusedHashError, hasher.verify_and_update, "$7$", "pw")
+        self.assertRaises(scrypt_c.RejectedHashError, hasher.verify_and_update, "$7$", "pw")
 
     def test_pickle_and_copy(self):
         """A copy has each argument and attribute, and stays open when the original is closed."""

@@ -58,7 +58,7 @@ class Texts(unittest.TestCase):
             found, error = outcome(hasher.verify, text, password)
             self.assertEqual(found, status, text)
             refused = status not in ("OK", "MISMATCH")
-            self.assertEqual(isinstance(error, scrypt_c.RefusedHashError), refused, text)
+            self.assertEqual(isinstance(error, scrypt_c.RejectedHashError), refused, text)
             if error:
                 copy = pickle.loads(pickle.dumps(error))
                 self.assertEqual(*((type(it), it.status, str(it)) for it in (copy, error)))

@@ -142,7 +142,7 @@ impl Error {
     /// Returns whether the stored hash is rejected, whatever the password is: `TooCostly`,
     /// `KeyTooShort`, and the errors of [`Error::is_invalid_hash`]. A login should log it, and
     /// respond as to a wrong password.
-    pub fn is_refused(&self) -> bool {
+    pub fn is_rejected(&self) -> bool {
         self.is_invalid_hash() || matches!(self.status(), TOO_COSTLY | KEY_TOO_SHORT)
     }
 }

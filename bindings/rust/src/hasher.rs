@@ -273,7 +273,7 @@ impl Hasher {
     ///
     /// # Errors
     ///
-    /// `PasswordInvalid` for a wrong password. If the hash is rejected ([`Error::is_refused`]),
+    /// `PasswordInvalid` for a wrong password. If the hash is rejected ([`Error::is_rejected`]),
     /// without waiting: `TooCostly` if it exceeds the limits, `KeyTooShort` if its key is too short,
     /// and other errors if the text is not a hash, or has no key. `Closed`, `Busy`, `Timeout` and
     /// `OutOfMemory`.

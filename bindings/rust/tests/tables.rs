@@ -17,14 +17,14 @@ fn cases() {
         let found = hasher.verify(row[1].as_bytes(), &text);
         let camel = |word: &str| word[..1].to_string() + &word[1..].to_lowercase();
         let name: String = row[0].trim_start_matches("HASH_").split('_').map(camel).collect();
-        let (wanted, is_refused) = match row[0].as_str() {
+        let (wanted, is_rejected) = match row[0].as_str() {
             "OK" => ("Ok(())".to_string(), false),
             "MISMATCH" => ("Err(PasswordInvalid)".to_string(), false),
             _ => (format!("Err({name}"), true),
         };
         assert!(format!("{found:?}").starts_with(&wanted), "{text}: {found:?}, not {wanted}");
         let error = found.err();
-        assert_eq!(error.map_or(false, |it| it.is_refused()), is_refused, "{text}");
+        assert_eq!(error.map_or(false, |it| it.is_rejected()), is_rejected, "{text}");
         if let Some(numbers) = row.get(3) {
             let words = error.map(|it| it.to_string()).unwrap_or_default();
             assert!(words.ends_with(&format!(": {numbers}")), "{words}");
