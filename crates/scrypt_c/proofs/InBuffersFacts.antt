@@ -1,11 +1,10 @@
 -- What verifying leaves in the caller's buffers.
-use Rattle.std.proofs.Common.{◌≡◌, ◌∙◌, ◌-◌, ◌*◌, ℕ, List, ap, arith, length, refl, w32, SFits, of_z, to_z}
-use Rattle.std.proofs.lemmas.Int.{to_z-of_z}
+use Rattle.std.proofs.Common.{◌≡◌, ◌∙◌, ◌-◌, ◌*◌, ℕ, List, arith, length, refl}
 use Rattle.std.proofs.lemmas.Bool.{and_parts, false_from_ne_true}
 use Rattle.std.proofs.Math.Seq.{drop-length}
 use Rattle.std.proofs.lemmas.List.{append-nil}
-use Rattle.std.specs.Prelude.{◌&&◌, Err, IsTrue, Result, ℤ, ⊤, replicate}
-use Rattle.password_hash.specs.Refusal.{Refusal, ParamsInvalid}
+use Rattle.std.specs.Prelude.{◌&&◌, Err, IsTrue, ℤ, replicate}
+use Rattle.password_hash.specs.Refusal.{ParamsInvalid}
 use Rattle.scrypt.specs.Accepted.{Parameters, are_accepted, is_stored_len}
 use Rattle.scrypt.proofs.AcceptedFacts.{bounds}
 use Rattle.scrypt.proofs.CostFacts.{one_table}
@@ -13,17 +12,10 @@ use Rattle.scrypt.proofs.ReadingFacts.{enough_decided}
 use Rattle.scrypt.specs.Cost.{scratch_words, table_words}
 use Rattle.scrypt.specs.Decoy.{decoy_reading}
 use Rattle.scrypt.specs.InBuffers.{IsWiped, are_enough}
-use Rattle.scrypt.specs.Logins.{Attempt, verdict_on}
 use Rattle.scrypt.specs.Workspace.{IsDone, Workspace, tables_used}
 use Rattle.scrypt_c.specs.Buffers.{AreBuffers, IsSpacing}
 use Rattle.scrypt_c.specs.Keys.{HasKeyIn, HasThinKey}
 use Rattle.scrypt_c.specs.Limits.{params_of}
-use Rattle.scrypt_c.specs.Statuses.{result_status}
-
--- the status of one of a group, as an array keeps it
-pub kept_status : {out : Result ⊤ Refusal} (status : ℤ) (w : Workspace) (a b : Attempt) → a ≡ b → SFits w32 status
-    → status ≡ result_status out → out ≡ verdict_on w a → to_z w32 (of_z w32 status) ≡ result_status (verdict_on w b)
-kept_status {out} status w a b same fits is verdict = to_z-of_z w32 status fits ∙ is ∙ ap result_status (rw (← same) verdict)
 
 -- parameters that no new hash can have make no decoy
 pub none_decoy : (c : Parameters) (salt : List ℕ) → ¬ (IsTrue (are_accepted c.log_n c.r c.p) × IsTrue (is_stored_len c.output_len))

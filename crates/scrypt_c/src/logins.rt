@@ -1,7 +1,7 @@
 //! Several logins, verified together in the caller's buffers; nothing is allocated.
 
 ghost use Rattle.std.specs.Prelude.{◌≡◌, [], ◌∷◌};
-ghost use Rattle.scrypt.specs.Terms.{◌and_then◌, attempt_of, decoy_reading, with_refusal, workspace_of};
+ghost use Rattle.scrypt.specs.Terms.{◌and_then◌, attempt_of, attempts, decoy_reading, with_refusal, workspace_of};
 ghost use Rattle.scrypt_c.specs.InBuffers.{AreVerified, IsWorkOn, batch_of, login_attempt};
 ghost use Rattle.scrypt_c.specs.Made.{wanted};
 
@@ -54,58 +54,33 @@ pub extern "C" fn scrypt_verify_batch_with_buffers<'a>(
         ∷ (password_3.now, text_3.now, unknown_3) ∷ (password_4.now, text_4.now, unknown_4) ∷ []))
         (workspace_of chunks.old table.old scratch.old) (workspace_of chunks.new table.new scratch.new) statuses.new }
 {
-    let cores = &mut CoreCount::new();
-    verify_batch_with_buffers(
-        password, text, unknown, password_2, text_2, unknown_2, password_3, text_3, unknown_3,
-        password_4, text_4, unknown_4, salt, log_n, r, p, key_len, statuses, chunks, table,
-        scratch, cores,
-    );
-}
-
-/// Does what [`scrypt_verify_batch_with_buffers`] does, and counts its cores and the blocks that
-/// SHA-256 compresses: for a decoy as many as for a hash with its parameters.
-pub fn verify_batch_with_buffers<'a>(
-    password: &'a [u8],
-    text: &'a [u8],
-    unknown: u8,
-    password_2: &'a [u8],
-    text_2: &'a [u8],
-    unknown_2: u8,
-    password_3: &'a [u8],
-    text_3: &'a [u8],
-    unknown_3: u8,
-    password_4: &'a [u8],
-    text_4: &'a [u8],
-    unknown_4: u8,
-    salt: &'a [u8],
-    log_n: u8,
-    r: u32,
-    p: u32,
-    key_len: usize,
-    statuses: &mut [i32; 4],
-    chunks: &mut [u8],
-    table: &mut [u32],
-    scratch: &mut [u32],
-    cores: &mut CoreCount,
-)
-    ensures verified { AreVerified (batch_of (decoy_reading (wanted log_n r p key_len) salt.now)
-        ((password.now, text.now, unknown) ∷ (password_2.now, text_2.now, unknown_2)
-        ∷ (password_3.now, text_3.now, unknown_3) ∷ (password_4.now, text_4.now, unknown_4) ∷ []))
-        (workspace_of chunks.old table.old scratch.old) (workspace_of chunks.new table.new scratch.new) statuses.new }
-    ensures work { IsWorkOn (batch_of (decoy_reading (wanted log_n r p key_len) salt.now)
-        ((password.now, text.now, unknown) ∷ (password_2.now, text_2.now, unknown_2)
-        ∷ (password_3.now, text_3.now, unknown_3) ∷ (password_4.now, text_4.now, unknown_4) ∷ []))
-        (workspace_of chunks.old table.old scratch.old) cores.old cores.new }
-{
     let logins = [
         login(password, text, unknown, salt, log_n, r, p, key_len),
         login(password_2, text_2, unknown_2, salt, log_n, r, p, key_len),
         login(password_3, text_3, unknown_3, salt, log_n, r, p, key_len),
         login(password_4, text_4, unknown_4, salt, log_n, r, p, key_len),
     ];
+    let cores = &mut CoreCount::new();
+    verify_batch_with_buffers(&logins, statuses, chunks, table, scratch, cores);
+}
+
+/// Does what [`scrypt_verify_batch_with_buffers`] does for these logins, and counts its cores and the
+/// blocks that SHA-256 compresses: for a decoy as many as for a hash with its parameters.
+pub fn verify_batch_with_buffers(
+    logins: &[Login<'_, '_>; 4],
+    statuses: &mut [i32; 4],
+    chunks: &mut [u8],
+    table: &mut [u32],
+    scratch: &mut [u32],
+    cores: &mut CoreCount,
+)
+    ensures verified { AreVerified (attempts logins.now) (workspace_of chunks.old table.old scratch.old)
+        (workspace_of chunks.new table.new scratch.new) statuses.new }
+    ensures work { IsWorkOn (attempts logins.now) (workspace_of chunks.old table.old scratch.old) cores.old cores.new }
+{
     // Initialized to a mismatch, so that no entry accepts a password before its keys are compared.
     let mut verdicts = [Err(LimitedError::Hash(Error::PasswordInvalid)); 4];
-    verify_logins::<Target>(&logins, &mut verdicts, chunks, table, scratch, cores);
+    verify_logins::<Target>(logins, &mut verdicts, chunks, table, scratch, cores);
     let [a, b, c, d] = verdicts;
     *statuses = [
         verdict_status(a),
@@ -127,8 +102,8 @@ fn decoy<'t>(salt: &'t [u8], log_n: u8, r: u32, p: u32, key_len: usize) -> Resul
     }
 }
 
-// Reads the hash that a password is verified against, unless it is a decoy.
-fn login<'p, 't>(
+/// Reads the hash that a password is verified against, unless it is a decoy.
+pub fn login<'p, 't>(
     password: &'p [u8],
     text: &'t [u8],
     unknown: u8,
