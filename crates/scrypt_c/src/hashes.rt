@@ -11,7 +11,7 @@ ghost use Rattle.scrypt_c.specs.Texts.{bytes_reading};
 
 use crate::statuses::{
     BUFFER_SIZE, INVALID_PARAMS, MISMATCH, NEEDS_REHASH, OK, OUT_OF_MEMORY, SALT_INVALID,
-    limited_status_of, status_of,
+    limited_status_of, status_of, verdict_status,
 };
 use crate::texts::{copy_to, limited_hash, stored_hash};
 use password_hash::{Error, Result};
@@ -234,10 +234,7 @@ pub fn verify_limited(
         Ok(hash) => hash,
         Err(error) => return limited_status_of(error),
     };
-    match hash.verify_counted::<Target>(alloc, password, cores) {
-        Ok(()) => OK,
-        Err(error) => status_of(error),
-    }
+    verdict_status(hash.verify_counted::<Target>(alloc, password, cores))
 }
 
 /// Compares the hash in a text with the wanted parameters. The hash is weaker if at least one of

@@ -5,7 +5,7 @@ ghost use Rattle.scrypt.specs.Terms.{◌and_then◌, attempt_of, attempts, decoy
 ghost use Rattle.scrypt_c.specs.InBuffers.{AreVerified, IsWorkOn, batch_of, login_attempt};
 ghost use Rattle.scrypt_c.specs.Made.{wanted};
 
-use crate::statuses::verdict_status;
+use crate::statuses::limited_verdict_status;
 use crate::texts::stored_hash;
 use password_hash::{Error, Result};
 use scrypt::{CoreCount, Decoy, LimitedError, Login, LoginHash, Params, Target, verify_logins};
@@ -83,10 +83,10 @@ pub fn verify_batch_with_buffers(
     verify_logins::<Target>(logins, &mut verdicts, chunks, table, scratch, cores);
     let [a, b, c, d] = verdicts;
     *statuses = [
-        verdict_status(a),
-        verdict_status(b),
-        verdict_status(c),
-        verdict_status(d),
+        limited_verdict_status(a),
+        limited_verdict_status(b),
+        limited_verdict_status(c),
+        limited_verdict_status(d),
     ];
 }
 

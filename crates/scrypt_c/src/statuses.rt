@@ -2,10 +2,11 @@
 
 ghost use Rattle.std.specs.Prelude.{◌≡◌};
 ghost use Rattle.password_hash.specs.Refusal.{refusal};
+ghost use Rattle.scrypt.specs.Reading.{with_refusal};
 ghost use Rattle.scrypt.specs.WithinLimits.{limited_refusal, with_limited_refusal};
 ghost use Rattle.scrypt_c.specs.Statuses.{refusal_status, result_status, unread_status};
 
-use password_hash::Error;
+use password_hash::{Error, Result};
 use scrypt::LimitedError;
 
 /// The call succeeded; from `scrypt_verify_limited`: the password has the same key as the hash.
@@ -115,8 +116,18 @@ pub(crate) fn limited_status_of(error: LimitedError) -> i32
     }
 }
 
+// Returns the status of a verdict.
+pub(crate) fn verdict_status(verdict: Result<()>) -> i32
+    ensures { result ≡ result_status (with_refusal verdict) }
+{
+    match verdict {
+        Ok(()) => OK,
+        Err(error) => status_of(error),
+    }
+}
+
 // Returns the status of a verdict in the caller's buffers.
-pub(crate) fn verdict_status(verdict: Result<(), LimitedError>) -> i32
+pub(crate) fn limited_verdict_status(verdict: std::result::Result<(), LimitedError>) -> i32
     ensures { result ≡ result_status (with_limited_refusal verdict) }
 {
     match verdict {

@@ -7,7 +7,7 @@ ghost use Rattle.scrypt_c.specs.Steps.{HasBegunVerifying, HasFinishedVerifying, 
 ghost use Rattle.scrypt_c.specs.Texts.{bytes_reading};
 
 use crate::in_steps::are_for_steps;
-use crate::statuses::{BUFFER_SIZE, OK, UNFINISHED, limited_status_of, status_of};
+use crate::statuses::{BUFFER_SIZE, OK, UNFINISHED, limited_status_of, status_of, verdict_status};
 use crate::texts::{limited_hash, stored_hash, whole_params};
 use scrypt::steps::begin;
 use scrypt::{Backend, BufferLens, CoreCount, Progress, Size, Target};
@@ -143,8 +143,5 @@ pub fn verify_finish(
     if at.chunks != params.p() as usize {
         return UNFINISHED;
     }
-    match hash.finish_verify(password, *at, chunks, cores) {
-        Ok(()) => OK,
-        Err(error) => status_of(error),
-    }
+    verdict_status(hash.finish_verify(password, *at, chunks, cores))
 }

@@ -13,7 +13,7 @@ ghost use Rattle.scrypt_c.specs.Limits.{limited_reading};
 ghost use Rattle.scrypt_c.specs.Made.{AreHashParams, HasHashed, wanted};
 ghost use Rattle.scrypt_c.specs.Statuses.{result_status};
 
-use crate::statuses::{BUFFER_SIZE, INVALID_PARAMS, OK, SALT_INVALID, verdict_status};
+use crate::statuses::{BUFFER_SIZE, INVALID_PARAMS, OK, SALT_INVALID, limited_verdict_status};
 use crate::texts::{copy_to, limited_hash};
 use scrypt::{CoreCount, Params, Size, Target, mcf, phc, wipe};
 
@@ -232,9 +232,11 @@ pub fn verify_limited_with_buffers(
 {
     let hash = match limited_hash(text, max_mem, max_work, min_key_len) {
         Ok(hash) => hash,
-        Err(error) => return verdict_status(Err(error)),
+        Err(error) => return limited_verdict_status(Err(error)),
     };
-    verdict_status(hash.verify_with_buffers::<Target>(password, chunks, table, scratch, cores))
+    limited_verdict_status(hash.verify_with_buffers::<Target>(
+        password, chunks, table, scratch, cores,
+    ))
 }
 
 /// Writes zeros to the buffers of a derivation.

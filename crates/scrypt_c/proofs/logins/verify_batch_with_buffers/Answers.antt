@@ -20,10 +20,10 @@ returns-clause-verified c =
     let own = c.verify_logins.new in
     record {
       each = rw (
-        to_z-of_z w32 c.verdict_status.result (search rules) ∙ c.verdict_status.ensures,
-        to_z-of_z w32 c.verdict_status-2.result (search rules) ∙ c.verdict_status-2.ensures,
-        to_z-of_z w32 c.verdict_status-3.result (search rules) ∙ c.verdict_status-3.ensures,
-        to_z-of_z w32 c.verdict_status-4.result (search rules) ∙ c.verdict_status-4.ensures,
+        to_z-of_z w32 c.limited_verdict_status.result (search rules) ∙ c.limited_verdict_status.ensures,
+        to_z-of_z w32 c.limited_verdict_status-2.result (search rules) ∙ c.limited_verdict_status-2.ensures,
+        to_z-of_z w32 c.limited_verdict_status-3.result (search rules) ∙ c.limited_verdict_status-3.ensures,
+        to_z-of_z w32 c.limited_verdict_status-4.result (search rules) ∙ c.limited_verdict_status-4.ensures,
       ) (four (λ v. result_status (with_limited_refusal v)) own.verdicts (Ok tt) c.verify_logins.auto.verdicts
           ∙ sym (map-map result_status with_limited_refusal own.verdicts) ∙ ap (map result_status) c.verify_logins.ensures.verdicts ∙ map-map _ _ _);
       left = c.verify_logins.ensures.left;

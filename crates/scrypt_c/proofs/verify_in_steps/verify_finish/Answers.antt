@@ -1,4 +1,5 @@
-use Rattle.std.proofs.Common.{ap, ℕ, List, Result, Ok, Err, IfOk, rules}
+use Rattle.std.proofs.Common.{ap, ℕ, List, Result, Ok, Err, IfOk, rules, w32}
+use Rattle.std.proofs.lemmas.Int.{to_z-of_z}
 use Rattle.password_hash.specs.Refusal.{Refusal}
 use Rattle.scrypt.specs.Reading.{Stored}
 use Rattle.scrypt.specs.Stepping.{IsUnderWay}
@@ -14,23 +15,12 @@ under_way : (password : List ℕ) (at : Progress) (chunks table scratch : List �
 under_way password at chunks table scratch (Ok s) come = record { mixed = come.mixed; next = come.next }
 under_way password at chunks table scratch (Err why) come = tt
 
-pub returns-in-Ok-finish_verify-clause-finished : goal.returns-in-Ok-finish_verify-clause-finished
-returns-in-Ok-finish_verify-clause-finished c = record {
+pub returns-clause-finished : goal.returns-clause-finished
+returns-clause-finished c = record {
   unread = search rules;
   buffers = search rules;
   unfinished = search rules;
   verdict_is = λ long all table scratch come.
       let its = under_way _ _ _ table scratch _ (rw c.in-Ok.ensures.reading at come) in
-      rw c.in-Ok.ensures.reading (ap result_status (c.in-Ok-finish_verify.ensures.verdict table scratch its));
-}
-
-pub returns-in-Err-finish_verify-clause-finished : goal.returns-in-Err-finish_verify-clause-finished
-returns-in-Err-finish_verify-clause-finished c = record {
-  unread = search rules;
-  buffers = search rules;
-  unfinished = search rules;
-  verdict_is = λ long all table scratch come.
-      let its = under_way _ _ _ table scratch _ (rw c.in-Ok.ensures.reading at come) in
-      let verdict = c.in-Err-finish_verify.ensures.verdict table scratch its in
-      rw (c.in-Ok.ensures.reading, ← verdict) (search rules);
+      rw (to_z-of_z w32 c.verdict_status.result (search rules), c.in-Ok.ensures.reading, c.verdict_status.ensures) (ap result_status (c.finish_verify.ensures.verdict table scratch its));
 }
