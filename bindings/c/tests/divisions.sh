@@ -6,7 +6,7 @@ set -eu
 # They have a copy of interleaved_chunks (crates/scrypt/src/buffers/lens.rt), with two divisions of 64 bits, or of 32 if
 # that is enough: the lengths of buffers, by those of a table and a scratch.
 of_lengths='interleaved_chunks verify_in_buffers verify_begin verify_batch_with_buffers kdf_with_buffers
-  hash_phc_with_buffers hash_mcf_with_buffers key_begin key_step'
+  with_buffers hash_phc_with_buffers hash_mcf_with_buffers key_begin key_step'
 # Of BufferLens::tables_within, there: the limit on memory, by the bytes of a table.
 of_limits='allocate_within kdf hash_cost params_cost'
 

@@ -3,18 +3,16 @@ use Rattle.std.proofs.Common.{◌≡◌, ◌∙◌, ◌-◌, ◌*◌, ℕ, List,
 use Rattle.std.proofs.lemmas.Bool.{and_parts, false_from_ne_true}
 use Rattle.std.proofs.Math.Seq.{drop-length}
 use Rattle.std.proofs.lemmas.List.{append-nil}
-use Rattle.std.specs.Prelude.{◌&&◌, Err, IsTrue, ℤ, replicate}
+use Rattle.std.specs.Prelude.{◌&&◌, Err, IsTrue, replicate}
 use Rattle.password_hash.specs.Refusal.{ParamsInvalid}
 use Rattle.scrypt.specs.Accepted.{Parameters, are_accepted, is_stored_len}
 use Rattle.scrypt.proofs.AcceptedFacts.{bounds}
 use Rattle.scrypt.proofs.CostFacts.{one_table}
-use Rattle.scrypt.proofs.ReadingFacts.{enough_decided}
 use Rattle.scrypt.specs.Cost.{scratch_words, table_words}
 use Rattle.scrypt.specs.Decoy.{decoy_reading}
-use Rattle.scrypt.specs.InBuffers.{IsWiped, are_enough}
+use Rattle.scrypt.specs.InBuffers.{IsWiped}
 use Rattle.scrypt.specs.Workspace.{IsDone, Workspace, tables_used}
-use Rattle.scrypt_c.specs.Buffers.{AreBuffers, IsSpacing}
-use Rattle.scrypt_c.specs.Keys.{HasKeyIn, HasThinKey}
+use Rattle.scrypt_c.specs.Buffers.{AreBuffers}
 use Rattle.scrypt_c.specs.Limits.{params_of}
 
 -- parameters that no new hash can have make no decoy
@@ -29,19 +27,11 @@ whole_lens log_n r p s are none =
     let same : log_n - s ≡ log_n = omega (arith, none) in
     (rw same at are.table_is, rw none at are.scratch_is)
 
--- buffers of these lengths are long enough
-enough_at_zero : (log_n r p s : ℕ) (chunks table scratch : List ℕ) → AreBuffers log_n r p s (length chunks) (length table) (length scratch)
-    → s ≡ 0 → IsTrue (are_enough (params_of log_n r p) chunks table scratch)
-enough_at_zero log_n r p s chunks table scratch are none =
-    let lens = whole_lens log_n r p s are none in
-    (enough_decided (params_of log_n r p) chunks table scratch).1
-    (omega (arith, are.chunks_are), (omega (arith, lens.0), omega (arith, lens.1)))
-
 all_wiped : (n : ℕ) (old new : List ℕ) → length old ≡ n → IsWiped n old new → new ≡ replicate (length old) 0
 all_wiped n old new is wiped = wiped ∙ rw (← is, drop-length) (append-nil _)
 
 -- a derivation in them wipes all of the chunks and all of the scratch
-wiped_at_zero : (log_n r p s : ℕ) (before after : Workspace) → IsTrue (are_accepted log_n r p)
+pub wiped_at_zero : (log_n r p s : ℕ) (before after : Workspace) → IsTrue (are_accepted log_n r p)
     → AreBuffers log_n r p s (length before.chunks) (length before.table) (length before.scratch) → s ≡ 0
     → IsDone (params_of log_n r p) before after
     → (after.chunks ≡ replicate (length before.chunks) 0) × (after.scratch ≡ replicate (length before.scratch) 0)
@@ -51,24 +41,3 @@ wiped_at_zero log_n r p s before after accepted are none done =
     let one = one_table log_n r p (length before.table) (length before.scratch) some.0 some.1 lens.0 (omega (arith, lens.1)) in
     let used : length before.scratch ≡ tables_used (params_of log_n r p) before.table before.scratch * scratch_words r = rw (← one) (omega (arith, lens.1)) in
     (all_wiped _ _ _ are.chunks_are done.chunks, all_wiped _ _ _ used done.scratch)
-
--- a key that was derived in such buffers
-pub thin_of_whole : (password salt old new : List ℕ) (log_n r p s : ℕ) (before after : Workspace) (status : ℤ)
-    → IsTrue (are_accepted log_n r p) × IsSpacing log_n s
-    → AreBuffers log_n r p s (length before.chunks) (length before.table) (length before.scratch) → s ≡ 0
-    → HasKeyIn password salt log_n r p old new before after status
-    → HasThinKey password salt log_n r p s old new before after status
-thin_of_whole password salt old new log_n r p s before after status both are none known =
-    let enough = enough_at_zero log_n r p s before.chunks before.table before.scratch are none in
-    record {
-      key = record {
-        params = (λ is. absurd (known.key.params.0 is both.0), λ refused. absurd (refused both));
-        length_is = (λ is. (both, (known.key.length_is.0 is).1), λ refused. known.key.length_is.1 (both.0, refused.1));
-        one = known.key.one;
-        value = known.key.value;
-        refused = known.key.refused;
-      };
-      buffers = (λ is. absurd ((known.buffers.0 is).2 enough), λ refused. absurd (refused.2 are));
-      wiped = λ ok. wiped_at_zero log_n r p s before after both.0 are none (known.used.done ok);
-      unchanged = known.used.unchanged;
-    }

@@ -253,9 +253,12 @@ pub fn kdf_thin(
         return BUFFER_SIZE;
     }
     if s == 0 {
-        return kdf_with_buffers(
-            password, salt, log_n, r, p, output, chunks, table, scratch, cores,
+        let whole = scrypt_with_buffers(
+            password, salt, &params, chunks, table, scratch, output, cores,
         );
+        // The length of the output was checked above.
+        whole.unwrap();
+        return OK;
     }
     let derived = scrypt_thin(
         password, salt, &params, s, chunks, table, scratch, output, cores,

@@ -1,23 +1,27 @@
-use Rattle.std.proofs.Common.{length, refl, rules, w32}
-use Rattle.std.proofs.lemmas.Int.{to_z-of_z}
+use Rattle.std.proofs.Common.{length, rules}
 use Rattle.scrypt.proofs.CostFacts.{whole_table_cost}
+use Rattle.scrypt.specs.Terms.{workspace_of}
 use Rattle.scrypt_c.specs.Buffers.{AreBuffers}
-use Rattle.scrypt_c.proofs.InBuffersFacts.{thin_of_whole}
+use Rattle.scrypt_c.proofs.InBuffersFacts.{wiped_at_zero}
 use Rattle.scrypt_c.proofs.keys.kdf_thin.Goals as goal
 
--- the buffers of a whole table are long enough for the call with buffers, which wipes them whole
+-- the buffers of a whole table are wiped whole
 pub returns-then-s-eq0-clause-key : goal.returns-then-s-eq0-clause-key
 returns-then-s-eq0-clause-key c =
-    let are : AreBuffers c.args.log_n c.args.r c.args.p c.args.s (length c.args.chunks.now) (length c.args.table.now) (length c.args.scratch.now) = record {
+    let new = c.scrypt_with_buffers-whole.new in
+    let before = workspace_of c.args.chunks.now c.args.table.now c.args.scratch.now in
+    let are : AreBuffers c.args.log_n c.args.r c.args.p c.args.s (length before.chunks) (length before.table) (length before.scratch) = record {
       chunks_are = search rules;
       table_is = search rules;
       scratch_is = search rules;
     } in
-    rw (to_z-of_z w32 c.kdf_with_buffers.result (search rules))
-    (thin_of_whole _ _ _ _ c.args.log_n c.args.r c.args.p c.args.s _ _ _ (c.in-Some.ensures'.exact.0 refl) are c.if-s-eq0.true
-    c.kdf_with_buffers.ensures.key)
+    record {
+      key = search rules;
+      buffers = search rules;
+      wiped = λ ok. wiped_at_zero c.args.log_n c.args.r c.args.p c.args.s before (workspace_of new.chunks new.table new.scratch) (search rules) are c.if-s-eq0.true (search rules);
+      unchanged = search rules;
+    }
 
 -- no row is recomputed
 pub returns-then-s-eq0-clause-work : goal.returns-then-s-eq0-clause-work
-returns-then-s-eq0-clause-work c =
-    rw (to_z-of_z w32 c.kdf_with_buffers.result (search rules), c.if-s-eq0.true, whole_table_cost) c.kdf_with_buffers.ensures.work
+returns-then-s-eq0-clause-work c = rw (c.if-s-eq0.true, whole_table_cost) (search rules)
