@@ -1,5 +1,5 @@
 -- Base64 of bytes, and the bytes that letters decode to.
-use Rattle.std.proofs.Common.{◌≡◌, ℕ, zero, suc, ◌+◌, ◌-◌, ◌*◌, ◌/◌, ◌%◌, ◌<◌, ◌==◌, false, List, [], ◌∷◌, ◌++◌, take, drop, length, slice_index, ap, arith, ◌∙◌, refl}
+use Rattle.std.proofs.Common.{◌≡◌, ℕ, zero, suc, ◌+◌, ◌*◌, ◌/◌, ◌%◌, ◌<◌, ◌==◌, false, List, [], ◌∷◌, take, drop, length, slice_index, ap, arith, ◌∙◌, refl}
 use Rattle.std.specs.Prelude.{All, IsTrue, Ok}
 use Rattle.std.specs.List.{AllByRecursion as ByRecursion}
 use Rattle.std.proofs.lemmas.List.{append-nil, places}
@@ -18,9 +18,6 @@ use Rattle.password_hash.proofs.ParamsFacts.{Lacks, letters_lack}
 pub IsBytes-cons : (byte : ℕ) (bytes : List ℕ) → byte < 256 → IsBytes bytes → IsBytes (byte ∷ bytes)
 IsBytes-cons byte bytes first rest zero = first
 IsBytes-cons byte bytes first rest (suc i) = rest i
-
-pub IsBytes-append : (xs ys : List ℕ) → IsBytes xs → IsBytes ys → IsBytes (xs ++ ys)
-IsBytes-append xs ys first second = λ i. grind (arith, places, first i, second (i - length xs))
 
 pub IsBytes-take : (n : ℕ) (xs : List ℕ) → IsBytes xs → IsBytes (take n xs)
 IsBytes-take n xs are = λ i. grind (arith, places, are i)

@@ -89,10 +89,7 @@ with_digit-Some (Some low) (Some high) number h = (low, high, refl, refl, cc)
 pub letters_of-number_of : (letters : List ℕ) (number : ℕ) → number_of letters ≡ Some number
     → (letters_of (length letters) number ≡ letters) × (number < 64 ^ length letters)
 unfolding letters_of number_of
-letters_of-number_of [] number h =
-    let said : Some 0 ≡ Some number = h in
-    let zero : 0 ≡ number = cc in
-    (refl, omega arith)
+letters_of-number_of [] number h = grind arith
 letters_of-number_of (first ∷ letters) number h =
     let (low, high, value, above, is) = with_digit-Some (letter_value first) (number_of letters) number h in
     let (below, digit) = letter-of_value first low value in
@@ -119,9 +116,7 @@ pub next_letter : (pending number pending' number' x : ℕ) (bytes bytes' : List
     → letters_of pending number ++ crypt64_of bytes ≡ x ∷ (letters_of (pending' - 1) (number' / 64) ++ crypt64_of bytes')
 unfolding letters_of
 next_letter pending number zero number' x bytes bytes' same some is = absurd (omega arith)
-next_letter pending number (suc count) number' x bytes bytes' same some is =
-    let less : suc count - 1 ≡ count = omega arith in
-    rw (less, is) same
+next_letter pending number (suc count) number' x bytes bytes' same some is = grind arith
 
 -- what the letter of each value is, every letter is
 

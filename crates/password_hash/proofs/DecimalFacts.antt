@@ -1,11 +1,11 @@
 -- Decimal digits.
 use Rattle.std.proofs.Common.{◌≡◌, ◌≢◌, ◌↔◌, ◌&&◌, ℕ, ◌^◌, ◌<◌, ◌≤◌, true, false, nat_lt, List, length, get_or, slice_index}
-use Rattle.std.proofs.Common.{Option, None, Some, Result, Ok, Err, refl, sym, ap, ◌∙◌, arith, inl, inr}
+use Rattle.std.proofs.Common.{Option, None, Some, Result, Ok, Err, sym, ap, ◌∙◌, arith, inl, inr}
 use Rattle.std.specs.Prelude.{decimal}
 use Rattle.std.specs.Result.{OkIff, result_ok}
 use Rattle.std.specs.Str.{all_ascii_digits}
 use Rattle.std.specs.Str.Parse.{AllDigits, digits_value}
-use Rattle.std.proofs.lemmas.Bool.{cases_lt, cases_Bool}
+use Rattle.std.proofs.lemmas.Bool.{cases_Bool}
 use Rattle.std.proofs.lemmas.Fmt.{decimal_digit, decimal_is_IsNumeral, first_decimal, decimal-digits_value}
 use Rattle.std.proofs.lemmas.Str.Parse.{IsNumeralModel, numerals_by_value, parse_plain, tells_digits, tells_all_ascii_digits, digit_at, not_in_digits}
 use Rattle.std.proofs.lemmas.List.Elements.{All-from_get_or}
@@ -20,14 +20,7 @@ digits = numerals_by_value (AllDigits 10) tells_digits
 
 -- what is printed of a number does not begin with a zero, unless the number is one
 leads : (n : ℕ) → n < 2 ^ 32 → slice_index (decimal n) 0 ≡ 48 → length (decimal n) ≡ 1
-leads n small zero = elim (cases_lt 0 n) [
-  | inl some ↦
-      let first : 48 < get_or (decimal n) 0 0 = first_decimal n some (omega arith) in
-      absurd (omega (arith, first, zero))
-  | inr none ↦
-      let is_zero : n ≡ 0 = omega arith in
-      rw (is_zero, decimal_digit 0 (omega arith)) refl
-]
+leads n small zero = grind (arith, first_decimal, decimal_digit)
 
 -- a number in decimal digits is a value
 pub is_value-decimal : (n : ℕ) → n < 2 ^ 32 → is_value (decimal n) ≡ true
@@ -63,9 +56,7 @@ plain_gives limit text (Err e) h g = grind (arith, nat_tests)
 pub decimal_gives : (k : ℕ) (text : List ℕ) (answer : Option ℕ)
     → DecimalGives (UnsignedGives k) text answer → answer ≡ decimal_below (2 ^ k) text
 decimal_gives k text answer given = elim (cases_Bool (has_plus_or_leading_zero text)) [
-  | inl begins ↦
-      let none = rw begins at given in
-      none ∙ sym (none_after_plus_or_zero (2 ^ k) text begins)
+  | inl begins ↦ grind (arith, none_after_plus_or_zero)
   | inr plain ↦
       let read = rw plain at given in
       read.2 ∙ plain_gives (2 ^ k) text read.0 plain

@@ -1,14 +1,14 @@
 -- Bytes and letters by groups: how many there are, what a group encodes, and what letters decode to.
-use Rattle.std.proofs.Common.{◌≡◌, ◌∙◌, sym, ap, refl, arith, rules, ℕ, zero, suc, ◌+◌, ◌-◌, ◌*◌, ◌/◌, ◌%◌, ◌^◌, ◌<◌, ◌≤◌, min, Some, List, [], ◌∷◌, length, None, true}
+use Rattle.std.proofs.lemmas.Grind.{common_steps}
+use Rattle.std.proofs.Common.{◌≡◌, ◌∙◌, sym, ap, refl, arith, ℕ, zero, suc, ◌+◌, ◌-◌, ◌*◌, ◌/◌, ◌%◌, ◌^◌, ◌<◌, ◌≤◌, min, Some, List, [], ◌∷◌, length, None, true}
 use Rattle.std.proofs.Common.{◌++◌, take, drop, replicate, append_assoc, length-append, length-drop}
 use Rattle.std.specs.Int.{to_le_bytes, from_le_bytes, w32}
 use Rattle.std.proofs.lemmas.List.{append-nil, places, take_at, drop_at, take_min, drop_min, take-append-drop, length-take, length-take-le}
-use Rattle.std.specs.Prelude.{unwrap_or}
 use Rattle.std.specs.Str.{bytes_eq}
 use Rattle.std.proofs.lemmas.Option.{cond_some}
 use Rattle.std.proofs.lemmas.Slice.Eq.{bytes_eq-Decides}
 use Rattle.password_hash.specs.Crypt64.{letters_of, number_of, crypt64_of, Crypt64, IsBytes, IsCrypt64, encoded_len, Begins, bytes_of_number, decoded}
-use Rattle.password_hash.proofs.Base64Facts.{IsBytes-append, IsBytes-cons, IsBytes-drop, IsBytes-take}
+use Rattle.password_hash.proofs.Base64Facts.{IsBytes-cons, IsBytes-drop, IsBytes-take}
 use Rattle.password_hash.proofs.PhcReadingFacts.{none_exact}
 use Rattle.password_hash.proofs.Crypt64Facts.{letter_value-letter, length-letters_of, number_of-letters_of, letters_of-number_of}
 
@@ -59,15 +59,9 @@ pub letters_of_read : (bytes first rest : List ℕ) (number : ℕ) → first ≡
     → crypt64_of bytes ≡ letters_of (length first + 1) number ++ crypt64_of rest
 unfolding crypt64_of
 letters_of_read [] first rest number cut left some read = absurd (omega (arith, ap length cut))
-letters_of_read (a ∷ []) first rest number cut left some read =
-    let said : from_le_bytes w32 (a ∷ 0 ∷ 0 ∷ 0 ∷ []) ≡ a = omega arith in
-    rw (read, cut, left, said) (sym (append-nil (letters_of 2 a)))
-letters_of_read (a ∷ b ∷ []) first rest number cut left some read =
-    let said : from_le_bytes w32 (a ∷ b ∷ 0 ∷ 0 ∷ []) ≡ a + 256 * b = omega arith in
-    rw (read, cut, left, said) (sym (append-nil (letters_of 3 (a + 256 * b))))
-letters_of_read (a ∷ b ∷ c ∷ bytes) first rest number cut left some read =
-    let said : from_le_bytes w32 (a ∷ b ∷ c ∷ 0 ∷ []) ≡ a + 256 * b + 65536 * c = omega arith in
-    rw (read, cut, left, said) refl
+letters_of_read (a ∷ []) first rest number cut left some read = grind (arith, append-nil)
+letters_of_read (a ∷ b ∷ []) first rest number cut left some read = grind (arith, append-nil)
+letters_of_read (a ∷ b ∷ c ∷ bytes) first rest number cut left some read = grind arith
 
 -- the first group of bytes
 pub ruleset first_groups = (cut_at, letters_of_read)
@@ -81,11 +75,7 @@ le_number (byte ∷ bytes) = byte + 256 * le_number bytes
 number_of-front : (number above : ℕ) (rest : List ℕ) → number < 64 ^ 4 → number_of rest ≡ Some above
     → number_of (letters_of 4 number ++ rest) ≡ Some (number + 64 ^ 4 * above)
 unfolding letters_of number_of
-number_of-front number above rest below is =
-    let digit = λ (n : ℕ). letter_value-letter (n % 64) (omega arith) in
-    let whole : number % 64 + 64 * (number / 64 % 64 + 64 * (number / 64 / 64 % 64 + 64 * (number / 64 / 64 / 64 % 64 + 64 * above)))
-    ≡ number + 64 ^ 4 * above = omega arith in
-    rw (digit number, digit (number / 64), digit (number / 64 / 64), digit (number / 64 / 64 / 64), is) (ap Some whole)
+number_of-front number above rest below is = grind (arith, letter_value-letter)
 
 -- the letters of bytes are those of their number
 number_of-crypt64_of : (bytes : List ℕ) → IsBytes bytes → number_of (crypt64_of bytes) ≡ Some (le_number bytes)
@@ -157,12 +147,7 @@ begins_with_group letters number is =
     let count : length (take 4 letters) ≡ suc len = omega (arith, is.some) in
     let as_many : length (take len bytes) ≡ len = length-take-le len bytes (omega (arith, length-take 4 letters)) in
     let group : letters_of (suc len) number ≡ take 4 letters = rw (← count) (letters_of-number_of (take 4 letters) number is.read).0 in
-    record {
-      are_bytes = IsBytes-take len bytes (λ i. search (rules, places));
-      whole = sym (take-append-drop 4 letters) ∙ ap (λ first. first ++ drop 4 letters)
-          (sym group ∙ letters_of_bytes len number (omega (arith, is.some)) (omega (arith, length-take 4 letters)) is.fits);
-      groups = λ some. omega (arith, as_many, length-take 4 letters, length-drop 4 letters);
-    }
+    grind (arith, take-append-drop, letters_of_bytes, length-take, length-drop)
 
 -- letters that are read group by group
 
@@ -173,19 +158,11 @@ begins_none letters = record { are_bytes = λ i. omega arith; whole = refl; grou
 pub begins_more : (letters bytes rest front after : List ℕ) → Begins letters bytes rest → Begins rest front after
     → Begins letters (bytes ++ front) after
 begins_more letters bytes rest front after first second =
-    let counts : length rest ≡ encoded_len (length front) + length after =
-    ap length second.whole ∙ length-append (crypt64_of front) after ∙ ap (λ n. n + length after) (length-crypt64_of front) in
-    let joined = crypt64_of-append bytes front (λ some. first.groups (omega arith)) in
-    record {
-      are_bytes = IsBytes-append bytes front first.are_bytes second.are_bytes;
-      whole = first.whole ∙ rw (second.whole, joined) (sym (append_assoc (crypt64_of bytes) (crypt64_of front) after));
-      groups = λ some. omega (arith, first.groups (omega arith), second.groups some, length-append bytes front);
-    }
+    grind (arith, common_steps, places, length-append, length-crypt64_of, crypt64_of-append, append_assoc)
 
 -- where nothing is left, the bytes are those of the letters
 pub begins-end : (letters bytes rest : List ℕ) → Begins letters bytes rest → rest ≡ [] → Crypt64 bytes letters
-begins-end letters bytes rest begins none =
-    record { are_bytes = begins.are_bytes; encoding = begins.whole ∙ rw none (append-nil (crypt64_of bytes)) }
+begins-end letters bytes rest begins none = grind (arith, append-nil)
 
 -- what is left of an encoding is one, so it is nothing if no group begins it
 pub begins-stuck : (letters bytes rest : List ℕ) → Begins letters bytes rest → (IsCrypt64 rest → rest ≡ [])
@@ -232,13 +209,7 @@ decoded_is bytes letters is =
 -- and what they are decoded as they encode
 pub encoded_is : (bytes letters : List ℕ) → decoded letters ≡ Some bytes → Crypt64 bytes letters
 unfolding decoded
-encoded_is bytes letters is =
-    let made : List ℕ = bytes_of_number (3 * length letters / 4) (unwrap_or (number_of letters) 0) in
-    let (same, one) = cond_some (bytes_eq letters (crypt64_of made)) made bytes is in
-    rw (← one) (record {
-      are_bytes = bytes_of_number-are_bytes (3 * length letters / 4) (unwrap_or (number_of letters) 0);
-      encoding = (bytes_eq-Decides letters (crypt64_of made)).0 same;
-    })
+encoded_is bytes letters is = grind (arith, cond_some, bytes_of_number-are_bytes, bytes_eq-Decides)
 
 -- others are not decoded
 pub not_decoded : (letters : List ℕ) → ¬ IsCrypt64 letters → decoded letters ≡ None

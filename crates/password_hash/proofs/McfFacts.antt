@@ -1,16 +1,17 @@
 -- What follows from the definition of MCF strings: each has one id and one list of fields, and
 -- texts put together by parts are MCF strings.
-use Rattle.std.proofs.Common.{◌≡◌, ◌≢◌, inl, inr, ◌∙◌, sym, ap, subst, refl, ℕ, false, Result, Ok, Err, IsErrOf, IfErr, ◌==◌, List, [], ◌∷◌, ◌++◌}
+use Rattle.std.proofs.Common.{arith}
+use Rattle.std.proofs.lemmas.Grind.{common_steps}
+use Rattle.std.proofs.lemmas.List.{places, append-nil}
+use Rattle.std.proofs.Common.{◌≡◌, ◌≢◌, inl, inr, ◌∙◌, sym, ap, refl, ℕ, false, Result, Ok, Err, IsErrOf, IfErr, ◌==◌, List, [], ◌∷◌, ◌++◌}
 use Rattle.std.specs.List.{All, AllByRecursion as ByRecursion, onto_first}
 use Rattle.std.proofs.lemmas.Bool.{ne_eqb, eqb-false, cases_Bool}
-use Rattle.std.proofs.lemmas.List.{append-nil}
-use Rattle.std.proofs.lemmas.List.Elements.{All-nil, All-cons, All-weaker, All-push, All-from_recursion}
+use Rattle.std.proofs.lemmas.List.Elements.{All-nil, All-weaker, All-push}
 use Rattle.password_hash.specs.declared.mcf.error.Error.{Error}
 use Rattle.password_hash.specs.declared.mcf.error.Error.TheVariants.{EncodingInvalid, OutOfMemory}
-use Rattle.password_hash.specs.{IsField, IsId, IsMcf, IsMcfText, crypt64_of, dollar, fields_of, id_of}
-use Rattle.password_hash.specs.{is_identifier_letter, parts_of}
+use Rattle.password_hash.specs.{IsField, IsId, IsMcf, IsMcfText, crypt64_of, dollar, fields_of, id_of, parts_of}
 use Rattle.password_hash.proofs.Crypt64Facts.{IsPlain, crypt64_of-plain}
-use Rattle.password_hash.proofs.ParamsFacts.{Lacks, letters_lack, parts_of-parts_text, parts_text-push, text_of_parts}
+use Rattle.password_hash.proofs.ParamsFacts.{letters_lack, parts_of-parts_text, parts_text-push, text_of_parts}
 
 -- a field has no byte that is a dollar
 no_dollar : (field : List ℕ) → IsField field → All (λ byte. (byte == dollar) ≡ false) field
@@ -22,11 +23,7 @@ IsField-crypt64_of bytes = All-weaker IsPlain (λ byte. byte ≢ dollar) (λ byt
 
 -- the parts of an MCF string
 pub parts_of-IsMcfText : (text id : List ℕ) (fields : List (List ℕ)) → IsMcfText text id fields → parts_of text ≡ [] ∷ id ∷ fields
-parts_of-IsMcfText text id fields is =
-    let none = All-cons (Lacks dollar) [] (id ∷ fields) (All-nil (λ byte. (byte == dollar) ≡ false))
-    (All-cons (Lacks dollar) id fields (letters_lack is_identifier_letter dollar refl id is.is_id.1)
-    (All-weaker IsField (Lacks dollar) no_dollar fields is.are_fields)) in
-    parts_of-parts_text text [] (id ∷ fields) none (ap (λ text. dollar ∷ text) is.written)
+parts_of-IsMcfText text id fields is = grind (arith, letters_lack, no_dollar, parts_of-parts_text)
 
 -- no part of a text has a dollar
 part_fields : (text : List ℕ) → ByRecursion (ByRecursion (λ byte. byte ≢ dollar)) (parts_of text)
@@ -44,14 +41,7 @@ part_fields (byte ∷ text) = elim (cases_Bool (byte == dollar)) [
 -- a text that is split into nothing, an id and fields is an MCF string
 pub IsMcfText-from_parts : (text id : List ℕ) (fields : List (List ℕ)) → parts_of text ≡ [] ∷ id ∷ fields → IsId id
     → IsMcfText text id fields
-IsMcfText-from_parts text id fields parts is =
-    let each = rw parts at (part_fields text) in
-    record {
-      is_id = is;
-      are_fields = All-weaker (ByRecursion (λ byte. byte ≢ dollar)) IsField (All-from_recursion (λ byte. byte ≢ dollar)) fields
-          (All-from_recursion _ fields each.1.1);
-      written = text_of_parts text id fields parts;
-    }
+IsMcfText-from_parts text id fields parts is = grind (arith, common_steps, places, part_fields, text_of_parts)
 
 pub id_of_parts : (text id : List ℕ) (fields : List (List ℕ)) → parts_of text ≡ [] ∷ id ∷ fields → id_of text ≡ id
 unfolding id_of
@@ -69,15 +59,11 @@ IsMcfText-one text id fields is =
 
 -- it is the text of its own id and fields
 pub IsMcfText-read : (text : List ℕ) → IsMcf text → IsMcfText text (id_of text) (fields_of text)
-IsMcfText-read text is =
-    let one = IsMcfText-one text is.0 is.1 is.2 in
-    rw (one.0, one.1) is.2
+IsMcfText-read text is = grind (arith, IsMcfText-one)
 
 -- the id of an MCF string is an id
 pub IsId-parts : (text id : List ℕ) (fields : List (List ℕ)) → parts_of text ≡ [] ∷ id ∷ fields → IsMcf text → IsId id
-IsId-parts text id fields parts is =
-    let same : is.0 ≡ id = sym (IsMcfText-one text is.0 is.1 is.2).0 ∙ id_of_parts text id fields parts in
-    subst IsId same is.2.is_id
+IsId-parts text id fields parts is = grind (arith, IsMcfText-one, id_of_parts)
 
 -- a text with a field after a dollar has one field more
 pub IsMcfText-pushed : (text new field : List ℕ) → new ≡ text ++ dollar ∷ field

@@ -1,4 +1,6 @@
 -- Pairs and their text, one more pair at the end, and texts of parts, each after a `$`.
+use Rattle.std.proofs.lemmas.Grind.{common_steps, flat_map-append}
+use Rattle.std.proofs.lemmas.List.{places}
 use Rattle.std.proofs.Common.{◌≡◌, ◌≢◌, ℕ, ◌+◌, ◌<◌, ◌≤◌, ◌==◌, Bool, List, [], ◌∷◌, ◌++◌, length, map, codes, get_or, refl, sym, ap, ◌∙◌, arith, true, false, IsTrue}
 use Rattle.std.proofs.Common.{◌&&◌, ◌||◌, not}
 use Rattle.std.specs.Prelude.{◌↔◌, All, Result, Ok, Err, IsOk, OnOk, OnErr, nat_eq}
@@ -6,16 +8,15 @@ use Rattle.std.specs.List.{join_with_byte, slice_split, after_first, position_or
 use Rattle.std.proofs.lemmas.Bool.{and_parts, eqb-true, false≢true, ne_eqb, eq-eqb}
 use Rattle.std.proofs.lemmas.List.{append-nil, append_assoc, length-append, get_or_append_left, get_or_push, length_push, map-append, map_push, length-drop}
 use Rattle.std.proofs.lemmas.List.{take_at, drop_at, get_or_at}
-use Rattle.std.proofs.lemmas.Grind.{flat_map-append}
-use Rattle.std.proofs.lemmas.List.Sums.{split_at_first, passes_at_first, position_or_len_is, AllPass-from_list_all}
+use Rattle.std.proofs.lemmas.List.Sums.{split_at_first, passes_at_first, position_or_len_is}
 use Rattle.std.proofs.lemmas.List.Elements.{All-head, All-push, All-tail, All-cons, All-append, All-get_or, All-map, All-weaker}
 use Rattle.std.proofs.lemmas.List.Splits.{join_with_byte-slice_split, slice_split_none, slice_split_at}
 use Rattle.std.proofs.lemmas.List.Quantifiers.{all_pairs_push}
 use Rattle.std.specs.Bool.{Decides}
 use Rattle.std.specs.Cmp.Lexicographic.{pointwise}
-use Rattle.std.proofs.lemmas.Bool.Decides.{same_from_decides, Decides-and, Decides-like, Decides-by_and, Decides-eqb, Decides-not, nat_tests}
+use Rattle.std.proofs.lemmas.Bool.Decides.{same_from_decides, Decides-by_and, Decides-eqb, Decides-not}
 use Rattle.std.proofs.lemmas.Slice.Eq.{bytes_eq-Decides, slice_eq-Decides}
-use Rattle.password_hash.specs.{ArePairs, IsPair, dollar, is_identifier, is_identifier_letter, is_value_letter, pair_eq}
+use Rattle.password_hash.specs.{ArePairs, IsPair, dollar, is_identifier_letter, is_value_letter, pair_eq}
 use Rattle.password_hash.specs.{pair_of, pair_text, pairs_of, pairs_text, parts_of, parts_text, with_pair}
 
 -- no byte is c
@@ -24,9 +25,7 @@ Lacks c xs = All (λ b. (b == c) ≡ false) xs
 
 -- letters of a kind lack a byte of another kind
 pub letters_lack : (p : ℕ → Bool) (c : ℕ) → p c ≡ false → (xs : List ℕ) → IsTrue (list_all p xs) → Lacks c xs
-letters_lack p c is_none xs h =
-    let other = λ (x : ℕ) (is_one : p x ≡ true). ne_eqb x c (λ e. false≢true (sym is_none ∙ (rw e at is_one))) in
-    All-weaker (λ x. p x ≡ true) (λ x. (x == c) ≡ false) other xs (AllPass-from_list_all p xs h)
+letters_lack p c is_none xs h = grind (arith, common_steps, places, ne_eqb, false≢true)
 
 -- a text is cut at the first c, after bytes that lack it
 pub cut_at_first : (c : ℕ) (xs ys : List ℕ) → Lacks c xs
@@ -47,14 +46,7 @@ pub record OfPair (pair : List ℕ × List ℕ) : Type 0 where
   pub value : IsTrue (list_all is_value_letter pair.1)
 
 pub pair_is : (pair : List ℕ × List ℕ) → IsPair pair → OfPair pair
-pair_is pair is =
-    let others = (and_parts (is_identifier pair.0) _ is).1 in
-    record {
-      name = (and_parts _ _ (and_parts _ _ (and_parts _ _ is).0).1).1;
-      no_version = (Decides-not _ (bytes_eq-Decides pair.0 (codes "v"))).0 (and_parts _ _ others).0;
-      some = grind (arith, nat_tests);
-      value = (and_parts _ _ (and_parts _ _ others).1).1;
-    }
+pair_is pair is = grind (arith, and_parts, bytes_eq-Decides)
 
 -- a pair is determined by its text
 pair_of-pair_text : (pair : List ℕ × List ℕ) → IsPair pair → pair_of (pair_text pair) ≡ pair
@@ -109,9 +101,7 @@ equals_of_pairs pair (next ∷ pairs) =
 
 -- so it is not empty
 length_pairs_text : (pair : List ℕ × List ℕ) (pairs : List (List ℕ × List ℕ)) → 0 < length (pairs_text (pair ∷ pairs))
-length_pairs_text pair pairs =
-    let equals = equals_of_pairs pair pairs in
-    omega (arith, ap length equals.1, length-append pair.0 (61 ∷ equals.0))
+length_pairs_text pair pairs = grind (arith, equals_of_pairs, length-append)
 
 -- pairs are determined by their text
 pub pairs_of-pairs_text : (pairs : List (List ℕ × List ℕ)) → All IsPair pairs → pairs_of (pairs_text pairs) ≡ pairs
@@ -121,9 +111,7 @@ pairs_of-pairs_text (pair ∷ pairs) h =
     ∙ ap (map pair_of) (pieces_of_pairs pair pairs h) ∙ map-pair_of (pair ∷ pairs) h
 
 pair_eq-Decides : (first second : List ℕ × List ℕ) → Decides (pair_eq first second) (first ≡ second)
-pair_eq-Decides first second =
-    Decides-like (pair_eq first second) (λ both i. (both.0 i, both.1 i)) (λ e. (ap (λ p. p.0) e, ap (λ p. p.1) e))
-    (Decides-and _ _ (bytes_eq-Decides first.0 second.0) (bytes_eq-Decides first.1 second.1))
+pair_eq-Decides first second = grind (arith, bytes_eq-Decides)
 
 -- the test of lists of pairs decides
 pairs_eq-Decides : (xs ys : List (List ℕ × List ℕ)) → Decides (pointwise pair_eq xs ys) (xs ≡ ys)
@@ -145,10 +133,7 @@ with_pair_some (byte ∷ text) pair some = refl
 with_pair-pairs_text : (pairs : List (List ℕ × List ℕ)) (pair : List ℕ × List ℕ)
     → with_pair (pairs_text pairs) pair ≡ pairs_text (pairs ++ pair ∷ [])
 with_pair-pairs_text [] pair = refl
-with_pair-pairs_text (first ∷ pairs) pair =
-    with_pair_some (pairs_text (first ∷ pairs)) pair (length_pairs_text first pairs)
-    ∙ sym (ap (λ texts. join_with_byte 44 (pair_text first ∷ texts)) (map_push pair_text pairs pair)
-    ∙ join_append 44 (pair_text first) (map pair_text pairs) (pair_text pair) [])
+with_pair-pairs_text (first ∷ pairs) pair = grind (arith, with_pair_some, length_pairs_text, map_push, join_append)
 
 -- the last of some parameters
 pub record IsLast (pairs : List (List ℕ × List ℕ)) (pair : List ℕ × List ℕ) : Type 0 where
@@ -168,23 +153,11 @@ last_pair pairs pair h =
 length_front : (c : ℕ) (xs ys : List (List ℕ)) → length (join_with_byte c xs) ≤ length (join_with_byte c (xs ++ ys))
 length_front c [] ys = omega arith
 length_front c (x ∷ xs) [] = omega (arith, ap (λ pieces. length (join_with_byte c pieces)) (append-nil (x ∷ xs)))
-length_front c (x ∷ xs) (y ∷ ys) = omega (
-  arith,
-  ap length (join_append c x xs y ys),
-  length-append (join_with_byte c (x ∷ xs)) (c ∷ join_with_byte c (y ∷ ys)),
-)
+length_front c (x ∷ xs) (y ∷ ys) = grind (arith, join_append, length-append)
 
 -- the first of some parameters
 pub ArePairs-front : (front back : List (List ℕ × List ℕ)) → ArePairs (front ++ back) → ArePairs front
-ArePairs-front front back h =
-    let long = length-append front back in
-    record {
-      each = λ k d below. rw (get_or_append_left front back d k below) at (h.each k d (omega arith));
-      once = λ i j d before below.
-          rw (get_or_append_left front back d i (omega arith), get_or_append_left front back d j below) at (h.once i j d before (omega arith));
-      short = let fits = length_front 44 (map pair_text front) (map pair_text back) in
-          omega (arith, h.short, ap (λ texts. length (join_with_byte 44 texts)) (map-append pair_text front back));
-    }
+ArePairs-front front back h = grind (arith, length-append, get_or_append_left, length_front, map-append)
 
 -- a piece with something after its first `=` is the text of its pair
 pair_text-pair_of : (piece : List ℕ) → 0 < length (after_first (λ b. b == 61) piece) → pair_text (pair_of piece) ≡ piece
@@ -219,8 +192,7 @@ pub record IsAdded {E : Type 0} (r : Result (Unit {0}) E) (pairs : List (List �
 
 with_pair-kept : (pairs : List (List ℕ × List ℕ)) (pair : List ℕ × List ℕ) (text : List ℕ) → ArePairs (pairs_of text) → pairs_of text ≡ pairs
     → with_pair text pair ≡ pairs_text (pairs ++ pair ∷ [])
-with_pair-kept pairs pair text h view =
-    ap (λ t. with_pair t pair) (sym (text_of_pairs text h.each) ∙ ap pairs_text view) ∙ with_pair-pairs_text pairs pair
+with_pair-kept pairs pair text h view = grind (arith, text_of_pairs, with_pair-pairs_text)
 
 pub added : {E : Type 0} (r : Result (Unit {0}) E) (pairs : List (List ℕ × List ℕ)) (pair : List ℕ × List ℕ)
     (old new : List ℕ) → ArePairs (pairs_of old) → pairs_of old ≡ pairs → IsPair pair → All (λ other. other.0 ≢ pair.0) pairs
@@ -236,9 +208,7 @@ added (Ok u) pairs pair old new h view is_pair others exact ok unchanged =
     } in
     let back : pairs_of new ≡ pairs ++ pair ∷ [] = ap pairs_of (ok ∙ text) ∙ pairs_of-pairs_text _ after.each in
     record { kept = rw back after; exact = (λ _. after, λ _. refl); ok = back }
-added (Err e) pairs pair old new h view is_pair others exact ok unchanged =
-    let exact_after = λ (after : ArePairs (pairs ++ pair ∷ [])). exact.1 (rw (with_pair-kept pairs pair old h view) after.short) in
-    record { kept = rw unchanged h; exact = (λ e. absurd (false≢true e), exact_after); ok = tt }
+added (Err e) pairs pair old new h view is_pair others exact ok unchanged = grind (arith, with_pair-kept, false≢true)
 
 -- a test of two texts of parameters tests the parameters
 pub tested : (xs ys : List (List ℕ × List ℕ)) (r : Bool) → ArePairs xs → ArePairs ys
@@ -271,8 +241,7 @@ text_of_parts text part parts e =
 
 -- the text of one part more
 pub parts_text-push : (parts : List (List ℕ)) (part : List ℕ) → parts_text (parts ++ part ∷ []) ≡ parts_text parts ++ dollar ∷ part
-parts_text-push parts part =
-    flat_map-append (λ part. dollar ∷ part) parts (part ∷ []) ∙ ap (λ more. parts_text parts ++ more) (append-nil (dollar ∷ part))
+parts_text-push parts part = grind (arith, flat_map-append, append-nil)
 
 -- whether a text lacks a byte
 pub lacks_decided : (c : ℕ) (text : List ℕ) (found : Bool) → found ≡ list_any (λ b. b == c) text

@@ -4,7 +4,7 @@ use Rattle.std.proofs.Common.{length, drop, Option, None, Some, inl, inr}
 use Rattle.std.specs.Borrow.{Bor}
 use Rattle.std.specs.Prelude.{All, AllPairs, IfSome, IsSome, OnSome, decimal, is_some, nat_eq, nat_le, nat_lt}
 use Rattle.std.specs.Bool.{Decides}
-use Rattle.std.specs.List.{after_first, list_all, list_any, starts_with, join_with_byte, before_first}
+use Rattle.std.specs.List.{after_first, list_all, list_any, starts_with, join_with_byte}
 use Rattle.std.specs.Str.{bytes_eq}
 use Rattle.std.proofs.lemmas.Bool.{and_parts, cases_Bool, false≢true, false_from_ne_true}
 use Rattle.std.proofs.lemmas.Bool.Decides.{Decides-and, Decides-by_and, Decides-eqb, Decides-like, Decides-ltb, Decides-not, nat_tests}
@@ -20,9 +20,8 @@ use Rattle.base64.specs.GeneralPurpose.{IsBytes, decoded_of}
 use Rattle.password_hash.specs.{AreBytesFromTo, ArePairs, IsHashText, IsKey, IsPair, IsSalt, are_bytes_from_to}
 use Rattle.password_hash.specs.{are_pairs, base64, decimal_below, decoded_bytes, hash_after, hash_of_parts, hash_parts}
 use Rattle.password_hash.specs.{hash_text, is_identifier, is_identifier_letter, is_pair, is_value_letter, names_differ}
-use Rattle.password_hash.specs.{pair_text, pairs_of, pairs_text, params_and_rest, params_part, parsed_pairs, parts_left}
-use Rattle.password_hash.specs.{parts_of, parts_text, read_hash, salt_and_key, salt_and_key_parts, version_and_rest}
-use Rattle.password_hash.specs.{version_part}
+use Rattle.password_hash.specs.{pair_text, pairs_text, params_and_rest, params_part, parsed_pairs, parts_left}
+use Rattle.password_hash.specs.{parts_of, read_hash, salt_and_key, salt_and_key_parts, version_and_rest, version_part}
 use Rattle.password_hash.specs.declared.phc.hash.PasswordHash.{PasswordHash}
 use Rattle.base64.proofs.Streams.{decoded_of-ok}
 use Rattle.password_hash.proofs.Base64Facts.{IsBytes-cons, decode_of-base64, base64_lacks}
@@ -66,11 +65,8 @@ params_lack (pair ∷ params) h =
 salt_and_key_lack : (c : ℕ) → is_value_letter c ≡ false → (salt key : Option (List ℕ)) → IfSome salt IsSalt → IfSome key IsKey
     → All (Lacks c) (salt_and_key_parts salt key)
 salt_and_key_lack c other None key hs hk = All-nil (Lacks c)
-salt_and_key_lack c other (Some salt) None hs hk =
-    All-from_recursion (Lacks c) (base64 salt ∷ []) (base64_lacks c other salt hs.are_bytes, tt)
-salt_and_key_lack c other (Some salt) (Some key) hs hk =
-    All-from_recursion (Lacks c) (base64 salt ∷ base64 key ∷ [])
-    (base64_lacks c other salt hs.are_bytes, (base64_lacks c other key hk.are_bytes, tt))
+salt_and_key_lack c other (Some salt) None hs hk = grind (arith, base64_lacks)
+salt_and_key_lack c other (Some salt) (Some key) hs hk = grind (arith, base64_lacks)
 
 -- no part of a hash has a `$`
 parts_lack : (text : List ℕ) (hash : PasswordHash) → IsHashText text hash → All (Lacks 36) (hash_parts hash)
@@ -88,8 +84,7 @@ params_no_version (pair ∷ params) h =
     let equals = equals_of_pairs pair params in
     let name = cut_at_first 61 pair.0 equals.0 (letters_lack is_identifier_letter 61 refl pair.0 is.name) in
     let none : Lacks 61 (codes "v") = All-from_recursion (λ b. (b == 61) ≡ false) (codes "v") (refl, tt) in
-    let text : LacksVersion (pairs_text (pair ∷ params)) = λ rest e.
-    is.no_version (sym name.0 ∙ ap (before_first (λ b. b == 61)) (sym equals.1 ∙ e) ∙ (cut_at_first 61 (codes "v") rest none).0) in
+    let text : LacksVersion (pairs_text (pair ∷ params)) = λ rest e. grind (arith, cut_at_first) in
     All-from_recursion LacksVersion (pairs_text (pair ∷ params) ∷ []) (text, tt)
 
 -- nor does what has no `=`
@@ -132,23 +127,12 @@ bytes_decided (x ∷ xs) =
     (λ (h : IsBytes (x ∷ xs)). (h 0, λ i. h (suc i))) (Decides-and _ _ (Decides-ltb x 256) (bytes_decided xs))
 
 pub within_decided : (least most : ℕ) (xs : List ℕ) → Decides (are_bytes_from_to least most xs) (AreBytesFromTo least most xs)
-within_decided least most xs = Decides-like (are_bytes_from_to least most xs)
-    (λ h. record { are_bytes = h.1.1; enough = h.0; fits = h.1.0 })
-    (λ (are : AreBytesFromTo least most xs). (are.enough, (are.fits, are.are_bytes)))
-    (Decides-and _ _ (leb_decided _ _) (Decides-and _ _ (leb_decided _ _) (bytes_decided xs)))
+within_decided least most xs = grind (arith, leb_decided, bytes_decided)
 
 pairs_exact : (text : List ℕ) (pairs : List (List ℕ × List ℕ))
     → (parsed_pairs text ≡ Some pairs) ↔ (ArePairs pairs × (text ≡ pairs_text pairs))
 unfolding parsed_pairs
-pairs_exact text pairs = (
-  λ is.
-      let (passes, same) = cond_some (are_pairs (pairs_of text)) (pairs_of text) pairs is in
-      let are = (pairs_decided (pairs_of text)).0 passes in
-      rw (← same) (are, sym (text_of_pairs text are.each)),
-  λ is.
-      let same : pairs_of text ≡ pairs = ap pairs_of is.1 ∙ pairs_of-pairs_text pairs is.0.each in
-      rw (same, (pairs_decided pairs).1 is.0) refl,
-)
+pairs_exact text pairs = grind (arith, cond_some, pairs_decided, text_of_pairs, pairs_of-pairs_text)
 
 pub bytes_exact : (least : ℕ) (letters bytes : List ℕ)
     → (decoded_bytes least letters ≡ Some bytes) ↔ (AreBytesFromTo least 64 bytes × (letters ≡ base64 bytes))
@@ -176,8 +160,7 @@ version_taken None (part ∷ others) is none =
     let other = false_from_ne_true (starts_with nat_eq part (codes "v=")) (λ begins.
     All-head LacksVersion part others none _ ((starts_is Decides-eqb part (codes "v=") _ refl).0 begins)) in
     rw other refl
-version_taken (Some number) others is none =
-    rw ((decimal_exact (decimal number) number).1 (is, refl)) refl
+version_taken (Some number) others is none = grind (arith, decimal_exact)
 
 params_taken : (params : List (List ℕ × List ℕ)) (others : List (List ℕ)) → ArePairs params → All (Lacks 61) others
     → params_and_rest (params_part params ++ others) ≡ Some (params, others)
@@ -196,8 +179,7 @@ salt_and_key_taken : (salt key : Option (List ℕ)) → IfSome salt IsSalt → I
 salt_and_key_taken None None is_salt is_key after = refl
 salt_and_key_taken None (Some key) is_salt is_key after = absurd (false≢true after)
 salt_and_key_taken (Some salt) None is_salt is_key after = rw ((bytes_exact 1 (base64 salt) salt).1 (is_salt, refl)) refl
-salt_and_key_taken (Some salt) (Some key) is_salt is_key after =
-    rw ((bytes_exact 1 (base64 salt) salt).1 (is_salt, refl), (bytes_exact 10 (base64 key) key).1 (is_key, refl)) refl
+salt_and_key_taken (Some salt) (Some key) is_salt is_key after = grind (arith, bytes_exact)
 
 pub hash_is_read : (text : List ℕ) (hash : PasswordHash) → IsHashText text hash → read_hash text ≡ Some hash
 unfolding read_hash
@@ -207,18 +189,11 @@ hash_is_read text hash h =
     let after : List (List ℕ) = params_part hash.params ++ last in
     let split : parts_of rest ≡ hash_parts hash =
     parts_of-parts_text rest hash.algorithm (version_part hash.version ++ after) (parts_lack text hash h) refl in
-    let whole : parts_of text ≡ [] ∷ hash_parts hash = ap parts_of h.whole
-    ∙ slice_split_at (λ b. b == 36) [] 36 rest (All-nil (λ b. (b == 36) ≡ false)) refl ∙ ap (λ parts. [] ∷ parts) split in
+    let whole : parts_of text ≡ [] ∷ hash_parts hash = grind (arith, slice_split_at) in
     let no_equals = salt_and_key_lack 61 refl hash.salt hash.hash h.salt h.key in
     let no_version = All-append LacksVersion (params_part hash.params) last (params_no_version hash.params h.params)
     (lacking_no_version last no_equals) in
-    rw (
-      whole,
-      h.algorithm,
-      version_taken hash.version after h.version no_version,
-      params_taken hash.params last h.params no_equals,
-      salt_and_key_taken hash.salt hash.hash h.salt h.key h.key_after_salt,
-    ) refl
+    grind (arith, version_taken, params_taken, salt_and_key_taken)
 
 -- what is read of parts is allowed, and they are printed of it
 
@@ -237,10 +212,7 @@ version_read (part ∷ after) read is = elim (cases_Bool (starts_with nat_eq par
       let found = (decimal_exact digits number).0 below in
       let one : read ≡ (Some number, after) = cc in
       rw one (found.0, ap (λ part. part ∷ after) (front ∙ ap (λ digits. codes "v=" ++ digits) (same ∙ found.1))))
-  | inr other ↦
-      let said = rw other at is in
-      let same : read ≡ (None, part ∷ after) = cc in
-      rw same (tt, refl)
+  | inr other ↦ grind arith
 ]
 
 params_read : (parts : List (List ℕ)) (read : List (List ℕ × List ℕ) × List (List ℕ)) → params_and_rest parts ≡ Some read
@@ -251,10 +223,7 @@ params_read (part ∷ after) read is = elim (cases_Bool (list_any (λ b. b == 61
       let exact = (pairs_exact part pairs).0 parsed in
       let same : read ≡ (pairs, after) = cc in
       rw same (exact.0, shown pairs has exact.1))
-  | inr other ↦
-      let said = rw other at is in
-      let same : read ≡ ([], part ∷ after) = cc in
-      rw same (no_pairs, refl)
+  | inr other ↦ grind (arith, no_pairs)
 ]
   where
     shown : (found : List (List ℕ × List ℕ)) → list_any (λ b. b == 61) part ≡ true → part ≡ pairs_text found
@@ -271,9 +240,7 @@ record AreSaltAndKey (parts : List (List ℕ)) (read : Option (List ℕ) × Opti
 
 salt_and_key_read : (parts : List (List ℕ)) (read : Option (List ℕ) × Option (List ℕ)) → salt_and_key parts ≡ Some read
     → AreSaltAndKey parts read
-salt_and_key_read [] read is =
-    let one : read ≡ (None, None) = cc in
-    rw one (record { whole = refl; salt_bytes = tt; key_bytes = tt; key_after_salt = tt })
+salt_and_key_read [] read is = grind arith
 salt_and_key_read (letters ∷ []) read is = option_and_then_some _ (decoded_bytes 1 letters) read is (λ salt same is.
     let one : read ≡ (Some salt, None) = cc in
     let exact = (bytes_exact 1 letters salt).0 same in
@@ -299,18 +266,7 @@ read_is_hash text hash is = at (parts_of text) refl is
         let is_version = version_read parts version one in
         let are_pairs = params_read version.1 params two in
         let both = salt_and_key_read params.1 last three in
-        let parts_are = is_version.1 ∙ ap (λ rest. version_part version.0 ++ rest)
-        (are_pairs.1 ∙ ap (λ rest. params_part params.0 ++ rest) both.whole) in
-        let made : record { algorithm = algorithm; version = version.0; params = params.0; salt = last.0; hash = last.1 } ≡ hash = cc in
-        rw (← made) (record {
-          whole = text_of_parts text algorithm parts split ∙ ap (λ parts. parts_text (algorithm ∷ parts)) parts_are;
-          algorithm = named;
-          version = is_version.0;
-          params = are_pairs.0;
-          salt = both.salt_bytes;
-          key = both.key_bytes;
-          key_after_salt = both.key_after_salt;
-        }))))
+        grind (arith, text_of_parts))))
 
     at : (parts : List (List ℕ)) → parts_of text ≡ parts → hash_of_parts parts ≡ Some hash → IsHashText text hash
     at [] split is = absurd cc

@@ -1,10 +1,10 @@
 -- Facts on scryptBlockMix.
+use Rattle.std.proofs.lemmas.Grind.{common_steps}
+use Rattle.std.proofs.lemmas.List.{places, append-nil, length-append}
 use Rattle.std.proofs.Common.{◌≡◌, ◌≢◌, ℕ, zero, suc, ◌+◌, ◌-◌, ◌*◌, ◌/◌, ◌%◌, ◌<◌, ◌≤◌, List, [], length, zero-add, bit_xor, add-one, refl, sym, ap, ◌∙◌, arith}
-use Rattle.std.proofs.lemmas.List.{append-nil, length-append}
 use Rattle.std.proofs.lemmas.Simd.{length-zip2}
 use Rattle.std.specs.List.{flat_map, range_with_len}
-use Rattle.scrypt_kernel.specs.{AfterTurns, AreInverse, IsBlockMixBy, IsRowLen, block, block_mix, chain, chain_in, permuted}
-use Rattle.scrypt_kernel.specs.{salsa20_8, xor_words, y}
+use Rattle.scrypt_kernel.specs.{AfterTurns, AreInverse, IsBlockMixBy, IsRowLen, block, block_mix, chain, chain_in, permuted, salsa20_8, xor_words, y}
 use Rattle.scrypt_kernel.proofs.PartFacts.{halves_all, length-part, length-parts, part_after, part_of_parts}
 use Rattle.scrypt_kernel.proofs.SalsaFacts.{length-salsa20_8}
 use Rattle.scrypt_kernel.proofs.OrderFacts.{block_in, length-permuted, out_then_in, standard_of, zip_in}
@@ -32,10 +32,7 @@ module _ (b : List ℕ) (some : 0 < length b) (whole : length b % 32 ≡ 0) wher
 
   pub length-block_mix : length (block_mix b) ≡ length b
   unfolding block_mix
-  length-block_mix =
-      let r : ℕ = length b / 32 in
-      let odd = length-parts (λ k. y b (2 * k + 1)) 16 0 r (λ k h. length-y (2 * (0 + k) + 1) (omega arith)) in
-      length-append (flat_map (λ k. y b (2 * k)) (range_with_len 0 r)) _ ∙ omega (arith, length-even, odd)
+  length-block_mix = grind (arith, length-parts, length-y, length-append, length-even)
 
   even_block : (k : ℕ) → k < length b / 32 → block (block_mix b) k ≡ y b (2 * k)
   unfolding block_mix
@@ -62,14 +59,7 @@ module _ {p q : List ℕ} (inverse : AreInverse p q) (b : List ℕ) (some : 0 < 
   next_in : (i : ℕ) → i * 16 + 16 ≤ length b
       → permuted p (chain b (i + 1)) ≡ core_in p q (xor_words (permuted p (chain b i)) (block (permuted p b) i))
   next_in i room =
-      let z = chain b i in
-      let w = block b i in
-      let one : length z ≡ 16 = length-chain b (omega arith) (omega arith) i (omega arith) in
-      let same : length z ≡ length w = one ∙ sym (length-part 16 i b room) in
-      let size : length (permuted p (xor_words z w)) ≡ 16 = length-permuted p _ ∙ length-zip2 bit_xor z w same ∙ one in
-      let joined = ap (xor_words (permuted p z)) (block_in inverse b i room) ∙ zip_in inverse bit_xor z w same (omega arith) in
-      let back = standard_of inverse _ (xor_words z w) (omega (arith, ap length joined)) joined in
-      ap (permuted p) (chain_more b i ∙ ap salsa20_8 (sym back))
+      grind (arith, common_steps, places, length-chain, length-part, length-permuted, length-zip2, block_in, zip_in, standard_of, chain_more)
 
   pub block_mix_by : IsBlockMixBy (core_in p q) (permuted p b) (permuted p (block_mix b))
   unfolding chain
@@ -82,8 +72,7 @@ module _ {p q : List ℕ} (inverse : AreInverse p q) (b : List ℕ) (some : 0 < 
         next = λ i h. next_in i (omega arith);
         long = length-permuted p (block_mix b) ∙ mixed ∙ sym long;
         even = λ k h. block_in inverse (block_mix b) k (omega arith) ∙ ap (permuted p) (even_block b some whole k (omega arith));
-        odd = λ k h. rw long (block_in inverse (block_mix b) (length b / 32 + k) (omega arith)
-            ∙ ap (permuted p) (odd_block b some whole k (omega arith)));
+        odd = λ k h. grind (arith, block_in, odd_block);
       }
 
 -- the block mix is a block mix by the core
@@ -132,27 +121,14 @@ mixed_in {p} {q} inverse input some whole =
 module _ {p q : List ℕ} (inverse : AreInverse p q) (b : List ℕ) {len : ℕ} (row : IsRowLen len) (long : length b ≡ len) where
   chain_first : chain_in p q b 0 ≡ block b (length b / 16 - 1)
   unfolding chain
-  chain_first =
-      let same : length (permuted q b) ≡ length b = length-permuted q b in
-      sym (block_in inverse (permuted q b) (length (permuted q b) / 16 - 1) (omega arith))
-      ∙ ap (λ z. block z (length (permuted q b) / 16 - 1)) (out_then_in inverse b (omega arith))
-      ∙ ap (λ n. block b (n / 16 - 1)) same
+  chain_first = grind (arith, common_steps, places, length-permuted, block_in, out_then_in)
 
   chain_next : (i : ℕ) → i < length b / 16 → chain_in p q b (i + 1) ≡ core_in p q (xor_words (chain_in p q b i) (block b i))
-  chain_next i inside =
-      let same : length (permuted q b) ≡ length b = length-permuted q b in
-      let next = next_in inverse (permuted q b) (omega arith) (omega arith) i (omega arith) in
-      rw (out_then_in inverse b (omega arith)) at next
+  chain_next i inside = grind (arith, length-permuted, next_in, out_then_in)
 
   -- before the first turn
   pub no_turn : (x output : List ℕ) → x ≡ block b (2 * (len / 32) - 1) → AfterTurns p q b 0 x output
-  no_turn x output first =
-      let last : 2 * (len / 32) - 1 ≡ length b / 16 - 1 = omega arith in
-      record {
-        chained = first ∙ ap (block b) last ∙ sym chain_first;
-        even = λ k h. absurd (omega arith);
-        odd = λ k h. absurd (omega arith);
-      }
+  no_turn x output first = grind (arith, chain_first)
 
   -- one more turn, whose steps give x1 and x2
   pub one_more_turn : (i : ℕ) (x output x1 output1 x2 output2 : List ℕ) → i < len / 32 → AfterTurns p q b i x output
@@ -165,12 +141,7 @@ module _ {p q : List ℕ} (inverse : AreInverse p q) (b : List ℕ) {len : ℕ} 
       let first : x1 ≡ chain_in p q b (2 * i + 1) = rw (chain_next (2 * i) (omega arith), ← before.chained) is1 in
       let second : x2 ≡ chain_in p q b (2 * i + 1 + 1) = rw (chain_next (2 * i + 1) (omega arith), ← first) is2 in
       let even_next : 2 * i + 1 + 1 ≡ 2 * (i + 1) = omega arith in
-      let half = ap (λ n. n / 32) long in
-      record {
-        chained = rw even_next at second;
-        even = λ k h. grind (arith, others2 k, others1 k, before.even k);
-        odd = λ k h. rw half (grind (arith, others2 (len / 32 + k), others1 (len / 32 + k), rw half at before.odd k));
-      }
+      grind arith
 
   -- after the last turn
   pub all_turns : (i : ℕ) (x output : List ℕ) → i ≡ len / 32 → length output ≡ len → AfterTurns p q b i x output

@@ -1,5 +1,5 @@
 -- Facts on the words and the bytes of several chunks.
-use Rattle.std.proofs.Common.{◌≡◌, Bool, ℕ, ◌<◌, ◌≤◌, ◌+◌, ◌*◌, ◌/◌, ◌%◌, List, length, take, drop, refl, sym, ap, ◌∙◌, arith}
+use Rattle.std.proofs.Common.{◌≡◌, Bool, ℕ, ◌<◌, ◌≤◌, ◌+◌, ◌*◌, ◌/◌, ◌%◌, List, length, take, drop, sym, ap, ◌∙◌, arith}
 use Rattle.std.proofs.lemmas.Grind.{flat_map-append}
 use Rattle.std.proofs.lemmas.List.{drop_at, ext_get_or, get_or-take, get_or-drop, length-drop, length-take-le, take-append-drop, take_at}
 use Rattle.std.specs.Int.{w32, to_le_bytes}
@@ -61,10 +61,7 @@ module _ {p q : List ℕ} (inverse : AreInverse p q) (n r k log_n : ℕ) (b x : 
 
   -- the standard's words of the chunk
   pub chunk_words : permuted q (part (32 * r) x k) ≡ words_of (part (128 * r) b k)
-  chunk_words =
-      let room = part_inside (32 * r * 4) k n (length b) below (omega (arith, long)) in
-      let part_long = length-part (32 * r) k x (omega (arith, ap length read, length-permuted p (words_of b), length-words_of b, room)) in
-      standard_of inverse (part (32 * r) x k) _ (omega (arith, part_long)) chunk_in
+  chunk_words = grind (arith, part_inside, length-part, length-permuted, length-words_of, standard_of, chunk_in)
 
   pub chunk_mixed : (end b' : List ℕ) → length end ≡ n * (32 * r) → b' ≡ bytes_of (permuted q end)
       → part (32 * r) end k ≡ permuted p (ro_mix (permuted q (part (32 * r) x k)) log_n)
@@ -76,10 +73,7 @@ module _ {p q : List ℕ} (inverse : AreInverse p q) (n r k log_n : ℕ) (b x : 
 pub counted_alone : {diagonal : Bool} {before after : CoreCount} (b c : List ℕ) (log_n s r : ℕ) → b ≡ c
     → AreCountedAs diagonal (1 * thin_ro_mix_cost (words_of b) log_n s r) before after
     → AreCountedAs diagonal (thin_ro_mix_cost (words_of c) log_n s r) before after
-counted_alone {diagonal} {before} b c log_n s r is counted =
-    let cost : ℕ = thin_ro_mix_cost (words_of b) log_n s r in
-    let alone : AreCountedAs diagonal cost before _ = counted_both cost (counted_none diagonal 0 before refl) counted (omega arith) in
-    rw is at alone
+counted_alone {diagonal} {before} b c log_n s r is counted = grind (arith, counted_both, counted_none)
 
 module _ (b : List ℕ) (whole : length b % 128 ≡ 0) where
   pub only_chunk : part (128 * (length b / 128)) b 0 ≡ b
@@ -88,8 +82,7 @@ module _ (b : List ℕ) (whole : length b % 128 ≡ 0) where
   pub mixed_alone : (b' : List ℕ) (log_n : ℕ) → length b' ≡ length b
       → part (128 * (length b / 128)) b' 0 ≡ bytes_of (ro_mix (words_of (part (128 * (length b / 128)) b 0)) log_n)
       → b' ≡ bytes_of (ro_mix (words_of b) log_n)
-  mixed_alone b' log_n same mixed =
-      sym (only_part (128 * (length b / 128)) b' (omega arith)) ∙ mixed ∙ ap (λ c. bytes_of (ro_mix (words_of c) log_n)) only_chunk
+  mixed_alone b' log_n same mixed = grind (arith, only_part, only_chunk)
 
   pub counted_whole : {diagonal : Bool} {before after : CoreCount} (log_n : ℕ)
       → AreCountedAs diagonal (1 * thin_ro_mix_cost (words_of (part (128 * (length b / 128)) b 0)) log_n 0 (length b / 128)) before after

@@ -1,6 +1,7 @@
 -- Facts on the blocks that SHA-256 compresses.
-use Rattle.std.proofs.Common.{◌≡◌, ◌∙◌, ℕ, ◌+◌, ◌*◌, ◌%◌, List, ap, arith, inl, inr, length}
-use Rattle.std.proofs.lemmas.Bool.{cases_lt, le-ltb, lt-ltb}
+use Rattle.std.proofs.lemmas.List.{places}
+use Rattle.std.proofs.Common.{◌≡◌, ◌∙◌, ℕ, ◌+◌, ◌*◌, ◌%◌, List, ap, arith, length}
+use Rattle.std.proofs.lemmas.Bool.{le-ltb, lt-ltb}
 use Rattle.std.proofs.lemmas.Grind.{common_steps}
 use Rattle.sha2.proofs.Facts256.{length-sha256}
 use Rattle.sha2.specs.Hashers.{Holds256}
@@ -16,16 +17,11 @@ unfolding Holds
 same_fill s m held = omega (arith, held.0)
 
 pub length-padded_key : (secret : List ℕ) → length (padded_key secret) ≡ 64
-length-padded_key secret = elim (cases_lt 64 (length secret)) [
-  | inl above ↦ grind (arith, common_steps, lt-ltb, length-sha256)
-  | inr fits ↦ grind (arith, common_steps, le-ltb)
-]
+length-padded_key secret = grind (arith, common_steps, places, lt-ltb, length-sha256, le-ltb)
 
 -- the ends of n texts and of m more, each of which costs the same
 pub more_blocks : (e n m k : ℕ) → n + m ≡ k → n * e + m * e ≡ k * e
-more_blocks e n m k sum =
-    let both : n * e + m * e ≡ (n + m) * e = omega arith in
-    both ∙ ap (λ z. z * e) sum
+more_blocks e n m k sum = grind arith
 
 -- none yet
 pub no_ends_hashed : (n e : ℕ) (a : CoreCount) → n ≡ 0 → AreHashed (n * e) a a

@@ -1,8 +1,9 @@
 -- Facts on vectors of four lanes, and on a block in diagonal order as four of them.
 use Rattle.std.proofs.Common.{◌≡◌, ℕ, ◌<◌, ◌+◌, ◌-◌, ◌*◌, ◌/◌, ◌%◌, ◌^◌, List, [], ◌∷◌, ◌++◌, length, bit_or, bit_xor}
-use Rattle.std.proofs.Common.{get_or, arith, refl, sym, ap, ap₂, subst, ◌∙◌, add-zero, Fits, replicate, append_assoc, zero, suc, inl, inr, length-append, take_all, drop, ◌≤◌}
+use Rattle.std.proofs.Common.{get_or, arith, refl, sym, ap, ap₂, subst, ◌∙◌, add-zero, zero-add, Fits, replicate, append_assoc, zero, suc, inl, inr, length-append, take_all, drop, ◌≤◌}
 use Rattle.std.proofs.lemmas.Bool.{cases_lt}
-use Rattle.std.proofs.lemmas.List.{append-nil}
+use Rattle.std.proofs.lemmas.Grind.{common_steps}
+use Rattle.std.proofs.lemmas.List.{append-nil, places}
 use Rattle.std.specs.Int.{w32, rotate_left}
 use Rattle.std.specs.Int.Bits.{and_shifted, xor_assoc, xor_disjoint}
 use Rattle.std.specs.Simd.Lanes.{Each1, pick_l, zip2}
@@ -11,7 +12,7 @@ use Rattle.std.proofs.lemmas.List.FromFn.{fill_by_all}
 use Rattle.scrypt_kernel.specs.{AreFourEach, add32, block, diagonal_core, diagonal_order, diagonal_round, double_round}
 use Rattle.scrypt_kernel.specs.{inverse_pivot, lanes_of, part, permuted, pivot, quarter_round, quarter_rounds}
 use Rattle.scrypt_kernel.specs.{salsa20_8, standard_order, turned, turned_left, xor_rotated}
-use Rattle.scrypt_kernel.proofs.PartFacts.{length-part, part-take, part_of_block, parts_all}
+use Rattle.scrypt_kernel.proofs.PartFacts.{block_same, length-part, length-part_of, part-take, part_inside, part_of_block, parts_all}
 use Rattle.scrypt_kernel.proofs.OrderFacts.{diagonal_inverse, length-permuted, out_then_in, standard_of, zip_in}
 use Rattle.scrypt_kernel.proofs.SalsaFacts.{length-double_round}
 
@@ -32,10 +33,7 @@ rotation_parts x k fits low high =
 -- a word xor a rotated word, by two exclusive ors
 xor_parts : (x y k : ℕ) → y < 2 ^ 32 → 0 < k → k < 32
     → bit_xor (bit_xor x (y * 2 ^ k % 2 ^ 32)) (y / 2 ^ (32 - k)) ≡ bit_xor x (rotate_left w32 y k)
-xor_parts x y k fits low high =
-    let left : k % 32 ≡ k = omega arith in
-    let right : (32 - k) % 32 ≡ 32 - k = omega arith in
-    rw (left, right) (xor_assoc x (y * 2 ^ k % 2 ^ 32) (y / 2 ^ (32 - k)) ∙ ap (bit_xor x) (rotation_parts y k fits low high))
+xor_parts x y k fits low high = grind (arith, xor_assoc, rotation_parts)
 
 -- a vector is its four lanes
 four_lanes : (x : List ℕ) → length x ≡ 4 → x ≡ get_or x 0 0 ∷ get_or x 1 0 ∷ get_or x 2 0 ∷ get_or x 3 0 ∷ []
@@ -164,11 +162,7 @@ pub block_lanes : (x : List ℕ) (i : ℕ) → i * 16 + 16 ≤ length x → {a b
     → c ≡ part 4 x (4 * i + 2) → d ≡ part 4 x (4 * i + 3) → joined (a, b, c, d) ≡ block x i
 block_lanes x i room {a} {b} {c} {d} is_a is_b is_c is_d =
     let lanes = λ (j : ℕ) (inside : j < 4). part-take 4 j 16 (drop (i * 16) x) (omega arith) ∙ part_of_block x i j in
-    let none : 4 * i + 0 ≡ 4 * i = omega arith in
-    lanes_joined (a, b, c, d) (block x i) (length-part 16 i x room)
-    (rw (
-      is_a ∙ sym (ap (part 4 x) none) ∙ sym (lanes 0 (omega arith)),
-      is_b ∙ sym (lanes 1 (omega arith)),
-      is_c ∙ sym (lanes 2 (omega arith)),
-      is_d ∙ sym (lanes 3 (omega arith)),
-    ) refl)
+    grind (arith, lanes_joined, length-part)
+
+-- the blocks that lanes are read from and written to
+pub ruleset blocks_of_lanes = (block_lanes, block_same, common_steps, length-part, length-part_of, part_inside, places, zero-add)

@@ -1,16 +1,15 @@
 -- Facts on words whose blocks are permuted, and on the number that the last block's bytes write.
-use Rattle.std.proofs.Common.{◌≡◌, ℕ, ◌<◌, ◌≤◌, ◌+◌, ◌*◌, ◌/◌, ◌%◌, List, length, map, get_or, refl, sym, ap, ◌∙◌, arith, lit<, inl, inr, zero-add}
-use Rattle.std.proofs.lemmas.List.{ext_get_or, get_or-take, get_or-drop, get_or-map, length-map, drop_more}
-use Rattle.std.proofs.lemmas.List.Sums.{AllPass-from_list_all}
-use Rattle.std.proofs.lemmas.Bool.{cases_lt, ltb-true}
+use Rattle.std.proofs.lemmas.Grind.{common_steps}
+use Rattle.std.proofs.lemmas.List.{places, ext_get_or, get_or-take, get_or-drop, get_or-map, length-map, drop_more}
+use Rattle.std.proofs.Common.{◌≡◌, ℕ, ◌<◌, ◌≤◌, ◌+◌, ◌*◌, ◌/◌, ◌%◌, List, length, map, get_or, refl, sym, ap, ◌∙◌, arith, zero-add}
+use Rattle.std.proofs.lemmas.Bool.{ltb-true}
 use Rattle.std.proofs.Math.ListN.{get_or-eq_default}
 use Rattle.std.proofs.lemmas.List.FromFn.{length-map-range_with_len, get_or-map-range_with_len, get_or-range_with_len}
 use Rattle.std.specs.List.{list_all, range_with_len}
 use Rattle.std.specs.Prelude.{IsTrue, nat_lt}
 use Rattle.std.specs.Simd.Lanes.{zip2}
 use Rattle.std.proofs.lemmas.Simd.{length-zip2, get_or-zip2}
-use Rattle.scrypt_kernel.specs.{AreInverse, block, bytes_of, integerify, inverse_pivot, last_block, le_number, part}
-use Rattle.scrypt_kernel.specs.{permuted, pivot}
+use Rattle.scrypt_kernel.specs.{AreInverse, block, bytes_of, integerify, inverse_pivot, last_block, le_number, part, permuted, pivot}
 use Rattle.scrypt_kernel.proofs.PartFacts.{length-part}
 use Rattle.std.proofs.Common.{◌-◌, ◌^◌, ◌∷◌, ◌++◌, take, drop, bit_and, bit_or}
 use Rattle.std.specs.Int.{w32, to_le_bytes}
@@ -24,19 +23,14 @@ length-permuted p x = length-map-range_with_len _ 0 (length x)
 pub get_or-permuted : (p x : List ℕ) (i : ℕ) → i < length x
     → get_or (permuted p x) i 0 ≡ get_or x (16 * (i / 16) + get_or p (i % 16) 0) 0
 unfolding permuted
-get_or-permuted p x i h =
-    get_or-map-range_with_len (λ i. get_or x (16 * (i / 16) + get_or p (i % 16) 0) 0) 0 (length x) i i 0 h (omega arith)
+get_or-permuted p x i h = grind (arith, get_or-map-range_with_len)
 
 -- p names places of a block
 abbrev pub IsWithin : List ℕ → Type 0
 IsWithin p = (j : ℕ) → get_or p j 0 < 16
 
 pub within : (p : List ℕ) → IsTrue (list_all (λ j. nat_lt j 16) p) → IsWithin p
-within p h j =
-    elim (cases_lt j (length p)) [
-      | inl lt ↦ ltb-true (get_or p j 0) 16 (AllPass-from_list_all (λ j. nat_lt j 16) p h j 0 lt)
-      | inr ge ↦ rw (get_or-eq_default p 0 ge) (lit< tt)
-    ]
+within p h j = grind (arith, common_steps, places, ltb-true, get_or-eq_default)
 
 -- q undoes p
 abbrev Undoes : List ℕ → List ℕ → Type 0
@@ -52,9 +46,6 @@ permuted_back : (p q : List ℕ) → IsWithin q → Undoes q p → (x : List ℕ
     → permuted q (permuted p x) ≡ x
 permuted_back p q inside back x whole =
     ext_get_or 0 _ _ (simp length-permuted) (λ i h.
-    let below : i < length x = rw (length-permuted, length-permuted) at h in
-    let place = inside (i % 16) in
-    let undone = back (i % 16) (omega arith) in
     grind (arith, get_or-permuted, length-permuted))
 
 module _ (p : List ℕ) (inside : IsWithin p) where
@@ -65,12 +56,7 @@ module _ (p : List ℕ) (inside : IsWithin p) where
       let one = length-part s k (permuted p x) (omega (arith, length-permuted p x)) in
       let two = length-part s k x room in
       ext_get_or 0 _ _ (one ∙ sym (length-permuted p (part s x k) ∙ two)) (λ i h.
-      let below : i < s = omega (arith, one, h) in
-      let place_of : (k * s + i) % 16 ≡ i % 16 = omega (arith, blocks) in
-      let at : 16 * ((k * s + i) / 16) + get_or p (i % 16) 0 ≡ k * s + (16 * (i / 16) + get_or p (i % 16) 0) = omega (arith, blocks) in
-      get_or-take s _ i 0 below ∙ get_or-drop (k * s) (permuted p x) i 0 ∙ get_or-permuted p x (k * s + i) (omega arith) ∙ rw (place_of, at)
-      (sym (get_or-permuted p (part s x k) i (omega (arith, two)) ∙ get_or-take s _ _ 0 (omega (arith, inside (i % 16), below, whole))
-      ∙ get_or-drop (k * s) x _ 0)))
+      grind (arith, get_or-take, get_or-drop, get_or-permuted))
 
   -- an operation word by word
   zip_permuted : (f : ℕ → ℕ → ℕ) (x y : List ℕ) → length x ≡ length y → length x % 16 ≡ 0
@@ -79,8 +65,6 @@ module _ (p : List ℕ) (inside : IsWithin p) where
       let both = length-zip2 f x y same in
       let left = length-zip2 f (permuted p x) (permuted p y) (simp length-permuted same) in
       ext_get_or 0 _ _ (left ∙ simp length-permuted (sym both)) (λ i h.
-      let below : i < length x = omega (arith, length-permuted p x) in
-      let place = inside (i % 16) in
       grind (
         arith,
         get_or-permuted,
@@ -94,7 +78,6 @@ pub block_by_places : (p x y : List ℕ) → length x ≡ 16 → length y ≡ 16
     → ((j : ℕ) → j < 16 → get_or y j 0 ≡ get_or x (get_or p j 0) 0) → y ≡ permuted p x
 block_by_places p x y long_x long_y each =
     ext_get_or 0 y (permuted p x) (grind (arith, length-permuted)) (λ j h.
-    let is = each j (omega arith) in
     grind (arith, get_or-permuted))
 
 -- the order of the standard leaves each word where it is
@@ -119,9 +102,7 @@ module _ {p q : List ℕ} (inverse : AreInverse p q) where
 
   -- the words whose permutation is x
   pub standard_of : (x w : List ℕ) → length x % 16 ≡ 0 → x ≡ permuted p w → permuted q x ≡ w
-  standard_of x w whole is =
-      let long : length x ≡ length w = ap length is ∙ length-permuted p w in
-      ap (permuted q) is ∙ in_then_out w (omega arith)
+  standard_of x w whole is = grind (arith, length-permuted, in_then_out)
 
   pub zip_out : (f : ℕ → ℕ → ℕ) (x y : List ℕ) → length x ≡ length y → length x % 16 ≡ 0
       → permuted q (zip2 f x y) ≡ zip2 f (permuted q x) (permuted q y)
@@ -145,10 +126,7 @@ le_word w bs fits = omega arith
 -- the number of the bytes of two words and more words
 le_words : (u w : ℕ) (ws : List ℕ) → u < 2 ^ 32 → w < 2 ^ 32
     → le_number (bytes_of (u ∷ w ∷ ws)) ≡ u + 2 ^ 32 * w + 2 ^ 64 * le_number (bytes_of ws)
-le_words u w ws u_fits w_fits =
-    let inner = le_word w (bytes_of ws) w_fits in
-    let outer = le_word u (bytes_of (w ∷ ws)) u_fits in
-    omega (arith, inner, outer)
+le_words u w ws u_fits w_fits = grind (arith, le_word)
 
 -- the low bits of the last block's number, by its first two words
 pub integerify_low : (x : List ℕ) (a k : ℕ) → a + 16 ≡ length x → length x % 16 ≡ 0 → k ≤ 64
@@ -161,20 +139,15 @@ integerify_low x a k at whole small u_fits w_fits =
     let start : (length x / 16 - 1) * 16 ≡ a = omega arith in
     let first = drop_more x a 0 (omega arith) in
     let second = drop_more x (a + 1) 0 (omega arith) in
-    let written : last_block x ≡ u ∷ w ∷ rest =
-    ap (λ i. take 16 (drop i x)) start ∙ ap (take 16) (first ∙ ap (λ z. u ∷ z) second) in
+    let written : last_block x ≡ u ∷ w ∷ rest = grind arith in
     let r : ℕ = le_number (bytes_of rest) in
     let j : ℕ = 64 - k in
     let whole_bits : k + j ≡ 64 = omega arith in
     let high : 2 ^ 64 * r ≡ 2 ^ k * (2 ^ j * r) =
     ap (λ i. 2 ^ i * r) (sym whole_bits) ∙ ap (λ m. m * r) (pow-add 2 k j) ∙ mul_assoc (2 ^ k) (2 ^ j) r in
-    ap (λ z. le_number (bytes_of z) % 2 ^ k) written
-    ∙ ap (λ n. n % 2 ^ k) (le_words u w rest u_fits w_fits ∙ ap (λ m. u + 2 ^ 32 * w + m) high)
-    ∙ add-mul-mod_self_left (u + 2 ^ 32 * w) (2 ^ k) (2 ^ j * r)
+    grind (arith, le_words, add-mul-mod_self_left)
 
 -- the low bits of two words, as the code makes them
 pub low_bits : (u w k : ℕ) → u < 2 ^ 32 → w < 2 ^ 32 → k < 64
     → bit_and (bit_or (w * 2 ^ 32 % 2 ^ 64) u) (1 * 2 ^ k % 2 ^ 64 - 1) ≡ (u + 2 ^ 32 * w) % 2 ^ k
-low_bits u w k u_fits w_fits small =
-    let turned : w * 2 ^ 32 + u ≡ u + 2 ^ 32 * w = omega arith in
-    rw (shl_whole w 32 32 64 w_fits (omega arith), one_shl k 64 small, or_shifted w 32 u u_fits, turned) (and_mask (u + 2 ^ 32 * w) k)
+low_bits u w k u_fits w_fits small = grind (arith, common_steps, places, shl_whole, one_shl, or_shifted, and_mask)

@@ -1,8 +1,7 @@
 -- Facts on a list that is cut into parts of s elements each.
 use Rattle.std.proofs.Common.{◌≡◌, ◌≢◌, ℕ, zero, suc, ◌<◌, ◌≤◌, ◌+◌, ◌*◌, List, ◌++◌, length, get_or, take, drop, refl}
-use Rattle.std.proofs.Common.{sym, ap, ap₂, ◌∙◌, take_all, arith, rules, inl, inr, add-zero, zero-add, append_assoc}
+use Rattle.std.proofs.Common.{sym, ap, ap₂, ◌∙◌, take_all, arith, rules, add-zero, zero-add, append_assoc}
 use Rattle.std.proofs.Math.Nat.{mul-le-mul_right}
-use Rattle.std.proofs.lemmas.Bool.{cases_lt}
 use Rattle.std.proofs.lemmas.List.{take_at, take-take, drop-drop, take-append-drop, length-take-le, places, same_lists, length-append, length-drop, nil_from_length}
 use Rattle.std.proofs.lemmas.Slice.{drop-put_mid}
 use Rattle.std.proofs.lemmas.List.FromFn.{fill_by_all}
@@ -15,9 +14,7 @@ use Rattle.scrypt_kernel.specs.declared.parts.Parts.{Parts}
 
 -- a later part begins where an earlier one has ended, or later
 pub parts_apart : (s j k : ℕ) → j < k → j * s + s ≤ k * s
-parts_apart s j k h =
-    let le : suc j ≤ k = omega arith in
-    omega (arith, mul-le-mul_right s le)
+parts_apart s j k h = grind (arith, mul-le-mul_right)
 
 pub length-part : (s k : ℕ) (x : List ℕ) → k * s + s ≤ length x → length (part s x k) ≡ s
 length-part s k x room = length-take-le s (drop (k * s) x) (omega (arith, length-drop (k * s) x))
@@ -38,13 +35,7 @@ module _ (s k : ℕ) (x ys : List ℕ) (a n : ℕ) (at : a ≡ k * s) (size : n 
   part_put_same = same_lists _ _ (search (rules, places)) (λ i d h. grind (arith, places))
 
   pub part_put_other : (j : ℕ) → j ≢ k → part s (put_mid a n x ys) j ≡ part s x j
-  part_put_other j ne = elim (cases_lt j k) [
-    | inl lt ↦ let apart = parts_apart s j k lt in same_lists _ _ (search (rules, places)) (λ i d h. grind (arith, places))
-    | inr ge ↦
-        let gt : k < j = omega arith in
-        let apart = parts_apart s k j gt in
-        ap (take s) (drop-put_mid a n x ys (j * s) (omega arith) (omega arith) (omega arith))
-  ]
+  part_put_other j ne = same_lists _ _ (search (rules, places, parts_apart, drop-put_mid)) (λ i d h. grind (arith, places, parts_apart, drop-put_mid))
 
 next_place : (a i : ℕ) → a + 1 + i ≡ a + suc i
 next_place a i = omega arith
@@ -96,8 +87,7 @@ pub parts_of_each : (g : ℕ → List ℕ) (s : ℕ) (x b : List ℕ) → length
     → ((k : ℕ) → k < length x → part s b k ≡ g (get_or x k 0)) → b ≡ flat_map g x
 parts_of_each g s x b long each =
     let places = fill_by_all (λ k. get_or x k 0) x (length x) 0 refl (λ k h. refl) in
-    parts_all (λ k. g (get_or x k 0)) s (length x) b long each
-    ∙ sym (flat_map-map g (λ k. get_or x k 0) (range_with_len 0 (length x))) ∙ ap (flat_map g) (sym places)
+    grind (arith, parts_all, flat_map-map)
 
 -- part n + k of a list whose first n parts are known
 pub part_after : (s n k : ℕ) (xs ys : List ℕ) → length xs ≡ n * s → part s (xs ++ ys) (n + k) ≡ part s ys k
@@ -116,10 +106,7 @@ length-parts f s a (suc n) long =
 pub part_of_parts : (f : ℕ → List ℕ) (s a n k : ℕ) (ys : List ℕ) → ((i : ℕ) → i < n → length (f (a + i)) ≡ s) → k < n
     → part s (flat_map f (range_with_len a n) ++ ys) k ≡ f (a + k)
 part_of_parts f s a zero k ys long inside = absurd (omega arith)
-part_of_parts f s a (suc n) zero ys long inside =
-    let first : length (f a) ≡ s = rw add-zero at (long 0 inside) in
-    let none : 0 * s ≡ 0 = omega arith in
-    rw (none, add-zero, append_assoc) (take_at (f a) _ s first)
+part_of_parts f s a (suc n) zero ys long inside = grind (arith, add-zero, append_assoc, take_at)
 part_of_parts f s a (suc n) (suc k) ys long inside =
     let first : length (f a) ≡ 1 * s = rw add-zero at (long 0 (omega arith)) ∙ omega arith in
     let next : suc k ≡ 1 + k = omega arith in
@@ -132,9 +119,7 @@ part_append_front s k xs ys room = same_lists _ _ (search (rules, places)) (λ i
 
 -- part i of the words from block k on
 pub part_of_block : (x : List ℕ) (k i : ℕ) → part 4 (drop (k * 16) x) i ≡ part 4 x (4 * k + i)
-part_of_block x k i =
-    let place : k * 16 + i * 4 ≡ (4 * k + i) * 4 = omega arith in
-    ap (take 4) (drop-drop (i * 4) (k * 16) x ∙ ap (λ n. drop n x) place)
+part_of_block x k i = grind (arith, drop-drop)
 
 -- blocks with the same four parts
 pub block_same : (x z : List ℕ) (j k : ℕ) → ((i : ℕ) → i < 4 → part 4 x (4 * j + i) ≡ part 4 z (4 * k + i)) → block x j ≡ block z k
@@ -146,8 +131,7 @@ pub part_inside : (s k n len : ℕ) → k < n → n * s ≤ len → k * s + s �
 part_inside s k n len below room = let apart = parts_apart s k n below in omega arith
 
 pub length-part_of : (parts : Parts) (n k : ℕ) → AreParts n parts → k < n → length (part_of parts k) ≡ parts.len
-length-part_of parts n k all below =
-    length-take-le parts.len _ (omega (arith, length-drop (get_or parts.starts k 0) parts.words.now, all.inside k below))
+length-part_of parts n k all below = grind (arith, length-take-le, length-drop)
 
 -- the only part
 pub only_part : (s : ℕ) (x : List ℕ) → length x ≡ s → part s x 0 ≡ x

@@ -35,8 +35,7 @@ length-pbkdf2 password salt n = length-map-range_with_len (pbkdf2_byte password 
 pub pbkdf2-piece : (password salt : List ℕ) (at size n : ℕ) → at + size ≤ n
     → pbkdf2_from password salt at size ≡ take size (drop at (pbkdf2 password salt n))
 pbkdf2-piece password salt at size n inside =
-    same_lists _ _ (grind (arith, places, length-map-range_with_len))
-    (λ i d h. grind (arith, places, get_or-map-range_with_len, length-map-range_with_len))
+    same_lists _ _ (search (rules, places, length-map-range_with_len, get_or-map-range_with_len)) (λ i d h. grind (arith, places, length-map-range_with_len, get_or-map-range_with_len))
 
 -- the bytes between 32 * i and 32 * (i + 1) are those of block i + 1
 part_of_pbkdf2 : (password salt : List ℕ) (n i : ℕ) → i < n
@@ -69,8 +68,7 @@ same_pbkdf2 one other salt n padded = λ i. map (λ k. same_byte one other salt 
 
 -- a zero byte after a key that leaves room in its block
 pub padded_zero_byte : (secret : List ℕ) → length secret < 64 → padded_key (secret ++ 0 ∷ []) ≡ padded_key secret
-padded_zero_byte secret fits =
-    same_lists _ _ (grind (arith, common_steps, places, le-ltb)) (λ i d h. grind (arith, common_steps, places, le-ltb))
+padded_zero_byte secret fits = same_lists _ _ (search (rules, places, le-ltb)) (λ i d h. grind (arith, places, le-ltb))
 
 -- the digest of a key that is longer than a block
 pub padded_digest : (secret : List ℕ) → 64 < length secret → padded_key (sha256 secret) ≡ padded_key secret
@@ -91,8 +89,4 @@ unfolding pbkdf2_byte hmac_sha256 sha256
 pbkdf2_byte-fits password salt k = digest_byte-fits _ 8 (k % 32)
 
 pub pbkdf2-are_bytes : (password salt : List ℕ) (n i : ℕ) → slice_index (pbkdf2 password salt n) i < 256
-pbkdf2-are_bytes password salt n i = elim (cases_lt i n) [
-  | inl inside ↦
-      rw (get_or-map-range_with_len (pbkdf2_byte password salt) 0 n i i 0 inside (omega arith)) (pbkdf2_byte-fits password salt i)
-  | inr outside ↦ rw (get_or_past (pbkdf2 password salt n) i 0 (omega (arith, length-pbkdf2 password salt n))) (omega arith)
-]
+pbkdf2-are_bytes password salt n i = grind (arith, get_or-map-range_with_len, pbkdf2_byte-fits, get_or_past, length-pbkdf2)

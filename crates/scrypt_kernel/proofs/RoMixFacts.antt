@@ -1,6 +1,6 @@
 -- Facts on scryptROMix.
-use Rattle.std.proofs.Common.{◌≡◌, Bool, ℕ, zero, suc, ◌<◌, ◌+◌, ◌*◌, ◌/◌, ◌%◌, ◌^◌, List, ◌++◌, length, bit_xor, refl, ◌≤◌, take, drop, inl, inr}
-use Rattle.std.proofs.Common.{sym, ap, ap₂, ◌∙◌, arith, add-one, add-zero, length-append}
+use Rattle.std.proofs.Common.{◌≡◌, Bool, ℕ, zero, suc, ◌<◌, ◌+◌, ◌*◌, ◌/◌, ◌%◌, ◌^◌, List, ◌++◌, length, bit_xor, refl, ◌≤◌, take, inl, inr}
+use Rattle.std.proofs.Common.{sym, ap, ◌∙◌, arith, add-one, add-zero, length-append}
 use Rattle.std.proofs.lemmas.Simd.{length-zip2}
 use Rattle.scrypt_kernel.specs.{AddsRow, AfterRowTurns, AreCountedAs, AreInverse, block_mix, integerify, mixed_in, part}
 use Rattle.scrypt_kernel.specs.{permuted, place, ro_mix, row, walk, xor_words}
@@ -43,9 +43,7 @@ module _ (b : List ℕ) (some : 0 < length b) (whole : length b % 32 ≡ 0) wher
   length-ro_mix log_n = length-walk log_n _
 
 pub length-mixed_in : (p q x : List ℕ) (i : ℕ) → 0 < length x → length x % 32 ≡ 0 → length (mixed_in p q i x) ≡ length x
-length-mixed_in p q x i some whole =
-    let standard : length (permuted q x) ≡ length x = length-permuted q x in
-    length-permuted p _ ∙ length-row (permuted q x) (omega (arith, standard)) (omega (arith, standard)) i ∙ standard
+length-mixed_in p q x i some whole = grind (arith, length-permuted, length-row)
 
 -- rows of n chunks whose parts are those of x, one row in t, each with s words of each chunk
 pub record HoldsRows (p q : List ℕ) (n s t rows : ℕ) (x v : List ℕ) : Type 0 where
@@ -64,17 +62,11 @@ one_mix p q x = refl
 
 -- part k of row m of n chunks is inside, of so many rows
 pub place_inside : (n s m rows k : ℕ) → k < n → m < rows → place n m k * s + s ≤ rows * (n * s)
-place_inside n s m rows k below inside =
-    let apart = parts_apart n m rows inside in
-    let next : suc (place n m k) ≤ rows * n = omega arith in
-    omega (arith, mul-le-mul_right s next)
+place_inside n s m rows k below inside = grind (arith, parts_apart, mul-le-mul_right)
 
 -- part k of row m
 pub part_of_row : (n s m k : ℕ) (v : List ℕ) → k < n → part s (part (n * s) v m) k ≡ part s v (place n m k)
-part_of_row n s m k v below =
-    let at : m * (n * s) + k * s ≡ place n m k * s = omega arith in
-    part-take s k (n * s) (drop (m * (n * s)) v) (parts_apart s k n below)
-    ∙ ap (take s) (drop-drop (k * s) (m * (n * s)) v ∙ ap (λ a. drop a v) at)
+part_of_row n s m k v below = grind (arith, part-take, parts_apart, drop-drop)
 
 pub length-part_of_row : (n s k : ℕ) (x : List ℕ) → k < n → length x ≡ n * s → length (part s x k) ≡ s
 length-part_of_row n s k x below long = length-part s k x (part_inside s k n (length x) below (omega arith))
@@ -105,12 +97,7 @@ adds_row {f} {n} {s} {m} {a} {before} {after} added at room long is each =
 pub begun_longer : {p q : List ℕ} {n s m i : ℕ} {x : ℕ → List ℕ} {before after : List ℕ} (longer : List ℕ)
     → AfterRowTurns p q n s m i x before after → (m + 2) * (n * s) ≤ length after → take (length after) longer ≡ after
     → AfterRowTurns p q n s m i x before longer
-begun_longer {n = n} {s = s} {m = m} {after = after} longer begun room is = record {
-  kept = take_longer ((m + 1) * (n * s)) after longer (omega arith) is ∙ begun.kept;
-  mixed = λ k h.
-      let inside = place_inside n s (m + 1) (m + 2) k h (omega arith) in
-      rw (part_longer s (place n (m + 1) k) after longer (omega (arith, inside)) is) (begun.mixed k h);
-}
+begun_longer {n = n} {s = s} {m = m} {after = after} longer begun room is = grind (arith, take_longer, place_inside, part_longer)
 
 -- the row after one that is in another order
 module _ {p q : List ℕ} (inverse : AreInverse p q) where
@@ -122,23 +109,18 @@ module _ {p q : List ℕ} (inverse : AreInverse p q) where
   -- and the row that is n rows after it
   pub row_after_in : (b x : List ℕ) (i n : ℕ) → length x % 16 ≡ 0 → x ≡ permuted p (row b i)
       → permuted p (row (permuted q x) n) ≡ permuted p (row b (i + n))
-  row_after_in b x i n whole is =
-      ap (λ z. permuted p (row z n)) (standard_of inverse x (row b i) whole is) ∙ ap (permuted p) (row_after b i n)
+  row_after_in b x i n whole is = grind (arith, standard_of, row_after)
 
   -- before the first block mix, and after one more
   module _ (n s : ℕ) (whole : s % 32 ≡ 0) {diagonal : Bool} {begin : CoreCount} (kept : List ℕ) (long : length kept ≡ n * s) where
     pub no_mix : AfterMixes p q n s diagonal begin 0 kept kept begin
-    no_mix = record {
-      value = λ k h. row_zero_in (part s kept k) (omega (arith, length-part_of_row n s k kept h long));
-      counted = counted_none _ _ _ (omega arith);
-    }
+    no_mix = grind (arith, row_zero_in, length-part_of_row, counted_none)
 
     pub one_more_mix : (before after : CoreCount) (x y : List ℕ) (i j : ℕ) → AfterMixes p q n s diagonal begin i kept x before
         → length x ≡ n * s → ((k : ℕ) → k < n → part s y k ≡ mixed_in p q 1 (part s x k))
         → AreCountedAs diagonal (n * (2 * (s / 32))) before after → j ≡ i + 1 → AfterMixes p q n s diagonal begin j kept y after
     one_more_mix before after x y i j until same mixed counted is = rw is (record {
-      value = λ k h. mixed k h ∙ row_after_in (permuted q (part s kept k)) (part s x k) i 1
-          (omega (arith, length-part_of_row n s k x h same)) (until.value k h);
+      value = λ k h. grind (arith, row_after_in, length-part_of_row);
       counted = counted_both _ until.counted counted (omega arith);
     })
 
@@ -147,16 +129,7 @@ module _ {p q : List ℕ} (inverse : AreInverse p q) where
       → HoldsRows p q n s t 1 x v
   first_row {n} {s} {t} {x} {v} size whole is =
       let none : 0 * t ≡ 0 = omega arith in
-      record {
-        len = omega (arith, size, ap length is, length-take (length x) v);
-        each = λ m k first h.
-            let zero : m ≡ 0 = omega arith in
-            let at : 0 * n + k ≡ k = omega arith in
-            let room = part_inside s k n (length x) h (omega (arith, size)) in
-            let long = length-part_of_row n s k x h size in
-            rw (zero, none, at) (sym (part-take s k (length x) v room) ∙ ap (λ z. part s z k) is
-            ∙ row_zero_in (part s x k) (omega (arith, long)));
-      }
+      grind (arith, length-take, part_inside, length-part_of_row, part-take, row_zero_in)
 
   -- and one more, which is t rows after the last
   pub more_rows : {n s t i : ℕ} {x v v' : List ℕ} → s % 32 ≡ 0 → HoldsRows p q n s t (i + 1) x v
@@ -164,16 +137,13 @@ module _ {p q : List ℕ} (inverse : AreInverse p q) where
   more_rows {n} {s} {t} {i} {x} {v} whole held added = record {
     len = omega (arith, added.len);
     each = λ m k inside h. elim (cases_lt m (i + 1)) [
-      | inl lt ↦
-          let apart = parts_apart n m (i + 1) lt in
-          added.kept (place n m k) (omega arith) ∙ held.each m k lt h
+      | inl lt ↦ grind (arith, parts_apart)
       | inr ge ↦
           let last : m ≡ i + 1 = omega arith in
           let there : i * t + t ≡ (i + 1) * t = omega arith in
           let room = place_inside n s i (i + 1) k h (omega arith) in
           let row_long = length-part s (place n i k) v (omega (arith, held.len, room)) in
-          rw last (added.added k h ∙ row_after_in (permuted q (part s x k)) (part s v (place n i k)) (i * t) t
-          (omega (arith, row_long)) (held.each i k (omega arith) h) ∙ ap (λ r. mixed_in p q r (part s x k)) there)
+          grind (arith, row_after_in)
     ];
   }
 
@@ -182,10 +152,4 @@ module _ {p q : List ℕ} (inverse : AreInverse p q) where
       → x ≡ permuted p (walk b log_n k) → j ≡ integerify (permuted q x) % 2 ^ log_n → u ≡ permuted p (row b j)
       → permuted p (block_mix (permuted q (xor_words x u))) ≡ permuted p (walk b log_n (k + 1))
   unfolding walk
-  next_step_in b log_n k x u j whole same is names taken =
-      let w = walk b log_n k in
-      let standard = standard_of inverse x w whole is in
-      let number : j ≡ integerify w % 2 ^ log_n = names ∙ ap (λ z. integerify z % 2 ^ log_n) standard in
-      let row_is = standard_of inverse u (row b j) (omega arith) taken in
-      ap (λ z. permuted p (block_mix z)) (zip_out inverse bit_xor x u (sym same) whole
-      ∙ ap₂ xor_words standard (row_is ∙ ap (row b) number)) ∙ rw add-one refl
+  next_step_in b log_n k x u j whole same is names taken = grind (arith, standard_of, zip_out, add-one)

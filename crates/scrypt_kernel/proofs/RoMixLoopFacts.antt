@@ -1,5 +1,5 @@
 -- scryptROMix with an array is scryptROMix without one.
-use Rattle.std.proofs.Common.{◌≡◌, ◌∙◌, ◌<◌, ◌%◌, ◌^◌, ℕ, List, [], zero, suc, length, length-append, get_or, inl, inr, refl, sym, ap, arith}
+use Rattle.std.proofs.Common.{◌≡◌, ◌∙◌, ◌<◌, ◌%◌, ◌^◌, ℕ, List, [], zero, suc, length, length-append, get_or, inl, inr, refl, ap, arith}
 use Rattle.std.proofs.lemmas.Bool.{cases_lt}
 use Rattle.std.proofs.lemmas.List.{get_or_append_left, get_or_push}
 use Rattle.std.proofs.lemmas.Nat.{mod_below, pow_pos}
@@ -21,9 +21,7 @@ unfolding filled
 v_filled b zero i below = absurd (omega (arith, below))
 v_filled b (suc n) i below = elim (cases_lt i n) [
   | inl earlier ↦ get_or_append_left (filled b n).v _ [] i (omega (arith, earlier, length_filled b n)) ∙ v_filled b n i earlier
-  | inr last ↦
-      let is : i ≡ n = omega (arith, below, last) in
-      get_or_push (filled b n).v _ [] i (length_filled b n ∙ sym is) ∙ x_filled b n ∙ ap (row b) (sym is)
+  | inr last ↦ grind (arith, get_or_push, length_filled, x_filled)
 ]
 
 same_walk : (b : List ℕ) (log_n i : ℕ) → walked (filled b (2 ^ log_n)) (2 ^ log_n) i ≡ walk b log_n i

@@ -3,8 +3,7 @@ use Rattle.std.proofs.Common.{◌≡◌, ℕ, ◌<◌, ◌≤◌, ◌+◌, ◌-�
 use Rattle.std.proofs.lemmas.Bool.{cases_lt}
 use Rattle.std.proofs.lemmas.List.{drop-drop, places, same_lists}
 use Rattle.std.proofs.lemmas.Nat.{pow_pos}
-use Rattle.scrypt_kernel.specs.{AddsRow, AreInverse, IsInWalk, IsMixing, all_mixes, mixed_in, part, permuted, place}
-use Rattle.scrypt_kernel.specs.{ro_mix, row, walk}
+use Rattle.scrypt_kernel.specs.{AddsRow, AreInverse, IsInWalk, IsMixing, all_mixes, mixed_in, part, permuted, place, ro_mix, row, walk}
 use Rattle.scrypt_kernel.proofs.PartFacts.{length-part, part-take, part_append_front, part_inside, parts_apart}
 use Rattle.scrypt_kernel.proofs.RoMixFacts.{part_of_row, place_inside, row_after_in}
 
@@ -21,44 +20,27 @@ drop_same a b x y later same =
 -- what is behind two parts of a list that were written
 pub behind : (xs ys back whole : List ℕ) (a b n : ℕ) → back ≡ drop a whole → length xs ≡ a → length ys ≡ b → a + b ≡ n
     → drop n (xs ++ (ys ++ drop b back)) ≡ drop n whole
-behind xs ys back whole a b n is front next end =
-    rw (← end) (same_lists (drop (a + b) (xs ++ (ys ++ drop b back))) (drop b back) (search (rules, places)) (λ i d h. grind (arith, places)))
-    ∙ ap (drop b) is ∙ drop-drop b a whole ∙ ap (λ k. drop k whole) end
+behind xs ys back whole a b n is front next end = same_lists _ _ (search (rules, places, drop-drop)) (λ i d h. grind (arith, places, drop-drop))
 
 -- before the first mix
 pub no_mix_yet : {p : List ℕ} {n s : ℕ} {b : ℕ → List ℕ} {v x : List ℕ} (log_n : ℕ)
     → ((k : ℕ) → k < n → part s v k ≡ permuted p (b k)) → IsMixing p n b s log_n 0 v x
 unfolding row
-no_mix_yet {n = n} log_n each = record {
-  rows = λ m k inside first below.
-      let none : m ≡ 0 = omega arith in
-      let at : 0 * n + k ≡ k = omega arith in
-      rw (none, at) (each k below);
-  x = λ k below ended. absurd (omega (arith, pow_pos log_n, ended));
-}
+no_mix_yet {n = n} log_n each = grind (arith, pow_pos)
 
 -- of the same words
 pub mixing_as : {p : List ℕ} {n s log_n done : ℕ} {v x : List ℕ} (b c : ℕ → List ℕ) → ((k : ℕ) → k < n → b k ≡ c k)
     → IsMixing p n b s log_n done v x → IsMixing p n c s log_n done v x
-mixing_as {p} {log_n = log_n} {done = done} b c same at = record {
-  rows = λ m k inside made below. at.rows m k inside made below ∙ ap (λ z. permuted p (row z m)) (same k below);
-  x = λ k below ended. at.x k below ended ∙ ap (λ z. permuted p (walk z log_n (done - 2 ^ log_n))) (same k below);
-}
+mixing_as {p} {log_n = log_n} {done = done} b c same at = grind arith
 
 -- in the beginning of a longer scratch, and in a scratch that begins with this one
 module _ {p : List ℕ} {n s log_n done : ℕ} {b : ℕ → List ℕ} {v : List ℕ} (x : List ℕ)
     (at : IsMixing p n b s log_n done v x) where
   pub mixing_front : (a : ℕ) → n * s ≤ a → IsMixing p n b s log_n done v (take a x)
-  mixing_front a row = record {
-    rows = at.rows;
-    x = λ k below ended. part-take s k a x (part_inside s k n a below row) ∙ at.x k below ended;
-  }
+  mixing_front a row = grind (arith, part-take, part_inside)
 
   pub mixing_longer : (x' : List ℕ) → n * s ≤ length x → IsMixing p n b s log_n done v (x ++ x')
-  mixing_longer x' row = record {
-    rows = at.rows;
-    x = λ k below ended. part_append_front s k x x' (part_inside s k n (length x) below row) ∙ at.x k below ended;
-  }
+  mixing_longer x' row = grind (arith, part_append_front, part_inside)
 
 module _ {p q : List ℕ} (inverse : AreInverse p q) {n s log_n done : ℕ} {b : ℕ → List ℕ} (v x : List ℕ) (whole : s % 32 ≡ 0)
     (at : IsMixing p n b s log_n done v x) where
@@ -67,16 +49,12 @@ module _ {p q : List ℕ} (inverse : AreInverse p q) {n s log_n done : ℕ} {b :
       → AddsRow (mixed_in p q 1) n s done v v' → IsMixing p n b s log_n (done + 1) v' x
   one_more_row_mixed v' more room added = record {
     rows = λ m k inside made below. elim (cases_lt m (done + 1)) [
-      | inl lt ↦
-          let apart = parts_apart n m (done + 1) lt in
-          added.kept (place n m k) (omega arith) ∙ at.rows m k inside (omega arith) below
+      | inl lt ↦ grind (arith, parts_apart)
       | inr ge ↦
           let last : m ≡ done + 1 = omega arith in
           let front = place_inside n s done (done + 1) k below (omega arith) in
           let long = length-part s (place n done k) v (omega (arith, front, room)) in
-          rw last (added.added k below
-          ∙ row_after_in inverse (b k) (part s v (place n done k)) done 1 (omega (arith, long))
-          (at.rows done k (omega arith) (omega arith) below))
+          grind (arith, row_after_in)
     ];
     x = λ k below ended. absurd (omega (arith, ended, more));
   }
@@ -91,21 +69,12 @@ module _ {p q : List ℕ} (inverse : AreInverse p q) {n s log_n done : ℕ} {b :
         let front = place_inside n s done (done + 1) k below (omega arith) in
         let is = ap (λ z. part s z k) last_is ∙ part_of_row n s done k v below in
         let long = ap length is ∙ length-part s (place n done k) v (omega (arith, front)) in
-        let none : done + 1 - 2 ^ log_n ≡ 0 = omega arith in
-        rw none (mixed k below ∙ row_after_in inverse (b k) (part s last k) done 1 (omega (arith, long)) (is ∙ at.rows done k (omega arith) (omega arith) below)
-        ∙ ap (λ i. permuted p (row (b k) i)) all);
+        grind (arith, row_after_in);
   }
 
   -- the walk
   in_walk : (k : ℕ) → k < n → 2 ^ log_n ≤ done → IsInWalk p (b k) n k s log_n 0 (done - 2 ^ log_n) v x
-  in_walk k below ended = record {
-    rows = record {
-      each = λ m inside.
-          let same : m * 2 ^ 0 ≡ m = omega arith in
-          rw same (at.rows m k (omega (arith, inside, same)) (omega (arith, inside, same)) below);
-    };
-    walked = at.x k below ended;
-  }
+  in_walk k below ended = grind arith
 
   pub steps_walked : (x' : List ℕ) (end count : ℕ) → 2 ^ log_n ≤ done → done + count ≡ end
       → ((k : ℕ) → k < n → (b : List ℕ) → (i : ℕ) → IsInWalk p b n k s log_n 0 i v x → IsInWalk p b n k s log_n 0 (i + count) v x')
@@ -121,6 +90,4 @@ module _ {p q : List ℕ} (inverse : AreInverse p q) {n s log_n done : ℕ} {b :
 pub all_mixed : {p : List ℕ} {n s log_n : ℕ} {b : ℕ → List ℕ} {v x : List ℕ} → IsMixing p n b s log_n (all_mixes log_n) v x
     → (k : ℕ) → k < n → part s x k ≡ permuted p (ro_mix (b k) log_n)
 unfolding ro_mix
-all_mixed {log_n = log_n} at k below =
-    let half : 2 * 2 ^ log_n - 2 ^ log_n ≡ 2 ^ log_n = omega arith in
-    rw half at (at.x k below (omega arith))
+all_mixed {log_n = log_n} at k below = grind arith

@@ -1,5 +1,7 @@
 -- Facts on the walk over a table that keeps some rows, or all of them.
-use Rattle.std.proofs.Common.{◌≡◌, Bool, ℕ, zero, suc, ◌<◌, ◌≤◌, ◌+◌, ◌-◌, ◌*◌, ◌/◌, ◌%◌, ◌^◌, List, length, refl, sym, ap, subst, ◌∙◌, arith, add-one}
+use Rattle.std.proofs.lemmas.Grind.{common_steps}
+use Rattle.std.proofs.lemmas.List.{places}
+use Rattle.std.proofs.Common.{◌≡◌, Bool, ℕ, zero, suc, ◌<◌, ◌≤◌, ◌+◌, ◌-◌, ◌*◌, ◌/◌, ◌%◌, ◌^◌, List, length, refl, sym, ap, ◌∙◌, arith, add-one}
 use Rattle.std.proofs.lemmas.Nat.{mod_below, one_shl, pow-add, pow_pos, shr_below}
 use Rattle.std.proofs.Math.Nat.{add_assoc, div-mul-le_self, lt_of_mul-lt-mul_left}
 use Rattle.scrypt_kernel.specs.{AfterSteps, AreCountedAs, AreInverse, AreWalkLens, IsFilled, IsInWalk, extra_rows}
@@ -13,15 +15,11 @@ use Rattle.scrypt_kernel.proofs.RoMixFacts.{HoldsRows, length-mixed_in, length-p
 
 -- a table's number of kept rows, of which m is the last
 pub kept_rows : (log_n s m : ℕ) → log_n ≤ 56 → m ≡ 1 * 2 ^ (log_n - s) % 2 ^ 64 - 1 → m + 1 ≡ 2 ^ (log_n - s)
-kept_rows log_n s m small last =
-    let shifted = one_shl (log_n - s) 64 (omega arith) in
-    omega (arith, shifted, last, pow_pos (log_n - s))
+kept_rows log_n s m small last = grind (arith, common_steps, places, one_shl, pow_pos)
 
 -- and of all rows
 pub all_rows : (log_n s rows : ℕ) → s ≤ log_n → rows ≡ 2 ^ (log_n - s) → rows * 2 ^ s ≡ 2 ^ log_n
-all_rows log_n s rows fits is =
-    let parts : log_n ≡ (log_n - s) + s = omega arith in
-    ap (λ n. n * 2 ^ s) is ∙ sym (pow-add 2 (log_n - s) s) ∙ ap (λ n. 2 ^ n) (sym parts)
+all_rows log_n s rows fits is = grind (arith, pow-add)
 
 -- the rows that are held are those of a filled table, and the row that is 2 ^ t rows after the last is the one after them
 pub filled : {p q : List ℕ} → AreInverse p q → {n s log_n t m : ℕ} {x v last end : List ℕ} → log_n ≤ 56 → t ≤ log_n
@@ -35,33 +33,20 @@ filled {p} {q} inverse {n} {s} {log_n} {t} {m} {x} {v} {last} small fits count w
     record {
       len = rw kept at held.len;
       rows = λ k h. record {
-        each = λ i inside. let below : step * i < step * (m + 1) = omega (arith, all, inside) in
-            held.each i k (lt_of_mul-lt-mul_left step below) h;
+        each = λ i inside. grind (arith, lt_of_mul-lt-mul_left);
       };
-      after = λ k h.
-          let room = place_inside n s m (m + 1) k h (omega arith) in
-          let long = length-part s (place n m k) v (omega (arith, held.len, room)) in
-          let row_is = ap (λ z. part s z k) last_is ∙ part_of_row n s m k v h in
-          end_is k h ∙ row_after_in inverse (permuted q (part s x k)) (part s last k) (m * step) step
-          (omega (arith, ap length row_is, long)) (row_is ∙ held.each m k (omega arith) h)
-          ∙ ap (λ i. mixed_in p q i (part s x k)) there;
+      after = λ k h. grind (arith, place_inside, length-part, part_of_row, row_after_in);
     }
 
 -- the part of a chunk in the kept row below row j is in the table
 pub kept_place : (n len s log_n j k total : ℕ) → s ≤ log_n → j < 2 ^ log_n → k < n
     → 2 ^ (log_n - s) * (n * len) ≤ total → place n (j / 2 ^ s) k * len + len ≤ total
-kept_place n len s log_n j k total fits inside chunk long =
-    let parts : log_n ≡ (log_n - s) + s = omega arith in
-    let below : j / 2 ^ s < 2 ^ (log_n - s) = shr_below j (log_n - s) s (subst (λ n. j < 2 ^ n) parts inside) in
-    omega (arith, long, place_inside n len (j / 2 ^ s) (2 ^ (log_n - s)) k chunk below)
+kept_place n len s log_n j k total fits inside chunk long = grind (arith, shr_below, place_inside)
 
 -- if the first chunk's row is kept, so is each chunk's
 pub all_kept : (n k s : ℕ) (j : ℕ → ℕ) → (0 < s → n ≡ 1) → k < n → j 0 % 2 ^ s ≡ 0 → j k % 2 ^ s ≡ 0
 all_kept n k zero j alone below none = omega arith
-all_kept n k (suc s) j alone below none =
-    let one = alone (omega arith) in
-    let first : 0 ≡ k = omega arith in
-    subst (λ i. j i % 2 ^ suc s ≡ 0) first none
+all_kept n k (suc s) j alone below none = grind arith
 
 -- with a table that keeps every row none is recomputed
 pub extra_rows-whole : (b : List ℕ) (log_n k : ℕ) → extra_rows b log_n 0 k ≡ 0

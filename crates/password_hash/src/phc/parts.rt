@@ -45,6 +45,7 @@ pub(super) fn take_params(left: Option<&str>) -> Option<(ParamsString, Option<&s
 }
 
 /// Returns the salt and the key after it, if they are there. They are the last parts of the text.
+#[tactic(auto, using(crate::proofs::PhcReadingFacts::parts_left_over))]
 pub(super) fn take_salt_and_key(left: Option<&str>) -> Option<(Option<Salt>, Option<Output>)>
     ensures value { result ≡ salt_and_key (parts_left left.entry) }
 {

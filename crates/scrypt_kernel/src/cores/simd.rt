@@ -26,6 +26,7 @@ pub fn core(x: &mut [u32; 16], cores: &mut CoreCount)
 }
 
 /// Returns these words as the lanes of four vectors.
+#[tactic(auto, using(crate::proofs::LaneFacts::block_of_lanes))]
 #[inline(always)]
 pub(crate) fn in_vectors(words: &[u32; 16]) -> FourVectors<u32x4>
     ensures { block_of (λ v k. part 4 v k) result 0 ≡ words.now }

@@ -72,6 +72,7 @@ impl<V: Lanes> OrderedBlocks for Diagonal<V> {
         integerify_diagonal(x, log_n)
     }
 
+    #[tactic(auto, using(crate::proofs::LaneFacts::blocks_of_lanes))]
     #[inline(always)]
     fn read(parts: &Parts<'_>, i: usize) -> Diagonal<V> {
         Diagonal {
@@ -82,6 +83,7 @@ impl<V: Lanes> OrderedBlocks for Diagonal<V> {
         }
     }
 
+    #[tactic(auto, using(crate::proofs::LaneFacts::blocks_of_lanes))]
     #[inline(always)]
     fn write(self, x: &mut [u32], len: usize, i: usize) {
         self.a.write(x, len, 4 * i);

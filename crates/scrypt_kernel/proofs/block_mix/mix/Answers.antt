@@ -1,3 +1,5 @@
+use Rattle.std.proofs.lemmas.Grind.{common_steps}
+use Rattle.std.proofs.lemmas.List.{places}
 use Rattle.std.proofs.Common.{length, arith}
 use Rattle.scrypt_kernel.proofs.CountFacts.{counted_none}
 use Rattle.scrypt_kernel.proofs.PartFacts.{length-part, part_inside}
@@ -5,10 +7,7 @@ use Rattle.scrypt_kernel.proofs.BlockMixFacts.{all_turns, no_turn}
 use Rattle.scrypt_kernel.proofs.block_mix.mix.Goals as goal
 
 pub turns-init : goal.turns-init
-turns-init g c = record {
-  counted = counted_none _ _ _ (omega arith);
-  mixed = λ k h. no_turn g.met.O.OrderedBlocks.inverse _ c.requires.row (c.read-x.ensures.long k h) _ _ (c.read-x.ensures.value k h);
-}
+turns-init g c = grind (arith, common_steps, places, counted_none, no_turn)
 
 pub returns-clause-value : goal.returns-clause-value
 returns-clause-value g c k h =

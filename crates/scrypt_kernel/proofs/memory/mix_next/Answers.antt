@@ -1,5 +1,6 @@
-use Rattle.std.proofs.Common.{◌≡◌, ℕ, ◌+◌, ◌*◌, ◌++◌, append_assoc, length, ◌∙◌, ap, arith, refl}
-use Rattle.std.proofs.lemmas.List.{length-append, length-take-le, take_at}
+use Rattle.std.proofs.lemmas.Grind.{common_steps}
+use Rattle.std.proofs.lemmas.List.{places, length-append, length-take-le, take_at}
+use Rattle.std.proofs.Common.{◌≡◌, ◌+◌, ◌*◌, ◌++◌, append_assoc, length, ◌∙◌, ap, arith, refl}
 use Rattle.scrypt_kernel.specs.{mixed_in, part}
 use Rattle.scrypt_kernel.proofs.PartFacts.{part-take}
 use Rattle.scrypt_kernel.proofs.RoMixFacts.{adds_row, one_mix}
@@ -15,8 +16,7 @@ returns-clause-words g c =
     let rows = c.split_at_mut-rows.result.0.now in
     let row_len : c.count.result * len ≡ n * len = ap (λ n. n * len) c.count.ensures.value in
     let back_len = rw row_len at c.split_at_mut-rows.ensures.back_len in
-    let full : length c.mix.new.output ≡ n * len =
-    c.mix.auto.output ∙ length-take-le _ _ (omega (arith, row_len, back_len)) ∙ row_len in
+    let full : length c.mix.new.output ≡ n * len = grind (arith, length-take-le) in
     let front_is = rw row_len at c.split_at_mut-rows.ensures.front in
     let row_is = rw row_len at c.part.ensures.value ∙ ap (λ z. part (n * len) z i) front_is
     ∙ part-take (n * len) i _ all (omega arith) in
@@ -28,15 +28,4 @@ returns-clause-words g c =
     ∙ ap (λ z. part len z k) row_is))
 
 pub returns-clause-rest : goal.returns-clause-rest
-returns-clause-rest g c =
-    let n = g.O.OrderedBlocks.count in
-    let len = c.args.len in
-    let i = c.args.i in
-    let rows = c.split_at_mut-rows in
-    let m : ℕ = c.count.result * len in
-    let row_len : m ≡ n * len = ap (λ n. n * len) c.count.ensures.value in
-    let full : length c.mix.new.output ≡ n * len =
-    c.mix.auto.output ∙ length-take-le _ _ (omega (arith, row_len, rw row_len at rows.ensures.back_len)) ∙ row_len in
-    let end : (i + 1) * m + m ≡ (i + 2) * (n * len) = rw row_len (omega arith) in
-    behind rows.result.0.now c.mix.new.output _ c.args.memory.now ((i + 1) * m) m _ rows.ensures.back (omega (arith, rows.ensures.front_len))
-    (omega (arith, full, row_len)) end
+returns-clause-rest g c = grind (arith, common_steps, places, length-take-le, behind)

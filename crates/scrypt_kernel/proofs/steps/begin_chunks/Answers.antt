@@ -12,14 +12,11 @@ returns g c = record {
   begun = λ log_n. no_mix_yet log_n (λ k below.
       let n = c.args.n in
       let r = c.args.r in
-      let long : length c.copy_from_slice.new.self ≡ n * (32 * r) =
-      c.copy_from_slice.ensures.len ∙ length-take-le _ c.args.table.now c.requires.room in
+      let long : length c.copy_from_slice.new.self ≡ n * (32 * r) = grind (arith, length-take-le) in
       part_append_front (32 * r) k c.copy_from_slice.new.self _ (part_inside (32 * r) k n _ below (omega (arith, long)))
       ∙ ap (λ z. part (32 * r) z k) c.copy_from_slice.ensures.after
       ∙ chunk_in g.met.O.OrderedBlocks.inverse n r k log_n c.args.b.now c.shuffle_in.new.x below
       c.requires.chunks (rw c.read_words.ensures at c.shuffle_in.ensures.value));
-  table_rest = drop-append-drop _ c.args.table.now c.copy_from_slice.new.self _ (omega arith)
-      (c.copy_from_slice.ensures.len ∙ length-take-le _ c.args.table.now c.requires.room);
-  scratch_rest = drop-append-drop _ c.args.scratch.now c.shuffle_in.new.x _ (omega arith)
-      (c.shuffle_in.auto.x ∙ c.read_words.auto.words ∙ length-take-le _ c.args.scratch.now c.requires.scratch);
+  table_rest = grind (arith, drop-append-drop, length-take-le);
+  scratch_rest = grind (arith, drop-append-drop, length-take-le);
 }

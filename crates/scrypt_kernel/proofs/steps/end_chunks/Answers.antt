@@ -17,6 +17,5 @@ returns g c = record {
       (length-take-le _ c.args.scratch.now c.requires.scratch)
       (c.write_words.ensures ∙ ap (λ x. bytes_of x) c.shuffle_out.ensures.value)
       (part-take (32 * r) k _ c.args.scratch.now (part_inside (32 * r) k n _ below (omega arith)) ∙ all_mixed at k below);
-  scratch_rest = drop-append-drop _ c.args.scratch.now c.shuffle_out.new.x _ (omega arith)
-      (c.shuffle_out.auto.x ∙ length-take-le _ c.args.scratch.now c.requires.scratch);
+  scratch_rest = grind (arith, drop-append-drop, length-take-le);
 }

@@ -16,9 +16,7 @@ pairs-init g c =
           let one = more _ _ _ w.mix_row.new.next 0 1 first long w.mix_row.ensures.value w.mix_row.ensures.counted (omega arith) in
           let two = w.mix_row-then-n-eq0.ensures in
           rw (w.x-is, w.cores-is) (more _ _ _ _ 1 _ one (omega arith) two.value two.counted (omega (arith, w.if-n-eq0.true)))
-      | else-n-eq0 w ↦
-          let one = w.mix_row-else-n-eq0.ensures in
-          rw (w.x-is, w.cores-is) (more _ _ _ _ 0 _ first long one.value one.counted (omega (arith, w.if-n-eq0.false)))
+      | else-n-eq0 w ↦ grind arith
     ]
 
 pub pairs-preserved : goal.pairs-preserved

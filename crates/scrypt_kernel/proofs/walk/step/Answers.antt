@@ -1,6 +1,6 @@
-use Rattle.std.proofs.Common.{◌≡◌, ℕ, ◌/◌, ◌%◌, ◌^◌, take, drop, sym, ap, ap₂, ◌∙◌, arith}
+use Rattle.std.proofs.Common.{◌≡◌, ℕ, ◌/◌, ◌%◌, ◌^◌, take, drop, sym, ap, ◌∙◌, arith}
 use Rattle.std.proofs.lemmas.Nat.{mod_below, pow_pos}
-use Rattle.scrypt_kernel.specs.{integerify, mix_of, mixed_in, part, permuted, place}
+use Rattle.scrypt_kernel.specs.{integerify, part, permuted, place}
 use Rattle.scrypt_kernel.proofs.PartFacts.{length-part}
 use Rattle.scrypt_kernel.proofs.RoMixFacts.{part_of_row, row_zero_in}
 use Rattle.scrypt_kernel.proofs.WalkFacts.{all_kept, kept_place, missing_rows, some_missing}
@@ -34,8 +34,7 @@ returns-then-missing-eq0-clause-value g c k h =
     let long = length-part len at c.args.v.now (kept_place _ _ _ _ (number k) k _ lens.most inside h lens.rows) in
     let taken = c.new.ensures.parts k ∙ ap (λ a. take len (drop a c.args.v.now)) (c.take_rows-starts.ensures.starts k h) in
     let row = row_zero_in g.met.O.OrderedBlocks.inverse low (omega (arith, long, lens.row.whole)) in
-    c.mix.ensures.value k h ∙ ap₂ (mix_of p q) (c.of.ensures.parts k (omega (arith, h, c.count.ensures.value)))
-    (taken ∙ row ∙ ap (λ i. mixed_in p q i low) (sym none))
+    grind arith
 
 pub part-kept-requires : goal.part-kept-requires
 part-kept-requires g c =
@@ -56,5 +55,4 @@ returns-else-missing-eq0-clause-value g c k h =
     let j_is = c.integerify-j.ensures.value ∙ ap (λ z. integerify (permuted q z) % 2 ^ c.args.log_n) c.part.ensures.value ∙ ap number first in
     let below = ap (λ z. part len z k) (rw c.requires.lens.chunks at c.part-kept.ensures.value) ∙ part_of_row n len _ k c.args.v.now h
     ∙ ap (λ j. part len c.args.v.now (place n (j / 2 ^ c.args.s) k)) j_is in
-    c.mix_recomputed.ensures.value k h
-    ∙ ap₂ (λ i low. mix_of p q (part len c.args.x.now k) (mixed_in p q i low)) (missing_rows c.args.s _ _ (omega arith) j_is) below
+    grind (arith, missing_rows)

@@ -1,4 +1,6 @@
-use Rattle.std.proofs.Common.{◌≡◌, length, bit_xor, sym, ap₂, ◌∙◌}
+use Rattle.std.proofs.Common.{arith, bit_xor, sym, ap₂, ◌∙◌}
+use Rattle.std.proofs.lemmas.Grind.{common_steps}
+use Rattle.std.proofs.lemmas.List.{places}
 use Rattle.std.proofs.lemmas.Simd.{length-zip2}
 use Rattle.scrypt_kernel.specs.{part_of, xor_words}
 use Rattle.scrypt_kernel.proofs.PartFacts.{length-part_of}
@@ -12,9 +14,4 @@ returns-clause-value g c k h =
     ∙ sym (part-zip2 bit_xor 16 c.args.i (part_of a.x k) (part_of a.y k))
 
 pub returns-clause-long : goal.returns-clause-long
-returns-clause-long g c k h =
-    let a = c.args.self.now in
-    let rows = c.requires.rows in
-    let one : length (part_of a.x k) ≡ c.args._len = length-part_of a.x g.O.OrderedBlocks.count k rows.0.all h ∙ rows.0.len in
-    let two : length (part_of a.y k) ≡ c.args._len = length-part_of a.y g.O.OrderedBlocks.count k rows.1.all h ∙ rows.1.len in
-    length-zip2 bit_xor (part_of a.x k) (part_of a.y k) (one ∙ sym two) ∙ one
+returns-clause-long g c k h = grind (arith, common_steps, places, length-part_of, length-zip2)

@@ -1,7 +1,7 @@
-use Rattle.std.proofs.Common.{◌≡◌, ◌+◌, ◌-◌, ◌*◌, ◌/◌, ◌++◌, length, take, drop, ap, sym, ◌∙◌, arith, refl}
+use Rattle.std.proofs.Common.{◌≡◌, ◌+◌, ◌-◌, ◌*◌, ◌++◌, length, take, drop, ap, sym, ◌∙◌, arith, refl}
 use Rattle.std.proofs.lemmas.List.{length-drop, length-take-le, take_at}
 use Rattle.std.proofs.Math.Seq.{take-add}
-use Rattle.scrypt_kernel.specs.{block, mixed_in, part, place}
+use Rattle.scrypt_kernel.specs.{mixed_in, part, place}
 use Rattle.scrypt_kernel.proofs.CountFacts.{counted_both, counted_none}
 use Rattle.scrypt_kernel.proofs.BlockMixFacts.{all_turns, no_turn}
 use Rattle.scrypt_kernel.proofs.PartFacts.{length-part, part_longer, take_longer}
@@ -28,8 +28,7 @@ turns-init g c =
             ∙ ap (λ z. part len z k) row_is ∙ part_of_row n len i k c.as_slice-rows.result.now h
             ∙ ap (λ z. part len z (place n i k)) c.as_slice-rows.ensures.value
             ∙ part_longer len (place n i k) first all (omega (arith, room, c.requires.last)) c.make_room.ensures.words in
-            no_turn g.met.O.OrderedBlocks.inverse b c.requires.row long _ _
-            (c.read-x.ensures.value k h ∙ ap (λ z. block z (2 * (len / 32) - 1)) input_is);
+            grind (arith, no_turn);
       };
       len = omega (arith, rw row_len at c.make_room.ensures.long);
       room = c.make_room.ensures.room;
@@ -41,8 +40,7 @@ turns-preserved g c =
     let longer = c.lengthen.new.self.memory.items in
     let new = c.take_turn_of_next-x.new.memory in
     let same : length new ≡ length longer = c.take_turn_of_next-x.ensures.len ∙ ap length c.as_mut_slice-memory.ensures.value in
-    let is : take c.lengthen.new.self.memory.len (new ++ drop (length new) longer) ≡ new =
-    take_at new _ c.lengthen.new.self.memory.len (omega (arith, same)) in
+    let is : take c.lengthen.new.self.memory.len (new ++ drop (length new) longer) ≡ new = grind (arith, take_at) in
     let begun = begun_longer longer c.turns.invariant.turned c.turns.invariant.len c.lengthen.ensures.words in
     record {
       turned = rw is (c.take_turn_of_next-x.ensures.turned _ (rw c.as_mut_slice-memory.ensures.value begun));
@@ -60,8 +58,7 @@ returns-clause-words g c =
     let first = c.args.self.now.memory.items in
     let all = c.turns.self.memory.items in
     let added = take (n * len) (drop end all) in
-    let row_long : length added ≡ n * len =
-    length-take-le (n * len) _ (omega (arith, length-drop end all, c.turns.invariant.len)) in
+    let row_long : length added ≡ n * len = grind (arith, length-take-le, length-drop) in
     adds_row added refl c.requires.last row_long
     (rw row_long (take-add end (n * len) all ∙ ap (λ z. z ++ added) c.turns.invariant.turned.kept)) (λ k h.
     let b = part len first (place n i k) in

@@ -1,4 +1,4 @@
-use Rattle.std.proofs.Common.{length, arith, refl}
+use Rattle.std.proofs.Common.{length, arith}
 use Rattle.scrypt_kernel.proofs.OrderFacts.{block_by_places}
 use Rattle.scrypt_kernel.proofs.PartFacts.{only_part}
 use Rattle.scrypt_kernel.proofs.order.diagonal.permute_block.Goals as goal
@@ -10,6 +10,4 @@ returns-clause-written c =
     grind (arith, block_by_places)
 
 pub returns-clause-others : goal.returns-clause-others
-returns-clause-others c j other =
-    rw (only_part (length c.args.x.now) c.write.new.x (omega arith), only_part (length c.args.x.now) c.args.x.now refl)
-    at (c.write.ensures.others 0 j (omega arith) other)
+returns-clause-others c j other = grind (arith, only_part)

@@ -1,4 +1,6 @@
-use Rattle.std.proofs.Common.{◌≡◌, ◌∙◌, ℕ, ◌+◌, ◌*◌, ◌/◌, ◌≤◌, List, ap, refl, arith, length, take, drop, length-drop}
+use Rattle.std.proofs.lemmas.Grind.{common_steps}
+use Rattle.std.proofs.lemmas.List.{places}
+use Rattle.std.proofs.Common.{◌≡◌, ℕ, ◌+◌, ◌*◌, ◌/◌, ◌≤◌, List, refl, arith, length, take, drop, length-drop}
 use Rattle.password_hash.specs.Crypt64.{Crypt64, IsPiece, encoded_len}
 use Rattle.password_hash.proofs.Base64Facts.{IsBytes-drop, IsBytes-take}
 use Rattle.password_hash.proofs.GroupFacts.{Crypt64-one, crypt64_of-cut, length-crypt64_of}
@@ -20,14 +22,10 @@ piece_encoded all letters at n is piece =
 -- they are within the letters of all
 piece_inside : (all letters : List ℕ) (at n : ℕ) → Crypt64 all letters → IsPiece at n (length all)
     → at / 3 * 4 + encoded_len n ≤ length letters
-piece_inside all letters at n is piece =
-    let letters_are : length letters ≡ encoded_len (length all) = ap length is.encoding ∙ length-crypt64_of all in
-    omega (arith, letters_are, piece.begins, piece.inside, piece.ends)
+piece_inside all letters at n is piece = grind (arith, common_steps, places, length-crypt64_of)
 
 pub letters_at-requires : goal.letters_at-requires
-letters_at-requires c =
-    let piece = c.requires.piece in
-    rw c.as_bytes.ensures.value (piece_inside piece.0 _ c.args.at (length c.args.bytes.now) piece.1 piece.2)
+letters_at-requires c = grind (arith, common_steps, places, piece_inside)
 
 pub returns : goal.returns
 returns c = record {

@@ -1,21 +1,17 @@
-use Rattle.std.proofs.Common.{◌≡◌, ℕ, ◌<◌, true, List, refl, arith, IsTrue}
+use Rattle.std.proofs.lemmas.Grind.{common_steps}
+use Rattle.std.proofs.lemmas.List.{places}
+use Rattle.std.proofs.Common.{ℕ, List, refl, arith, IsTrue}
 use Rattle.std.specs.List.{list_all}
 use Rattle.std.specs.Prelude.{Result, Ok, Err, MatchResult, IsOk, IsUtf8}
 use Rattle.std.specs.Str.{IsAscii}
 use Rattle.std.proofs.lemmas.Bool.{and_parts}
-use Rattle.std.proofs.lemmas.Bool.Decides.{nat_tests}
-use Rattle.std.proofs.lemmas.List.Elements.{All-weaker}
-use Rattle.std.proofs.lemmas.List.Sums.{AllPass-from_list_all}
 use Rattle.std.proofs.lemmas.Str.{IsUtf8-from_ascii}
-use Rattle.std.proofs.lemmas.Str.Ascii.{IsAscii-from_all}
 use Rattle.password_hash.specs.Letters.{is_identifier_letter}
 use Rattle.password_hash.proofs.phc.ident.Ident.as_str.Goals as goal
 
 -- an identifier is ASCII
 identifier_ascii : (xs : List ℕ) → IsTrue (list_all is_identifier_letter xs) → IsAscii xs
-identifier_ascii xs h =
-    let small : (b : ℕ) → is_identifier_letter b ≡ true → b < 128 = λ b is. grind (arith, nat_tests) in
-    IsAscii-from_all xs (All-weaker _ (λ b. b < 128) small xs (AllPass-from_list_all is_identifier_letter xs h))
+identifier_ascii xs h = grind (arith, common_steps, places)
 
 -- what `from_utf8` answers of ASCII bytes
 ascii_is_text : {T E : Type 0} (P : T → Type 0) (Q : E → Type 0) (bs : List ℕ) (r : Result T E)

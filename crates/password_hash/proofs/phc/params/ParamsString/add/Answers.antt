@@ -1,6 +1,7 @@
-use Rattle.std.proofs.Common.{◌≢◌, refl}
+use Rattle.std.proofs.Common.{arith}
+use Rattle.std.proofs.lemmas.Grind.{common_steps}
+use Rattle.std.proofs.lemmas.List.{places}
 use Rattle.std.proofs.lemmas.Bool.{false≢true}
-use Rattle.std.proofs.lemmas.List.Elements.{All-contains}
 use Rattle.password_hash.proofs.ParamsFacts.{IsAdded, added, last_pair}
 use Rattle.password_hash.proofs.phc.params.ParamsString.add.Goals as goal
 use Rattle.password_hash.proofs.phc.params.ParamsString.add.Goals.{After-push_pair}
@@ -12,11 +13,7 @@ put c =
     c.push_pair.ensures.exact c.push_pair.ensures.ok c.push_pair.ensures.unchanged
 
 pub returns-in-Some-clause-exact : goal.returns-in-Some-clause-exact
-returns-in-Some-clause-exact c = (
-  λ e. absurd (false≢true e),
-  λ after. absurd (All-contains (λ pair. pair.0 ≢ c.args.name.now) c.args.self.now _
-      (last_pair c.args.self.now (c.args.name.now, c.args.value.now) after).others c.in-Some.ensures.found refl),
-)
+returns-in-Some-clause-exact c = grind (arith, common_steps, places, false≢true, last_pair)
 
 pub invariant_of-self : goal.invariant_of-self
 invariant_of-self c = (put (goal.at.invariant_of-self c).After-push_pair).kept

@@ -1,6 +1,7 @@
-use Rattle.std.proofs.Common.{◌≡◌, ◌∷◌, ◌++◌, ◌∙◌, [], append_assoc, map, ap, sym, rules}
+use Rattle.std.proofs.Common.{arith, ◌≡◌, ◌∷◌, ◌++◌, ◌∙◌, [], append_assoc, map, ap, sym, rules}
+use Rattle.std.proofs.lemmas.Grind.{common_steps}
+use Rattle.std.proofs.lemmas.List.{places, append-nil}
 use Rattle.std.proofs.lemmas.Bool.{false≢true, false_from_ne_true}
-use Rattle.std.proofs.lemmas.List.{append-nil}
 use Rattle.password_hash.specs.{are_pairs, pair_of, pairs_left, pairs_of, parsed_pairs}
 use Rattle.password_hash.proofs.ParamsFacts.{ArePairs-front}
 use Rattle.password_hash.proofs.PhcReadingFacts.{pairs_decided}
@@ -22,6 +23,4 @@ returns-in_err-add c =
 
 pub returns : goal.returns
 unfolding parsed_pairs
-returns c =
-    let all = sym (append-nil c.loop-left.params) ∙ (rw c.in_default.is at c.loop-left.invariant.read) in
-    rw (← all, (pairs_decided c.loop-left.params).1 c.loop-left.invariant.pairs) (search rules)
+returns c = grind (arith, common_steps, places, append-nil, pairs_decided)
