@@ -1,11 +1,7 @@
 -- An account, the calls on it, and the histories of these calls.
 use Rattle.std.specs.Prelude.{◌≡◌, ◌⊎◌, ℕ, Bool, true, false, ◌&&◌, nat_le, List, [], ◌∷◌, Ok, IsTrue, is_ok}
-use Rattle.scrypt.specs.Accepted.{Parameters}
-use Rattle.scrypt.specs.Hashing.{key_len_or_default}
-use Rattle.scrypt.specs.Limits.{are_within}
-use Rattle.scrypt.specs.Reading.{made_stored, verdict, weaker}
-use Rattle.scrypt.specs.StoredHash.{reading}
-use Rattle.scrypt.specs.WithinLimits.{within}
+use Rattle.scrypt.specs.Terms.{IsReadAsMade, Parameters, are_within, key_len_or_default, reading, verdict, weaker}
+use Rattle.scrypt.specs.Terms.{within}
 use Rattle.scrypt.specs.declared.limits.Limits.{Limits}
 
 -- what an account stores: the text of its hash, the parameters of new texts and the limits
@@ -36,9 +32,10 @@ is_allowed a (ChangePassword password new_password salt) = lets_in a password
 is_allowed a (SetPolicy policy) = admits a.limits policy
 is_allowed a (SetLimits limits) = admits limits a.policy && is_ok (within limits (reading a.text))
 
--- only the text was replaced, by one that the policy makes of this password and salt
+-- only the text was replaced, by one that the policy makes of this password and salt: it accepts the
+-- password, and is not weaker than the policy
 pub record IsRenewed (old : Stores) (password salt : List ℕ) (new : Stores) : Type 0 where
-  pub read : reading new.text ≡ Ok (made_stored old.policy password salt)
+  pub read : IsReadAsMade old.policy password salt (reading new.text)
   pub policy : new.policy ≡ old.policy
   pub limits : new.limits ≡ old.limits
 
@@ -65,11 +62,10 @@ Run old (step ∷ history) new = (mid : Stores) × Step old step.0 step.1 mid ×
 -- The current password after a call: the last one that was set or let in. They are the same unless a
 -- hash accepts two passwords.
 abbrev pub password_after : List ℕ → Call → Bool → List ℕ
+password_after current refused false = current
 password_after current (LogIn password salt) true = password
 password_after current (ChangePassword password new_password salt) true = new_password
-password_after current (SetPolicy policy) true = current
-password_after current (SetLimits limits) true = current
-password_after current call false = current
+password_after current others true = current
 
 -- the current password after a history
 abbrev pub current_password : List ℕ → List (Call × Bool) → List ℕ
@@ -78,5 +74,5 @@ current_password current (step ∷ history) = current_password (password_after c
 
 -- the text accepts the current password within the limits, and the limits admit the policy
 pub record IsOpen (current : List ℕ) (a : Stores) : Type 0 where
-  pub accepts : verdict current (within a.limits (reading a.text)) ≡ Ok tt
+  pub accepts : IsTrue (lets_in a current)
   pub admitted : IsTrue (admits a.limits a.policy)

@@ -1,10 +1,6 @@
 -- Enrolling and logging in.
 use Rattle.std.specs.Prelude.{◌≡◌, ℕ, ◌+◌, ◌*◌, ◌≤◌, List, Bool, true, false, Option, None, Some, Ok, string_bytes}
-use Rattle.scrypt.specs.Accepted.{Parameters}
-use Rattle.password_hash.specs.Phc.{hash_text}
-use Rattle.scrypt.specs.PhcHash.{made_phc}
-use Rattle.scrypt.specs.Reading.{verdict, weaker}
-use Rattle.scrypt.specs.StoredHash.{reading}
+use Rattle.scrypt.specs.Terms.{Parameters, hash_text, made_phc, reading, verdict, weaker}
 use Rattle.scrypt_kernel.specs.declared.cores.count.CoreCount.{CoreCount}
 use Rattle.scrypt_examples.specs.declared.login.LoginOutcome.{LoginOutcome}
 use Rattle.scrypt_examples.specs.declared.login.LoginOutcome.TheVariants.{In, InWithNewText, Refused}

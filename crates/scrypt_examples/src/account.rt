@@ -2,14 +2,12 @@
 
 ghost use Rattle.std.specs.Prelude.{◌≡◌, ℕ, Bool, true, false, List, IfErr, IfOk, IfSome, None, Ok, OnErr, OnOk, is_ok, is_some};
 ghost use Rattle.password_hash.specs.declared.error.Error.TheVariants.{OutOfMemory};
-ghost use Rattle.scrypt.specs.Reading.{weaker};
-ghost use Rattle.scrypt.specs.StoredHash.{reading};
-ghost use Rattle.scrypt.specs.WithinLimits.{within};
+ghost use Rattle.scrypt.specs.Terms.{reading, weaker, within};
 ghost use Rattle.scrypt_examples.specs.Account.{Call, ChangePassword, IsOpen, IsRenewed, LogIn, Run, SetLimits, SetPolicy, Step, Stores, admits, current_password, lets_in};
 
 use crate::hash::verify;
 use password_hash::{Error, Result};
-use scrypt::laws::{made_hashes_are_accepted, verdicts_compare_keys};
+use scrypt::laws::{made_hashes_are_accepted, within_changes_nothing};
 use scrypt::{LimitedError, Limits, Params, StoredHash, hash_text};
 use std::alloc::Global;
 use std::marker::Model;
@@ -199,5 +197,5 @@ pub fn nobody_is_locked_out()
         → weaker new.policy (reading new.text) ≡ Ok false }
 {
     made_hashes_are_accepted();
-    verdicts_compare_keys();
+    within_changes_nothing();
 }

@@ -1,17 +1,13 @@
 //! Logins with untrusted hashes: a hash that is too costly is rejected before any work.
 
 ghost use Rattle.std.specs.Prelude.{◌≡◌, ◌+◌, ◌*◌, ◌≤◌, [], ◌∷◌, IfOk, length, map};
-ghost use Rattle.scrypt.specs.Cost.{lengths_cost};
-ghost use Rattle.scrypt.specs.Logins.{reading_of, reading_of_hash};
-ghost use Rattle.scrypt.specs.Reading.{◌and_then◌, let_in, verdict};
-ghost use Rattle.scrypt.specs.StoredHash.{reading};
-ghost use Rattle.scrypt.specs.WithinLimits.{with_limited_refusal, within};
-ghost use Rattle.scrypt.specs.Workspace.{IsLeft, verdict_in, workspace_of};
+ghost use Rattle.scrypt.specs.Terms.{◌and_then◌, IsLeft, lengths_cost, let_in, reading, reading_of, reading_of_hash};
+ghost use Rattle.scrypt.specs.Terms.{verdict, verdict_in, with_limited_refusal, within, workspace_of};
 ghost use Rattle.scrypt_examples.specs.Login.{CostsAtMost};
 
 use password_hash::Error;
-use scrypt::laws::work_bounds_both_counts;
-use scrypt::{Buffers, CoreCount, LimitedError, Limits, Login, LoginHash, Simd, StoredHash};
+use scrypt::laws::{within_changes_nothing, work_bounds_both_counts};
+use scrypt::{Buffers, CoreCount, LimitedError, Limits, Login, LoginHash, StoredHash, Target};
 use std::alloc::{AllocError, Global};
 use std::marker::Model;
 
@@ -117,7 +113,6 @@ fn hash_within<'a>(stored: &'a str, limits: &Limits) -> Result<LoginHash<'a>, Li
 ///
 /// The limit on work bounds the number of cores. It also bounds the cores plus nine times the
 /// blocks that SHA-256 compresses, not counting the blocks of a long password, salt or key.
-#[tactic(auto, using(crate::proofs::LoginFacts::bounded))]
 pub fn log_in(
     stored: &str,
     password: &[u8],
@@ -136,18 +131,16 @@ pub fn log_in(
     ensures both_bounded { IfOk (reading stored.now) (λ s. CostsAtMost (limits.now.max_work
         + 9 * lengths_cost (length password.now) (length s.salt) (length s.key)) cores.old cores.new) }
 {
-    // The limit on work bounds both counts.
+    // The limit on work bounds both counts of a hash within the limits.
+    within_changes_nothing();
     work_bounds_both_counts();
-    let hash = match StoredHash::read(stored) {
-        Ok(hash) => hash,
-        Err(error) => return Err(LimitedError::from(error)),
-    };
+    let hash = StoredHash::read(stored)?;
     let hash = match hash.within(limits) {
         Ok(hash) => hash,
         Err(LimitedError::Hash(Error::PasswordInvalid)) => return Ok(false),
         Err(error) => return Err(error),
     };
-    match hash.verify_with_buffers::<Simd>(password, chunks, table, scratch, cores) {
+    match hash.verify_with_buffers::<Target>(password, chunks, table, scratch, cores) {
         Ok(()) => Ok(true),
         Err(LimitedError::Hash(Error::PasswordInvalid)) => Ok(false),
         Err(error) => Err(error),

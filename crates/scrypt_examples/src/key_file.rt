@@ -2,9 +2,7 @@
 
 ghost use Rattle.std.specs.Prelude.{◌≡◌, ◌↔◌, ◌⊎◌, ◌++◌, ℕ, take, drop, false, None, IfErr, IfOk, IfSome, IsErrOf, IsTrue};
 ghost use Rattle.scrypt_kernel.specs.Hmac.{hmac_sha256};
-ghost use Rattle.scrypt.specs.Accepted.{are_accepted};
-ghost use Rattle.scrypt.specs.Key.{derived_key};
-ghost use Rattle.scrypt.specs.KeyOfParams.{key_by};
+ghost use Rattle.scrypt.specs.Terms.{are_accepted, derived_key, key_by};
 ghost use Rattle.scrypt.specs.declared.errors.DeriveError.TheVariants.{OutOfMemory};
 ghost use Rattle.password_hash.specs.declared.error.Error.TheVariants.{OutOfMemory as NoMemory, ParamsInvalid};
 ghost use Rattle.scrypt_examples.specs.KeyFile.{age_label};

@@ -2,20 +2,14 @@
 //! weak.
 
 ghost use Rattle.std.specs.Prelude.{◌≡◌, ◌⊎◌, ◌↔◌, None, Ok, Err, IsOk, IsSome, false, true, length, IfErr, IfOk, IfSome, OnOk, string_bytes, IsTrue};
-ghost use Rattle.password_hash.specs.Refusal.{refusal};
+ghost use Rattle.scrypt.specs.Terms.{AreCompressed, AreCounted, are_accepted, cost_by, hash_cost, key_len_or_default};
+ghost use Rattle.scrypt.specs.Terms.{let_in, made_mcf, reading, refusal, verdict, weaker};
 ghost use Rattle.password_hash.specs.declared.error.Error.TheVariants.{OutOfMemory};
-ghost use Rattle.scrypt.specs.Accepted.{are_accepted};
-ghost use Rattle.scrypt.specs.Cost.{AreCompressed, AreCounted, hash_cost};
-ghost use Rattle.scrypt.specs.Hashing.{key_len_or_default};
-ghost use Rattle.scrypt.specs.KeyOfParams.{cost_by};
-ghost use Rattle.scrypt.specs.McfHash.{made_mcf};
-ghost use Rattle.scrypt.specs.Reading.{let_in, verdict, weaker};
-ghost use Rattle.scrypt.specs.StoredHash.{reading};
 ghost use Rattle.scrypt_examples.specs.Login.{IsEnrolled, lets_in, new_text};
 
 use password_hash::{Error, PasswordHasher, Result, mcf};
 use scrypt::laws::{made_hashes_are_accepted, parameters_are_accepted};
-use scrypt::{CoreCount, Decoy, InvalidParams, Params, Scrypt, Simd, StoredHash, hash_text};
+use scrypt::{CoreCount, Decoy, InvalidParams, Params, Scrypt, StoredHash, Target, hash_text};
 use std::alloc::Global;
 
 /// The outcome of a login.
@@ -122,7 +116,7 @@ impl LoginPolicy {
             self.now.wanted.r self.now.wanted.p (key_len_or_default self.now.wanted)) cores.old cores.new) }
         ensures err { IfErr result (λ e. e ≡ OutOfMemory) }
     {
-        match Decoy::new(&self.wanted).verify::<Simd>(alloc, password, cores) {
+        match Decoy::new(&self.wanted).verify::<Target>(alloc, password, cores) {
             Err(Error::PasswordInvalid) => Ok(LoginOutcome::Refused),
             _ => Err(Error::OutOfMemory),
         }
