@@ -3,19 +3,16 @@ use Rattle.std.proofs.Common.{◌≡◌, ◌⊎◌, ℕ, false, true, List, [], 
 use Rattle.std.specs.Prelude.{Bool, IfSome, Result, if◌then◌else◌}
 use Rattle.std.specs.Io.KnownBytes.{Appends, Keeps}
 use Rattle.std.specs.Option.{option_map_or}
-use Rattle.password_hash.specs.Phc.{hash_text}
-use Rattle.password_hash.specs.Refusal.{refusal, OutOfMemory as Refused, SaltInvalid as BadSalt}
+use Rattle.scrypt.specs.Terms.{◌and_then◌, OutOfMemory as Refused, Parameters, hash_text, is_salt_len, made_phc}
+use Rattle.scrypt.specs.Terms.{refusal, salt_refusal}
+use Rattle.password_hash.specs.Refusal.{SaltInvalid as BadSalt}
 use Rattle.password_hash.specs.declared.error.Error.{Error}
 use Rattle.password_hash.specs.declared.error.Error.TheVariants.{OutOfMemory as NoMemory, SaltInvalid}
-use Rattle.scrypt.specs.Accepted.{Parameters}
-use Rattle.scrypt.specs.PhcHash.{is_salt_len, made_phc, salt_refusal}
-use Rattle.scrypt.specs.Reading.{◌and_then◌}
-use Rattle.scrypt_commands.specs.CliError.{ErrorLine, FailsWith, error_line, hash_error, refuse, status_of}
-use Rattle.scrypt_commands.specs.Command.{request_of}
-use Rattle.scrypt_commands.specs.Invocation.{CommandLine, Tell, asked_by, command_by, command_line_of, invocation_by, invocation_of, name_of, text_of_words}
-use Rattle.scrypt_commands.specs.Options.{no_options, options_of}
-use Rattle.scrypt_commands.specs.Outcome.{Reply, new_hash, outcome, reply_by}
-use Rattle.scrypt_commands.specs.Run.{AppendsReply, HasOutcome, OnInput, Streams, plan_of, plan_of_command, plan_of_words}
+use Rattle.scrypt_commands.specs.{AppendsReply, CommandLine, ErrorLine, FailsWith, HasOutcome, OnInput, Reply}
+use Rattle.scrypt_commands.specs.{Streams, Tell, asked_by, command_by, command_line_of, error_line, hash_error}
+use Rattle.scrypt_commands.specs.{invocation_by, invocation_of, name_of, new_hash, no_options, options_of, outcome}
+use Rattle.scrypt_commands.specs.{plan_of, plan_of_command, plan_of_words, refuse, reply_by, request_of, status_of}
+use Rattle.scrypt_commands.specs.{text_of_words}
 use Rattle.scrypt_commands.specs.declared.command.Format.TheVariants.{Phc}
 use Rattle.scrypt_commands.specs.declared.command_line.Name.{Name}
 use Rattle.scrypt_commands.specs.declared.command_line.Name.TheVariants.{Key, Hash, Verify, Rehash}

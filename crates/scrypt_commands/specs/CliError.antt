@@ -1,10 +1,9 @@
 -- The errors that end a run without an answer: each has a status and an error line.
 use Rattle.std.specs.Prelude.{◌≡◌, ◌⊎◌, ℕ, ◌++◌, bytes_eq, if◌then◌else◌, List, [], codes, decimal, Result, Ok, Err}
-use Rattle.password_hash.specs.Refusal.{Refusal}
+use Rattle.scrypt.specs.Terms.{Refusal, limited_refusal}
 use Rattle.password_hash.specs.Refusal as refusals
 use Rattle.password_hash.specs.declared.error.Error.{Error}
 use Rattle.password_hash.specs.declared.error.Error.TheVariants.{OutOfMemory as NoMemory}
-use Rattle.scrypt.specs.WithinLimits.{limited_refusal}
 use Rattle.scrypt.specs.declared.errors.LimitedError.{LimitedError}
 use Rattle.scrypt.specs.declared.errors.LimitedError.TheVariants.{Hash}
 use Rattle.scrypt.specs.declared.limits.Limits.{Limits}

@@ -7,9 +7,8 @@ use Rattle.std.specs.Global.{Global}
 use Rattle.hex.specs.Hex.{decode_of}
 use Rattle.password_hash.specs.declared.error.Error.TheVariants.{EncodingInvalid}
 use Rattle.password_hash.specs.Decimal.{decimal_below}
-use Rattle.scrypt.specs.Accepted.{Parameters, are_accepted, is_output_len, is_stored_len}
-use Rattle.scrypt.specs.Reading.{◌and_then◌ as ◌>>=◌}
-use Rattle.scrypt.specs.StoredHash.{is_stored_text}
+use Rattle.scrypt.specs.Terms.{◌and_then◌ as ◌>>=◌, Parameters, are_accepted, is_output_len, is_stored_len}
+use Rattle.scrypt.specs.Terms.{is_stored_text}
 use Rattle.scrypt_commands.specs.CliError.{ErrorLine, error_line, hash_error, refuse}
 use Rattle.scrypt_commands.specs.Invocation.{CommandLine}
 use Rattle.scrypt_commands.specs.Options.{texts_of}

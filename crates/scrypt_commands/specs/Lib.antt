@@ -1,7 +1,6 @@
 -- In reading order: the options, the errors, the commands that the arguments ask for, and the
 -- output of the program.
 
--- the texts that the program prints about itself
 -- the options before a command, and the limits that they set on a stored hash
 pub mod Options
 -- the errors that end a run without an answer: statuses and error lines
@@ -14,3 +13,10 @@ pub mod Command
 pub mod Outcome
 -- runs: their output, and the bytes that they read and write
 pub mod Run
+-- the definitions of all these files, for clauses and proofs
+unfoldable pub use Options.*
+unfoldable pub use CliError.*
+unfoldable pub use Invocation.*
+unfoldable pub use Command.*
+unfoldable pub use Outcome.*
+unfoldable pub use Run.*

@@ -2,19 +2,12 @@
 use Rattle.std.specs.Prelude.{◌≡◌, ℕ, Bool, false, true, if◌then◌else◌, List, [], ◌++◌, length, codes, Option, None, Some, option_map, unwrap_or, Result, Ok, Err, ⊤}
 use Rattle.std.specs.Result.{result_unwrap_or}
 use Rattle.hex.specs.Hex.{encode_lower}
-use Rattle.password_hash.specs.Phc.{hash_text}
-use Rattle.password_hash.specs.Refusal.{PasswordInvalid, Refusal}
+use Rattle.scrypt.specs.Terms.{◌and_then◌ as ◌>>=◌, AreCompressed, AreCounted, Parameters, PasswordInvalid, Refusal}
+use Rattle.scrypt.specs.Terms.{Stored, cost_by, hash_text, is_salt_len, key_by, made_mcf, made_phc, reading, verdict}
+use Rattle.scrypt.specs.Terms.{verify_cost, weaker, within}
 use Rattle.password_hash.specs.declared.error.Error.TheVariants.{SaltInvalid}
-use Rattle.scrypt.specs.Accepted.{Parameters}
-use Rattle.scrypt.specs.KeyOfParams.{cost_by, key_by}
-use Rattle.scrypt.specs.McfHash.{made_mcf}
-use Rattle.scrypt.specs.PhcHash.{is_salt_len, made_phc}
-use Rattle.scrypt.specs.Reading.{◌and_then◌ as ◌>>=◌, Stored, verdict, verify_cost, weaker}
 use Rattle.scrypt.specs.declared.limits.Limits.{Limits}
 use Rattle.scrypt.specs.declared.limits.TheConstants.Limits.{DEFAULT}
-use Rattle.scrypt.specs.StoredHash.{reading}
-use Rattle.scrypt.specs.WithinLimits.{within}
-use Rattle.scrypt_kernel.specs.Count.{AreCompressed, AreCounted}
 use Rattle.scrypt_kernel.specs.declared.cores.count.CoreCount.{CoreCount}
 use Rattle.scrypt_commands.specs.Options.{limits_of, password_of}
 use Rattle.scrypt_commands.specs.Invocation.{CommandLine}

@@ -1,14 +1,10 @@
 // The answer to a command.
 
 ghost use Rattle.std.specs.Prelude.{◌≡◌, IsErrOf, OnOk, length, option_map, string_bytes};
-ghost use Rattle.password_hash.specs.Refusal.{OutOfMemory as Refused};
-ghost use Rattle.scrypt.specs.KeyOfParams.{key_by};
-ghost use Rattle.scrypt.specs.Reading.{IsVerdict, verdict};
-ghost use Rattle.scrypt.specs.StoredHash.{reading};
-ghost use Rattle.scrypt.specs.WithinLimits.{with_limited_refusal};
-ghost use Rattle.scrypt_commands.specs.CliError.{Gives};
-ghost use Rattle.scrypt_commands.specs.Command.{making_view, request_view};
-ghost use Rattle.scrypt_commands.specs.Outcome.{AreOfHash, AreOfRequest, bounded, limits_by, made_reply, new_hash, reply_to, reply_view, right_of, right_reply};
+ghost use Rattle.scrypt.specs.Terms.{IsVerdict, OutOfMemory as Refused, key_by, reading, verdict};
+ghost use Rattle.scrypt.specs.Terms.{with_limited_refusal};
+ghost use Rattle.scrypt_commands.specs.{AreOfHash, AreOfRequest, Gives, bounded, limits_by, made_reply, making_view};
+ghost use Rattle.scrypt_commands.specs.{new_hash, reply_to, reply_view, request_view, right_of, right_reply};
 ghost use Rattle.scrypt_commands.specs.declared.command.Target.TheVariants.{Key};
 ghost use Rattle.scrypt_commands.specs.declared.error.CliError.TheVariants.{OutOfMemory};
 
@@ -18,7 +14,7 @@ use crate::invocation::Machine;
 use crate::limit_options::LimitOptions;
 use crate::progress::derive_shown;
 use password_hash::Error;
-use scrypt::{CoreCount, LimitedError, Limits, Params, Simd, StoredHash, mcf, phc, scrypt};
+use scrypt::{CoreCount, LimitedError, Limits, Params, StoredHash, mcf, phc, scrypt};
 use std::alloc::Global;
 
 /// The answer to a command.
@@ -143,7 +139,7 @@ fn verify_within(
     if let Some(limits) = limits {
         hash.within(&limits)?;
     }
-    Ok(hash.verify_counted::<Simd>(alloc, password, cores)?)
+    Ok(hash.verify_counted::<scrypt::Target>(alloc, password, cores)?)
 }
 
 // Makes a key or a hash from the password.
@@ -179,13 +175,14 @@ fn make_hash(
 ) -> Result<String>
     ensures { Gives string_bytes (new_hash format params.now password.now salt.now) result }
 {
+    let cores = &mut CoreCount::new();
     match format {
         Format::Phc => {
-            let hash = phc::hash::<Simd>(alloc, password, salt, params, &mut CoreCount::new())?;
+            let hash = phc::hash::<scrypt::Target>(alloc, password, salt, params, cores)?;
             Ok(hash.to_string(alloc)?)
         }
         Format::Mcf => {
-            let hash = mcf::hash::<Simd>(alloc, password, salt, params, &mut CoreCount::new())?;
+            let hash = mcf::hash::<scrypt::Target>(alloc, password, salt, params, cores)?;
             Ok(hash.into_string())
         }
     }

@@ -1,10 +1,8 @@
 // The names of commands, and a command with its options.
 
 ghost use Rattle.std.specs.Prelude.{◌≡◌, IfErr};
-ghost use Rattle.scrypt.specs.Reading.{mapped};
-ghost use Rattle.scrypt_commands.specs.CliError.{status_of};
-ghost use Rattle.scrypt_commands.specs.Invocation.{command_by, command_line_view, name_of, options_view};
-ghost use Rattle.scrypt_commands.specs.Options.{texts_of};
+ghost use Rattle.scrypt.specs.Terms.{mapped};
+ghost use Rattle.scrypt_commands.specs.{command_by, command_line_view, name_of, options_view, status_of, texts_of};
 
 use crate::error::{CliError, Result};
 use crate::options::Options;

@@ -1,9 +1,7 @@
 //! Laws of the definitions. Each function does nothing at run time: its contract is the law.
 
 ghost use Rattle.std.specs.Prelude.{◌≡◌, ℕ, List, None};
-ghost use Rattle.scrypt_commands.specs.Invocation.{invocation_of, text_of_words};
-ghost use Rattle.scrypt_commands.specs.Options.{no_options, options_of};
-ghost use Rattle.scrypt_commands.specs.Run.{plan_of, plan_of_words};
+ghost use Rattle.scrypt_commands.specs.{invocation_of, no_options, options_of, plan_of, plan_of_words, text_of_words};
 
 /// If the first word is not an option, and the words do not ask for a text about the program, their
 /// invocation does what `run` does with them: it has the same outcome on each input, and is

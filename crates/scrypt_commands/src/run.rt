@@ -2,12 +2,9 @@
 
 ghost use Rattle.std.specs.Prelude.{◌≡◌, ◌⊎◌, ◌↔◌, IsTrue, IfOk, IfErr, IfSome, Err, IsErr, OnOk, false, true, ⊤};
 ghost use Rattle.std.specs.Io.KnownBytes.{Appends, IsAtEnd, Keeps};
-ghost use Rattle.scrypt_commands.specs.CliError.{error_line, status_of};
-ghost use Rattle.scrypt_commands.specs.Command.{request_of};
-ghost use Rattle.scrypt_commands.specs.Invocation.{command_line_view};
-ghost use Rattle.scrypt_commands.specs.Options.{texts_of};
-ghost use Rattle.scrypt_commands.specs.Outcome.{outcome, reply_by};
-ghost use Rattle.scrypt_commands.specs.Run.{AppendsBeginning, AppendsReply, IsAnswer, IsRun, OnInput, plan_by, plan_of_words};
+ghost use Rattle.scrypt_commands.specs.{AppendsBeginning, AppendsReply, IsAnswer, IsRun, OnInput, command_line_view};
+ghost use Rattle.scrypt_commands.specs.{error_line, outcome, plan_by, plan_of_words, reply_by, request_of, status_of};
+ghost use Rattle.scrypt_commands.specs.{texts_of};
 ghost use Rattle.scrypt_commands.specs.declared.error.CliError.TheVariants.{InputFailed, OutOfMemory, OutputFailed};
 
 use crate::command::Command;

@@ -1,6 +1,5 @@
 use Rattle.std.proofs.Common.{◌≡◌, length, map, string_bytes}
-use Rattle.scrypt_commands.specs.Invocation.{options_view}
-use Rattle.scrypt_commands.specs.Options.{no_options, options_after}
+use Rattle.scrypt_commands.specs.{no_options, options_after, options_view}
 use Rattle.scrypt_commands.proofs.options.parse_options.Given as goal
 
 -- what is left has the options that are left
