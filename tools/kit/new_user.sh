@@ -1,7 +1,7 @@
 #!/bin/sh
 # Does what docs/RATTLE.md tells a new user of the crates: its commands, in an empty repository. Then it
 # proves the crate that they make, as `rt check` does, over the libraries that the gate has proved:
-# `rt check` itself takes only libraries that `make run` has built, and would prove them again.
+# `rt check` itself takes only libraries that it has built, and would prove them again.
 set -eu
 top=$(cd "$(dirname "$0")/../.." && pwd)
 room=$(mktemp -d)
