@@ -4,7 +4,6 @@ pub mod AcceptedFacts
 pub mod KeyFacts
 -- Facts on the cores of a derivation.
 pub mod CostFacts
--- Facts on the derived key by a table that keeps some rows.
 -- Facts on the chunks of B, mixed one after another in any order.
 pub mod ChunkFacts
 -- The standard's own vector of a derived key, computed by the definitions, so that a wrong step or constant in a definition does not check.

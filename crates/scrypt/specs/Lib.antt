@@ -15,7 +15,6 @@ pub use Rattle.scrypt_kernel.specs.Count
 pub use Rattle.scrypt_kernel.specs.Steps
 -- RFC 7914, section 6: the derived key
 pub mod Key
--- the derived key by a table that keeps some rows
 -- the chunks of B mixed in another order
 pub mod ChunkOrder
 -- RFC 7914, section 6: which parameters and output lengths are accepted

@@ -19,7 +19,7 @@ within limits reading = reading and_then λ s.
 -- the value of an error of a call with limits or in the caller's buffers
 abbrev pub limited_refusal : LimitedError → Refusal
 limited_refusal (error.Hash e) = refusal e
-limited_refusal (error.TooCostly bytes work) = TooCostly bytes work
+limited_refusal (error.TooCostly bytes needed) = TooCostly bytes needed
 limited_refusal (error.KeyTooShort key_len) = KeyTooShort key_len
 limited_refusal error.BufferTooShort = BufferTooShort
 
