@@ -224,7 +224,7 @@ def proved_calls():
 
 def numbers():
     yield f"/* {NOTE}crates: numbers that C shares with the proved code. */"
-    for name, path in (("MIN_INTERLEAVED_WORDS", "scrypt_c/src/keys.rt"), ("MAX_INTERLEAVED_MEM", "scrypt/src/buffers/lens.rt")):
+    for name, path in (("MIN_INTERLEAVED_WORDS", "scrypt_c/src/keys.rt"), ("MAX_INTERLEAVED_MEM", "scrypt_commands/src/progress.rt")):
         number = re.search(rf"\bconst {name}: \w+ = (.*);", read(f"crates/{path}"))
         yield f"#define {name} ({number[1]}) /* crates/{path} */"
     yield f"#define DEFAULT_LIMITS {', '.join(map(str, header.LIMITS.values()))} /* crates/scrypt/src/limits.rt */"

@@ -10,6 +10,11 @@ use std::alloc::Global;
 // With SSE2 three interleaved chunks take the least time.
 const MAX_TABLES: usize = 3;
 
+// The maximum bytes of the three buffers together for several tables, where a caller sets no limit:
+// four tables of 32 MiB fit, with scratch and chunks. More could exceed the memory limit of a
+// container that allows one table.
+const MAX_INTERLEAVED_MEM: usize = 129 << 20;
+
 /// Derives a key of an allowed length in steps, each of about a hundredth of the work, and shows
 /// each percentage at most once.
 pub(crate) fn derive_shown<M: Machine>(
@@ -26,7 +31,7 @@ pub(crate) fn derive_shown<M: Machine>(
         return Err(DeriveError::InvalidOutputLen);
     }
     let most = BufferLens::for_tables(params, MAX_TABLES).bytes();
-    let max_mem = most.min(BufferLens::MAX_INTERLEAVED_MEM as u128) as usize;
+    let max_mem = most.min(MAX_INTERLEAVED_MEM as u128) as usize;
     let (tables, mut own) = Buffers::within(alloc, params, max_mem)?;
     let all = params.cores();
     let mut shown = 0u8;

@@ -19,11 +19,6 @@ pub struct BufferLens {
 }
 
 impl BufferLens {
-    /// The maximum bytes of the three buffers together for several tables, where a caller sets no
-    /// limit ([`BufferLens::tables_within`]): four tables of 32 MiB fit, with scratch and chunks.
-    /// More could exceed the memory limit of a container that allows one table.
-    pub const MAX_INTERLEAVED_MEM: usize = 129 << 20;
-
     /// Returns the lengths for [`scrypt_with_buffers`](crate::scrypt_with_buffers) with these
     /// parameters, one chunk at a time.
     pub fn of(params: &Params) -> BufferLens
