@@ -152,15 +152,10 @@ impl Buffers {
             cores.old cores.new }
         ensures lens { KeepLens self.old self.new }
     {
-        match hash.parts() {
-            Ok(parts) => {
-                parts.params.expose_invariant();
-                let chunks = &mut self.chunks;
-                let (table, scratch) = (&mut self.table, &mut self.scratch);
-                verify_in_buffers::<Target>(password, parts, chunks, table, scratch, cores)
-            }
-            Err(unread) => Err(LimitedError::Hash(unread)),
-        }
+        let parts = hash.parts()?;
+        parts.params.expose_invariant();
+        let (chunks, table, scratch) = (&mut self.chunks, &mut self.table, &mut self.scratch);
+        verify_in_buffers::<Target>(password, parts, chunks, table, scratch, cores)
     }
 
     /// Verifies each password, in one batch if possible, and counts the work, as

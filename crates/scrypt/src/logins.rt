@@ -48,20 +48,14 @@ impl<'p, 't> Login<'p, 't> {
             Ok(LoginHash::Decoy(decoy)) => return Ok(decoy.parts()),
             Err(refused) => return Err(*refused),
         };
-        match hash.parts() {
-            Ok(parts) => Ok(parts),
-            Err(unread) => Err(LimitedError::Hash(unread)),
-        }
+        Ok(hash.parts()?)
     }
 
     // Returns the parameters of the derivation, or `None` if the hash is an error.
     fn params(&self) -> Option<Params>
         ensures { result ≡ params_of (reading_of self.now) }
     {
-        match self.parts() {
-            Ok(parts) => Some(parts.params),
-            Err(_) => None,
-        }
+        Some(self.parts().ok()?.params)
     }
 
     // Returns `count` plus the number of its chunks, if it has this `N` and this `r`, or `count` if
@@ -115,13 +109,9 @@ impl<'p, 't> Login<'p, 't> {
         ensures counted { AreHashed (cost_if_ok compare_cost (attempt_of self.now)) cores.old cores.new }
         ensures verdict { with_limited_refusal result ≡ verdict self.now.password.now (reading_of self.now) }
     {
-        match self.parts() {
-            Ok(parts) => {
-                parts.params.expose_invariant();
-                limited(accept_if(is_derived_key(self.password, mixed, parts, cores)))
-            }
-            Err(error) => Err(error),
-        }
+        let parts = self.parts()?;
+        parts.params.expose_invariant();
+        limited(accept_if(is_derived_key(self.password, mixed, parts, cores)))
     }
 
     // Verifies this password separately.
@@ -141,12 +131,7 @@ impl<'p, 't> Login<'p, 't> {
         ensures hashed { AreCompressed (hashed_on (workspace_of chunks.old table.old scratch.old)
             (attempt_of self.now)) cores.old cores.new }
     {
-        match self.parts() {
-            Ok(parts) => {
-                verify_in_buffers::<W>(self.password, parts, chunks, table, scratch, cores)
-            }
-            Err(error) => Err(error),
-        }
+        verify_in_buffers::<W>(self.password, self.parts()?, chunks, table, scratch, cores)
     }
 }
 

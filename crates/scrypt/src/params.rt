@@ -119,10 +119,7 @@ impl Params {
     pub(crate) fn of_text(log_n: u8, r: u32, p: u32) -> password_hash::Result<Params>
         ensures { with_refusal result ≡ checked log_n r p }
     {
-        match Params::new(log_n, r, p) {
-            Ok(params) => Ok(params),
-            Err(_) => Err(Error::ParamsInvalid),
-        }
+        Params::new(log_n, r, p).map_err(|_| Error::ParamsInvalid)
     }
 
     /// Returns the recommended parameters.
@@ -181,10 +178,7 @@ impl Params {
         ensures value { result ≡ key_len_or_default self.now }
         ensures stored { (10 ≤ result) × (result ≤ 64) }
     {
-        match self.output_len() {
-            Some(len) => len,
-            None => Params::RECOMMENDED_LEN,
-        }
+        self.output_len().unwrap_or(Params::RECOMMENDED_LEN)
     }
 
     /// Returns whether `log_n`, `r`, `p` or the length of the key, which is `key_len`, is below the
@@ -303,8 +297,7 @@ fn is_table_small(log_n: u8, r: u32) -> bool
     requires { log_n ≤ 56 }
     ensures { IsTrue result ↔ (r * 2 ^ log_n < 2 ^ 57) }
 {
-    match u64::from(r).checked_mul(1 << log_n) {
-        Some(blocks) => blocks < 1 << 57,
-        None => false,
-    }
+    u64::from(r)
+        .checked_mul(1 << log_n)
+        .is_some_and(|blocks| blocks < 1 << 57)
 }

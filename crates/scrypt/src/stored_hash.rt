@@ -70,22 +70,18 @@ impl<'a> StoredHash<'a> {
                 parts,
             });
         }
-        match phc::PasswordHash::new(text) {
-            Ok(hash) => {
-                let params = read_params(&hash);
-                let parts = parts_of_phc(&hash, &params);
-                let params = match params {
-                    Ok(params) => Ok((params, key_len(&hash))),
-                    Err(error) => Err(error),
-                };
-                Ok(StoredHash {
-                    text,
-                    params,
-                    parts,
-                })
-            }
+        let hash = phc::PasswordHash::new(text)?;
+        let params = read_params(&hash);
+        let parts = parts_of_phc(&hash, &params);
+        let params = match params {
+            Ok(params) => Ok((params, key_len(&hash))),
             Err(error) => Err(error),
-        }
+        };
+        Ok(StoredHash {
+            text,
+            params,
+            parts,
+        })
     }
 
     /// Returns the text that was read.

@@ -20,10 +20,7 @@ pub fn decode64_uint32(letters: &[u8]) -> Result<u32>
     let Some(five) = letters.get(..5) else {
         return Err(Error::EncodingInvalid);
     };
-    match number(five) {
-        Some(number) => Ok(number),
-        None => Err(Error::EncodingInvalid),
-    }
+    number(five).ok_or(Error::EncodingInvalid)
 }
 
 /// Writes the five letters of `number` modulo 2^30 to the first five bytes of `out`. The bytes

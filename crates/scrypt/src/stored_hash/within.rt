@@ -22,10 +22,7 @@ impl<'a> StoredHash<'a> {
         ensures same { IfOk result (λ _. within limits.now (reading self.now) ≡ reading self.now) }
         ensures err { IfErr result (λ e. within limits.now (reading self.now) ≡ Err (limited_refusal e)) }
     {
-        let parts = match self.parts() {
-            Ok(parts) => parts,
-            Err(error) => return Err(LimitedError::Hash(error)),
-        };
+        let parts = self.parts()?;
         if !limits.allow(&parts.params) {
             return Err(too_costly(&parts.params));
         }

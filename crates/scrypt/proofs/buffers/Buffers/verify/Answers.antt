@@ -3,10 +3,10 @@ use Rattle.scrypt.specs.Terms.{reading, stored, verdict_in, with_limited_refusal
 use Rattle.scrypt.proofs.ReadingFacts.{enough_within}
 use Rattle.scrypt.proofs.buffers.Buffers.verify.Goals as goal
 
-pub returns-in-Ok-clause-within : goal.returns-in-Ok-clause-within
-returns-in-Ok-clause-within c = λ limits suffice is.
+pub returns-clause-within : goal.returns-clause-within
+returns-clause-within c = λ limits suffice is.
     let own = c.args.self.now in
-    let s = stored c.in-Ok.parts.now in
+    let s = stored c.in_ok-parts.parts.now in
     let read : reading c.args.hash.now ≡ Ok s = search rules in
     let here : with_limited_refusal c.verify_in_buffers.result
     ≡ verdict_in (workspace_of own.chunks.items own.table.items own.scratch.items) c.args.password.now (Ok s) = search rules in
