@@ -13,7 +13,7 @@ use Rattle.scrypt.proofs.KeyFacts.{key_by-are_bytes, length-key_by}
 use Rattle.scrypt.proofs.ReadingFacts.{right_decided, within_decided, within_limits}
 
 -- the parts of a decoy
-abbrev pub decoy_of : Parameters → List ℕ → Stored
+abbrev decoy_of : Parameters → List ℕ → Stored
 decoy_of c salt = record { params = without_len c; salt = salt; key = no_key (key_len_or_default c) }
 
 accepted_decoy : (c : Parameters) (salt : List ℕ) → IsTrue (are_accepted c.log_n c.r c.p) → IsTrue (is_stored_len c.output_len)

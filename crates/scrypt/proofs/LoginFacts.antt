@@ -96,8 +96,8 @@ each_fits f g c ((password, Err why) ∷ rest) n w read unread counted room =
 sum_cost : (x p m n : ℕ) → p + m ≡ n → x * p + x * m ≡ x * n
 sum_cost x p m n sum = rw (← sum) (omega arith)
 
-sums_alike : (f g : Attempt → ℕ) (these : List Attempt) → map f these ≡ map g these → sum_by f these ≡ sum_by g these
-sums_alike f g these same = sym (sum-map f these) ∙ ap sum same ∙ sum-map g these
+pub sums_alike : (f g : Attempt → ℕ) (these others : List Attempt) → map f these ≡ map g others → sum_by f these ≡ sum_by g others
+sums_alike f g these others same = sym (sum-map f these) ∙ ap sum same ∙ sum-map g others
 
 -- so each verdict is that of its password alone, and the work is the same
 pub alone : (c : Parameters) (these : List Attempt) (n : ℕ) (w : Workspace) → count_of c these ≡ Some n
@@ -106,8 +106,8 @@ pub alone : (c : Parameters) (these : List Attempt) (n : ℕ) (w : Workspace) �
     × (all_cost verify_cores these ≡ sum_by (cores_on w) these) × (all_cost verify_cost these ≡ sum_by (hashed_on w) these)
 alone c these n w counted room = (
   each_fits _ _ c these n w (λ password s fits. rw fits refl) (λ password why. refl) counted room,
-  sums_alike _ _ these (each_fits _ _ c these n w (λ password s fits. rw fits refl) (λ password why. refl) counted room),
-  sums_alike _ _ these (each_fits _ _ c these n w (λ password s fits. rw fits refl) (λ password why. refl) counted room),
+  sums_alike _ _ these these (each_fits _ _ c these n w (λ password s fits. rw fits refl) (λ password why. refl) counted room),
+  sums_alike _ _ these these (each_fits _ _ c these n w (λ password s fits. rw fits refl) (λ password why. refl) counted room),
 )
 
 -- the cores of one derivation of all chunks
@@ -128,26 +128,23 @@ pub record AreAsLong (w v : Workspace) : Type 0 where
   pub table : length w.table ≡ length v.table
   pub scratch : length w.scratch ≡ length v.scratch
 
-pub same_verdict : (w v : Workspace) → AreAsLong w v → (a : Attempt) → verdict_on w a ≡ verdict_on v a
+same_room : (w v : Workspace) → AreAsLong w v → (c : Parameters)
+    → are_enough c w.chunks w.table w.scratch ≡ are_enough c v.chunks v.table v.scratch
 unfolding are_enough
-same_verdict w v long (password, Ok s) = rw (long.chunks, long.table, long.scratch) refl
-same_verdict w v long (password, Err why) = refl
+same_room w v long c = rw (long.chunks, long.table, long.scratch) refl
 
-pub same_cores : (w v : Workspace) → AreAsLong w v → (a : Attempt) → cores_on w a ≡ cores_on v a
-unfolding are_enough
-same_cores w v long (password, Ok s) = rw (long.chunks, long.table, long.scratch) refl
-same_cores w v long (password, Err why) = refl
+same_on : (w v : Workspace) → AreAsLong w v → (a : Attempt)
+    → (verdict_on w a ≡ verdict_on v a) × (cores_on w a ≡ cores_on v a) × (hashed_on w a ≡ hashed_on v a)
+same_on w v long (password, Ok s) = rw (same_room w v long s.params) (refl, refl, refl)
+same_on w v long (password, Err why) = (refl, refl, refl)
 
-pub same_hashed : (w v : Workspace) → AreAsLong w v → (a : Attempt) → hashed_on w a ≡ hashed_on v a
-unfolding are_enough
-same_hashed w v long (password, Ok s) = rw (long.chunks, long.table, long.scratch) refl
-same_hashed w v long (password, Err why) = refl
-
-pub same_verdicts : (w v : Workspace) → AreAsLong w v → (these : List Attempt) → map (verdict_on w) these ≡ map (verdict_on v) these
-same_verdicts w v long these = λ i. map (λ a. same_verdict w v long a i) these
-
-pub same_costs : {f g : Attempt → ℕ} → ((a : Attempt) → f a ≡ g a) → (these : List Attempt) → sum_by f these ≡ sum_by g these
-same_costs same these = λ i. sum_by (λ a. same a i) these
+pub same_on_all : (w v : Workspace) → AreAsLong w v → (these : List Attempt) → (map (verdict_on w) these ≡ map (verdict_on v) these)
+    × (sum_by (cores_on w) these ≡ sum_by (cores_on v) these) × (sum_by (hashed_on w) these ≡ sum_by (hashed_on v) these)
+same_on_all w v long these = (
+  λ i. map (λ a. (same_on w v long a).0 i) these,
+  λ i. sum_by (λ a. (same_on w v long a).1 i) these,
+  λ i. sum_by (λ a. (same_on w v long a).2 i) these,
+)
 
 -- the work of one, and then that of the others
 pub sum_more : (f : Attempt → ℕ) {these others : List Attempt} {a : Attempt} → these ≡ a ∷ others → f a + sum_by f others ≡ sum_by f these

@@ -1,9 +1,9 @@
-use Rattle.std.proofs.Common.{◌≡◌, ℕ, ◌*◌, List, [], ◌∷◌, length, map, refl, sym, ap, ap₂, ◌∙◌, Option, None, Some, Ok, Err, true, false, sum, sum_by, MatchBool, MatchOption, option_and_then}
+use Rattle.std.proofs.Common.{◌≡◌, ℕ, ◌*◌, List, [], ◌∷◌, length, map, refl, sym, ap, ap₂, ◌∙◌, Option, None, Some, Ok, Err, true, false, sum_by, MatchBool, MatchOption, option_and_then}
 use Rattle.std.specs.Prelude.{Bool, option_map}
-use Rattle.std.proofs.lemmas.List.Sums.{sum-map}
 use Rattle.scrypt.specs.Terms.{AreLeft, AreSameAfter, Attempt, IsDone, IsLeft, Parameters, Refusal, Stored, Workspace}
 use Rattle.scrypt.specs.Terms.{are_enough, cores_on, cost_by, count_of, hashed_on, params_of, public_hash, public_part}
 use Rattle.scrypt.specs.Terms.{shared, table_words, tables_used, verify_cost}
+use Rattle.scrypt.proofs.LoginFacts.{sums_alike}
 
 -- two hashes with the same public part
 record AreAlike (s d : Stored) : Type 0 where
@@ -81,17 +81,13 @@ each_same f one (a ∷ some) (b ∷ others) same =
     let rest : map public_part some ≡ map public_part others = cc in
     ap₂ (λ x xs. x ∷ xs) (one a b first) (each_same f one some others rest)
 
-sums_same : (f : Attempt → ℕ) → ((a b : Attempt) → public_part a ≡ public_part b → f a ≡ f b)
-    → (some others : List Attempt) → map public_part some ≡ map public_part others → sum_by f some ≡ sum_by f others
-sums_same f one some others same = sym (sum-map f some) ∙ ap sum (each_same f one some others same) ∙ sum-map f others
-
 pub all_cores : (w : Workspace) (some others : List Attempt) → map public_part some ≡ map public_part others
     → sum_by (cores_on w) some ≡ sum_by (cores_on w) others
-all_cores w = sums_same (cores_on w) (same_cores w)
+all_cores w some others same = sums_alike _ _ some others (each_same (cores_on w) (same_cores w) some others same)
 
 pub all_hashed : (w : Workspace) (some others : List Attempt) → map public_part some ≡ map public_part others
     → sum_by (hashed_on w) some ≡ sum_by (hashed_on w) others
-all_hashed w = sums_same (hashed_on w) (same_hashed w)
+all_hashed w some others same = sums_alike _ _ some others (each_same (hashed_on w) (same_hashed w) some others same)
 
 count_same : (c : Parameters) (some others : List Attempt) → map public_part some ≡ map public_part others → count_of c some ≡ count_of c others
 count_same c [] [] same = refl

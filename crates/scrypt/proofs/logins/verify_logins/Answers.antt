@@ -4,7 +4,7 @@ use Rattle.std.proofs.lemmas.Slice.{take-put_mid_below}
 use Rattle.scrypt_kernel.proofs.CountFacts.{compressed_then, counted_then}
 use Rattle.scrypt.specs.Terms.{attempt_of, attempts, cores_on, hashed_on, verdict_on, with_limited_refusal}
 use Rattle.scrypt.specs.Terms.{workspace_of}
-use Rattle.scrypt.proofs.LoginFacts.{AreAsLong, all_put, left_alone, none_left, one_more, rest_is, same_cores, same_costs, same_hashed, same_verdicts, sum_more}
+use Rattle.scrypt.proofs.LoginFacts.{AreAsLong, all_put, left_alone, none_left, one_more, rest_is, same_on_all, sum_more}
 use Rattle.scrypt.proofs.logins.verify_logins.Goals as goal
 
 pub returns-then-verified_in_batch-clause-verdicts : goal.returns-then-verified_in_batch-clause-verdicts
@@ -31,25 +31,24 @@ loop-login-preserved g c =
     let now = workspace_of c.verify_alone.new.chunks c.verify_alone.new.table c.verify_alone.new.scratch in
     let long : AreAsLong now before = search rules in
     let known = c.loop-login.invariant in
+    let others = attempts c.in-Some.field-0-1.now in
+    let same = same_on_all now before long others in
     let kept = c.if-verified_in_batch.ensures.unchanged (search rules) in
     let is : c.loop-login.left.now ≡ login ∷ c.in-Some.field-0-1.now = search rules in
     let next = ap attempts is in
-    let others = attempts c.in-Some.field-0-1.now in
     let verdict = rw (kept.0, kept.1, kept.2) at c.verify_alone.ensures.verdict in
     let left = rw (kept.0, kept.1, kept.2) at c.verify_alone.ensures.left in
     let counted = rw (kept.0, kept.1, kept.2, kept.3) at c.verify_alone.ensures.counted in
     let hashed = rw (kept.0, kept.1, kept.2, kept.3) at c.verify_alone.ensures.hashed in
     rw (rest_is _ _ _ is) (record {
       long = search rules;
-      verified = rw (same_verdicts now before long others)
+      verified = rw same.0
           (one_more with_limited_refusal (verdict_on before) _ at c.verify_alone.result (attempt_of login) _ _ (search rules) verdict next
           ∙ ap (λ x. map with_limited_refusal x ++ map (verdict_on before) (attempts c.loop-login.left.now))
           (take-put_mid_below at _ c.loop-login.verdicts c.verified_in_batch.new.verdicts at (omega arith)
           (omega (arith, known.long))) ∙ known.verified);
-      counted = λ after rest. known.counted after (counted_then counted
-          (rw (same_costs (same_cores now before long) others) at rest) (sum_more (cores_on before) next));
-      hashed = λ after rest. known.hashed after (compressed_then hashed
-          (rw (same_costs (same_hashed now before long) others) at rest) (sum_more (hashed_on before) next));
+      counted = λ after rest. known.counted after (counted_then counted (rw same.1 at rest) (sum_more (cores_on before) next));
+      hashed = λ after rest. known.hashed after (compressed_then hashed (rw same.2 at rest) (sum_more (hashed_on before) next));
       left = λ after rest.
           let alone = rw next at (c.if-verified_in_batch.ensures.alone (search rules)) in
           known.left after (rw next (left_alone (attempt_of login) others before now after alone left rest));
