@@ -1,9 +1,11 @@
 // Derivations in the caller's buffers, whose initial contents do not matter.
 
+use crate::hashes::EMPTY;
 use crate::holds;
 use crate::keys::{FIRST, SECOND};
+use scrypt::LimitedError::{self, BufferTooShort};
 use scrypt::{
-    BufferLens, Buffers, CoreCount, InvalidOutputLen, Params, StepsError, scrypt_thin,
+    BufferLens, Buffers, CoreCount, InvalidOutputLen, Params, StepsError, StoredHash, scrypt_thin,
     scrypt_with_buffers,
 };
 use std::alloc::Global;
@@ -17,6 +19,30 @@ fn keys_in_used_buffers() -> Result<(), Fail> {
         let mut key = [0; 64];
         scrypt_with_buffers(b"", b"", &params, &mut b, &mut v, &mut t, &mut key, cores)?;
         holds(key == FIRST, "both times")?;
+    }
+    Ok(())
+}
+
+// The lengths of the chunks in bytes, and of the table and the scratch in words, and the verdict in
+// them on a hash with the parameters (4, 1, 1).
+static VERDICTS: [(usize, usize, usize, Result<(), LimitedError>, &str); 4] = [
+    (128, 512, 64, Ok(()), "each as long as it has to be"),
+    (127, 512, 64, Err(BufferTooShort), "the chunks"),
+    (128, 511, 64, Err(BufferTooShort), "the table"),
+    (128, 512, 63, Err(BufferTooShort), "the scratch"),
+];
+
+#[test]
+fn a_hash_in_short_buffers(rt: HostRuntime) -> Result<(), Fail> {
+    let (hash, cores) = (StoredHash::read(EMPTY)?, &mut CoreCount::new());
+    for &(chunks, table, scratch, wanted, reason) in &VERDICTS {
+        let lens = BufferLens {
+            chunks,
+            table,
+            scratch,
+        };
+        let mut own = Buffers::allocate(rt.alloc(), &lens)?;
+        holds(own.verify(&hash, b"", cores) == wanted, reason)?;
     }
     Ok(())
 }

@@ -158,6 +158,8 @@ fn texts_of_errors(rt: HostRuntime) -> Result<(), Fail> {
         let within = LimitedError::Hash(error).to_string(rt.alloc())?;
         holds(is(within.as_str(), text), "also of a call with limits")?;
     }
+    let short = LimitedError::BufferTooShort.to_string(rt.alloc())?;
+    holds(is(short.as_str(), "a buffer is too short"), "in buffers")?;
     let refused = kdf::Error::Refused.to_string(rt.alloc())?;
     holds(is(refused.as_str(), "refused key length"), "of a key")
 }
