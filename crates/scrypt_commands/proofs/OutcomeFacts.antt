@@ -33,7 +33,7 @@ phc_refused c password salt = at (is_salt_len (length salt))
     at false others is = absurd cc
 
 -- what holds of every input holds of that of a reader
-pub on_any_input : (known : Option (List ℕ)) (P : List ℕ → Type 0) → ((input : List ℕ) → P input) → OnInput known P
+on_any_input : (known : Option (List ℕ)) (P : List ℕ → Type 0) → ((input : List ℕ) → P input) → OnInput known P
 on_any_input None P h = ([], tt, h [])
 on_any_input (Some input) P h = (input, refl, h input)
 
@@ -61,12 +61,6 @@ pub refused_input : (reply_on : List ℕ → Result Reply ErrorLine) (known : Op
 refused_input reply_on known input error same (inl h) two = let wrong : ◌≡◌ {A = ℕ} 3 2 = rw h at two in absurd cc
 refused_input reply_on known input error same (inr (two, is)) _ = (input, same, is)
 
-status_cases : (error : CliError) → (status_of error ≡ 3) ⊎ (status_of error ≡ 4) ⊎ (status_of error ≡ 2)
-status_cases OutOfMemory = inl refl
-status_cases InputFailed = inr (inl refl)
-status_cases OutputFailed = inr (inl refl)
-status_cases refused = inr (inr refl)
-
 -- an error of status 4 other than `InputFailed` is `OutputFailed`
 pub output_failed : (error : CliError) → status_of error ≡ 4 → ¬ (error ≡ InputFailed) → error ≡ OutputFailed
 output_failed InputFailed is other = absurd (other refl)
@@ -80,17 +74,12 @@ pub end_outcome : (reply_on : List ℕ → Result Reply ErrorLine) (known old ne
     → (status_of error ≡ 2 → OnInput known (λ input. reply_on input ≡ Err (error_line error)))
     → (ended.status ≡ 3) ⊎ (ended.status ≡ 4) ⊎ OnInput known (λ input. HasOutcome ended
     (record { input = known; output = old; faults = faults }) (record { input = known; output = new; faults = faults' }) (outcome (reply_on input)))
-end_outcome reply_on known old new faults faults' ended error is kept written refused = elim (status_cases error) [
-  | inl three ↦ inl (is ∙ three)
-  | inr (inl four) ↦ inr (inl (is ∙ four))
-  | inr (inr two) ↦ inr (inr (of_two two kept (refused two)))
-]
-  where
-    of_two : status_of error ≡ 2 → (error ≡ OutputFailed) ⊎ Keeps old new → OnInput known (λ input. reply_on input ≡ Err (error_line error))
-        → OnInput known (λ input. HasOutcome ended (record { input = known; output = old; faults = faults })
-        (record { input = known; output = new; faults = faults' }) (outcome (reply_on input)))
-    of_two two (inl failed) h = let wrong : ◌≡◌ {A = ℕ} 4 2 = rw failed at two in absurd cc
-    of_two two (inr kept) (input, same, has) = (input, same, rw has (is ∙ two, appends_nothing old new kept, written))
+end_outcome reply_on known old new faults faults' ended OutOfMemory is kept written refused = inl is
+end_outcome reply_on known old new faults faults' ended InputFailed is kept written refused = inr (inl is)
+end_outcome reply_on known old new faults faults' ended OutputFailed is kept written refused = inr (inl is)
+end_outcome reply_on known old new faults faults' ended error is (inl failed) written refused = absurd cc
+end_outcome reply_on known old new faults faults' ended error is (inr kept) written refused =
+    let (input, same, has) = refused refl in inr (inr (input, same, rw has (is, appends_nothing old new kept, written)))
 
 -- known bytes keep themselves
 pub kept : (known : Option (List ℕ)) → Keeps known known
