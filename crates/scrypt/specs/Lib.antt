@@ -65,5 +65,5 @@ pub mod Mixing
 pub mod StoredKey
 -- private: the contents of a stored hash
 pub mod StoredParts
--- private: the definitions above, for clauses and proofs
+-- all definitions above from one file, for clauses and proofs, those of other crates too
 pub mod Terms
