@@ -1,10 +1,9 @@
 use Rattle.scrypt.specs.Terms.{Parameters, ParamsInvalid, are_accepted, checked, is_output_len, is_salt_len}
 use Rattle.scrypt.specs.Terms.{is_stored_len, max_output_len, parameters_eq}
 pub use Rattle.password_hash.proofs.PhcReadingFacts.{leb_decided}
-use Rattle.std.specs.Option.{option_eq}
 use Rattle.std.proofs.lemmas.Bool.{false_from_ne_true}
-use Rattle.std.proofs.lemmas.Bool.Decides.{Decides-and, Decides-eqb, Decides-like, Decides-ltb}
-use Rattle.std.proofs.Common.{refl, ap, ◌≡◌, ℕ, ◌-◌, ◌*◌, ◌^◌, ◌<◌, ◌≤◌, arith, lit≤, true, false, Bool, Option, Some, None, Result, Ok, Err, if◌then◌else◌, nat_eq, unwrap_or, IsTrue, Decides, lt_of_not-le, mul-le-mul_right, mul_assoc, pow_mono}
+use Rattle.std.proofs.lemmas.Bool.Decides.{Decides-and}
+use Rattle.std.proofs.Common.{refl, ◌≡◌, ℕ, ◌*◌, ◌^◌, ◌<◌, ◌≤◌, arith, lit≤, true, false, Bool, Option, Some, None, Result, Ok, Err, if◌then◌else◌, unwrap_or, IsTrue, Decides, lt_of_not-le, mul-le-mul_right, mul_assoc, pow_mono}
 use Rattle.std.proofs.lemmas.Nat.{mul-le}
 
 -- no accepted log_n is above 56
@@ -26,10 +25,7 @@ ok_if false made e is = absurd cc
 
 pub accepted_decided : (log_n r p : ℕ) → Decides (are_accepted log_n r p) ((0 < r) × (0 < p) × (128 * r * 2 ^ log_n < 2 ^ 64) × (r * p < 2 ^ 30))
 unfolding are_accepted
-accepted_decided log_n r p =
-    Decides-like _ (λ h. (h.0.0, h.0.1, h.1.0, h.1.1)) (λ h. ((h.0, h.1), (h.2, h.3)))
-    (Decides-and _ _ (Decides-and _ _ (Decides-ltb 0 r) (Decides-ltb 0 p))
-    (Decides-and _ _ (Decides-ltb (128 * r * 2 ^ log_n) (2 ^ 64)) (Decides-ltb (r * p) (2 ^ 30))))
+accepted_decided log_n r p = grind arith
 
 pub bounds : (log_n r p : ℕ) → IsTrue (are_accepted log_n r p) → (0 < r) × (0 < p) × (128 * r * 2 ^ log_n < 2 ^ 64) × (r * p < 2 ^ 30)
 bounds log_n r p accepted = (accepted_decided log_n r p).0 accepted
@@ -61,8 +57,7 @@ not_checked log_n r p none = rw (false_from_ne_true _ none) refl
 
 pub checked_ok : (log_n r p : ℕ) (c : Parameters) → checked log_n r p ≡ Ok c → IsTrue (are_accepted log_n r p) × (numbers log_n r p ≡ c)
 unfolding checked
-checked_ok log_n r p c is =
-    let both = ok_if (are_accepted log_n r p) (Ok (numbers log_n r p)) ParamsInvalid is in (both.0, cc both.1)
+checked_ok log_n r p c is = grind arith
 
 pub table_bytes : (log_n r : ℕ) → 128 * r * 2 ^ log_n ≡ 128 * (r * 2 ^ log_n)
 table_bytes log_n r = mul_assoc 128 r (2 ^ log_n)
@@ -74,39 +69,21 @@ pub small_factor : (r p : ℕ) → 0 < p → r * p < 2 ^ 30 → r < 2 ^ 30
 small_factor r p some few = let least = mul-le r 1 r p (omega arith) some in omega arith
 
 pub small_params : (log_n r p : ℕ) → IsTrue (are_accepted log_n r p) → (log_n ≤ 56) × (r < 2 ^ 30) × (p < 2 ^ 30)
-small_params log_n r p accepted =
-    let fits = (accepted_decided log_n r p).0 accepted in
-    (small_log_n log_n r fits.0 fits.2, small_factor r p fits.1 fits.3, small_factor p r fits.0 (omega (arith, fits.3)))
+small_params log_n r p accepted = grind (arith, accepted_decided, small_log_n, small_factor)
 
 -- the cores of a derivation, as the code computes them
 pub small_blocks : (log_n r : ℕ) → 128 * r * 2 ^ log_n < 2 ^ 64 → 2 ^ log_n * r < 2 ^ 57
 small_blocks log_n r fits = omega arith
 
 pub small_cost : (blocks p : ℕ) → blocks < 2 ^ 57 → p < 2 ^ 30 → 4 * blocks * p < 2 ^ 89
-small_cost blocks p few small =
-    let product = mul-le blocks p (2 ^ 57 - 1) (2 ^ 30) (omega arith) (omega arith) in
-    let grouped : 4 * blocks * p ≡ 4 * (blocks * p) = mul_assoc 4 blocks p in
-    omega (arith, product, grouped)
+small_cost blocks p few small = grind arith
 
 -- the words of the table, and those of a table that keeps fewer rows
 pub small_rows : (log_n log_rows r : ℕ) → log_rows ≤ log_n → 128 * r * 2 ^ log_n < 2 ^ 64 → 2 ^ log_rows * (32 * r) < 2 ^ 62
-small_rows log_n log_rows r fewer fits =
-    let rows : 2 ^ log_rows ≤ 2 ^ log_n = pow_mono fewer in
-    let product = mul-le-mul_right (32 * r) rows in
-    omega (arith, product, fits)
-
-option_decided : (first second : Option ℕ) → Decides (option_eq nat_eq first second) (first ≡ second)
-option_decided None None = (λ _. refl, λ _. refl)
-option_decided None (Some n) = (λ e. cc, λ e. cc)
-option_decided (Some m) None = (λ e. cc, λ e. cc)
-option_decided (Some m) (Some n) = let same = Decides-eqb m n in (λ e. ap Some (same.0 e), λ e. same.1 cc)
+small_rows log_n log_rows r fewer fits = grind (arith, pow_mono fewer, mul-le-mul_right)
 
 pub parameters_decided : (a b : Parameters) → Decides (parameters_eq a b) (a ≡ b)
-parameters_decided a b =
-    let each = Decides-and _ _ (Decides-and _ _ (option_decided a.output_len b.output_len) (Decides-eqb a.log_n b.log_n))
-    (Decides-and _ _ (Decides-eqb a.r b.r) (Decides-eqb a.p b.p)) in
-    Decides-like _ (λ same i. record { log_n = same.0.1 i; r = same.1.0 i; p = same.1.1 i; output_len = same.0.0 i })
-    (λ (e : a ≡ b). ((ap (λ c. c.output_len) e, ap (λ c. c.log_n) e), (ap (λ c. c.r) e, ap (λ c. c.p) e))) each
+parameters_decided a b = grind arith
 
 -- the length of a key that hashing makes is one that is stored
 pub key_len_stored : (len : Option ℕ) → IsTrue (is_stored_len len) → (10 ≤ unwrap_or len 32) × (unwrap_or len 32 ≤ 64)
@@ -114,9 +91,7 @@ key_len_stored None fits = (lit≤ tt, lit≤ tt)
 key_len_stored (Some n) fits = (stored_len_decided n).0 fits
 
 pub stored_is_output : (len : Option ℕ) → IsTrue (is_stored_len len) → IsTrue (is_output_len (unwrap_or len 32))
-stored_is_output len fits =
-    let stored = key_len_stored len fits in
-    (output_len_decided (unwrap_or len 32)).1 (omega (arith, stored.0), omega (arith, stored.1))
+stored_is_output len fits = grind (arith, key_len_stored, output_len_decided, unwrap_or)
 
 pub output_len_bound : (n : ℕ) → IsTrue (is_output_len n) → n ≤ max_output_len
 output_len_bound n fits = ((output_len_decided n).0 fits).1

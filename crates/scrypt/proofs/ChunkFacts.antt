@@ -1,11 +1,10 @@
-use Rattle.std.proofs.Common.{◌≡◌, ◌≢◌, ℕ, ◌<◌, ◌≤◌, ◌+◌, ◌*◌, List, [], ◌∷◌, ◌++◌, length, take, drop, nat_eq, cond, refl, sym, ap, ◌∙◌, arith, inl, inr, zero-add, All, count_by, drop-drop}
+use Rattle.std.proofs.lemmas.List.{places}
+use Rattle.std.proofs.Common.{◌≡◌, ◌≢◌, ℕ, ◌<◌, ◌≤◌, ◌+◌, ◌*◌, List, [], ◌∷◌, length, nat_eq, cond, refl, arith, inl, inr, zero-add, All, count_by, drop-drop, rules}
 use Rattle.std.proofs.lemmas.Bool.{cases_Bool, eqb-true, eqb-false}
 use Rattle.std.proofs.lemmas.List.Elements.{All-head, All-tail}
 use Rattle.std.proofs.lemmas.List.Sums.{sum_by-cons}
-use borrow.Rule.Slice.PartMut.{put_mid, same_len_mid}
-use Rattle.scrypt.specs.Terms.{NamesEachOnce, bytes_of, mixed_chunk, mixed_chunks, mixed_in_order, part}
-use Rattle.scrypt.specs.Terms.{with_chunk_mixed, words_of}
-use Rattle.scrypt_kernel.specs.RoMix.{ro_mix}
+use borrow.Rule.Slice.PartMut.{put_mid}
+use Rattle.scrypt.specs.Terms.{NamesEachOnce, mixed_chunk, mixed_chunks, mixed_in_order, part, with_chunk_mixed}
 use Rattle.scrypt.proofs.KeyFacts.{length-mixed_chunk}
 use Rattle.scrypt_kernel.proofs.PartFacts.{length-part, part_put_same, part_put_other, parts_all, parts_apart}
 
@@ -18,25 +17,16 @@ module _ (b : List ℕ) (log_n r p i : ℕ) (some : 0 < r) (long : length b ≡ 
   full = length-mixed_chunk b log_n r i some room
 
   put : with_chunk_mixed log_n r b i ≡ put_mid (i * (128 * r)) (128 * r) b (mixed_chunk b log_n r i)
-  put =
-      let a : ℕ = i * (128 * r) in
-      let e : a + 128 * r ≡ (i + 1) * (128 * r) = omega arith in
-      ap (λ z. take a b ++ (mixed_chunk b log_n r i ++ z)) (sym (drop-drop (128 * r) a b ∙ ap (λ n. drop n b) e))
+  put = grind (arith, drop-drop)
 
   pub length-mixed : length (with_chunk_mixed log_n r b i) ≡ p * (128 * r)
-  length-mixed =
-      let same = full ∙ sym (length-part (128 * r) i b room) in
-      ap length put ∙ same_len_mid (i * (128 * r)) (128 * r) b (mixed_chunk b log_n r i) same ∙ long
+  length-mixed = search (rules, places, full, length-part, room, put)
 
   pub part_mixed : part (128 * r) (with_chunk_mixed log_n r b i) i ≡ mixed_chunk b log_n r i
-  part_mixed =
-      ap (λ x. part (128 * r) x i) put
-      ∙ part_put_same (128 * r) i b (mixed_chunk b log_n r i) (i * (128 * r)) (128 * r) refl refl full room
+  part_mixed = simp (put, part_put_same, full, room)
 
   pub part_kept : (k : ℕ) → k ≢ i → part (128 * r) (with_chunk_mixed log_n r b i) k ≡ part (128 * r) b k
-  part_kept k other =
-      ap (λ x. part (128 * r) x k) put
-      ∙ part_put_other (128 * r) i b (mixed_chunk b log_n r i) (i * (128 * r)) (128 * r) refl refl full room k other
+  part_kept k other = grind (arith, put, part_put_other, full, room)
 
 -- the length stays, a chunk that is not named stays, and one that is named once is mixed
 record IsDone (log_n r p k : ℕ) (b order : List ℕ) : Type 0 where
@@ -52,22 +42,8 @@ done_in_order log_n r p k some (i ∷ order) b long below =
     (All-tail (λ i. i < p) i order below) in
     let more = sum_by-cons (λ j. cond (nat_eq k j) 1 0) i order in
     elim (cases_Bool (nat_eq k i)) [
-      | inl hit ↦
-          let same : k ≡ i = eqb-true k i hit in
-          let named : count_by (nat_eq k) (i ∷ order) ≡ 1 + count_by (nat_eq k) order = more ∙ rw hit refl in
-          record {
-            long = rest.long;
-            none = λ zero. absurd (omega (arith, named, zero));
-            once = λ one. rest.none (omega (arith, named, one)) ∙ rw same (part_mixed b log_n r p i some long inside);
-          }
-      | inr miss ↦
-          let kept = part_kept b log_n r p i some long inside k (eqb-false k i miss) in
-          let passed : count_by (nat_eq k) (i ∷ order) ≡ count_by (nat_eq k) order = more ∙ rw miss (zero-add _) in
-          record {
-            long = rest.long;
-            none = λ zero. rest.none (omega (arith, passed, zero)) ∙ kept;
-            once = λ one. rest.once (omega (arith, passed, one)) ∙ ap (λ z. bytes_of (ro_mix (words_of z) log_n)) kept;
-          }
+      | inl hit ↦ grind (arith, eqb-true, count_by, nat_eq, part_mixed)
+      | inr miss ↦ grind (arith, part_kept, eqb-false, count_by, nat_eq, zero-add)
     ]
 
 -- so all chunks are mixed

@@ -1,9 +1,9 @@
-use Rattle.std.proofs.Common.{◌≡◌, ◌≢◌, ◌⊎◌, inl, inr, ◌∙◌, ℕ, ◌<◌, ◌≤◌, ◌+◌, ◌-◌, suc, List, [], ◌∷◌, length, take, drop, slice_index, Ok, Err, refl, sym, ap, arith, IsTrue, true, false}
-use Rattle.std.specs.Prelude.{◌&&◌, Bool, Result, if◌then◌else◌, replicate, ⊤}
+use Rattle.std.proofs.Common.{◌≡◌, ◌≢◌, ◌⊎◌, inl, inr, ◌∙◌, ℕ, ◌<◌, ◌≤◌, ◌+◌, ◌-◌, suc, List, [], ◌∷◌, length, take, drop, slice_index, Ok, Err, refl, ap, arith, IsTrue, false}
+use Rattle.std.specs.Prelude.{Result, ⊤}
 use Rattle.std.proofs.lemmas.Bool.{and_parts, false_from_ne_true}
-use Rattle.std.proofs.lemmas.List.{drop-replicate, get_or-replicate, length-replicate}
-use Rattle.scrypt.specs.Terms.{IsVerdict, OutOfMemory, Parameters, ParamsInvalid, PasswordInvalid, Refusal, Stored}
-use Rattle.scrypt.specs.Terms.{are_accepted, are_within, decoy_reading, is_right, is_stored_len, key_by}
+use Rattle.std.proofs.lemmas.List.{drop-replicate, length-replicate}
+use Rattle.scrypt.specs.Terms.{IsVerdict, OutOfMemory, Parameters, PasswordInvalid, Refusal, Stored}
+use Rattle.scrypt.specs.Terms.{are_accepted, are_within, decoy_reading, is_right, is_stored_len}
 use Rattle.scrypt.specs.Terms.{key_len_or_default, made_stored, no_key, public_hash, verdict, with_refusal, within}
 use Rattle.scrypt.specs.Terms.{without_len}
 use Rattle.password_hash.specs.declared.error.Error.{Error}
@@ -21,15 +21,10 @@ accepted_decoy : (c : Parameters) (salt : List ℕ) → IsTrue (are_accepted c.l
 accepted_decoy c salt fits len = rw (fits, len) refl
 
 pub some_decoy : (c : Parameters) (salt : List ℕ) (s : Stored) → decoy_reading c salt ≡ Ok s → 0 < s.params.p
-some_decoy c salt s is =
-    let told = ok_if (are_accepted c.log_n c.r c.p && is_stored_len c.output_len) (Ok (decoy_of c salt)) ParamsInvalid is in
-    let same : decoy_of c salt ≡ s = cc in
-    rw (← same) (bounds c.log_n c.r c.p (and_parts _ _ told.0).0).1
+some_decoy c salt s is = grind (arith, ok_if, bounds, and_parts)
 
 differs : (bytes : List ℕ) (n : ℕ) → 0 < n → slice_index bytes 0 < 256 → no_key n ≢ bytes
-differs bytes n some byte = λ is.
-    let first : slice_index (no_key n) 0 ≡ 256 = get_or-replicate n 0 256 0 some in
-    absurd (omega (arith, ap (λ x. slice_index x 0) is))
+differs bytes n some byte = grind arith
 
 refused : (c : Parameters) (password salt : List ℕ) → IsTrue (is_stored_len c.output_len) → is_right password (decoy_of c salt) ≡ false
 refused c password salt len =
@@ -53,22 +48,12 @@ rejects c password salt s out fits len is (inr none) = inr none.1
 pub made_public : (c : Parameters) (password salt any : List ℕ) → IsTrue (are_accepted c.log_n c.r c.p) → IsTrue (is_stored_len c.output_len)
     → length any ≡ length salt → {reading : Result Stored Refusal} → reading ≡ Ok (made_stored c password salt)
     → public_hash (decoy_reading c any) ≡ public_hash reading
-made_public c password salt any fits len long is =
-    let key : length (no_key (key_len_or_default c)) ≡ length (key_by c password salt (key_len_or_default c)) =
-    length-replicate _ _ ∙ sym (length-key_by c password salt _) in
-    rw (is, accepted_decoy c any fits len, long, key) refl
+made_public c password salt any fits len long is = grind (arith, length-replicate, length-key_by, accepted_decoy)
 
 -- it is within the limits that its parameters are within
 pub decoy_within : (limits : Limits) (c : Parameters) (salt : List ℕ) → IsTrue (are_within limits c) → limits.min_key_len ≤ key_len_or_default c
     → within limits (decoy_reading c salt) ≡ decoy_reading c salt
-decoy_within limits c salt fits long = at (are_accepted c.log_n c.r c.p && is_stored_len c.output_len) (Ok (decoy_of c salt))
-    (within_limits limits (decoy_of c salt) ((within_decided limits (without_len c)).1 ((within_decided limits c).0 fits))
-    (rw (length-replicate {A = ℕ} (key_len_or_default c) 256) long))
-  where
-    at : (test : Bool) (decoy : Result Stored Refusal) → within limits decoy ≡ decoy
-        → within limits (if test then decoy else Err ParamsInvalid) ≡ (if test then decoy else Err ParamsInvalid)
-    at true decoy is = is
-    at false decoy is = refl
+decoy_within limits c salt fits long = grind (arith, within_limits, within_decided, length-replicate)
 
 -- no part of it is equal to bytes
 pub no_match : (bytes : List ℕ) (at n : ℕ) → slice_index bytes 0 < 256 → at + length bytes ≤ n
@@ -76,8 +61,7 @@ pub no_match : (bytes : List ℕ) (at n : ℕ) → slice_index bytes 0 < 256 →
 no_match [] at n byte inside same = refl
 no_match (b ∷ bs) at n byte inside same =
     let more : n - at ≡ suc (n - at - 1) = omega arith in
-    let first : b ∷ bs ≡ take (suc (length bs)) (replicate (suc (n - at - 1)) 256) = rw (drop-replicate {X = ℕ} at n 256, more) at same in
-    absurd (omega (arith, ap (λ x. slice_index x 0) first))
+    grind (arith, drop-replicate)
 
 pub all_match : (bytes : List ℕ) (at n : ℕ) → length bytes ≡ 0 → bytes ≡ take (length bytes) (drop at (no_key n))
 all_match [] at n none = refl

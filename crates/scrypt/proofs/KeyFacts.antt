@@ -28,8 +28,7 @@ made_alike f g a b (suc n) same =
     let first : f a ≡ g b = ap f (sym (add-zero a)) ∙ same 0 (omega arith) ∙ ap g (add-zero b) in
     ap₂ (λ y z. y ++ z) first (made_alike f g (a + 1) (b + 1) n (λ i below.
     let place : a + 1 + i ≡ a + suc i = omega arith in
-    let other : b + 1 + i ≡ b + suc i = omega arith in
-    rw (place, other) (same (suc i) (omega arith))))
+    grind arith))
 
 -- n more chunks, mixed in place as the slice that the code takes
 pub mixed_slice : {b x ys : List ℕ} {log_n r i : ℕ} (n : ℕ) → i * (128 * r) + n * (128 * r) ≤ length x
@@ -37,31 +36,15 @@ pub mixed_slice : {b x ys : List ℕ} {log_n r i : ℕ} (n : ℕ) → i * (128 *
     → (length ys ≡ n * (128 * r) → ys ≡ flat_map (mixed_chunk b log_n r) (range_with_len i n)) → AreMixed b log_n r i x
     → AreMixed b log_n r (i + n) (put_mid (i * (128 * r)) (i * (128 * r) + n * (128 * r) - i * (128 * r)) x ys)
 mixed_slice {b} {x} {ys} {log_n} {r} {i} n room long made before =
-    let a : ℕ = i * (128 * r) in
-    let m : ℕ = a + n * (128 * r) - a in
-    let size : m ≡ n * (128 * r) = omega arith in
-    let full = long ∙ length-take-le m (drop a x) (omega (arith, length-drop a x, room)) in
-    let end : (i + n) * (128 * r) ≡ a + m = omega arith in
-    record {
-      done = ap (λ k. take k (put_mid a m x ys)) end ∙ take-put_mid a m x ys (a + m) (omega (arith, full)) (omega (arith, size, room))
-          ∙ ap₂ (λ y z. y ++ z) before.done (made (full ∙ size)) ∙ sym (made_append (mixed_chunk b log_n r) 0 i i n (zero-add i));
-      rest = rw end (drop-put_mid a m x ys (a + m) (omega arith) (omega (arith, size, room)) full
-          ∙ sym (drop-drop m a x) ∙ ap (drop m) before.rest ∙ drop-drop m a b);
-    }
+    grind (arith, length-take-le, length-drop, take-put_mid, made_append, zero-add, drop-put_mid, drop-drop)
 
 pub part_at : (s i : ℕ) (x : List ℕ) → part s (drop (i * s) x) 0 ≡ part s x i
-part_at s i x =
-    let none : 0 * s ≡ 0 = omega arith in
-    ap (λ n. take s (drop n (drop (i * s) x))) none
+part_at s i x = grind arith
 
 -- a chunk in a slice that has n of them
 pub chunk_of_slice : {b : List ℕ} {log_n r i : ℕ} (a m n k : ℕ) (x : List ℕ) → a ≡ i * (128 * r) → m ≡ n * (128 * r) → k < n
     → AreMixed b log_n r i x → part (128 * r) (take m (drop a x)) k ≡ part (128 * r) b (i + k)
-chunk_of_slice {b} {log_n} {r} {i} a m n k x at size below before =
-    let s : ℕ = 128 * r in
-    let place : i * s + k * s ≡ (i + k) * s = omega arith in
-    rw (at, size) (part-take s k (n * s) (drop (i * s) x) (parts_apart s k n below) ∙ ap (λ z. part s z k) before.rest
-    ∙ ap (take s) (drop-drop (k * s) (i * s) b ∙ ap (λ a. drop a b) place))
+chunk_of_slice {b} {log_n} {r} {i} a m n k x at size below before = grind (arith, part-take, parts_apart, drop-drop)
 
 -- n chunks from i on, of which each becomes its scryptROMix
 pub mixed_group : (b x ys : List ℕ) (log_n r i n : ℕ) → length ys ≡ n * (128 * r)
@@ -72,21 +55,13 @@ mixed_group b x ys log_n r i n long each before =
     ∙ ap (λ z. bytes_of (ro_mix (words_of z) log_n)) (chunk_of_slice (i * (128 * r)) (n * (128 * r)) n k x refl refl below before))
 
 pub length-mixed_chunk : (b : List ℕ) (log_n r i : ℕ) → 0 < r → i * (128 * r) + 128 * r ≤ length b → length (mixed_chunk b log_n r i) ≡ 128 * r
-length-mixed_chunk b log_n r i some room =
-    let long : length (part (128 * r) b i) ≡ 128 * r = length-part (128 * r) i b room in
-    let x : List ℕ = words_of (part (128 * r) b i) in
-    let words : length x ≡ 32 * r = length-words_of (part (128 * r) b i) ∙ omega arith in
-    length-bytes_of (ro_mix x log_n) ∙ omega (arith, length-ro_mix x (omega arith) (omega arith) log_n)
+length-mixed_chunk b log_n r i some room = grind (arith, length-part, length-words_of, length-bytes_of, length-ro_mix)
 
 -- the chunks of two derivations, mixed as one list
 pub both_mixed : (b w : List ℕ) (log_n r p q : ℕ) → 0 < r → length b ≡ p * (128 * r)
     → mixed_chunks (b ++ w) log_n r (p + q) ≡ mixed_chunks b log_n r p ++ mixed_chunks w log_n r q
 both_mixed b w log_n r p q some long =
-    let s : ℕ = 128 * r in
-    let mixed = λ (z : List ℕ). bytes_of (ro_mix (words_of z) log_n) in
-    made_append (mixed_chunk (b ++ w) log_n r) 0 p p q (zero-add p) ∙ ap₂ (λ y z. y ++ z)
-    (made_alike _ _ 0 0 p (λ i below. ap mixed (part_append_front s (0 + i) b w (omega (arith, parts_apart s i p below, long)))))
-    (made_alike _ _ p 0 q (λ i below. rw zero-add (ap mixed (part_after s p i b w long))))
+    grind (arith, made_append (mixed_chunk (b ++ w) log_n r) 0 p p q (zero-add p), made_alike, part_append_front, parts_apart, zero-add, part_after)
 
 pub length-mixed_chunks : (b : List ℕ) (log_n r p : ℕ) → 0 < r → length b ≡ p * (128 * r) → length (mixed_chunks b log_n r p) ≡ p * (128 * r)
 length-mixed_chunks b log_n r p some long = length-parts (mixed_chunk b log_n r) (128 * r) 0 p (λ i below.

@@ -1,19 +1,18 @@
-use Rattle.std.proofs.Common.{◌≡◌, ◌∙◌, ◌<◌, ◌≤◌, ◌+◌, ◌-◌, ◌*◌, ◌^◌, ◌++◌, ℕ, List, length, take, drop, zero, suc, false, refl, sym, ap, ap₂, add-one, arith, append_assoc, length-append, zero-add, Option, None, Some, Ok, Err, [], ◌∷◌, map, MatchBool, MatchOption, option_and_then, slice_set, IsTrue, sum, sum_by, mul-le-mul_right, take-suc-set}
-use Rattle.std.specs.Prelude.{All, IsOk, Result}
+use Rattle.std.proofs.lemmas.Grind.{common_steps}
+use Rattle.std.proofs.Common.{◌≡◌, ◌∙◌, ◌<◌, ◌≤◌, ◌+◌, ◌-◌, ◌*◌, ◌++◌, ℕ, List, length, take, drop, zero, suc, refl, sym, ap, ap₂, add-one, arith, append_assoc, length-append, zero-add, Option, None, Some, Ok, Err, [], ◌∷◌, map, option_and_then, slice_set, IsTrue, sum, sum_by, mul-le-mul_right, take-suc-set}
+use Rattle.std.specs.Prelude.{All, Result}
 use Rattle.std.proofs.lemmas.List.Elements.{All-head, All-tail}
-use Rattle.std.proofs.lemmas.List.{map-append, take_all}
+use Rattle.std.proofs.lemmas.List.{map-append, take_all, places}
 use Rattle.std.proofs.lemmas.List.Sums.{sum-map, sum_by-cons}
 use Rattle.std.proofs.lemmas.Slice.{take-put_mid}
-use borrow.Rule.Slice.PartMut.{mid_of, put_mid, same_len_mid}
-use Rattle.std.proofs.lemmas.Option.{cond_some}
-use Rattle.std.proofs.lemmas.Bool.Decides.{Decides-and, Decides-eqb, Decides-ltb}
+use borrow.Rule.Slice.PartMut.{mid_of, put_mid}
 use Rattle.scrypt_kernel.specs.declared.cores.count.CoreCount.{CoreCount}
 use Rattle.scrypt_kernel.proofs.CountFacts.{hashed_both}
 use Rattle.scrypt_kernel.proofs.Pbkdf2Facts.{length-pbkdf2}
-use Rattle.scrypt.specs.Terms.{◌and_then◌, AreHashed, AreLeft, Attempt, IsAlone, IsDone, IsLeft, Parameters, Refusal}
+use Rattle.scrypt.specs.Terms.{◌and_then◌, AreHashed, AreLeft, Attempt, IsAlone, IsLeft, Parameters, Refusal}
 use Rattle.scrypt.specs.Terms.{Stored, SufficeFor, Workspace, all_cost, all_of, are_enough, attempts}
 use Rattle.scrypt.specs.Terms.{chunks_bytes, chunks_cost, chunks_of, compare_cost, cores_on, cost, cost_if_ok, count_of}
-use Rattle.scrypt.specs.Terms.{hashed_on, mixed_chunks, mixed_of, reading_of, reading_of_hash, ro_mix_cost, shared}
+use Rattle.scrypt.specs.Terms.{hashed_on, mixed_chunks, mixed_of, reading_of, reading_of_hash, ro_mix_cost}
 use Rattle.scrypt.specs.Terms.{verdict, verdict_on, verify_cores, verify_cost, with_limited_refusal, with_more, within}
 use Rattle.scrypt.specs.declared.limits.Limits.{Limits}
 use Rattle.scrypt.specs.declared.logins.Login.{Login}
@@ -34,10 +33,7 @@ pub record AreMore (c d : Parameters) (others : Option ℕ) (n : ℕ) : Type 0 w
 
 are_more : (c d : Parameters) (others : Option ℕ) (n : ℕ) → option_and_then (with_more c d) others ≡ Some n → AreMore c d others n
 unfolding with_more
-are_more c d (Some count) n is =
-    let alike = Decides-and _ _ (Decides-and _ _ (Decides-eqb d.log_n c.log_n) (Decides-eqb d.r c.r)) (Decides-ltb (d.p + count) (2 ^ 32)) in
-    let (test, same) = cond_some _ (d.p + count) n is in
-    record { count = count; counted = refl; log_n = (alike.0 test).0.0; r = (alike.0 test).0.1; sum = same }
+are_more c d (Some count) n is = grind arith
 are_more c d None n is = absurd cc
 
 -- those that cannot be counted together
@@ -74,10 +70,7 @@ mixed_is c ((password, Err why) ∷ rest) n counted some = mixed_is c rest n cou
 -- room for all is room for each
 fewer_fit : (c d : Parameters) (n : ℕ) (w : Workspace) → d.log_n ≡ c.log_n → d.r ≡ c.r → d.p ≤ n
     → IsTrue (are_enough (record c { p = n }) w.chunks w.table w.scratch) → IsTrue (are_enough d w.chunks w.table w.scratch)
-fewer_fit c d n w log_n r fewer room =
-    let fits = (enough_decided (record c { p = n }) w.chunks w.table w.scratch).0 room in
-    let bytes = mul-le-mul_right (128 * c.r) fewer in
-    (enough_decided d w.chunks w.table w.scratch).1 (rw (log_n, r) (omega (arith, fits.0, bytes), fits.1))
+fewer_fit c d n w log_n r fewer room = grind (arith, enough_decided, mul-le-mul_right)
 
 -- where there is room for all, so that each has room, f of each is g of each
 each_fits : {X : Type 0} (f g : Attempt → X) (c : Parameters) (these : List Attempt) (n : ℕ) (w : Workspace)
@@ -90,8 +83,7 @@ each_fits f g c ((password, Ok s) ∷ rest) n w read unread counted room =
     let first = fewer_fit c s.params n w more.log_n more.r (omega (arith, more.sum)) room in
     let others = fewer_fit c (record c { p = more.count }) n w refl refl (omega (arith, more.sum)) room in
     ap₂ (λ out outs. out ∷ outs) (read password s first) (each_fits f g c rest more.count w read unread more.counted others)
-each_fits f g c ((password, Err why) ∷ rest) n w read unread counted room =
-    ap₂ (λ out outs. out ∷ outs) (unread password why) (each_fits f g c rest n w read unread counted room)
+each_fits f g c ((password, Err why) ∷ rest) n w read unread counted room = grind (arith, each_fits f g c rest n w read unread counted room)
 
 sum_cost : (x p m n : ℕ) → p + m ≡ n → x * p + x * m ≡ x * n
 sum_cost x p m n sum = rw (← sum) (omega arith)
@@ -104,11 +96,7 @@ pub alone : (c : Parameters) (these : List Attempt) (n : ℕ) (w : Workspace) �
     → IsTrue (are_enough (record c { p = n }) w.chunks w.table w.scratch)
     → (map (λ (a : Attempt). verdict a.0 a.1) these ≡ map (verdict_on w) these)
     × (all_cost verify_cores these ≡ sum_by (cores_on w) these) × (all_cost verify_cost these ≡ sum_by (hashed_on w) these)
-alone c these n w counted room = (
-  each_fits _ _ c these n w (λ password s fits. rw fits refl) (λ password why. refl) counted room,
-  sums_alike _ _ these these (each_fits _ _ c these n w (λ password s fits. rw fits refl) (λ password why. refl) counted room),
-  sums_alike _ _ these these (each_fits _ _ c these n w (λ password s fits. rw fits refl) (λ password why. refl) counted room),
-)
+alone c these n w counted room = grind (arith, each_fits, sums_alike)
 
 -- the cores of one derivation of all chunks
 pub cores_of_all : (c : Parameters) (these : List Attempt) (n : ℕ) → count_of c these ≡ Some n → cost c.log_n c.r n ≡ all_cost verify_cores these
@@ -161,14 +149,7 @@ one_within : (limits : Limits) (w : Workspace) (password : List ℕ) (found : Re
     → SufficeFor limits w.chunks w.table w.scratch → within limits (found and_then reading_of_hash) ≡ found and_then reading_of_hash
     → verdict_on w (password, found and_then reading_of_hash) ≡ verdict password (found and_then reading_of_hash)
 one_within limits w password (Err why) suffice fits = refl
-one_within limits w password (Ok hash) suffice fits = at (reading_of_hash hash) refl
-  where
-    at : (read : Result Stored Refusal) → reading_of_hash hash ≡ read → verdict_on w (password, read) ≡ verdict password read
-    at (Err why) is = refl
-    at (Ok s) is =
-        let same : within limits (Ok s) ≡ Ok s = ap (within limits) (sym is) ∙ fits ∙ is in
-        let ok : IsOk (within limits (Ok s)) = rw same refl in
-        rw (enough_within limits s w.chunks w.table w.scratch suffice (some_hash hash s is) ok) refl
+one_within limits w password (Ok hash) suffice fits = grind (arith, enough_within, some_hash)
 
 pub all_within : (limits : Limits) (w : Workspace) (logins : List Login) → SufficeFor limits w.chunks w.table w.scratch
     → All (λ login. within limits (reading_of login) ≡ reading_of login) logins
@@ -186,18 +167,13 @@ all_within limits w (login ∷ rest) suffice fits =
 pub both_costs : (these : List Attempt) → all_cost chunks_cost these + all_cost compare_cost these ≡ all_cost verify_cost these
 both_costs [] = refl
 both_costs (a ∷ rest) =
-    omega (
+    grind (
       arith,
       sum_by-cons (cost_if_ok chunks_cost) a rest,
       sum_by-cons (cost_if_ok compare_cost) a rest,
       sum_by-cons (cost_if_ok verify_cost) a rest,
-      each a,
       both_costs rest,
     )
-  where
-    each : (a : Attempt) → cost_if_ok chunks_cost a + cost_if_ok compare_cost a ≡ cost_if_ok verify_cost a
-    each (password, Ok s) = refl
-    each (password, Err why) = refl
 
 -- one after another
 
@@ -218,30 +194,17 @@ hashed_more f {these} {others} {a} is one rest = hashed_both _ one rest (sym (ap
 -- one more of a list that is written, before those that are not
 pub one_more : {X Y Z : Type 0} (f : X → Z) (g : Y → Z) (xs : List X) (i : ℕ) (x : X) (y : Y) (these others : List Y) → i < length xs
     → f x ≡ g y → these ≡ y ∷ others → map f (take (i + 1) (slice_set xs i x)) ++ map g others ≡ map f (take i xs) ++ map g these
-one_more f g xs i x y these others short same is =
-    ap (λ n. map f (take n (slice_set xs i x)) ++ map g others) (add-one i) ∙ ap (λ z. map f z ++ map g others) (take-suc-set xs i x short)
-    ∙ ap (λ z. z ++ map g others) (map-append f (take i xs) (x ∷ [])) ∙ append_assoc (map f (take i xs)) (f x ∷ []) (map g others)
-    ∙ ap (λ z. map f (take i xs) ++ z ∷ map g others) same ∙ ap (λ ys. map f (take i xs) ++ map g ys) (sym is)
+one_more f g xs i x y these others short same is = grind (arith, slice_set, add-one, take-suc-set, map-append, append_assoc)
 
 -- those that are written first, and then all others
 pub all_put : {X : Type 0} (xs ys : List X) (i k : ℕ) → i ≤ length xs → length ys ≡ length (mid_of i k xs) → i + length ys ≡ length xs
     → put_mid i k xs ys ≡ take i xs ++ ys
-all_put xs ys i k inside sized long =
-    let whole = same_len_mid i k xs ys sized in
-    sym (take_all (i + length ys) (put_mid i k xs ys) (omega (arith, whole, long))) ∙ take-put_mid i k xs ys (i + length ys) refl inside
+all_put xs ys i k inside sized long = grind (arith, common_steps, places, take_all, take-put_mid)
 
 -- the first alone, and then the others
 pub left_alone : (a : Attempt) (rest : List Attempt) (before between after : Workspace) → IsAlone (a ∷ rest) before → IsLeft a.1 before between
     → AreLeft rest between after → AreLeft (a ∷ rest) before after
-left_alone a rest before between after alone one others = chosen (shared (a ∷ rest)) alone
-  where
-    Alone : Type 0
-    Alone = (between : Workspace) × IsLeft a.1 before between × AreLeft rest between after
-
-    chosen : (s : Option Parameters) → ((c : Parameters) → s ≡ Some c → are_enough c before.chunks before.table before.scratch ≡ false)
-        → MatchOption s Alone (λ c. MatchBool (are_enough c before.chunks before.table before.scratch) (IsDone c before after) Alone)
-    chosen None none = (between, one, others)
-    chosen (Some c) none = rw (none c refl) (between, one, others)
+left_alone a rest before between after alone one others = grind arith
 
 pub ruleset chunks_together = (long_all, mixed_is)
 

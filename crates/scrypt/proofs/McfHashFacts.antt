@@ -1,4 +1,4 @@
-use Rattle.std.proofs.Common.{◌≡◌, ◌≢◌, false, ℕ, List, [], ◌∷◌, ◌++◌, length, drop, Some, None, Ok, Err, refl, rules, ap, ap₂, ◌∙◌, append_assoc, lit<, IfErr, Option, codes, if◌then◌else◌, ok_or, IsTrue, bytes_eq, append-nil}
+use Rattle.std.proofs.Common.{◌≡◌, ◌≢◌, false, ℕ, List, [], ◌∷◌, ◌++◌, length, Some, None, Ok, Err, refl, rules, append_assoc, lit<, IfErr, Option, if◌then◌else◌, ok_or, IsTrue, bytes_eq, append-nil, arith}
 use Rattle.std.proofs.lemmas.Slice.Eq.{bytes_eq-Decides}
 use Rattle.scrypt.specs.Terms.{◌and_then◌, Algorithm, Crypt64, EncodingInvalid, IsBytes, IsCrypt64, IsMcfText}
 use Rattle.scrypt.specs.Terms.{NamesNoPassword, OutputSize, Parameters, Stored, are_accepted, crypt64_of, decoded}
@@ -19,8 +19,7 @@ read_seven {text} {id} {fields} is seven = rw (parts_of-IsMcfText text id fields
 
 pub read_other : {text id : List ℕ} {fields : List (List ℕ)} → IsMcfText text id fields → id ≢ mcf_id → read_mcf text ≡ Err Algorithm
 unfolding read_mcf
-read_other {text} {id} {fields} is other =
-    rw (parts_of-IsMcfText text id fields is, refuted _ (bytes_eq-Decides id mcf_id) other) refl
+read_other {text} {id} {fields} is other = grind (arith, parts_of-IsMcfText, refuted, bytes_eq-Decides)
 
 -- a key, by its length
 
@@ -42,9 +41,7 @@ pub ruleset reading_key = (decoded_is, key_read, key_refused, no_key)
 
 parts_read : (parts : List (List ℕ)) (s : Stored) → read_parts parts ≡ Ok s
     → (fields : List (List ℕ)) × (parts ≡ [] ∷ mcf_id ∷ fields) × (read_fields fields ≡ Ok s)
-parts_read ([] ∷ id ∷ fields) s is =
-    let seven = ok_if (bytes_eq id mcf_id) _ Algorithm is in
-    (fields, ap (λ z. [] ∷ z ∷ fields) ((bytes_eq-Decides id mcf_id).0 seven.0), seven.1)
+parts_read ([] ∷ id ∷ fields) s is = grind (arith, ok_if, bytes_eq, bytes_eq-Decides)
 parts_read ([] ∷ []) s is = absurd cc
 parts_read ((byte ∷ first) ∷ rest) s is = absurd cc
 parts_read [] s is = absurd cc
@@ -58,8 +55,7 @@ key_is letters key is = let found = at (decoded letters) is in (encoded_is key l
     at None is = absurd cc
     at (Some bytes) is =
         let fits = ok_if (is_output_len (length bytes)) (Ok bytes) OutputSize is in
-        let same : bytes ≡ key = cc fits.1 in
-        rw (← same) (refl, fits.0)
+        grind arith
 
 -- the fields of a hash: the letters of allowed parameters and the salt, and the letters of the key
 pub record AreFields (s : Stored) (fields : List (List ℕ)) : Type 0 where
@@ -73,17 +69,7 @@ pub fields_read : (fields : List (List ℕ)) (s : Stored) → read_fields fields
 fields_read (field ∷ letters ∷ []) s is =
     let params = both_read (field_params field) _ is in
     let key = both_read (read_key (letters ∷ [])) _ params.2 in
-    let made : Stored = record { params = params.0; salt = drop 11 field; key = key.0 } in
-    let same : made ≡ s = cc key.2 in
-    let encoded = key_is letters key.0 key.1 in
-    let accepted = field_accepted field params.0 params.1 in
-    rw (← same) (record {
-      written = ap₂ (λ y z. y ∷ z ∷ []) (field_is field params.0 params.1) encoded.0.encoding;
-      params = accepted.0;
-      no_len = accepted.1;
-      key = encoded.0.are_bytes;
-      key_len = encoded.1;
-    })
+    grind (arith, key_is letters key.0 key.1, field_accepted field params.0 params.1, field_is field params.0 params.1)
 fields_read (field ∷ letters ∷ third ∷ after) s is = let none = (both_read (field_params field) _ is).2 in absurd cc
 fields_read (field ∷ []) s is = let none = (both_read (field_params field) _ is).2 in absurd cc
 fields_read [] s is = absurd cc
@@ -91,10 +77,7 @@ fields_read [] s is = absurd cc
 -- the text of such fields
 pub text_of_fields : (c : Parameters) (salt letters : List ℕ)
     → parts_text (mcf_id ∷ (params_letters c.log_n c.r c.p ++ salt) ∷ letters ∷ []) ≡ params_text c ++ (salt ++ dollar ∷ letters)
-text_of_fields c salt letters =
-    let front = params_letters c.log_n c.r c.p in
-    ap (λ rest. codes "$7$" ++ rest)
-    (ap (λ z. (front ++ salt) ++ (dollar ∷ z)) (append-nil letters) ∙ append_assoc front salt (dollar ∷ letters))
+text_of_fields c salt letters = simp (append-nil, append_assoc)
 
 -- such a text is a `$7$` hash
 pub is_mcf : {text : List ℕ} {s : Stored} → read_mcf text ≡ Ok s
@@ -106,9 +89,7 @@ is_mcf {text} {s} is =
 
 -- a hash has one text
 pub text_of : {text : List ℕ} {s : Stored} → read_mcf text ≡ Ok s → text ≡ mcf_text s
-text_of {text} {s} is =
-    let (fields, seven, read) = is_mcf is in
-    seven.written ∙ ap (λ z. parts_text (mcf_id ∷ z)) (fields_read fields s read).written ∙ text_of_fields s.params s.salt (crypt64_of s.key)
+text_of {text} {s} is = grind (arith, is_mcf, fields_read, text_of_fields)
 
 key_fault : (fields : List (List ℕ)) → IfErr (read_key fields) IsFault
 key_fault [] = tt

@@ -1,11 +1,11 @@
-use Rattle.std.proofs.Common.{◌≡◌, ◌≢◌, ℕ, ◌^◌, ◌%◌, ◌<◌, ◌≤◌, List, [], ◌∷◌, ◌++◌, length, drop, Option, Some, Ok, true, ◌∙◌, refl, sym, ap, ap₂, subst, arith, lit<, append_assoc, length-append, All, Result, codes, nat_lt, IsTrue, lt-ltb, IsAscii}
+use Rattle.std.proofs.Common.{◌≡◌, ◌≢◌, ℕ, ◌<◌, ◌≤◌, List, [], ◌∷◌, ◌++◌, length, drop, Option, Ok, ◌∙◌, refl, sym, ap, subst, arith, lit<, append_assoc, length-append, All, codes, IsTrue, lt-ltb, IsAscii, rules}
 use Rattle.std.proofs.lemmas.Str.{IsUtf8-from_ascii}
 use Rattle.std.proofs.lemmas.Str.Ascii.{IsAscii-from_all}
-use Rattle.std.proofs.lemmas.List.{append-nil, drop_all, drop_at}
+use Rattle.std.proofs.lemmas.List.{append-nil, drop_all, drop_at, places}
 use Rattle.std.proofs.lemmas.List.Elements.{All-nil, All-cons, All-append, All-drop, All-from_recursion, All-head, All-weaker}
-use Rattle.scrypt.specs.Terms.{IsField, IsMcf, IsMcfHashText, IsMcfText, Parameters, Refusal, Stored, are_accepted}
-use Rattle.scrypt.specs.Terms.{crypt64_of, encoded_len, field_params, five_letter_number, is_output_len}
-use Rattle.scrypt.specs.Terms.{key_len_or_default, letter, letters_of, made_key, made_mcf, made_stored, made_text_len}
+use Rattle.scrypt.specs.Terms.{IsField, IsMcf, IsMcfHashText, IsMcfText, Parameters, Stored, are_accepted}
+use Rattle.scrypt.specs.Terms.{crypt64_of, field_params, is_output_len}
+use Rattle.scrypt.specs.Terms.{key_len_or_default, letters_of, made_key, made_mcf, made_stored, made_text_len}
 use Rattle.scrypt.specs.Terms.{mcf_id, mcf_text, params_letters, params_text, parts_of_key, read_mcf, without_len}
 use Rattle.password_hash.specs.Parts.{dollar}
 use Rattle.password_hash.proofs.Crypt64Facts.{letter-ascii, letter_value-letter, IsPlain, crypt64_of-plain, length-letters_of, letters_of-plain}
@@ -19,9 +19,7 @@ use Rattle.scrypt.proofs.McfHashFacts.{fields_read, is_mcf, key_read, read_seven
 -- the letters of the numbers
 
 pub plain_letters : (log_n r p : ℕ) → log_n < 64 → All IsPlain (params_letters log_n r p)
-plain_letters log_n r p small =
-    All-cons IsPlain (letter log_n) (letters_of 5 r ++ letters_of 5 p) (letter-ascii log_n small)
-    (All-append IsPlain (letters_of 5 r) (letters_of 5 p) (letters_of-plain 5 r) (letters_of-plain 5 p))
+plain_letters log_n r p small = search (rules, places, letter-ascii, letters_of-plain)
 
 count_letters : (log_n r p : ℕ) → length (params_letters log_n r p) ≡ 11
 count_letters log_n r p = omega (arith, length-append (letters_of 5 r) (letters_of 5 p), length-letters_of 5 r, length-letters_of 5 p)
@@ -37,13 +35,7 @@ field_read c salt good =
     let from_r : (r_letters ++ p_letters) ++ salt ≡ r_letters ++ (p_letters ++ salt) = append_assoc r_letters p_letters salt in
     let from_p : drop 5 ((r_letters ++ p_letters) ++ salt) ≡ p_letters ++ salt =
     ap (drop 5) from_r ∙ drop_at r_letters (p_letters ++ salt) 5 (length-letters_of 5 c.r) in
-    let r_is : c.r % 2 ^ 30 ≡ c.r = omega arith in
-    let p_is : c.p % 2 ^ 30 ≡ c.p = omega arith in
-    let says_r = ap five_letter_number from_r ∙ five_letter_number_letters_of c.r (p_letters ++ salt) ∙ ap Some r_is in
-    let says_p = ap five_letter_number from_p ∙ five_letter_number_letters_of c.p salt ∙ ap Some p_is in
-    let first : nat_lt (letter c.log_n) 128 ≡ true = lt-ltb (letter c.log_n) 128 (letter-ascii c.log_n (omega (arith, small.0))).0 in
-    let log_n = letter_value-letter c.log_n (omega (arith, small.0)) in
-    rw (first, log_n) (ap₂ (of_numbers c.log_n) says_r says_p ∙ checked_is c.log_n c.r c.p good)
+    grind (arith, five_letter_number_letters_of, lt-ltb, letter-ascii, letter_value-letter, of_numbers, checked_is)
 
 -- so the letters of accepted parameters are those of one log_n, one r and one p
 pub params_letters_once : (log_n r p other_log_n other_r other_p : ℕ) → IsTrue (are_accepted log_n r p) → IsTrue (are_accepted other_log_n other_r other_p)
@@ -51,10 +43,7 @@ pub params_letters_once : (log_n r p other_log_n other_r other_p : ℕ) → IsTr
 params_letters_once log_n r p other_log_n other_r other_p fits other_fits same =
     let c = numbers log_n r p in
     let d = numbers other_log_n other_r other_p in
-    let read : ◌≡◌ {A = Result Parameters Refusal} (Ok c) (Ok d) =
-    sym (field_read c [] fits) ∙ ap (λ letters. field_params (letters ++ [])) same ∙ field_read d [] other_fits in
-    let one : c ≡ d = cc in
-    (ap (λ (c : Parameters). c.log_n) one, ap (λ (c : Parameters). c.r) one, ap (λ (c : Parameters). c.p) one)
+    grind (arith, field_read c [] fits, field_read d [] other_fits)
 
 -- the text of some parameters, a salt without a dollar, and a key
 text_parts : (c : Parameters) (salt key : List ℕ) → IsTrue (are_accepted c.log_n c.r c.p) → IsField salt
@@ -120,17 +109,7 @@ made_text c password salt good fits =
 
 pub made_mcf_len : (c : Parameters) (password salt : List ℕ) → length (made_mcf c password salt) ≡ made_text_len c (length salt)
 unfolding made_mcf
-made_mcf_len c password salt =
-    let letters = crypt64_of salt in
-    let key = made_key c password salt in
-    omega (
-      arith,
-      count_letters c.log_n c.r c.p,
-      length-append (params_text c) (letters ++ dollar ∷ crypt64_of key),
-      length-append letters (dollar ∷ crypt64_of key),
-      length-crypt64_of salt,
-      length-crypt64_of key ∙ ap encoded_len (length-key_by c password letters (key_len_or_default c)),
-    )
+made_mcf_len c password salt = grind (arith, count_letters c.log_n c.r c.p, length-append, length-crypt64_of salt, length-crypt64_of, length-key_by)
 
 -- a text that was written whole
 
@@ -160,7 +139,6 @@ pub ruleset whole_texts = (whole_is_ascii, whole_is_made)
 
 -- letters that fill their room
 pub filled : (letters room new : List ℕ) → new ≡ letters ++ drop (length letters) room → length room ≡ length letters → new ≡ letters
-filled letters room new is full =
-    is ∙ ap (λ rest. letters ++ rest) (drop_all (length letters) room (omega arith)) ∙ append-nil letters
+filled letters room new is full = grind (arith, drop_all, append-nil)
 
 pub ruleset ascii_texts = (IsUtf8-from_ascii)

@@ -1,20 +1,19 @@
-use Rattle.std.proofs.Common.{◌≡◌, ℕ, ◌+◌, ◌*◌, ◌/◌, ◌++◌, ap, ◌^◌, ◌<◌, ◌≤◌, List, [], ◌∷◌, refl, rules, arith, Ok, Some, None, ◌≢◌, false, length, codes, sym, ◌∙◌, lit<, length-append, IfErr, Option, decimal, ok_or, IsTrue, bytes_eq, IfOk}
+use Rattle.std.proofs.lemmas.List.{places}
+use Rattle.std.proofs.Common.{◌≡◌, ℕ, ◌++◌, ◌^◌, ◌<◌, ◌≤◌, List, [], ◌∷◌, refl, rules, arith, Ok, Some, None, ◌≢◌, false, length, codes, sym, ◌∙◌, lit<, length-append, IfErr, Option, decimal, ok_or, IsTrue, bytes_eq, IfOk}
 use Rattle.std.proofs.lemmas.Bool.Decides.{nat_tests}
 use Rattle.password_hash.specs.Decimal.{decimal_below}
 use Rattle.password_hash.proofs.DecimalFacts.{decimal_exact, is_value-decimal}
-use Rattle.scrypt.specs.Terms.{IsHashText, IsKey, IsSalt, NamesNoPassword, OutOfMemory, Parameters, are_accepted}
-use Rattle.scrypt.specs.Terms.{base64, hash_text, is_salt_len, is_stored_len, key_by, key_len_or_default, made_phc}
+use Rattle.scrypt.specs.Terms.{IsHashText, IsKey, IsSalt, NamesNoPassword, Parameters, are_accepted}
+use Rattle.scrypt.specs.Terms.{hash_text, is_salt_len, is_stored_len, key_len_or_default, made_phc}
 use Rattle.scrypt.specs.Terms.{made_stored, params_of_pairs, phc_hash, phc_params, read_pairs, read_phc, refusal}
 use Rattle.scrypt.specs.Terms.{salt_refusal, without_len, written_pairs}
 use Rattle.scrypt.proofs.AcceptedFacts.{checked_is, small_params, key_len_stored}
 use Rattle.scrypt.proofs.ReadingFacts.{AreGood, IsFault, checked_fault, checked_good, faults, if_good, no_password, then_good}
 use Rattle.std.proofs.lemmas.Bool.{false≢true}
 use Rattle.std.proofs.lemmas.Fmt.{length-decimal-le}
-use Rattle.std.proofs.lemmas.List.Elements.{All-from_recursion, All-nil}
-use Rattle.std.proofs.lemmas.List.Kept.{AllPairs-cons}
 use Rattle.std.proofs.lemmas.Slice.Eq.{bytes_eq-Decides}
 use Rattle.password_hash.proofs.Base64Facts.{length-base64}
-use Rattle.password_hash.specs.Pairs.{ArePairs, IsPair, pairs_text}
+use Rattle.password_hash.specs.Pairs.{ArePairs}
 use Rattle.password_hash.specs.Parts.{parts_text}
 use Rattle.password_hash.proofs.ParamsFacts.{ArePairs-front}
 use Rattle.password_hash.specs.declared.phc.hash.PasswordHash.{PasswordHash}
@@ -46,11 +45,15 @@ pub ruleset numbers = (smaller, larger, neither)
 pub written_read : (c : Parameters) → IsTrue (are_accepted c.log_n c.r c.p) → params_of_pairs (written_pairs c) ≡ Ok (without_len c)
 unfolding read_pairs
 written_read c fits =
-    let small = small_params c.log_n c.r c.p fits in
-    let ln = smaller 256 _ c.log_n ((decimal_exact (decimal c.log_n) c.log_n).1 (omega (arith, small.0), refl)) (omega (arith, small.0)) in
-    let r = (decimal_exact (decimal c.r) c.r).1 (omega (arith, small.1), refl) in
-    let p = (decimal_exact (decimal c.p) c.p).1 (omega (arith, small.2), refl) in
-    rw (ln, r, p) (checked_is c.log_n c.r c.p fits)
+    grind (
+      arith,
+      small_params c.log_n c.r c.p fits,
+      smaller,
+      decimal_exact (decimal c.log_n) c.log_n,
+      decimal_exact (decimal c.r) c.r,
+      decimal_exact (decimal c.p) c.p,
+      checked_is c.log_n c.r c.p fits,
+    )
 
 pairs_fault : (log_n r p : ℕ) (pairs : List (List ℕ × List ℕ)) → IfErr (read_pairs log_n r p pairs) IsFault
 unfolding read_pairs
@@ -70,26 +73,9 @@ differ name other apart same = false≢true (sym apart ∙ (bytes_eq-Decides nam
 short : (n : ℕ) → n < 2 ^ 32 → length (decimal n) ≤ 10
 short n small = length-decimal-le 10 n (lit< tt) (omega (arith, small)) (omega (arith, small))
 
-abbrev Differ : List ℕ × List ℕ → List ℕ × List ℕ → Type 0
-Differ first second = first.0 ≢ second.0
-
 pub three_pairs : (m n k : ℕ) → m < 2 ^ 32 → n < 2 ^ 32 → k < 2 ^ 32
     → ArePairs ((codes "ln", decimal m) ∷ (codes "r", decimal n) ∷ (codes "p", decimal k) ∷ [])
-three_pairs m n k small_m small_n small_k =
-    let ln : List ℕ × List ℕ = (codes "ln", decimal m) in
-    let r : List ℕ × List ℕ = (codes "r", decimal n) in
-    let p : List ℕ × List ℕ = (codes "p", decimal k) in
-    record {
-      each = All-from_recursion IsPair (ln ∷ r ∷ p ∷ []) (
-        is_value-decimal m small_m,
-        (is_value-decimal n small_n, (is_value-decimal k small_k, tt)),
-      );
-      once = AllPairs-cons Differ ln (r ∷ p ∷ []) (All-from_recursion (Differ ln) (r ∷ p ∷ [])
-          (differ (codes "ln") (codes "r") refl, (differ (codes "ln") (codes "p") refl, tt)))
-          (AllPairs-cons Differ r (p ∷ []) (All-from_recursion (Differ r) (p ∷ []) (differ (codes "r") (codes "p") refl, tt))
-          (AllPairs-cons Differ p [] (All-nil (Differ p)) (λ i j d before inside. absurd (omega arith))));
-      short = simp length-append (omega (arith, short m small_m, short n small_n, short k small_k));
-    }
+three_pairs m n k small_m small_n small_k = grind (arith, decimal, is_value-decimal, differ, short, length-append)
 
 pub two_pairs : (m n : ℕ) → m < 2 ^ 32 → n < 2 ^ 32 → ArePairs ((codes "ln", decimal m) ∷ (codes "r", decimal n) ∷ [])
 two_pairs m n small_m small_n = ArePairs-front (_ ∷ _ ∷ []) _ (three_pairs m n 0 small_m small_n (lit< tt))
@@ -116,15 +102,7 @@ pub has_text : (c : Parameters) (salt key : List ℕ) → IsTrue (are_accepted c
     → IsHashText (hash_text (phc_hash c salt key)) (phc_hash c salt key)
 has_text c salt key fits salted keyed =
     let small = small_params c.log_n c.r c.p fits in
-    record {
-      whole = refl;
-      algorithm = refl;
-      version = tt;
-      params = three_pairs c.log_n c.r c.p (omega (arith, small.0)) (omega (arith, small.1)) (omega (arith, small.2));
-      salt = salted;
-      key = keyed;
-      key_after_salt = refl;
-    }
+    grind (arith, three_pairs c.log_n c.r c.p (omega (arith, small.0)) (omega (arith, small.1)) (omega (arith, small.2)))
 
 pub made_is_text : (c : Parameters) (password salt : List ℕ) → IsTrue (are_accepted c.log_n c.r c.p) → IsTrue (is_stored_len c.output_len)
     → IsSalt salt → IsHashText (hash_text (made_phc c password salt)) (made_phc c password salt)
@@ -141,11 +119,7 @@ made_is_text c password salt fits len salted =
 -- a hash can have a salt of 16 bytes, so hashing with it only runs out of memory
 pub only_memory : (salt : List ℕ) (why : Error) → length salt ≡ 16 → refusal why ≡ salt_refusal salt → why ≡ NoMemory
 unfolding is_salt_len
-only_memory salt why long is = at why (rw long at is)
-  where
-    at : (why : Error) → refusal why ≡ OutOfMemory → why ≡ NoMemory
-    at NoMemory is = refl
-    at others is = absurd cc
+only_memory salt why long is = grind arith
 
 -- a made hash is read as it was made
 pub made_read : (c : Parameters) (password salt : List ℕ) → IsTrue (are_accepted c.log_n c.r c.p)
@@ -157,15 +131,10 @@ made_read c password salt fits = rw (written_read c fits) refl
 same_joined : (one other : List ℕ) → length one ≡ length other → (parts : List (List ℕ))
     → length (parts_text (parts ++ one ∷ [])) ≡ length (parts_text (parts ++ other ∷ []))
 same_joined one other same [] = simp length-append (omega (arith, same))
-same_joined one other same (part ∷ parts) =
-    let rest = same_joined one other same parts in simp length-append (omega (arith, rest))
+same_joined one other same (part ∷ parts) = grind (arith, same_joined one other same parts, length-append)
 
 -- so a hash that is made has a text as long as with any key of its length
 pub same_lengths : (c : Parameters) (password salt key : List ℕ) → length key ≡ key_len_or_default c
     → length (hash_text (made_phc c password salt)) ≡ length (hash_text (phc_hash c salt key))
 unfolding made_phc
-same_lengths c password salt key is =
-    let made = key_by c password salt (key_len_or_default c) in
-    let letters : length (base64 made) ≡ length (base64 key) = length-base64 made
-    ∙ ap (λ n. (4 * n + 2) / 3) (length-key_by c password salt (key_len_or_default c) ∙ sym is) ∙ sym (length-base64 key) in
-    same_joined (base64 made) (base64 key) letters (codes "scrypt" ∷ pairs_text (written_pairs c) ∷ base64 salt ∷ [])
+same_lengths c password salt key is = search (rules, places, length-base64, length-key_by, same_joined)

@@ -1,5 +1,5 @@
-use Rattle.std.proofs.Common.{◌≡◌, ℕ, ◌*◌, List, [], ◌∷◌, length, map, refl, sym, ap, ap₂, ◌∙◌, Option, None, Some, Ok, Err, true, false, sum_by, MatchBool, MatchOption, option_and_then}
-use Rattle.std.specs.Prelude.{Bool, option_map}
+use Rattle.std.proofs.Common.{◌≡◌, ℕ, ◌*◌, List, [], ◌∷◌, length, map, refl, ap, ap₂, Option, None, Some, Ok, Err, true, false, sum_by, MatchBool, MatchOption, option_and_then, arith}
+use Rattle.std.specs.Prelude.{Bool}
 use Rattle.scrypt.specs.Terms.{AreLeft, AreSameAfter, Attempt, IsDone, IsLeft, Parameters, Refusal, Stored, Workspace}
 use Rattle.scrypt.specs.Terms.{are_enough, cores_on, cost_by, count_of, hashed_on, params_of, public_hash, public_part}
 use Rattle.scrypt.specs.Terms.{shared, table_words, tables_used, verify_cost}
@@ -12,13 +12,7 @@ record AreAlike (s d : Stored) : Type 0 where
   key : length s.key ≡ length d.key
 
 alike : (s d : Stored) → public_hash (Ok s) ≡ public_hash (Ok d) → AreAlike s d
-alike s d same =
-    let each : ◌≡◌ {A = Parameters × ℕ × ℕ} (s.params, length s.salt, length s.key) (d.params, length d.salt, length d.key) = cc in
-    record {
-      params = ap (λ (x : Parameters × ℕ × ℕ). x.0) each;
-      salt = ap (λ (x : Parameters × ℕ × ℕ). x.1) each;
-      key = ap (λ (x : Parameters × ℕ × ℕ). x.2) each;
-    }
+alike s d same = grind arith
 
 abbrev Public : Type 0
 Public = ℕ × Option (Parameters × ℕ × ℕ)
@@ -43,31 +37,21 @@ both P read unread (password, Err why) (other, Err reason) same = unread passwor
 
 pub same_cost : (password other : List ℕ) (s d : Stored) → public_part (password, Ok s) ≡ public_part (other, Ok d)
     → (cost_by s.params ≡ cost_by d.params) × (verify_cost password s ≡ verify_cost other d)
-same_cost password other s d same =
-    let are = alike s d (hash_same same) in
-    let len : length password ≡ length other = len_same same in
-    (rw are.params refl, rw (len, are.params, are.salt, are.key) refl)
+same_cost password other s d same = grind arith
 
 pub same_cores : (w : Workspace) (a b : Attempt) → public_part a ≡ public_part b → cores_on w a ≡ cores_on w b
 same_cores w = both (λ a b. cores_on w a ≡ cores_on w b) (λ password other s d len are. rw are.params refl) (λ password other why reason. refl)
 
 pub same_hashed : (w : Workspace) (a b : Attempt) → public_part a ≡ public_part b → hashed_on w a ≡ hashed_on w b
-same_hashed w = both (λ a b. hashed_on w a ≡ hashed_on w b)
-    (λ password other s d len are. rw (len, are.params, are.salt, are.key) refl) (λ password other why reason. refl)
+same_hashed w = grind arith
 
 pub same_left : (a b : Attempt) (before after : Workspace) → public_part a ≡ public_part b → IsLeft a.1 before after → IsLeft b.1 before after
-same_left a b before after = both (λ a b. IsLeft a.1 before after → IsLeft b.1 before after)
-    (λ password other s d len are left. rw (← are.params) left) (λ password other why reason left. left) a b
+same_left a b before after = grind arith
 
 -- the same buffers, verified in twice, are left the same, but for the part of the table that is used
 pub left_once : (s : Stored) (before one other : Workspace) → IsLeft (Ok s) before one → IsLeft (Ok s) before other
     → AreSameAfter (tables_used s.params before.table before.scratch * table_words s.params.log_n s.params.r) one other
-left_once s before one other = at (are_enough s.params before.chunks before.table before.scratch)
-  where
-    at : (test : Bool) → MatchBool test (IsDone s.params before one) (one ≡ before) → MatchBool test (IsDone s.params before other) (other ≡ before)
-        → AreSameAfter (tables_used s.params before.table before.scratch * table_words s.params.log_n s.params.r) one other
-    at true x y = record { chunks = x.chunks ∙ sym y.chunks; scratch = x.scratch ∙ sym y.scratch; table = x.rest ∙ sym y.rest }
-    at false x y = rw (x, y) (record { chunks = refl; scratch = refl; table = refl })
+left_once s before one other = grind arith
 
 -- several
 
@@ -96,26 +80,16 @@ count_same c (a ∷ some) [] same = absurd cc
 count_same c (a ∷ some) (b ∷ others) same =
     let first : public_part a ≡ public_part b = cc in
     let rest : map public_part some ≡ map public_part others = cc in
-    both (λ a b. count_of c some ≡ count_of c others → count_of c (a ∷ some) ≡ count_of c (b ∷ others))
-    (λ password other s d len are more. rw (are.params, more) refl) (λ password other why reason more. more) a b first (count_same c some others rest)
+    grind (arith, both, count_same c some others rest)
 
 params_same : (a b : Attempt) → public_part a ≡ public_part b → params_of a.1 ≡ params_of b.1
-params_same =
-    both (λ a b. params_of a.1 ≡ params_of b.1) (λ password other s d len are. ap Some are.params) (λ password other why reason. refl)
+params_same = grind arith
 
 shared_same : (some others : List Attempt) → map public_part some ≡ map public_part others → shared some ≡ shared others
 shared_same [] [] same = refl
 shared_same [] (b ∷ others) same = absurd cc
 shared_same (a ∷ some) [] same = absurd cc
-shared_same (a ∷ some) (b ∷ others) same =
-    let first : public_part a ≡ public_part b = cc in
-    ap (λ c. option_and_then (λ c. option_map (λ n. record c { p = n }) (count_of c (a ∷ some))) c) (params_same a b first)
-    ∙ at (params_of b.1)
-  where
-    at : (c : Option Parameters) → option_and_then (λ c. option_map (λ n. record c { p = n }) (count_of c (a ∷ some))) c
-        ≡ option_and_then (λ c. option_map (λ n. record c { p = n }) (count_of c (b ∷ others))) c
-    at None = refl
-    at (Some c) = ap (option_map (λ n. record c { p = n })) (count_same c (a ∷ some) (b ∷ others) same)
+shared_same (a ∷ some) (b ∷ others) same = grind (arith, option_and_then, params_same, count_same)
 
 pub all_left : (some others : List Attempt) (before after : Workspace) → map public_part some ≡ map public_part others
     → AreLeft some before after → AreLeft others before after
@@ -133,10 +107,10 @@ all_left (a ∷ some) (b ∷ others) before after same left =
     Chosen c One = MatchOption c One (λ c. MatchBool (are_enough c before.chunks before.table before.scratch) (IsDone c before after) One)
 
     first : public_part a ≡ public_part b
-    first = cc
+    first = grind arith
 
     rest : map public_part some ≡ map public_part others
-    rest = cc
+    rest = grind arith
 
     More : Type 0
     More = (between : Workspace) → AreLeft some between after → AreLeft others between after

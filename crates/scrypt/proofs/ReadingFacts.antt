@@ -1,13 +1,13 @@
-use Rattle.std.proofs.Common.{◌≡◌, ◌↔◌, ◌≢◌, ◌⊎◌, ◌∙◌, ℕ, ◌<◌, ◌≤◌, ◌-◌, ◌^◌, List, length, Ok, Err, inl, inr, true, false, refl, sym, ap, arith, Decides}
+use Rattle.std.proofs.Common.{◌≡◌, ◌↔◌, ◌≢◌, ◌⊎◌, ℕ, ◌<◌, ◌≤◌, ◌-◌, ◌^◌, List, length, Ok, Err, true, false, refl, arith, Decides}
 use Rattle.std.specs.Prelude.{Bool, IfErr, IfOk, IsOk, None, Option, Result, Some, if◌then◌else◌, max, min, ok_or, ⊤, IsTrue}
 use Rattle.std.proofs.lemmas.Bool.Decides.{Decides-and, same_from_decides}
 use Rattle.std.proofs.lemmas.Slice.Eq.{bytes_eq-Decides}
 use Rattle.scrypt.specs.Terms.{◌and_then◌, BufferTooShort, IsReadAsMade, KeyTooShort, NamesNoPassword, OutOfMemory, Parameters}
-use Rattle.scrypt.specs.Terms.{ParamsInvalid, PasswordInvalid, Refusal, Stored, SufficeFor, TooCostly, are_accepted}
+use Rattle.scrypt.specs.Terms.{PasswordInvalid, Refusal, Stored, SufficeFor, TooCostly, are_accepted}
 use Rattle.scrypt.specs.Terms.{are_enough, are_within, buffers_bytes, checked, chunks_bytes, is_below, is_right, key_by}
 use Rattle.scrypt.specs.Terms.{key_len_or_default, limits_for_new, made_stored, mapped, scratch_words, table_words}
-use Rattle.scrypt.specs.Terms.{verdict, within, without_len, work}
-use Rattle.scrypt.proofs.AcceptedFacts.{leb_decided, numbers, ok_if}
+use Rattle.scrypt.specs.Terms.{verdict, within, work}
+use Rattle.scrypt.proofs.AcceptedFacts.{leb_decided, ok_if}
 use Rattle.scrypt.proofs.KeyFacts.{length-key_by}
 use Rattle.std.proofs.lemmas.Bool.{false_from_ne_true, le-ltb}
 use Rattle.std.proofs.lemmas.Nat.{mul-le}
@@ -21,10 +21,6 @@ both_read (Ok x) rest is = (x, refl, is)
 both_read (Err why) rest is = absurd cc
 
 -- the errors of reading
-
-pub mapped_refused : {A B : Type 0} (f : A → B) (reading : Result A Refusal) (why : Refusal) → mapped f reading ≡ Err why → reading ≡ Err why
-mapped_refused f (Ok x) why is = absurd cc
-mapped_refused f (Err other) why is = let same : other ≡ why = cc in ap Err same
 
 -- an error of a text, except that its salt or its key is missing
 abbrev pub IsFault : Refusal → Type 0
@@ -74,11 +70,7 @@ if_good false first second good other = other
 
 pub checked_good : (log_n r p : ℕ) → IfOk (checked log_n r p) AreGood
 unfolding checked
-checked_good log_n r p = at (are_accepted log_n r p) refl
-  where
-    at : (test : Bool) → are_accepted log_n r p ≡ test → IfOk (if test then Ok (numbers log_n r p) else Err ParamsInvalid) AreGood
-    at true is = is
-    at false is = tt
+checked_good log_n r p = grind arith
 
 pub ruleset faults = (checked_fault, if_fault, part_fault, some_fault, then_fault)
 
@@ -98,12 +90,7 @@ told_right password s same tells = same_from_decides same (is_right password s) 
 
 pub verdict_right : (password : List ℕ) (reading : Result Stored Refusal) → (verdict password reading ≡ Ok tt)
     ↔ ((s : Stored) × (reading ≡ Ok s) × (s.key ≡ key_by s.params password s.salt (length s.key)))
-verdict_right password reading = (there reading, λ h. ap (verdict password) h.1 ∙ rw ((right_decided password h.0).1 h.2) refl)
-  where
-    there : (reading : Result Stored Refusal) → verdict password reading ≡ Ok tt
-        → (s : Stored) × (reading ≡ Ok s) × (s.key ≡ key_by s.params password s.salt (length s.key))
-    there (Ok s) is = (s, refl, (right_decided password s).0 (ok_if (is_right password s) (Ok tt) PasswordInvalid is).0)
-    there (Err why) is = absurd cc
+verdict_right password reading = grind (arith, right_decided, ok_if)
 
 -- the keys differ, or there are none
 abbrev IsWrong : List ℕ → Result Stored Refusal → Type 0
@@ -111,34 +98,18 @@ IsWrong password reading =
     ((s : Stored) × (reading ≡ Ok s) × (s.key ≢ key_by s.params password s.salt (length s.key))) ⊎ (reading ≡ Err PasswordInvalid)
 
 pub verdict_wrong : (password : List ℕ) (reading : Result Stored Refusal) → (verdict password reading ≡ Err PasswordInvalid) ↔ IsWrong password reading
-verdict_wrong password reading = (there reading, back)
-  where
-    there : (reading : Result Stored Refusal) → verdict password reading ≡ Err PasswordInvalid → IsWrong password reading
-    there (Err why) is = let same : why ≡ PasswordInvalid = cc in inr (ap Err same)
-    there (Ok s) is = inl (s, refl, λ same. absurd (cc (is, (verdict_right password (Ok s)).1 (s, refl, same))))
-
-    back : IsWrong password reading → verdict password reading ≡ Err PasswordInvalid
-    back (inl (s, is, differ)) = ap (verdict password) is ∙ rw (false_from_ne_true _ (λ right. differ ((right_decided password s).0 right))) refl
-    back (inr is) = ap (verdict password) is
+verdict_wrong password reading = grind (arith, verdict_right, false_from_ne_true, right_decided)
 
 -- what is read as a made hash accepts the password, and is not weaker than its parameters ask for
 pub read_as_made : (c : Parameters) (password salt : List ℕ) {reading : Result Stored Refusal} → reading ≡ Ok (made_stored c password salt)
     → IsReadAsMade c password salt reading
 unfolding is_below
-read_as_made c password salt {reading} is =
-    let long = length-key_by c password salt (key_len_or_default c) in
-    let same = λ (n : ℕ). le-ltb n n (omega arith) in
-    record {
-      read = is;
-      accepts = (verdict_right password reading).1 (_, is, ap (key_by c password salt) (sym long));
-      strong = rw (is, long, same c.log_n, same c.r, same c.p, same (key_len_or_default c)) refl;
-    }
+read_as_made c password salt {reading} is = grind (arith, length-key_by, le-ltb, verdict_right)
 
 pub enough_decided : (c : Parameters) (chunks table scratch : List ℕ) → Decides (are_enough c chunks table scratch)
     ((chunks_bytes c.r c.p ≤ length chunks) × ((table_words c.log_n c.r ≤ length table) × (scratch_words c.r ≤ length scratch)))
 unfolding are_enough
-enough_decided c chunks table scratch =
-    Decides-and _ _ (leb_decided _ _) (Decides-and _ _ (leb_decided _ _) (leb_decided _ _))
+enough_decided c chunks table scratch = grind arith
 
 pub within_decided : (limits : Limits) (c : Parameters) → Decides (are_within limits c)
     ((buffers_bytes c.log_n c.r c.p ≤ limits.max_mem) × (work c.log_n c.r c.p ≤ limits.max_work))
@@ -149,22 +120,12 @@ within_decided limits c = Decides-and _ _ (leb_decided _ _) (leb_decided _ _)
 pub enough_for : (limits : Limits) (c : Parameters) (chunks table scratch : List ℕ) → SufficeFor limits chunks table scratch
     → 0 < c.p → IsTrue (are_within limits c) → IsTrue (are_enough c chunks table scratch)
 enough_for limits c chunks table scratch suffice some within_is =
-    let fits = (within_decided limits c).0 within_is in
-    let more = mul-le c.r 1 c.r c.p (omega arith) some in
-    (enough_decided c chunks table scratch).1 (
-      omega (arith, fits, suffice.chunks_fit),
-      (omega (arith, fits, suffice.table_fits), omega (arith, fits, more, suffice.scratch_fits)),
-    )
+    grind (arith, within_decided limits c, mul-le c.r 1 c.r c.p (omega arith) some, enough_decided c chunks table scratch)
 
 -- and so has a hash
 pub enough_within : (limits : Limits) (s : Stored) (chunks table scratch : List ℕ) → SufficeFor limits chunks table scratch
     → 0 < s.params.p → IsOk (within limits (Ok s)) → are_enough s.params chunks table scratch ≡ true
-enough_within limits s chunks table scratch suffice some within_is =
-    enough_for limits s.params chunks table scratch suffice some (allowed (are_within limits s.params) _ _ within_is)
-  where
-    allowed : (test : Bool) (first : Result Stored Refusal) (why : Refusal) → IsOk (if test then first else Err why) → test ≡ true
-    allowed true first why is = refl
-    allowed false first why is = absurd cc
+enough_within limits s chunks table scratch suffice some within_is = grind (arith, enough_for)
 
 pub within_limits : (limits : Limits) (s : Stored) → IsTrue (are_within limits s.params) → limits.min_key_len ≤ length s.key → within limits (Ok s) ≡ Ok s
 within_limits limits s fits long = rw (fits, (leb_decided _ _).1 long) refl
@@ -177,10 +138,7 @@ admitted defaults needed small = omega arith
 pub made_within : (defaults : Limits) (c : Parameters) (password salt : List ℕ) (n : ℕ) (reading : Result Stored Refusal)
     → reading ≡ Ok (made_stored c password salt) → n ≤ key_len_or_default c
     → buffers_bytes c.log_n c.r c.p < 2 ^ 64 → work c.log_n c.r c.p < 2 ^ 64 → within (limits_for_new defaults c n) reading ≡ reading
-made_within defaults c password salt n reading is short bytes little =
-    let long = length-key_by c password salt (key_len_or_default c) in
-    let allowed = (within_decided (limits_for_new defaults c n) (without_len c)).1 (admitted _ _ bytes, admitted _ _ little) in
-    rw is (within_limits (limits_for_new defaults c n) (made_stored c password salt) allowed (omega (arith, long)))
+made_within defaults c password salt n reading is short bytes little = grind (arith, length-key_by, within_decided, admitted, within_limits)
 
 pub not_enough : (c : Parameters) (chunks table scratch : List ℕ) → ¬ IsTrue (are_enough c chunks table scratch)
     → are_enough c chunks table scratch ≡ false

@@ -22,10 +22,7 @@ chunks_inside i n p s l inside is = omega (arith, is, mul-le-mul_right s inside)
 
 -- the first rows of n tables fit
 pub first_rows_fit : (n log_n r l : ℕ) → n * table_words log_n r ≤ l → n * (32 * r) ≤ l
-first_rows_fit n log_n r l room =
-    let one : 1 * (32 * r) ≤ 2 ^ log_n * (32 * r) = mul-le-mul_right (32 * r) (omega (arith, pow_pos log_n)) in
-    let each : 32 * r ≤ 2 ^ log_n * (32 * r) = omega (arith, one) in
-    omega (arith, mul-le-mul_left n each, room)
+first_rows_fit n log_n r l room = grind (arith, mul-le-mul_right, pow_pos, mul-le-mul_left)
 
 -- while chunks are left, mixes are left
 pub mixes_left : (i n m a p : ℕ) → i + n ≤ p → 0 < n → m < a → i * a + n * m < p * a
@@ -45,12 +42,7 @@ more_mixes n d c a m less is = let sum : m ≡ d + min c (a - d) = omega (arith,
 
 -- all mixes of a chunk are done, as the code finds it
 pub all_done : (log_n m d n : ℕ) → log_n ≤ 56 → 2 * 2 ^ log_n % 2 ^ 64 ≤ m → m ≡ min (d + n) (all_mixes log_n) → m ≡ all_mixes log_n
-all_done log_n m d n small enough is =
-    let shifted = one_shl (log_n + 1) 64 (omega arith) in
-    let double = pow-add 2 log_n 1 in
-    let same : 2 * 2 ^ log_n ≡ 1 * 2 ^ (log_n + 1) = omega (arith, double) in
-    let fits : 2 * 2 ^ log_n % 2 ^ 64 ≡ 2 * 2 ^ log_n = ap (λ z. z % 2 ^ 64) same ∙ shifted ∙ double ∙ omega arith in
-    omega (arith, fits, enough, is)
+all_done log_n m d n small enough is = grind (arith, one_shl (log_n + 1) 64 (omega arith), pow-add 2 log_n 1)
 
 -- the cores so far, and those of a step
 pub cores_more : (i j n x c : ℕ) → j ≡ i + n * x → j * c ≡ i * c + x * (n * c)
@@ -67,17 +59,12 @@ mixes_of_chunks i n k r p inside some product small =
     let below : k + 1 ≤ 57 = omega (arith, small) in
     let rows : 2 ^ (k + 1) ≤ 2 ^ 57 = pow-le-pow_right (omega arith) below in
     let double = pow-add 2 k 1 in
-    let few : i ≤ 2 ^ 30 = omega (arith, inside, small_factor p r some (omega (arith, product))) in
-    let chunks : i * 2 ^ (k + 1) ≤ 2 ^ 30 * 2 ^ 57 = mul-le i (2 ^ (k + 1)) (2 ^ 30) (2 ^ 57) few rows in
-    let bounded : i * 2 ^ (k + 1) ≤ 2 ^ 87 = omega (arith, chunks) in
-    let same : 2 ^ (k + 1) ≡ all_mixes k = omega (arith, double) in
-    (bounded, omega (arith, bounded) ∙ ap (λ n. i * n) same)
+    grind (arith, small_factor, mul-le)
 
 -- the cores, as the code counts them
 pub cores_are : (i n k m r p : ℕ) → i + n ≤ p → 0 < r → r * p < 2 ^ 30 → k ≤ 56
     → (i * 2 ^ (k + 1) % 2 ^ 128 + n * m) * (2 * r) ≡ (i * all_mixes k + n * m) * (2 * r)
-cores_are i n k m r p inside some product small =
-    ap (λ x. (x + n * m) * (2 * r)) (mixes_of_chunks i n k r p inside some product small).1
+cores_are i n k m r p inside some product small = grind (arith, mixes_of_chunks i n k r p inside some product small)
 
 -- and they fit 128 bits
 pub cores_fit : (i n k m r p x : ℕ) → i + n ≤ p → n ≤ 4 → 0 < r → r * p < 2 ^ 30 → k ≤ 56 → m < 2 * 2 ^ k → x < 2 ^ 32
@@ -85,40 +72,25 @@ pub cores_fit : (i n k m r p x : ℕ) → i + n ≤ p → n ≤ 4 → 0 < r → 
 cores_fit i n k m r p x inside few some product small less width =
     let rows : 2 ^ k ≤ 2 ^ 56 = pow-le-pow_right (omega arith) small in
     let chunks = mixes_of_chunks i n k r p inside some product small in
-    let part : i * 2 ^ (k + 1) % 2 ^ 128 ≤ 2 ^ 87 = omega (arith, chunks.0) in
-    let now : n * m ≤ 4 * 2 ^ 57 = mul-le n m 4 (2 ^ 57) few (omega (arith, less, rows)) in
-    let mixes : i * 2 ^ (k + 1) % 2 ^ 128 + n * m ≤ 2 ^ 88 = omega (arith, part, now) in
-    let cores : (i * 2 ^ (k + 1) % 2 ^ 128 + n * m) * (2 * x) ≤ 2 ^ 88 * (2 * x) = mul-le-mul_right (2 * x) mixes in
-    omega (arith, cores, width)
+    grind (arith, mul-le n m 4 (2 ^ 57) few (omega (arith, less, rows)), mul-le-mul_right)
 
 -- a group has a table and a scratch for each of its chunks
 pub group_fits : (most : ℕ) (scalar : Bool) (c : Parameters) (at : Progress) (table scratch : List ℕ) → CanGoOn most scalar c at table scratch → 0 < c.r
     → at.interleaved ≤ tables_used c table scratch
 unfolding interleaved_chunks
-group_fits most scalar c at table scratch going some =
-    let by_table = le-div at.interleaved (length table) (table_words c.log_n c.r) (some_table c.log_n c.r some) going.table_fits in
-    let by_scratch = le-div at.interleaved (length scratch) (scratch_words c.r) (omega arith) going.scratch_fits in
-    omega (arith, by_table, by_scratch, going.within.few, going.within.chunks)
+group_fits most scalar c at table scratch going some = grind (arith, le-div, some_table)
 
 -- nothing is changed behind the part that is used if no more than n tables and scratches are
 pub rest_kept : (c : Parameters) (n : ℕ) (before after : Workspace) → n ≤ tables_used c before.table before.scratch
     → drop (chunks_bytes c.r c.p) after.chunks ≡ drop (chunks_bytes c.r c.p) before.chunks
     → drop (n * table_words c.log_n c.r) after.table ≡ drop (n * table_words c.log_n c.r) before.table
     → drop (n * scratch_words c.r) after.scratch ≡ drop (n * scratch_words c.r) before.scratch → IsRestKept c before after
-rest_kept c n before after few chunks table scratch = record {
-  chunks = chunks;
-  table = drop_same (n * table_words c.log_n c.r) _ _ _ (mul-le-mul_right (table_words c.log_n c.r) few) table;
-  scratch = drop_same (n * scratch_words c.r) _ _ _ (mul-le-mul_right (scratch_words c.r) few) scratch;
-}
+rest_kept c n before after few chunks table scratch = grind (arith, drop_same, mul-le-mul_right)
 
 -- nor by one call after another
 pub rest_then : (c : Parameters) (first next last : Workspace) → length next.table ≡ length first.table → length next.scratch ≡ length first.scratch
     → IsRestKept c first next → IsRestKept c next last → IsRestKept c first last
-rest_then c first next last table scratch one two = record {
-  chunks = two.chunks ∙ one.chunks;
-  table = rw (table, scratch) at two.table ∙ one.table;
-  scratch = rw (table, scratch) at two.scratch ∙ one.scratch;
-}
+rest_then c first next last table scratch one two = grind arith
 
 -- the number that a step shows is the next
 pub next_shown : (most : ℕ) (scalar : Bool) (c : Parameters) (at : Progress) (table scratch : List ℕ) (count j t s : ℕ)
@@ -132,10 +104,7 @@ next_shown most scalar c at table scratch count j t s going table_is scratch_is 
     let near : n * x ≤ interleaved_chunks c.log_n c.r c.p t s * count = mul-le n x _ count width (omega arith) in
     let more : 1 ≤ n * x = mul-le 1 1 n x (going.within.some left) (omega (arith, going.within.mixes)) in
     let cores = cores_more (mixes_done c at) j n x (2 * c.r) is in
-    record {
-      more = omega (arith, cores, mul-le-mul_right (2 * c.r) more);
-      near = omega (arith, cores, mul-le-mul_right (2 * c.r) near);
-    }
+    grind (arith, mul-le-mul_right (2 * c.r) more, mul-le-mul_right (2 * c.r) near)
 
 -- nothing is shown yet
 pub none_shown : {F : Type 0} (step : F → ℕ → Bool → F → Type 0) (most : ℕ) (f : F) (n : ℕ) → n ≡ 0 → WentOn step most f n f

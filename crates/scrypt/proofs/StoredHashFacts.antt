@@ -1,6 +1,6 @@
-use Rattle.std.proofs.Common.{◌≡◌, List, ℕ, [], ◌∷◌, true, false, Ok, Err, refl, sym, ap, inl, inr, lit<, nat_eq, ◌⊎◌, IfErr, Option, Some, None, Result, codes, is_some, length, ok_or, IsTrue, ◌<◌}
+use Rattle.std.proofs.Common.{◌≡◌, List, ℕ, [], ◌∷◌, true, false, Ok, Err, refl, sym, inl, inr, lit<, nat_eq, ◌⊎◌, IfErr, Option, Some, None, Result, codes, length, ok_or, IsTrue, ◌<◌, arith}
 use Rattle.std.specs.Prelude.{IsOk}
-use Rattle.std.proofs.lemmas.Bool.{false≢true, or_cases}
+use Rattle.std.proofs.lemmas.Bool.{or_cases}
 use Rattle.std.proofs.lemmas.Slice.Eq.{bytes_eq-Decides, starts_is}
 use Rattle.std.specs.List.{starts_with}
 use Rattle.std.specs.Str.{bytes_eq}
@@ -11,7 +11,7 @@ use Rattle.scrypt.specs.Terms.{◌and_then◌, EncodingInvalid, Formatted, IsHas
 use Rattle.scrypt.specs.Terms.{NamesNoPassword, Parameters, PasswordInvalid, PhcHash, Refusal, Stored, SufficeFor}
 use Rattle.scrypt.specs.Terms.{are_accepted, are_enough, crypt64_of, fields_of, formatted, hash_text, is_mcf_text}
 use Rattle.scrypt.specs.Terms.{is_output_len, is_stored_len, is_stored_text, key_len_or_default, made_mcf, made_phc}
-use Rattle.scrypt.specs.Terms.{made_stored, mapped, mcf_id, params_and_len, params_reading, phc_params, read_fields}
+use Rattle.scrypt.specs.Terms.{made_stored, mcf_id, params_and_len, params_reading, phc_params, read_fields}
 use Rattle.scrypt.specs.Terms.{read_mcf, reading, whole, within}
 use Rattle.password_hash.specs.Parts.{parts_of}
 use Rattle.password_hash.specs.declared.phc.hash.PasswordHash.{PasswordHash}
@@ -20,7 +20,7 @@ use Rattle.scrypt.specs.declared.limits.Limits.{Limits}
 use Rattle.scrypt.proofs.AcceptedFacts.{bounds}
 use Rattle.scrypt.proofs.McfTextFacts.{made_text, read_is_text}
 use Rattle.scrypt.proofs.PhcFacts.{made_is_text, made_read, params_fault, params_good, params_none}
-use Rattle.scrypt.proofs.ReadingFacts.{AreGood, IsFault, enough_within, mapped_refused, no_password, part_fault, some_fault, then_fault}
+use Rattle.scrypt.proofs.ReadingFacts.{AreGood, IsFault, enough_within, no_password, part_fault, some_fault, then_fault}
 
 -- a text that is `$7`, or begins with `$7$`, is a `$7$` hash
 pub seven_is_mcf : (text : List ℕ) → is_mcf_text text ≡ true → IsMcfText text mcf_id (fields_of text)
@@ -36,12 +36,7 @@ seven_read text seven = read_seven (seven_is_mcf text seven) refl
 
 pub no_reading : (text : List ℕ) → is_stored_text text ≡ false → (reading text ≡ Err EncodingInvalid) × (params_reading text ≡ Err EncodingInvalid)
 unfolding is_stored_text reading params_reading
-no_reading text none = at (formatted text) none
-  where
-    at : (found : Option Formatted) → is_some found ≡ false → ((ok_or found EncodingInvalid and_then whole) ≡ Err EncodingInvalid)
-        × ((ok_or found EncodingInvalid and_then params_and_len) ≡ Err EncodingInvalid)
-    at (Some it) none = absurd (false≢true (sym none))
-    at None none = (refl, refl)
+no_reading text none = grind arith
 
 -- the parameters and the whole of a hash
 
@@ -52,35 +47,18 @@ phc_parts params salt key = params and_then λ c. ok_or salt PasswordInvalid and
 
 phc_whole : (params : Result Parameters Refusal) (salt key : Option (List ℕ)) (s : Stored) → phc_parts params salt key ≡ Ok s
     → (params ≡ Ok s.params) × (key ≡ Some s.key)
-phc_whole (Ok c) (Some salt) (Some key) s is =
-    let read : Stored = record { params = c; salt = salt; key = key } in
-    let same : read ≡ s = cc in
-    (ap (λ (z : Stored). Ok z.params) same, ap (λ (z : Stored). Some z.key) same)
+phc_whole (Ok c) (Some salt) (Some key) s is = grind arith
 phc_whole (Ok c) (Some salt) None s is = absurd cc
 phc_whole (Ok c) None key s is = absurd cc
 phc_whole (Err why) salt key s is = absurd cc
 
 pub params_of_whole : (text : List ℕ) (s : Stored) → reading text ≡ Ok s → params_reading text ≡ Ok (s.params, length s.key)
 unfolding reading params_reading
-params_of_whole text s is = at (formatted text) is
-  where
-    at : (found : Option Formatted) → (ok_or found EncodingInvalid and_then whole) ≡ Ok s
-        → (ok_or found EncodingInvalid and_then params_and_len) ≡ Ok (s.params, length s.key)
-    at (Some (McfText text)) is = ap (mapped (λ z. (z.params, length z.key))) is
-    at (Some (PhcHash hash)) is =
-        let (params, key) = phc_whole (phc_params hash) hash.salt hash.hash s is in
-        rw (params, key) refl
-    at None is = absurd cc
+params_of_whole text s is = grind arith
 
 pub params_refused : (text : List ℕ) (why : Refusal) → params_reading text ≡ Err why → reading text ≡ Err why
 unfolding reading params_reading
-params_refused text why is = at (formatted text) is
-  where
-    at : (found : Option Formatted) → (ok_or found EncodingInvalid and_then params_and_len) ≡ Err why
-        → (ok_or found EncodingInvalid and_then whole) ≡ Err why
-    at (Some (McfText text)) is = mapped_refused _ (read_mcf text) why is
-    at (Some (PhcHash hash)) is = rw (mapped_refused _ (phc_params hash) why is) refl
-    at None is = cc
+params_refused text why is = grind arith
 
 -- the parameters are accepted
 
@@ -99,8 +77,7 @@ some_read text s is = (bounds s.params.log_n s.params.r s.params.p (reading_acce
 -- a hash within limits has enough room in buffers that suffice for them
 pub enough_read : (limits : Limits) (text : List ℕ) (s : Stored) (chunks table scratch : List ℕ) → SufficeFor limits chunks table scratch
     → reading text ≡ Ok s → IsOk (within limits (reading text)) → IsTrue (are_enough s.params chunks table scratch)
-enough_read limits text s chunks table scratch suffice is fits =
-    enough_within limits s chunks table scratch suffice (some_read text s is) (rw is at fits)
+enough_read limits text s chunks table scratch suffice is fits = grind (arith, enough_within, some_read)
 
 -- the error of its parameters, and of the whole, which may lack the salt or the key
 

@@ -4,7 +4,7 @@ use Rattle.std.proofs.lemmas.Str.Ascii.{IsAscii-from_all}
 use Rattle.std.proofs.lemmas.List.Elements.{All-cons, All-append, All-from_recursion, All-weaker}
 use Rattle.std.specs.Str.{IsUtf8}
 use Rattle.scrypt.specs.Terms.{IsBytes, IsField, IsKey, IsSalt, IsTextOfKey, Parameters, are_accepted, crypt64_of}
-use Rattle.scrypt.specs.Terms.{encoded_len, formatted, hash_text, is_output_len, letters_of, mcf_text, params_letters}
+use Rattle.scrypt.specs.Terms.{encoded_len, formatted, hash_text, is_output_len, mcf_text, params_letters}
 use Rattle.scrypt.specs.Terms.{params_text, parts_of_key, phc_hash, phc_params, read_phc, reading}
 use Rattle.password_hash.specs.Parts.{dollar}
 use Rattle.password_hash.proofs.Crypt64Facts.{IsPlain, crypt64_of-plain, length-letters_of}
@@ -42,16 +42,7 @@ mcf_of_key c salt key fits field bytes len =
 
 pub length-mcf_of_key : (c : Parameters) (salt key : List ℕ)
     → length (mcf_text (parts_of_key c salt key)) ≡ 14 + length salt + (1 + encoded_len (length key))
-length-mcf_of_key c salt key =
-    omega (
-      arith,
-      length-append (letters_of 5 c.r) (letters_of 5 c.p),
-      length-letters_of 5 c.r,
-      length-letters_of 5 c.p,
-      length-append (params_text c) (salt ++ dollar ∷ crypt64_of key),
-      length-append salt (dollar ∷ crypt64_of key),
-      length-crypt64_of key,
-    )
+length-mcf_of_key c salt key = grind (arith, length-append, length-letters_of, length-crypt64_of)
 
 pub mcf_of_key_is_utf8 : (c : Parameters) (salt key : List ℕ) → IsTrue (are_accepted c.log_n c.r c.p) → IsUtf8 salt
     → IsUtf8 (mcf_text (parts_of_key c salt key))

@@ -1,5 +1,5 @@
 -- What verifying leaves in the caller's buffers.
-use Rattle.std.proofs.Common.{◌≡◌, ◌∙◌, ◌-◌, ◌*◌, ℕ, List, arith, length, refl}
+use Rattle.std.proofs.Common.{◌≡◌, ◌∙◌, ℕ, List, arith, length, refl}
 use Rattle.std.proofs.lemmas.Bool.{and_parts, false_from_ne_true}
 use Rattle.std.proofs.Math.Seq.{drop-length}
 use Rattle.std.proofs.lemmas.List.{append-nil}
@@ -11,7 +11,7 @@ use Rattle.scrypt.proofs.CostFacts.{one_table}
 use Rattle.scrypt.specs.Cost.{scratch_words, table_words}
 use Rattle.scrypt.specs.Decoy.{decoy_reading}
 use Rattle.scrypt.specs.InBuffers.{IsWiped}
-use Rattle.scrypt.specs.Workspace.{IsDone, Workspace, tables_used}
+use Rattle.scrypt.specs.Workspace.{IsDone, Workspace}
 use Rattle.scrypt_c.specs.Buffers.{AreBuffers}
 use Rattle.scrypt_c.specs.Limits.{params_of}
 
@@ -23,9 +23,7 @@ none_decoy c salt refused = rw (false_from_ne_true (are_accepted c.log_n c.r c.p
 -- the lengths of the table and the scratch that keep every row
 whole_lens : (log_n r p s : ℕ) {chunks table scratch : ℕ} → AreBuffers log_n r p s chunks table scratch → s ≡ 0
     → (table ≡ table_words log_n r) × (scratch ≡ scratch_words r)
-whole_lens log_n r p s are none =
-    let same : log_n - s ≡ log_n = omega (arith, none) in
-    (rw same at are.table_is, rw none at are.scratch_is)
+whole_lens log_n r p s are none = grind arith
 
 all_wiped : (n : ℕ) (old new : List ℕ) → length old ≡ n → IsWiped n old new → new ≡ replicate (length old) 0
 all_wiped n old new is wiped = wiped ∙ rw (← is, drop-length) (append-nil _)
@@ -35,9 +33,4 @@ pub wiped_at_zero : (log_n r p s : ℕ) (before after : Workspace) → IsTrue (a
     → AreBuffers log_n r p s (length before.chunks) (length before.table) (length before.scratch) → s ≡ 0
     → IsDone (params_of log_n r p) before after
     → (after.chunks ≡ replicate (length before.chunks) 0) × (after.scratch ≡ replicate (length before.scratch) 0)
-wiped_at_zero log_n r p s before after accepted are none done =
-    let lens = whole_lens log_n r p s are none in
-    let some = bounds log_n r p accepted in
-    let one = one_table log_n r p (length before.table) (length before.scratch) some.0 some.1 lens.0 (omega (arith, lens.1)) in
-    let used : length before.scratch ≡ tables_used (params_of log_n r p) before.table before.scratch * scratch_words r = rw (← one) (omega (arith, lens.1)) in
-    (all_wiped _ _ _ are.chunks_are done.chunks, all_wiped _ _ _ used done.scratch)
+wiped_at_zero log_n r p s before after accepted are none done = grind (arith, whole_lens, bounds, one_table, all_wiped)

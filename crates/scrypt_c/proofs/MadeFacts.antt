@@ -1,5 +1,5 @@
 -- New hashes, in the caller's buffer.
-use Rattle.std.proofs.Common.{◌≡◌, ◌++◌, List, Ok, Err, ℕ, drop, false, inl, inr, length, refl, rules, take, true}
+use Rattle.std.proofs.Common.{◌≡◌, ◌++◌, List, Ok, Err, ℕ, drop, false, inl, inr, length, refl, take, true, arith}
 use Rattle.std.proofs.Math.Seq.{take-append_seam}
 use Rattle.std.proofs.lemmas.Str.{IsUtf8-from_ascii}
 use Rattle.std.proofs.lemmas.Bool.{false≢true}
@@ -44,13 +44,4 @@ made_in false enough made is = absurd cc
 -- a call that wrote its text
 pub is_hashed : {text old new : List ℕ} {Accepted Salted Enough : Type 0} {old_len len : ℕ} → Accepted → Salted → Enough
     → IsWritten text old new len → HasHashed text Accepted Salted Enough old new old_len len (pos 0)
-is_hashed accepted salted enough written = record {
-  made = λ ok. written;
-  enough = λ ok. enough;
-  params = search rules;
-  salt = search rules;
-  size = λ short. absurd cc;
-  fits = λ memory. absurd cc;
-  refused = λ wrong. absurd (wrong refl);
-  unchanged = λ wrong. absurd (wrong refl);
-}
+is_hashed accepted salted enough written = grind arith

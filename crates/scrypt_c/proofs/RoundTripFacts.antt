@@ -1,5 +1,5 @@
 -- A hash that was written to the caller's buffer, and is verified there.
-use Rattle.std.proofs.Common.{◌≡◌, ◌≢◌, ◌∙◌, ◌++◌, ℕ, List, Ok, ap, arith, drop, inl, inr, length, refl, sym, take}
+use Rattle.std.proofs.Common.{◌≡◌, ◌≢◌, ◌∙◌, ◌++◌, ℕ, List, Ok, ap, arith, drop, inl, inr, length, refl, take}
 use Rattle.std.specs.Prelude.{◌⊎◌, ℤ, pos}
 use Rattle.std.proofs.Math.Seq.{take-append_seam}
 use Rattle.scrypt.specs.Key.{derived_key}
@@ -7,7 +7,7 @@ use Rattle.scrypt.specs.Reading.{made_stored}
 use Rattle.scrypt.specs.StoredHash.{reading}
 use Rattle.scrypt.proofs.KeyFacts.{length-key_by}
 use Rattle.scrypt.proofs.ReadingFacts.{read_as_made, verdict_wrong, within_limits}
-use Rattle.scrypt_c.specs.Limits.{Admit, limited_reading, limits_of}
+use Rattle.scrypt_c.specs.Limits.{Admit, limited_reading}
 use Rattle.scrypt_c.specs.Made.{IsWritten, wanted}
 use Rattle.scrypt_c.specs.Statuses.{IsVerifyStatus, result_status}
 use Rattle.scrypt_c.proofs.TextFacts.{text_read}
@@ -24,8 +24,7 @@ written_reading password salt text old new log_n r p key_len len max_mem max_wor
     let c = wanted log_n r p key_len in
     let front = written_front text old new len written.1 written.2 in
     let long = length-key_by c password salt key_len in
-    rw (front, (text_read text written.0).0, is)
-    (within_limits (limits_of max_mem max_work min_key_len) (made_stored c password salt) admitted.0 (omega (arith, long, admitted.1)))
+    grind (arith, text_read, within_limits)
 
 -- the status for its password
 pub right_status : (password salt text old new : List ℕ) (log_n r p key_len len max_mem max_work min_key_len : ℕ) (status : ℤ)
@@ -50,11 +49,4 @@ pub wrong_status : (password salt other text old new : List ℕ) (log_n r p key_
     → IsVerifyStatus other (limited_reading max_mem max_work min_key_len (take len new)) status
     → (status ≡ pos 1) ⊎ (status ≡ pos 5)
 wrong_status password salt other text old new log_n r p key_len len max_mem max_work min_key_len status is differ written admitted verified =
-    let c = wanted log_n r p key_len in
-    let read = written_reading password salt text old new log_n r p key_len len max_mem max_work min_key_len is written admitted in
-    let long = length-key_by c password salt key_len in
-    let wrong = (verdict_wrong other _).1 (inl (made_stored c password salt, read, λ same. differ (sym (rw long at same)))) in
-    elim verified [
-      | inl is ↦ inl (is ∙ ap result_status wrong)
-      | inr memory ↦ inr memory.1
-    ]
+    grind (arith, written_reading, length-key_by, verdict_wrong)

@@ -1,9 +1,11 @@
 -- Steps of a key, one after another.
-use Rattle.std.proofs.Common.{◌≡◌, ◌∙◌, ℕ, zero, suc, ◌+◌, ◌-◌, ◌*◌, ◌^◌, ◌<◌, ◌≤◌, List, [], ◌∷◌, ap, arith, inl, inr, length, refl, sym}
+use Rattle.std.proofs.lemmas.Grind.{common_steps}
+use Rattle.std.proofs.lemmas.List.{places}
+use Rattle.std.proofs.Common.{◌≡◌, ℕ, zero, suc, ◌+◌, ◌-◌, ◌*◌, ◌^◌, ◌<◌, ◌≤◌, List, [], ◌∷◌, ap, arith, inl, inr, length, refl}
 use Rattle.std.specs.Prelude.{All, Bool, IsTrue, ℤ, pos}
-use Rattle.std.proofs.Math.Nat.{eq-or-lt_of_le, mul-le-mul_right, mul-suc}
-use Rattle.std.proofs.lemmas.Bool.{cases_Bool, cases_lt, false≢true}
-use Rattle.std.proofs.lemmas.List.Elements.{All-cons, All-head, All-nil, All-tail}
+use Rattle.std.proofs.Math.Nat.{eq-or-lt_of_le}
+use Rattle.std.proofs.lemmas.Bool.{cases_lt}
+use Rattle.std.proofs.lemmas.List.Elements.{All-cons, All-head, All-tail}
 use Rattle.scrypt.specs.Steps.{all_mixes}
 use Rattle.scrypt.specs.Accepted.{Parameters, are_accepted, is_output_len}
 use Rattle.scrypt.specs.Cost.{chunks_bytes}
@@ -26,24 +28,13 @@ some_here n least (suc here) some fits = omega arith
 same_group : (all mixes count least here rest k : ℕ) → count < all - mixes → least ≤ count → all - mixes ≤ least * here
     → here + rest ≤ suc k → (left : ℕ) × (all - (mixes + count) ≤ least * left) × (left + rest ≤ k)
 same_group all mixes count least zero rest k less more fits enough = absurd (omega arith)
-same_group all mixes count least (suc here) rest k less more fits enough =
-    (here, omega (arith, mul-suc least here), omega arith)
+same_group all mixes count least (suc here) rest k less more fits enough = grind arith
 
 groups_left : (p done n each : ℕ) → done < p → 0 < n → each + (p - (done + n)) * each ≤ (p - done) * each
-groups_left p done n each some more =
-    let fewer : suc (p - (done + n)) ≤ p - done = omega arith in
-    omega (arith, mul-le-mul_right each fewer)
+groups_left p done n each some more = grind arith
 
 none_left : (c : Parameters) (least each : ℕ) (at : Progress) → IsWithin c at → AreEnough c least each 0 at → at.chunks ≡ c.p
-none_left c least each at within enough =
-    let inside : at.chunks ≤ c.p = omega (arith, within.chunks) in
-    elim (eq-or-lt_of_le inside) [
-      | inl is ↦ is
-      | inr less ↦
-          let left = enough less in
-          let some : 0 < lacking c at = omega (arith, within.mixes) in
-          absurd (omega (arith, some_here _ least left.0 some left.1, left.2))
-    ]
+none_left c least each at within enough = grind arith
 
 one_less : (most : ℕ) (scalar : Bool) (log_n r p least each k count : ℕ) (old new : Kept)
     → HasStepped most scalar log_n r p count old new (pos 0) → all_mixes log_n ≤ least * each → least ≤ count
@@ -58,16 +49,8 @@ one_less most scalar log_n r p least each k count old new step all more enough l
       | inr first ↦
           let left = enough first in
           elim (cases_lt count (lacking c old.at)) [
-            | inl small ↦
-                let same = step.going_on refl first small in
-                rw same (same_group (all_mixes log_n) old.at.mixes count least left.0 _ k small more left.1 left.2)
-            | inr whole ↦
-                let next = step.next refl first whole in
-                let some : 0 < lacking c old.at = omega (arith, before.mixes) in
-                let here = some_here _ least left.0 some left.1 in
-                let others = groups_left p new.at.chunks new.at.interleaved each less (after.some less) in
-                let fits : left.0 + (p - new.at.chunks) * each ≤ suc k = rw next.0 left.2 in
-                (each, omega (arith, next.1, all), omega (arith, others, fits, here))
+            | inl small ↦ grind (arith, same_group (all_mixes log_n) old.at.mixes count least left.0 _ k small more left.1 left.2)
+            | inr whole ↦ grind (arith, some_here, groups_left p new.at.chunks new.at.interleaved each less (after.some less))
           ]
     ]
 
@@ -75,12 +58,7 @@ one_less most scalar log_n r p least each k count old new step all more enough l
 succeeds : (most : ℕ) (scalar : Bool) (log_n r p count : ℕ) (old new : Kept) (status : ℤ) → IsTrue (are_accepted log_n r p)
     → IsAt most scalar (params_of log_n r p) old.at old.chunks old.table old.scratch
     → HasStepped most scalar log_n r p count old new status → status ≡ pos 0
-succeeds most scalar log_n r p count old new status good here step = elim step.one [
-  | inl ok ↦ ok
-  | inr (inl params) ↦ absurd (step.params.0 params good)
-  | inr (inr (inl buffers)) ↦ absurd ((step.buffers.0 buffers).1 here.fits)
-  | inr (inr (inr progress)) ↦ absurd (step.outside progress here.within)
-]
+succeeds most scalar log_n r p count old new status good here step = grind (arith, common_steps, places)
 
 -- the key of this password and this salt is under way in the buffers
 abbrev IsGoing : ℕ → Bool → List ℕ → List ℕ → Parameters → Kept → Type 0
@@ -97,13 +75,7 @@ IsRun most scalar password salt c old steps new = IsGoing most scalar password s
 runs : (most : ℕ) (scalar : Bool) (password salt : List ℕ) (log_n r p : ℕ) → IsTrue (are_accepted log_n r p)
     → (steps : List (ℕ × ℤ)) (old new : Kept) → IsGoing most scalar password salt (params_of log_n r p) old
     → Session most scalar log_n r p old steps new → IsRun most scalar password salt (params_of log_n r p) old steps new
-runs most scalar password salt log_n r p good [] old new going is =
-    let here : IsRun most scalar password salt (params_of log_n r p) old [] old = (
-      going,
-      All-nil (λ (step : ℕ × ℤ). step.1 ≡ pos 0),
-      λ least each all large enough. none_left (params_of log_n r p) least each old.at going.0.within.0 enough,
-    ) in
-    rw is here
+runs most scalar password salt log_n r p good [] old new going is = grind arith
 runs most scalar password salt log_n r p good (step ∷ steps) old new going session =
     let mid = session.0 in
     let ok = succeeds most scalar log_n r p step.0 old mid step.1 good going.0 session.1 in
@@ -150,10 +122,7 @@ steps_mix most scalar password salt log_n r p least each steps begun ended good 
 -- a key that was begun has accepted parameters
 accepted : (most : ℕ) (scalar : Bool) (password salt : List ℕ) (log_n r p : ℕ) (old begun : Kept)
     → HasBegun most scalar password salt log_n r p old begun (pos 0) → IsTrue (are_accepted log_n r p)
-accepted most scalar password salt log_n r p old begun has = elim (cases_Bool (are_accepted log_n r p)) [
-  | inl is ↦ is
-  | inr none ↦ let wrong = has.params.1 (λ is. false≢true (sym none ∙ is)) in absurd cc
-]
+accepted most scalar password salt log_n r p old begun has = grind arith
 
 pub steps_end : (most : ℕ) (scalar : Bool) (password salt output key : List ℕ) (log_n r p least each : ℕ) (steps : List (ℕ × ℤ))
     (old begun ended : Kept) (status : ℤ)

@@ -1,21 +1,14 @@
 -- Making hashes, carrying out a command, and the outcome and the plan of a run.
-use Rattle.std.proofs.Common.{◌≡◌, ◌⊎◌, ℕ, false, true, List, [], ◌∷◌, Option, Some, None, Ok, Err, inl, inr, length, ◌∙◌, ap, refl, sym, append-nil}
-use Rattle.std.specs.Prelude.{Bool, IfSome, Result, if◌then◌else◌}
+use Rattle.std.proofs.Common.{◌≡◌, ◌⊎◌, ℕ, true, List, [], Option, Some, None, Err, inl, inr, refl, sym, append-nil, arith}
+use Rattle.std.specs.Prelude.{IfSome, Result}
 use Rattle.std.specs.Io.KnownBytes.{Appends, Keeps}
-use Rattle.std.specs.Option.{option_map_or}
-use Rattle.scrypt.specs.Terms.{◌and_then◌, OutOfMemory as Refused, Parameters, hash_text, is_salt_len, made_phc}
-use Rattle.scrypt.specs.Terms.{refusal, salt_refusal}
-use Rattle.password_hash.specs.Refusal.{SaltInvalid as BadSalt}
+use Rattle.scrypt.specs.Terms.{Parameters, refusal, salt_refusal}
 use Rattle.password_hash.specs.declared.error.Error.{Error}
-use Rattle.password_hash.specs.declared.error.Error.TheVariants.{OutOfMemory as NoMemory, SaltInvalid}
 use Rattle.scrypt_commands.specs.{AppendsReply, CommandLine, ErrorLine, FailsWith, HasOutcome, OnInput, Reply}
-use Rattle.scrypt_commands.specs.{Streams, Tell, asked_by, command_by, command_line_of, error_line, hash_error}
-use Rattle.scrypt_commands.specs.{invocation_by, invocation_of, name_of, new_hash, no_options, options_of, outcome}
-use Rattle.scrypt_commands.specs.{plan_of, plan_of_command, plan_of_words, refuse, reply_by, request_of, status_of}
-use Rattle.scrypt_commands.specs.{text_of_words}
+use Rattle.scrypt_commands.specs.{Streams, error_line, hash_error}
+use Rattle.scrypt_commands.specs.{invocation_of, new_hash, no_options, options_of, outcome}
+use Rattle.scrypt_commands.specs.{plan_of, plan_of_words, reply_by, request_of, status_of, text_of_words}
 use Rattle.scrypt_commands.specs.declared.command.Format.TheVariants.{Phc}
-use Rattle.scrypt_commands.specs.declared.command_line.Name.{Name}
-use Rattle.scrypt_commands.specs.declared.command_line.Name.TheVariants.{Key, Hash, Verify, Rehash}
 use Rattle.scrypt_commands.specs.declared.error.CliError.{CliError}
 use Rattle.scrypt_commands.specs.declared.error.CliError.TheVariants.{InputFailed, OutOfMemory, OutputFailed}
 use Rattle.scrypt_commands.specs.declared.run.Ended.{Ended}
@@ -23,14 +16,7 @@ use Rattle.scrypt_commands.specs.declared.run.Ended.{Ended}
 -- the error of a PHC hash that was not made
 pub phc_refused : (c : Parameters) (password salt : List ℕ) (why : Error) → refusal why ≡ salt_refusal salt
     → FailsWith (λ error. new_hash Phc c password salt ≡ Err (error_line error)) (hash_error why)
-phc_refused c password salt = at (is_salt_len (length salt))
-  where
-    at : (fits : Bool) (why : Error) → refusal why ≡ (if fits then Refused else BadSalt)
-        → FailsWith (λ error. (if fits then Ok (hash_text (made_phc c password salt)) else refuse (hash_error SaltInvalid)) ≡ Err (error_line error)) (hash_error why)
-    at true NoMemory is = inl refl
-    at false SaltInvalid is = inr (refl, refl)
-    at true others is = absurd cc
-    at false others is = absurd cc
+phc_refused c password salt = grind arith
 
 -- what holds of every input holds of that of a reader
 on_any_input : (known : Option (List ℕ)) (P : List ℕ → Type 0) → ((input : List ℕ) → P input) → OnInput known P
@@ -78,8 +64,7 @@ end_outcome reply_on known old new faults faults' ended OutOfMemory is kept writ
 end_outcome reply_on known old new faults faults' ended InputFailed is kept written refused = inr (inl is)
 end_outcome reply_on known old new faults faults' ended OutputFailed is kept written refused = inr (inl is)
 end_outcome reply_on known old new faults faults' ended error is (inl failed) written refused = absurd cc
-end_outcome reply_on known old new faults faults' ended error is (inr kept) written refused =
-    let (input, same, has) = refused refl in inr (inr (input, same, rw has (is, appends_nothing old new kept, written)))
+end_outcome reply_on known old new faults faults' ended error is (inr kept) written refused = grind (arith, appends_nothing, kept)
 
 -- known bytes keep themselves
 pub kept : (known : Option (List ℕ)) → Keeps known known
@@ -90,28 +75,12 @@ kept (Some xs) = refl
 pub answered_outcome : (reply_on : List ℕ → Result Reply ErrorLine) (before after : Streams) (status : ℕ) (ended : Ended)
     → ended.status ≡ status → Keeps before.faults after.faults → AppendsReply reply_on before.input before.output after.output status
     → OnInput before.input (λ input. HasOutcome ended before after (outcome (reply_on input)))
-answered_outcome reply_on before after status ended is same_faults (input, same, (line, has, appends)) =
-    (input, same, rw has (is, appends, λ _. appends_nothing before.faults after.faults same_faults))
+answered_outcome reply_on before after status ended is same_faults (input, same, (line, has, appends)) = grind (arith, appends_nothing)
 
 -- a command without options has the plan of its words
-of_command : (salt : List ℕ) (words : List (List ℕ))
-    → plan_of salt None (asked_by (command_by no_options words)) ≡ plan_of_command (command_by no_options words)
-of_command salt [] = refl
-of_command salt (word ∷ words) = of_name (name_of word)
-  where
-    of_name : (read : Result Name CliError)
-        → plan_of salt None (asked_by (read and_then command_line_of no_options words)) ≡ plan_of_command (read and_then command_line_of no_options words)
-    of_name (Ok Key) = refl
-    of_name (Ok Hash) = refl
-    of_name (Ok Verify) = refl
-    of_name (Ok Rehash) = refl
-    of_name (Err error) = refl
-
 pub without_options : (salt : List ℕ) (words : List (List ℕ)) → text_of_words words ≡ None → options_of words ≡ (no_options, words)
     → plan_of salt None (invocation_of words) ≡ plan_of_words words
-without_options salt words no_text none =
-    ap (λ text. plan_of salt None (option_map_or Tell text (invocation_by (options_of words)))) no_text
-    ∙ ap (λ read. plan_of salt None (invocation_by read)) none ∙ of_command salt words
+without_options salt words no_text none = grind arith
 
 -- the ends of a run
 pub ruleset endings = (refused_args, refused_input)

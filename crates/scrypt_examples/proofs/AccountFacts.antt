@@ -1,9 +1,7 @@
 -- What keeps an account open, call by call.
 use Rattle.std.proofs.Common.{◌≡◌, ◌↔◌, ◌≤◌, ℕ, List, [], ◌∷◌, Ok, Err, inl, inr, refl, arith, true, false}
 use Rattle.std.specs.Prelude.{Bool, IsOk, IsTrue, Result, length}
-use Rattle.std.proofs.lemmas.Bool.{and_parts}
-use Rattle.std.proofs.lemmas.Bool.Decides.{nat_tests}
-use Rattle.scrypt.specs.Terms.{Parameters, Refusal, Stored, are_within, key_by, key_len_or_default, made_stored}
+use Rattle.scrypt.specs.Terms.{Parameters, Refusal, Stored, are_within, key_by, made_stored}
 use Rattle.scrypt.specs.Terms.{reading, verdict, weaker, within}
 use Rattle.scrypt.specs.declared.limits.Limits.{Limits}
 use Rattle.scrypt_examples.specs.Account.{Call, ChangePassword, IsOpen, IsRenewed, LogIn, Run, SetLimits, SetPolicy, Step, Stores, admits, current_password, password_after}
@@ -24,41 +22,22 @@ accepted password (Err why) is = absurd cc
 made_within : Laws → (limits : Limits) (c : Parameters) (password salt : List ℕ) (read : Result Stored Refusal) → IsTrue (admits limits c)
     → read ≡ Ok (made_stored c password salt) → within limits read ≡ read
 unfolding are_within
-made_within laws limits c password salt read admitted is =
-    let parts = and_parts (are_within limits c) _ admitted in
-    let len = laws.key_len c password salt (key_len_or_default c) in
-    let fits = (laws.allowed limits (made_stored c password salt)).1 (parts.0, rw len (grind (arith, nat_tests, parts.1))) in
-    laws.same limits read (rw is fits)
+made_within laws limits c password salt read admitted is = grind arith
 
 -- a renewed text leaves the account open to its password
 renewed_open : Laws → (old new : Stores) (current password salt : List ℕ) → IsOpen current old
     → IsRenewed old password salt new → IsOpen password new
-renewed_open laws old new current password salt is_open renewed =
-    let fits = made_within laws old.limits old.policy password salt _ is_open.admitted renewed.read.read in
-    record {
-      accepts = rw (renewed.limits, fits, renewed.read.accepts) refl;
-      admitted = rw (renewed.limits, renewed.policy) is_open.admitted;
-    }
+renewed_open laws old new current password salt is_open renewed = grind (arith, made_within)
 
 -- each step leaves the account open to the current password
 step_open : Laws → (old new : Stores) (current : List ℕ) (call : Call) (answer : Bool) → IsOpen current old
     → Step old call answer new → IsOpen (password_after current call answer) new
 step_open laws old new current call false is_open (refused, same) = rw same is_open
-step_open laws old new current (LogIn password salt) true is_open (allowed, inl (weak, renewed)) =
-    renewed_open laws old new current password salt is_open renewed
-step_open laws old new current (LogIn password salt) true is_open (allowed, inr (strong, same)) =
-    rw same (record { accepts = allowed; admitted = is_open.admitted })
-step_open laws old new current (ChangePassword password new_password salt) true is_open (allowed, renewed) =
-    renewed_open laws old new current new_password salt is_open renewed
-step_open laws old new current (SetPolicy policy) true is_open (allowed, same) =
-    rw same (record { accepts = is_open.accepts; admitted = allowed })
-step_open laws old new current (SetLimits limits) true is_open (allowed, same) =
-    let fits = and_parts (admits limits old.policy) _ allowed in
-    let before = laws.same old.limits (reading old.text) (accepted current _ is_open.accepts) in
-    rw same (record {
-      accepts = rw (laws.same limits (reading old.text) fits.1) (rw before at is_open.accepts);
-      admitted = fits.0;
-    })
+step_open laws old new current (LogIn password salt) true is_open (allowed, inl (weak, renewed)) = grind (arith, renewed_open)
+step_open laws old new current (LogIn password salt) true is_open (allowed, inr (strong, same)) = grind arith
+step_open laws old new current (ChangePassword password new_password salt) true is_open (allowed, renewed) = grind (arith, renewed_open)
+step_open laws old new current (SetPolicy policy) true is_open (allowed, same) = grind arith
+step_open laws old new current (SetLimits limits) true is_open (allowed, same) = grind arith
 
 -- so does each history
 pub run_open : Laws → (start end : Stores) (current : List ℕ) (history : List (Call × Bool)) → IsOpen current start

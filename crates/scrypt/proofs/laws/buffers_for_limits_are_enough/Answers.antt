@@ -1,3 +1,5 @@
+use Rattle.std.proofs.Common.{arith, rules}
+use Rattle.std.proofs.lemmas.List.{places}
 use Rattle.std.specs.Prelude.{IsTrue}
 use Rattle.scrypt.specs.Terms.{AreFor, Parameters, are_enough}
 use Rattle.scrypt.specs.declared.buffers.Buffers.{Buffers}
@@ -6,13 +8,7 @@ use Rattle.scrypt.proofs.StoredHashFacts.{enough_read, reading_accepted}
 use Rattle.scrypt.proofs.laws.buffers_for_limits_are_enough.Goals as goal
 
 each : (c : Parameters) (own : Buffers) → IsTrue (are_enough c own.chunks.items own.table.items own.scratch.items) → AreFor c own
-each c own enough =
-    let fits = (enough_decided c own.chunks.items own.table.items own.scratch.items).0 enough in
-    record { chunks = fits.0; table = fits.1.0; scratch = fits.1.1 }
+each c own enough = grind (arith, enough_decided)
 
 pub returns : goal.returns
-returns c = record {
-  accepted = reading_accepted;
-  parameters = λ limits c own suffice some fits. each c own (enough_for limits c own.chunks.items own.table.items own.scratch.items suffice some fits);
-  hash = λ limits text s own suffice is fits. each s.params own (enough_read limits text s own.chunks.items own.table.items own.scratch.items suffice is fits);
-}
+returns c = search (rules, places, reading_accepted, each, enough_for, enough_read)

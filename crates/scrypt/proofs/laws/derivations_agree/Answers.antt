@@ -1,12 +1,12 @@
-use Rattle.std.proofs.Common.{ℕ, ◌*◌, ◌++◌, refl, sym, ap, ap₂, ◌∙◌, take}
-use Rattle.std.proofs.lemmas.List.{length-take-le, take-append-drop}
-use Rattle.scrypt.specs.Terms.{chunks_bytes, derived_key, first_b, key_by}
+use Rattle.std.proofs.Common.{arith, rules}
+use Rattle.std.proofs.Common.{ℕ, ◌*◌, ◌++◌, refl, sym, ap₂, ◌∙◌, take}
+use Rattle.std.proofs.lemmas.List.{length-take-le, take-append-drop, places}
+use Rattle.scrypt.specs.Terms.{chunks_bytes, derived_key}
 use Rattle.scrypt.proofs.SteppingFacts.{all_chunks_mixed}
 use Rattle.scrypt.proofs.laws.derivations_agree.Goals as goal
 
 pub returns-clause-calls : goal.returns-clause-calls
-returns-clause-calls x c password salt n m old other made again a b d e long one two =
-    one.value ∙ ap (key_by c password salt) long ∙ sym two.value
+returns-clause-calls x c password salt n m old other made again a b d e long one two = grind arith
 
 pub returns-clause-steps : goal.returns-clause-steps
 returns-clause-steps x c password salt at to chunks table scratch others tables scratches same one two =
@@ -17,8 +17,7 @@ returns-clause-steps x c password salt at to chunks table scratch others tables 
     sym (take-append-drop n y) ∙ ap₂ (λ done rest. done ++ rest) (one.mixed.done ∙ sym again.done) (one.mixed.rest ∙ sym again.rest) ∙ take-append-drop n z
 
 pub returns-clause-mixed : goal.returns-clause-mixed
-returns-clause-mixed x c password salt at chunks table scratch ended room under_way =
-    all_chunks_mixed (first_b password salt c) (take (chunks_bytes c.r c.p) chunks) c.log_n c.r at.chunks c.p ended (length-take-le _ chunks room) under_way.mixed
+returns-clause-mixed x c password salt at chunks table scratch ended room under_way = search (rules, places, all_chunks_mixed, length-take-le)
 
 pub returns-clause-finished : goal.returns-clause-finished
 unfolding derived_key

@@ -1,4 +1,4 @@
-use Rattle.std.proofs.Common.{sym, ◌∙◌}
+use Rattle.std.proofs.Common.{arith, sym, ◌∙◌}
 use Rattle.password_hash.proofs.McfFacts.{IsMcfText-one}
 use Rattle.password_hash.proofs.GroupFacts.{Crypt64-one}
 use Rattle.password_hash.proofs.PhcReadingFacts.{one_reading}
@@ -16,8 +16,7 @@ returns-clause-modular_reading c text one other fields more is again =
     (sym first.0 ∙ second.0, sym first.1 ∙ second.1)
 
 pub returns-clause-mcf_reading : goal.returns-clause-mcf_reading
-returns-clause-mcf_reading c text one other is again =
-    let both = sym (text_read text one is) ∙ text_read text other again in cc
+returns-clause-mcf_reading c text one other is again = grind (arith, text_read text one is, text_read text other again)
 
 pub returns-clause-mcf_text : goal.returns-clause-mcf_text
 returns-clause-mcf_text c one other s is again = text_of is ∙ sym (text_of again)

@@ -1,4 +1,4 @@
-use Rattle.std.proofs.Common.{◌≡◌, ◌∙◌, ◌∷◌, ◌++◌, ap, append_assoc, arith, length, length-append, rules, sym, take}
+use Rattle.std.proofs.Common.{◌≡◌, ◌∷◌, ap, append_assoc, arith, length, length-append, rules, take}
 use Rattle.std.proofs.lemmas.Slice.{take-put_mid}
 use Rattle.scrypt_kernel.proofs.CountFacts.{hashed_none}
 use Rattle.scrypt.specs.Terms.{all_cost, all_of, attempts, chunks_cost, chunks_of}
@@ -13,10 +13,7 @@ loop-login-preserved c =
     let before = c.loop-login.invariant in
     let front = take c.loop-login.at c.loop-login.chunks in
     rw (rest_is _ _ _ is) (record {
-      written = ap (λ x. x ++ all_of chunks_of (attempts c.in-Some.field-0-1.now))
-          (take-put_mid c.loop-login.at _ c.loop-login.chunks c.derive_chunks.new.chunks _ (omega (arith, c.chunks_len.ensures.value, ap length c.derive_chunks.ensures.value))
-          (omega (arith, before.fits)) ∙ ap (λ x. front ++ x) c.derive_chunks.ensures.value)
-          ∙ append_assoc front _ _ ∙ ap (λ a. front ++ all_of chunks_of a) (sym next) ∙ before.written;
+      written = grind (arith, take-put_mid, append_assoc);
       fits = omega (arith, sizes, before.fits, c.chunks_len.ensures.value);
       counted = λ after rest. before.counted after (hashed_more chunks_cost next c.derive_chunks.ensures.counted rest);
     })

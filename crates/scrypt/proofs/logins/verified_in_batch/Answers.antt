@@ -1,6 +1,5 @@
-use Rattle.std.proofs.Common.{◌≡◌, ◌∙◌, rules, map}
-use Rattle.scrypt.specs.Terms.{AreCompressed, AreCounted, Attempt, all_cost, attempts, verdict, verify_cores}
-use Rattle.scrypt.specs.Terms.{verify_cost, with_limited_refusal, workspace_of}
+use Rattle.std.proofs.Common.{◌≡◌, ◌∙◌, rules, map, arith}
+use Rattle.scrypt.specs.Terms.{Attempt, attempts, verdict, with_limited_refusal, workspace_of}
 use Rattle.scrypt.proofs.LoginFacts.{alone}
 use Rattle.scrypt.proofs.logins.verified_in_batch.Goals as goal
 
@@ -13,11 +12,9 @@ returns-in-Some-verified-clause-verdicts g c = λ _.
 pub returns-in-Some-verified-clause-counted : goal.returns-in-Some-verified-clause-counted
 returns-in-Some-verified-clause-counted g c = λ _.
     let before = workspace_of c.args.chunks.now c.args.table.now c.args.scratch.now in
-    let batch : AreCounted (all_cost verify_cores (attempts c.args.logins.now)) c.args.cores.now c.with_prefix-verified.new.cores = search rules in
-    rw ((alone c.in-Some.params (attempts c.args.logins.now) c.in-Some.count before c.in-Some.ensures'.count (search rules)).1) at batch
+    grind (arith, alone c.in-Some.params (attempts c.args.logins.now) c.in-Some.count before c.in-Some.ensures'.count (search rules))
 
 pub returns-in-Some-verified-clause-hashed : goal.returns-in-Some-verified-clause-hashed
 returns-in-Some-verified-clause-hashed g c = λ _.
     let before = workspace_of c.args.chunks.now c.args.table.now c.args.scratch.now in
-    let batch : AreCompressed (all_cost verify_cost (attempts c.args.logins.now)) c.args.cores.now c.with_prefix-verified.new.cores = search rules in
-    rw ((alone c.in-Some.params (attempts c.args.logins.now) c.in-Some.count before c.in-Some.ensures'.count (search rules)).2) at batch
+    grind (arith, alone c.in-Some.params (attempts c.args.logins.now) c.in-Some.count before c.in-Some.ensures'.count (search rules))

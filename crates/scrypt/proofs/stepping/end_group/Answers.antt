@@ -13,6 +13,5 @@ returns c = record {
       let value = (rw c.r-r.ensures.value at c.end_chunks.ensures.value) (words_from b params.r c.args.i) params.log_n table mixing in
       rw c.r-r.ensures.value (mixed_slice c.args.n c.requires.inside (rw c.r-r.ensures.value at c.end_chunks.auto.b)
       (λ long. parts_from (mixed_chunk b params.log_n params.r) (128 * params.r) c.args.i c.args.n c.end_chunks.new.b long value) before);
-  scratch_rest = drop_same (c.args.n * (32 * c.args.params.now.r)) _ _ _ (mul-le-mul_left c.args.n (omega arith))
-      (rw c.r-r.ensures.value at c.end_chunks.ensures.scratch_rest);
+  scratch_rest = grind (arith, drop_same, mul-le-mul_left);
 }

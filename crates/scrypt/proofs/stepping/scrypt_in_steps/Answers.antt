@@ -1,33 +1,15 @@
-use Rattle.std.proofs.Common.{◌≡◌, ◌∙◌, ◌<◌, ◌*◌, min, arith, refl, rules, true}
+use Rattle.std.proofs.Common.{◌≡◌, ◌∙◌, ◌*◌, min, arith, refl, true}
 use denote.Param.Always.{mut_next}
 use Rattle.scrypt_kernel.proofs.CountFacts.{counted_between, counted_both, counted_none}
-use Rattle.scrypt_kernel.specs.Steps.{all_mixes}
 use Rattle.scrypt.specs.Stepping.{lacking, mixes_done}
 use Rattle.scrypt.proofs.SteppingFacts.{all_mixes_cost, cores_more, mixes_left, mixes_more, next_shown, none_shown, one_shown, rest_then}
 use Rattle.scrypt.proofs.stepping.scrypt_in_steps.Goals as goal
 
 pub steps-smaller : goal.steps-smaller
-steps-smaller g c =
-    let params = c.args.params.now in
-    let at = c.steps.at in
-    let within = c.steps.invariant.going.within in
-    let more : at.chunks < params.p = omega (arith, c.steps-test.true, c.p.ensures.value) in
-    let left = mixes_left at.chunks at.interleaved at.mixes (all_mixes params.log_n) params.p within.chunks (within.some more) within.mixes in
-    let onward = mixes_more at.interleaved (min c.args.count (lacking params at)) (within.some more) (omega (arith, c.requires.some, within.mixes)) in
-    omega (arith, left, onward, c.step-at.ensures.exact)
+steps-smaller g c = grind (arith, mixes_left, mixes_more)
 
 pub steps-init : goal.steps-init
-steps-init g c =
-    let start = c.begin-at.ensures.start in
-    let none : mixes_done c.args.params.now c.begin-at.result * (2 * c.args.params.now.r) ≡ 0 = rw (start.0, start.1) (omega arith) in
-    record {
-      callable = search rules;
-      going = c.begin-at.ensures.going;
-      under_way = c.begin-at.ensures.under_way;
-      shown = none_shown _ _ c.args.go_on _ none;
-      rest = c.begin-at.ensures.rest;
-      counted = counted_none true _ _ none;
-    }
+steps-init g c = grind (arith, none_shown, counted_none)
 
 pub steps-preserved : goal.steps-preserved
 steps-preserved g c =
@@ -45,15 +27,7 @@ steps-preserved g c =
     }
 
 pub returns-clause-derived : goal.returns-clause-derived
-returns-clause-derived g c =
-    let params = c.args.params.now in
-    let all : c.steps.at.chunks ≡ params.p = omega (arith, c.steps-test.false, c.p.ensures.value, c.steps.invariant.going.within.chunks) in
-    let both = counted_between c.begin-at.ensures.counted c.steps.invariant.counted c.in-Ok.ensures.counted in
-    record {
-      value = c.in-Ok.ensures.value c.args.salt.now c.steps.table c.steps.scratch c.steps.invariant.under_way;
-      counted = rw (all_mixes_cost params.log_n params.r params.p c.steps.at.chunks c.steps.at.interleaved c.steps.at.mixes all (c.steps.invariant.going.within.ended all)) at both.0;
-      hashed = both.1;
-    }
+returns-clause-derived g c = grind (arith, counted_between, all_mixes_cost)
 
 pub returns-clause-shown : goal.returns-clause-shown
 returns-clause-shown g c =
@@ -82,5 +56,4 @@ returns-then-not-go_on-clause-cancelled g c _ =
     )
 
 pub returns-then-not-go_on-clause-rest : goal.returns-then-not-go_on-clause-rest
-returns-then-not-go_on-clause-rest g c =
-    rest_then c.args.params.now _ _ _ (c.steps.auto.table ∙ c.begin-at.auto.table) (c.steps.auto.scratch ∙ c.begin-at.auto.scratch) c.steps.invariant.rest c.step-at.ensures.rest
+returns-then-not-go_on-clause-rest g c = grind (arith, rest_then)

@@ -2,7 +2,7 @@ use Rattle.std.proofs.Common.{◌≡◌, ◌∙◌, ◌<◌, ◌*◌, ℕ, List,
 use Rattle.std.proofs.Math.Nat.{mul-le-mul_right}
 use Rattle.std.proofs.lemmas.List.{drop_at}
 use Rattle.scrypt_kernel.specs.Steps.{all_mixes}
-use Rattle.scrypt.specs.Terms.{AreMixed, IsRestKept, chunks_bytes, first_b, table_words, words_from, workspace_of}
+use Rattle.scrypt.specs.Terms.{IsRestKept, first_b, table_words, words_from, workspace_of}
 use Rattle.scrypt.proofs.SteppingFacts.{all_done, chunks_inside, group_fits, more_mixes, rest_kept, rest_then}
 use Rattle.scrypt.proofs.stepping.step.Goals as goal
 
@@ -22,35 +22,23 @@ pub returns-clause-under_way : goal.returns-clause-under_way
 returns-clause-under_way g c password salt at =
     let params = c.args.params.now in
     let b : List ℕ = first_b password salt params in
-    let all : c.mix_more-mixes.result ≡ all_mixes params.log_n =
-    all_done params.log_n c.mix_more-mixes.result _ _ (omega (arith, c.log_n.ensures)) (rw c.log_n.ensures.value at c.if-mixes-log_n.false) c.mix_more-mixes.ensures.done in
+    let all : c.mix_more-mixes.result ≡ all_mixes params.log_n = grind (arith, all_done) in
     let mixed = rw all at (c.mix_more-mixes.ensures.mixed (words_from b params.r c.args.at.chunks) at.next) in
-    let front : AreMixed b params.log_n params.r c.args.at.chunks c.split_at_mut-chunks.result.0.now =
-    rw (c.split_at_mut-chunks.ensures.front, c.index.ensures, c.of.ensures.chunks) at.mixed in
-    let long = c.end_group.auto.chunks ∙ c.split_at_mut-chunks.ensures.front_len ∙ c.index.ensures ∙ c.of.ensures.chunks in
-    let after = c.begin_group.ensures.under_way password salt (c.end_group.ensures.mixed b _ front mixed) in
-    record {
-      mixed = rw (take_at c.end_group.new.chunks _ _ long) (rw (take_all (chunks_bytes params.r params.p) c.end_group.new.chunks (omega (arith, long))) at after.mixed);
-      next = after.next;
-    }
+    grind (arith, take_at, take_all)
 
 -- what a step within a group adds
 pub returns-then-mixes-log_n-clause-exact : goal.returns-then-mixes-log_n-clause-exact
-returns-then-mixes-log_n-clause-exact g c =
-    omega (arith, more_mixes c.args.at.interleaved _ _ _ _ c.requires.going.within.mixes c.mix_more-mixes.ensures.done)
+returns-then-mixes-log_n-clause-exact g c = grind (arith, more_mixes)
 
 pub returns-clause-exact : goal.returns-clause-exact
 returns-clause-exact g c =
     let params = c.args.params.now in
-    let all : c.mix_more-mixes.result ≡ all_mixes params.log_n =
-    all_done params.log_n c.mix_more-mixes.result _ _ (omega (arith, c.log_n.ensures)) (rw c.log_n.ensures.value at c.if-mixes-log_n.false) c.mix_more-mixes.ensures.done in
+    let all : c.mix_more-mixes.result ≡ all_mixes params.log_n = grind (arith, all_done) in
     let more = more_mixes c.args.at.interleaved _ _ _ _ c.requires.going.within.mixes c.mix_more-mixes.ensures.done in
     rw (c.begin_group.ensures.start.0, c.begin_group.ensures.start.1) (omega (arith, rw all at more))
 
 pub returns-then-mixes-log_n-clause-rest : goal.returns-then-mixes-log_n-clause-rest
-returns-then-mixes-log_n-clause-rest g c =
-    rest_kept c.args.params.now c.args.at.interleaved _ _ (group_fits _ _ _ _ _ _ c.requires.going c.expose_invariant.ensures.some.0) refl
-    c.mix_more-mixes.ensures.table_rest c.mix_more-mixes.ensures.scratch_rest
+returns-then-mixes-log_n-clause-rest g c = search (arith, rest_kept, group_fits)
 
 pub returns-clause-rest : goal.returns-clause-rest
 returns-clause-rest g c =
@@ -63,8 +51,4 @@ returns-clause-rest g c =
     c.mix_more-mixes.auto.table (c.end_group.auto.scratch ∙ c.mix_more-mixes.auto.scratch) one
     (record { chunks = refl; table = c.begin_group.ensures.rest.table; scratch = c.begin_group.ensures.rest.scratch }) in
     let long = c.end_group.auto.chunks ∙ c.split_at_mut-chunks.ensures.front_len ∙ c.index.ensures ∙ c.of.ensures.chunks in
-    record {
-      chunks = drop_at c.end_group.new.chunks _ _ long ∙ rw (c.index.ensures, c.of.ensures.chunks) at c.split_at_mut-chunks.ensures.back;
-      table = two.table;
-      scratch = two.scratch;
-    }
+    grind (arith, drop_at)

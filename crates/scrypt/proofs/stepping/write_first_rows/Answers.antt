@@ -25,6 +25,5 @@ returns c = record {
       let n = c.args.n in
       drop_same (n * (32 * c'.r)) _ _ _ (first_rows_fit n c'.log_n c'.r (n * table_words c'.log_n c'.r) (omega arith))
       (rw c.r-r.ensures.value at c.begin_chunks.ensures.table_rest);
-  scratch_rest = drop_same (c.args.n * (32 * c.args.params.now.r)) _ _ _ (mul-le-mul_left c.args.n (omega arith))
-      (rw c.r-r.ensures.value at c.begin_chunks.ensures.scratch_rest);
+  scratch_rest = grind (arith, drop_same, mul-le-mul_left);
 }

@@ -1,4 +1,4 @@
-use Rattle.std.proofs.Common.{rules}
+use Rattle.std.proofs.Common.{arith, rules}
 use Rattle.password_hash.specs.Phc.{IsSalt}
 use Rattle.scrypt.proofs.PhcFacts.{only_memory}
 use Rattle.scrypt.proofs.texts.hash_text.Goals as goal
@@ -12,17 +12,7 @@ returns c =
     let accepted = c.expose_invariant.ensures.accepted in
     let stored = c.expose_invariant.ensures.stored in
     let law = c.made_hashes_are_accepted.ensures.phc_text params c.args.password.now c.args.salt accepted stored salt in
-    record {
-      made = printed;
-      read = rw printed law.read;
-      accepts = rw printed law.accepts;
-      strong = rw printed law.strong;
-      within = λ defaults n short bytes little. rw printed (c.made_hashes_are_accepted.ensures.phc_within defaults params c.args.password.now
-          c.args.salt n accepted stored salt short bytes little);
-      err = tt;
-    }
+    grind arith
 
 pub returns-in_err-hash-clause-err : goal.returns-in_err-hash-clause-err
-returns-in_err-hash-clause-err c =
-    let none = only_memory c.args.salt _ (search rules) c.in_err-hash.ensures.err in
-    search (rules, none)
+returns-in_err-hash-clause-err c = grind (arith, only_memory c.args.salt _ (search rules) c.in_err-hash.ensures.err)

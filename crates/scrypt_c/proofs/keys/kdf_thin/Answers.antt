@@ -1,4 +1,4 @@
-use Rattle.std.proofs.Common.{length, rules}
+use Rattle.std.proofs.Common.{arith, length, rules}
 use Rattle.scrypt.proofs.CostFacts.{whole_table_cost}
 use Rattle.scrypt.specs.Terms.{workspace_of}
 use Rattle.scrypt_c.specs.Buffers.{AreBuffers}
@@ -10,11 +10,7 @@ pub returns-then-s-eq0-clause-key : goal.returns-then-s-eq0-clause-key
 returns-then-s-eq0-clause-key c =
     let new = c.scrypt_with_buffers-whole.new in
     let before = workspace_of c.args.chunks.now c.args.table.now c.args.scratch.now in
-    let are : AreBuffers c.args.log_n c.args.r c.args.p c.args.s (length before.chunks) (length before.table) (length before.scratch) = record {
-      chunks_are = search rules;
-      table_is = search rules;
-      scratch_is = search rules;
-    } in
+    let are : AreBuffers c.args.log_n c.args.r c.args.p c.args.s (length before.chunks) (length before.table) (length before.scratch) = grind arith in
     record {
       key = search rules;
       buffers = search rules;

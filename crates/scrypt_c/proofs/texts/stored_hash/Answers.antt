@@ -1,11 +1,9 @@
-use Rattle.std.proofs.Common.{◌∙◌}
+use Rattle.std.proofs.Common.{◌∙◌, arith}
 use Rattle.scrypt_c.proofs.TextFacts.{no_text_read, text_read}
 use Rattle.scrypt_c.proofs.texts.stored_hash.Goals as goal
 
 pub returns-in-Ok-clause-reading : goal.returns-in-Ok-clause-reading
-returns-in-Ok-clause-reading c =
-    let text = c.in-Ok.ensures.cases in
-    (text_read c.args.bytes.now text.1).0 ∙ (rw text.0 at c.read.ensures.reading)
+returns-in-Ok-clause-reading c = grind (arith, text_read)
 
 pub returns-in-Ok-clause-params : goal.returns-in-Ok-clause-params
 returns-in-Ok-clause-params c =

@@ -1,5 +1,4 @@
-use Rattle.std.proofs.Common.{◌∙◌, arith, length, refl, rules, sym}
-use Rattle.scrypt.specs.McfHash.{made_text_len}
+use Rattle.std.proofs.Common.{◌∙◌, arith, rules, sym}
 use Rattle.scrypt.proofs.AcceptedFacts.{leb_decided}
 use Rattle.scrypt.proofs.McfTextFacts.{made_mcf_len}
 use Rattle.scrypt_c.proofs.MadeFacts.{enough_of, is_hashed, len_is, written_ascii}
@@ -15,26 +14,4 @@ returns-clause-made c =
     (written_ascii _ _ _ _ (len_is _ _ _ _ made.len ∙ sym (made_mcf_len wants c.args.password.now c.args.salt.now)) made.made made.ascii)
 
 pub returns-in_default-hash_with_buffers-clause-made : goal.returns-in_default-hash_with_buffers-clause-made
-returns-in_default-hash_with_buffers-clause-made c =
-    let wants = wanted c.args.log_n c.args.r c.args.p c.args.key_len in
-    let exact = rw c.in-Ok.ensures.value at c.in_default-hash_with_buffers.ensures.len in
-    let len = rw c.in-Ok.ensures.value at c.hash_len-len.ensures.value in
-    let made = rw c.in-Ok.ensures.value at c.hash_len-len.ensures.made c.args.password.now in
-    let room = c.if-text-len.false in record {
-      made = search rules;
-      enough = search rules;
-      params = search rules;
-      salt = search rules;
-      size = λ short. (
-        λ long. absurd (omega (arith, made, long, room)),
-        λ fits. (
-          (λ enough.
-              let fit = (leb_decided (made_text_len wants (length c.args.salt.now)) (length c.args.text.now)).1 (omega (arith, made, len, fits)) in
-              let wrong = rw (fit, enough) at exact in absurd cc),
-          refl,
-        ),
-      );
-      fits = search rules;
-      refused = search rules;
-      unchanged = search rules;
-    }
+returns-in_default-hash_with_buffers-clause-made c = grind (arith, leb_decided)

@@ -1,9 +1,7 @@
-use Rattle.std.proofs.Common.{◌≡◌, ◌↔◌, ◌≤◌, ◌+◌, ◌*◌, ℕ, List, Ok, Err, length, refl, arith, rules, true, false}
+use Rattle.std.proofs.Common.{◌≡◌, ◌↔◌, ◌≤◌, ◌+◌, ◌*◌, ℕ, List, Ok, Err, length, arith, true, false}
 use Rattle.std.specs.Prelude.{Bool, IfOk, IsOk, IsTrue, Result, if◌then◌else◌}
-use Rattle.std.proofs.lemmas.Bool.Decides.{nat_tests}
-use Rattle.scrypt.specs.Terms.{AreCompressed, AreCounted, Parameters, Refusal, Stored, Workspace, are_enough}
-use Rattle.scrypt.specs.Terms.{are_within, cores_in, cost, cost_by, hash_cost, hashed_in, lengths_cost, reading}
-use Rattle.scrypt.specs.Terms.{verify_cost, within, workspace_of}
+use Rattle.scrypt.specs.Terms.{AreCompressed, AreCounted, Parameters, Refusal, Stored, Workspace}
+use Rattle.scrypt.specs.Terms.{are_within, cores_in, cost, hash_cost, hashed_in, lengths_cost, within}
 use Rattle.scrypt.specs.declared.limits.Limits.{Limits}
 use Rattle.scrypt_kernel.specs.declared.cores.count.CoreCount.{CoreCount}
 use Rattle.scrypt_examples.specs.Login.{CostsAtMost}
@@ -23,19 +21,7 @@ costs : (limits : Limits) (w : Workspace) (password : List ℕ) (read : Result S
     + 9 * lengths_cost (length password) (length s.salt) (length s.key)) before after)
 unfolding are_within
 costs limits w password (Err why) before after allowed law same counted hashed = (omega (arith, counted.all), tt)
-costs limits w password (Ok s) before after allowed law same counted hashed =
-    let fits : IsTrue (are_within limits s.params) = ((allowed s).0 (rw same refl)).0 in
-    let cheap : cost s.params.log_n s.params.r s.params.p ≤ limits.max_work = grind (arith, nat_tests) in
-    let both = law s.params (length password) (length s.salt) (length s.key) fits in
-    let room = are_enough s.params w.chunks w.table w.scratch in
-    let cores = at_most room (cost_by s.params) in (
-      omega (arith, counted.all, cores, cheap),
-      omega (arith, counted.all, hashed.compressions, cores, at_most room (verify_cost password s), both),
-    )
+costs limits w password (Ok s) before after allowed law same counted hashed = grind (arith, at_most)
 
 pub returns-in-Ok-verify_with_buffers : goal.returns-in-Ok-verify_with_buffers
-returns-in-Ok-verify_with_buffers c =
-    let most = costs c.args.limits.now (workspace_of c.args.chunks.now c.args.table.now c.args.scratch.now) c.args.password.now
-    (reading c.args.stored.now) c.args.cores.now c.verify_with_buffers.new.cores (c.within_changes_nothing.ensures.allowed _)
-    (c.work_bounds_both_counts.ensures.within _) (search rules) (search rules) (search rules) in
-    record { verdict = search rules; left = search rules; bounded = most.0; both_bounded = most.1 }
+returns-in-Ok-verify_with_buffers c = grind (arith, costs)

@@ -20,5 +20,4 @@ returns-clause-counted g c =
     let i = c.args.i in
     let same : i * s + n * s - i * s ≡ n * s = omega arith in
     let alone = part-take s 0 (n * s) (drop (i * s) c.args.used.now.chunks.now) (parts_apart s 0 n c.requires.memory.some) in
-    rw (c.r-r.ensures.value, c.log_n.ensures.value, c.spacing.ensures, ← c.requires.group, same, alone, part_at s i c.args.used.now.chunks.now)
-    at c.mix_chunks.ensures.counted
+    grind (arith, part_at)

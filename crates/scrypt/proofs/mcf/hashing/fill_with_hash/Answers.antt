@@ -1,13 +1,10 @@
-use Rattle.std.proofs.Common.{◌≡◌, length, rules}
-use Rattle.scrypt.specs.Terms.{key_len_or_default}
+use Rattle.std.proofs.Common.{arith, rules}
 use Rattle.scrypt.proofs.KeyFacts.{length-key_by}
 use Rattle.scrypt.proofs.McfTextFacts.{whole_is_made, whole_is_mcf}
 use Rattle.scrypt.proofs.mcf.hashing.fill_with_hash.Goals as goal
 
 pub encode-requires-2 : goal.encode-requires-2
-encode-requires-2 g c =
-    let long : length c.stored_key-key.result ≡ key_len_or_default c.args.params.now = rw c.stored_key-key.ensures.value (length-key_by c.args.params.now c.args.password.now _ _) in
-    search (rules, long)
+encode-requires-2 g c = grind (arith, length-key_by)
 
 pub returns-clause-made : goal.returns-clause-made
 returns-clause-made g c =
