@@ -1,8 +1,6 @@
 -- The cost of a derivation.
 use Rattle.std.specs.Prelude.{ℕ, ◌-◌, ◌^◌, min}
-use Rattle.scrypt.specs.Accepted.{Parameters}
-use Rattle.scrypt.specs.Cost.{chunks_bytes, scratch_words, table_words}
-use Rattle.scrypt.specs.Limits.{buffers_bytes, tables_within, work}
+use Rattle.scrypt.specs.Terms.{Parameters, buffers_bytes, chunks_bytes, scratch_words, table_words, tables_within, work}
 use Rattle.scrypt_c.specs.declared.cost.Cost.{Cost}
 
 -- the cost of a derivation with these parameters and a key of `key_len` bytes, in buffers of up to

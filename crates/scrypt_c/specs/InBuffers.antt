@@ -1,10 +1,7 @@
 -- Several verdicts in the caller's buffers.
 use Rattle.std.specs.Prelude.{◌≡◌, ℕ, ℤ, nat_eq, if◌then◌else◌, List, map, Result, sum_by}
-use Rattle.password_hash.specs.Refusal.{Refusal}
-use Rattle.scrypt.specs.Cost.{AreCompressed, AreCounted}
-use Rattle.scrypt.specs.Logins.{AreLeft, Attempt, cores_on, hashed_on, verdict_on}
-use Rattle.scrypt.specs.Reading.{Stored}
-use Rattle.scrypt.specs.Workspace.{Workspace}
+use Rattle.scrypt.specs.Terms.{AreCompressed, AreCounted, AreLeft, Attempt, Refusal, Stored, Workspace, cores_on}
+use Rattle.scrypt.specs.Terms.{hashed_on, verdict_on}
 use Rattle.scrypt_kernel.specs.declared.cores.count.CoreCount.{CoreCount}
 use Rattle.scrypt_c.specs.Statuses.{result_status}
 use Rattle.scrypt_c.specs.Texts.{bytes_reading}

@@ -1,9 +1,7 @@
 -- What a derivation returns and writes, its work, and what it leaves in the caller's buffers.
 use Rattle.std.specs.Prelude.{◌≡◌, ◌≢◌, ◌⊎◌, ◌↔◌, ℕ, ℤ, List, length, replicate, IsTrue}
-use Rattle.scrypt.specs.Accepted.{are_accepted, is_output_len, Parameters}
-use Rattle.scrypt.specs.Cost.{AreCompressed, AreCounted}
-use Rattle.scrypt.specs.Key.{derived_key}
-use Rattle.scrypt.specs.Workspace.{IsDone, Workspace, are_enough}
+use Rattle.scrypt.specs.Terms.{AreCompressed, AreCounted, IsDone, Parameters, Workspace, are_accepted, are_enough}
+use Rattle.scrypt.specs.Terms.{derived_key, is_output_len}
 use Rattle.scrypt_kernel.specs.declared.cores.count.CoreCount.{CoreCount}
 use Rattle.scrypt_c.specs.Buffers.{AreBuffers, IsSpacing}
 use Rattle.scrypt_c.specs.Limits.{params_of}

@@ -18,3 +18,13 @@ pub mod Made
 pub mod InBuffers
 -- keys in steps
 pub mod Steps
+-- the definitions of all these files, for clauses and proofs
+unfoldable pub use Buffers.*
+unfoldable pub use Texts.*
+unfoldable pub use Statuses.*
+unfoldable pub use Limits.*
+unfoldable pub use Cost.*
+unfoldable pub use Keys.*
+unfoldable pub use Made.*
+unfoldable pub use InBuffers.*
+unfoldable pub use Steps.*

@@ -1,11 +1,7 @@
 -- The status of a cost within limits.
 use Rattle.std.specs.Prelude.{◌≡◌, ◌⊎◌, ◌↔◌, ℕ, ℤ, ◌+◌, ◌*◌, ◌^◌, ◌≤◌, if◌then◌else◌, min, nat_lt, IsTrue, List, None, Result}
-use Rattle.password_hash.specs.Refusal.{Refusal}
-use Rattle.scrypt.specs.Accepted.{are_accepted, Parameters}
-use Rattle.scrypt.specs.Cost.{chunks_bytes, scratch_words, table_words}
-use Rattle.scrypt.specs.Limits.{are_within, tables_within}
-use Rattle.scrypt.specs.Reading.{Stored}
-use Rattle.scrypt.specs.WithinLimits.{within}
+use Rattle.scrypt.specs.Terms.{Parameters, Refusal, Stored, are_accepted, are_within, chunks_bytes, scratch_words}
+use Rattle.scrypt.specs.Terms.{table_words, tables_within, within}
 use Rattle.scrypt.specs.declared.limits.Limits.{Limits}
 use Rattle.scrypt_c.specs.Texts.{bytes_reading}
 use Rattle.scrypt_c.specs.declared.statuses.TheConstants.{OK, INVALID_PARAMS, TOO_COSTLY}

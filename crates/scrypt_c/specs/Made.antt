@@ -2,8 +2,7 @@
 -- fit it.
 use Rattle.std.specs.Prelude.{◌≡◌, ◌≢◌, ◌↔◌, ℕ, ℤ, ◌<◌, ◌≤◌, List, ◌++◌, drop, length, Some, IsTrue}
 use Rattle.std.specs.Str.{IsUtf8}
-use Rattle.scrypt.specs.Accepted.{are_accepted, is_stored_len, Parameters}
-use Rattle.scrypt.specs.InBuffers.{IsCopiedTo}
+use Rattle.scrypt.specs.Terms.{IsCopiedTo, Parameters, are_accepted, is_stored_len}
 use Rattle.scrypt_c.specs.declared.statuses.TheConstants.{OK, INVALID_PARAMS, OUT_OF_MEMORY, SALT_INVALID, BUFFER_SIZE}
 
 -- parameters with the length of a key

@@ -1,12 +1,8 @@
 -- A key in steps, in the caller's buffers.
 use Rattle.std.specs.Prelude.{◌≡◌, ◌≢◌, ◌⊎◌, ◌↔◌, Bool, ℕ, ℤ, ◌+◌, ◌*◌, ◌<◌, ◌≤◌, List, [], ◌∷◌, length, min, IfOk, IsTrue, OnErr, Result}
-use Rattle.password_hash.specs.Refusal.{Refusal}
-use Rattle.scrypt.specs.Accepted.{Parameters, are_accepted, is_output_len}
-use Rattle.scrypt.specs.Cost.{chunks_bytes, scratch_words, table_words}
-use Rattle.scrypt.specs.Key.{derived_key}
-use Rattle.scrypt.specs.Reading.{Stored, verdict}
-use Rattle.scrypt.specs.Stepping.{AreMixable, IsUnderWay, IsWithin, lacking, mixes_done}
-use Rattle.scrypt.specs.Workspace.{IsRestKept, workspace_of}
+use Rattle.scrypt.specs.Terms.{AreMixable, IsRestKept, IsUnderWay, IsWithin, Parameters, Refusal, Stored, are_accepted}
+use Rattle.scrypt.specs.Terms.{chunks_bytes, derived_key, is_output_len, lacking, mixes_done, scratch_words, table_words}
+use Rattle.scrypt.specs.Terms.{verdict, workspace_of}
 use Rattle.scrypt.specs.declared.stepping.Progress.{Progress}
 use Rattle.scrypt_c.specs.Limits.{params_of}
 use Rattle.scrypt_c.specs.Statuses.{result_status}

@@ -1,10 +1,7 @@
 -- How the calls read the text of a hash, which they take as bytes.
 use Rattle.std.specs.Prelude.{ℕ, if◌then◌else◌, List, Result, Err}
 use Rattle.std.specs.Str.{is_utf8}
-use Rattle.password_hash.specs.Refusal.{Refusal, EncodingInvalid}
-use Rattle.scrypt.specs.Accepted.{Parameters}
-use Rattle.scrypt.specs.Reading.{Stored}
-use Rattle.scrypt.specs.StoredHash.{params_reading, reading}
+use Rattle.scrypt.specs.Terms.{EncodingInvalid, Parameters, Refusal, Stored, params_reading, reading}
 
 -- the reading of bytes, as a text in UTF-8
 unfoldable pub bytes_reading : List ℕ → Result Stored Refusal

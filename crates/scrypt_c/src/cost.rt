@@ -1,12 +1,8 @@
 //! The memory and work that a call needs, checked against limits before anything is allocated.
 
 ghost use Rattle.std.specs.Prelude.{◌≡◌, ◌≢◌, ◌↔◌, ◌⊎◌, IfOk, OnErr, IsTrue, length};
-ghost use Rattle.scrypt.specs.Accepted.{are_accepted};
-ghost use Rattle.scrypt.specs.Limits.{AreMostTables, limits_for_new};
-ghost use Rattle.scrypt_c.specs.Limits.{IsNeedStatus, limited_reading, limits_of, params_of};
-ghost use Rattle.scrypt_c.specs.Cost.{cost_of};
-ghost use Rattle.scrypt_c.specs.Statuses.{cost_status};
-ghost use Rattle.scrypt_c.specs.Texts.{bytes_reading};
+ghost use Rattle.scrypt.specs.Terms.{AreMostTables, are_accepted, limits_for_new};
+ghost use Rattle.scrypt_c.specs.{IsNeedStatus, bytes_reading, cost_of, cost_status, limited_reading, limits_of, params_of};
 
 use crate::statuses::{INVALID_PARAMS, OK, TOO_COSTLY, limited_status_of, unread_status_of};
 use crate::texts::{stored_hash, whole_params};

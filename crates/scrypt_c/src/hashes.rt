@@ -3,11 +3,8 @@
 ghost use Rattle.std.specs.Prelude.{◌≡◌, ◌≢◌, ◌⊎◌, length, ⊤, IfOk, IsTrue, OnErr};
 ghost use Rattle.scrypt.specs.Terms.{AreCompressed, AreCounted, cost, cost_by, crypt64_of, hash_cost, hash_text};
 ghost use Rattle.scrypt.specs.Terms.{is_salt_len, made_mcf, made_phc, verify_cost, weaker, with_refusal};
-ghost use Rattle.scrypt_c.specs.Keys.{IsWork};
-ghost use Rattle.scrypt_c.specs.Limits.{limited_reading};
-ghost use Rattle.scrypt_c.specs.Made.{AreHashParams, HasHashed, wanted};
-ghost use Rattle.scrypt_c.specs.Statuses.{IsVerifyStatus, ReadsParams, rehash_status};
-ghost use Rattle.scrypt_c.specs.Texts.{bytes_reading};
+ghost use Rattle.scrypt_c.specs.{AreHashParams, HasHashed, IsVerifyStatus, IsWork, ReadsParams, bytes_reading};
+ghost use Rattle.scrypt_c.specs.{limited_reading, rehash_status, wanted};
 
 use crate::statuses::{
     BUFFER_SIZE, INVALID_PARAMS, MISMATCH, NEEDS_REHASH, OK, OUT_OF_MEMORY, SALT_INVALID,

@@ -1,10 +1,8 @@
 //! Keys in steps, in the caller's buffers: between two steps the caller can show progress or cancel.
 
 ghost use Rattle.std.specs.Prelude.{◌≡◌, ◌≢◌, ◌↔◌, true, ◌*◌, length, min, IsTrue};
-ghost use Rattle.scrypt.specs.Cost.{AreCountedAs, AreHashed, chunks_bytes, pbkdf2_cost};
-ghost use Rattle.scrypt.specs.Stepping.{lacking};
-ghost use Rattle.scrypt_c.specs.Limits.{params_of};
-ghost use Rattle.scrypt_c.specs.Steps.{AreForSteps, HasBegun, HasFinished, HasStepped, kept_of};
+ghost use Rattle.scrypt.specs.Terms.{AreCountedAs, AreHashed, chunks_bytes, lacking, pbkdf2_cost};
+ghost use Rattle.scrypt_c.specs.{AreForSteps, HasBegun, HasFinished, HasStepped, kept_of, params_of};
 
 use crate::statuses::{
     BUFFER_SIZE, INVALID_OUTPUT_LEN, INVALID_PARAMS, INVALID_PROGRESS, OK, UNFINISHED,

@@ -2,9 +2,7 @@
 
 ghost use Rattle.std.specs.Prelude.{◌≡◌, ◌≢◌, ◌⊎◌, ◌↔◌, length, IsSome, IfSome, IsTrue};
 ghost use Rattle.scrypt.specs.Terms.{are_accepted, cost, hash_cost, thin_cost, workspace_of};
-ghost use Rattle.scrypt_c.specs.Buffers.{AreBuffers, IsSpacing};
-ghost use Rattle.scrypt_c.specs.Keys.{HasKey, HasKeyIn, HasThinKey, IsWork};
-ghost use Rattle.scrypt_c.specs.Limits.{bytes_that_pay, params_of};
+ghost use Rattle.scrypt_c.specs.{AreBuffers, HasKey, HasKeyIn, HasThinKey, IsSpacing, IsWork, bytes_that_pay, params_of};
 
 use crate::statuses::{BUFFER_SIZE, INVALID_OUTPUT_LEN, INVALID_PARAMS, OK, OUT_OF_MEMORY};
 use scrypt::{
@@ -246,6 +244,7 @@ pub fn kdf_thin(
     let Some((params, lens)) = params_and_lens(log_n, r, p, s) else {
         return INVALID_PARAMS;
     };
+    // Neither derivation below fails, since the length of the output is checked here.
     if !output_len_ok(output.len()) {
         return INVALID_OUTPUT_LEN;
     }
@@ -256,14 +255,12 @@ pub fn kdf_thin(
         let whole = scrypt_with_buffers(
             password, salt, &params, chunks, table, scratch, output, cores,
         );
-        // The length of the output was checked above.
         whole.unwrap();
         return OK;
     }
     let derived = scrypt_thin(
         password, salt, &params, s, chunks, table, scratch, output, cores,
     );
-    // The length of the output was checked above.
     derived.unwrap();
     OK
 }

@@ -2,18 +2,10 @@
 //! contract is the law.
 
 ghost use Rattle.std.specs.Prelude.{◌≡◌, ◌≢◌, ◌⊎◌, ℕ, ℤ, ◌*◌, ◌^◌, ◌≤◌, All, Bool, IsTrue, List, length, take};
-ghost use Rattle.password_hash.specs.Crypt64.{crypt64_of};
-ghost use Rattle.password_hash.specs.Phc.{IsSalt, hash_text};
-ghost use Rattle.scrypt.specs.Accepted.{are_accepted, is_output_len};
-ghost use Rattle.scrypt.specs.Cost.{chunks_bytes};
-ghost use Rattle.scrypt.specs.Key.{derived_key};
-ghost use Rattle.scrypt.specs.McfHash.{made_mcf};
-ghost use Rattle.scrypt.specs.PhcHash.{made_phc};
-ghost use Rattle.scrypt.specs.Stepping.{IsUnderWay};
-ghost use Rattle.scrypt_c.specs.Limits.{Admit, limited_reading, params_of};
-ghost use Rattle.scrypt_c.specs.Made.{AreHashParams, IsWritten, wanted};
-ghost use Rattle.scrypt_c.specs.Statuses.{IsVerifyStatus};
-ghost use Rattle.scrypt_c.specs.Steps.{HasBegun, HasFinished, IsBegun, Kept, Session};
+ghost use Rattle.scrypt.specs.Terms.{IsSalt, IsUnderWay, are_accepted, chunks_bytes, crypt64_of, derived_key, hash_text};
+ghost use Rattle.scrypt.specs.Terms.{is_output_len, made_mcf, made_phc};
+ghost use Rattle.scrypt_c.specs.{Admit, AreHashParams, HasBegun, HasFinished, IsBegun, IsVerifyStatus, IsWritten, Kept};
+ghost use Rattle.scrypt_c.specs.{Session, limited_reading, params_of, wanted};
 
 use crate::statuses::{MISMATCH, OK, OUT_OF_MEMORY};
 

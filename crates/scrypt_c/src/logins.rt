@@ -2,8 +2,7 @@
 
 ghost use Rattle.std.specs.Prelude.{◌≡◌, [], ◌∷◌};
 ghost use Rattle.scrypt.specs.Terms.{◌and_then◌, attempt_of, attempts, decoy_reading, with_refusal, workspace_of};
-ghost use Rattle.scrypt_c.specs.InBuffers.{AreVerified, IsWorkOn, batch_of, login_attempt};
-ghost use Rattle.scrypt_c.specs.Made.{wanted};
+ghost use Rattle.scrypt_c.specs.{AreVerified, IsWorkOn, batch_of, login_attempt, wanted};
 
 use crate::statuses::limited_verdict_status;
 use crate::texts::stored_hash;

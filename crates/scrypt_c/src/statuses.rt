@@ -1,10 +1,8 @@
 //! The statuses that the calls return.
 
 ghost use Rattle.std.specs.Prelude.{◌≡◌};
-ghost use Rattle.password_hash.specs.Refusal.{refusal};
-ghost use Rattle.scrypt.specs.Reading.{with_refusal};
-ghost use Rattle.scrypt.specs.WithinLimits.{limited_refusal, with_limited_refusal};
-ghost use Rattle.scrypt_c.specs.Statuses.{refusal_status, result_status, unread_status};
+ghost use Rattle.scrypt.specs.Terms.{limited_refusal, refusal, with_limited_refusal, with_refusal};
+ghost use Rattle.scrypt_c.specs.{refusal_status, result_status, unread_status};
 
 use password_hash::{Error, Result};
 use scrypt::LimitedError;

@@ -2,12 +2,8 @@
 
 ghost use Rattle.std.specs.Prelude.{◌≡◌, ◌≢◌, ◌↔◌, ◌⊎◌, ◌<◌, ℕ, List, false, true, length, Some, IsTrue};
 ghost use Rattle.std.specs.Str.{IsUtf8};
-ghost use Rattle.password_hash.specs.Mcf.{IsField};
-ghost use Rattle.scrypt.specs.Accepted.{are_accepted, is_output_len, is_stored_len};
-ghost use Rattle.scrypt.specs.PhcHash.{is_salt_len};
-ghost use Rattle.scrypt.specs.TextOfKey.{IsTextOfKey};
-ghost use Rattle.scrypt_c.specs.Limits.{params_of};
-ghost use Rattle.scrypt_c.specs.Made.{IsTooLong, IsWrittenTo};
+ghost use Rattle.scrypt.specs.Terms.{IsField, IsTextOfKey, are_accepted, is_output_len, is_salt_len, is_stored_len};
+ghost use Rattle.scrypt_c.specs.{IsTooLong, IsWrittenTo, params_of};
 
 use crate::statuses::{BUFFER_SIZE, INVALID_OUTPUT_LEN, INVALID_PARAMS, OK, SALT_INVALID};
 use crate::texts::copy_to;

@@ -2,12 +2,8 @@
 
 ghost use Rattle.std.specs.Prelude.{◌≡◌, ◌≢◌, ◌↔◌, ◌⊎◌, ◌≤◌, length, IfErr, IfOk, IsOk};
 ghost use Rattle.password_hash.specs.declared.error.Error.TheVariants.{EncodingInvalid};
-ghost use Rattle.scrypt.specs.Reading.{◌and_then◌, mapped, with_refusal};
-ghost use Rattle.scrypt.specs.StoredHash.{params_reading, reading};
-ghost use Rattle.scrypt.specs.WithinLimits.{with_limited_refusal};
-ghost use Rattle.scrypt_c.specs.Limits.{limited_reading};
-ghost use Rattle.scrypt_c.specs.Made.{IsWritten};
-ghost use Rattle.scrypt_c.specs.Texts.{bytes_params, bytes_reading};
+ghost use Rattle.scrypt.specs.Terms.{◌and_then◌, mapped, params_reading, reading, with_limited_refusal, with_refusal};
+ghost use Rattle.scrypt_c.specs.{IsWritten, bytes_params, bytes_reading, limited_reading};
 
 use crate::statuses::{BUFFER_SIZE, OK};
 use password_hash::{Error, Result};

@@ -2,9 +2,7 @@
 
 ghost use Rattle.std.specs.Prelude.{◌≡◌, ◌≢◌, ◌⊎◌, length, IfOk, OnErr};
 ghost use Rattle.scrypt.specs.Terms.{AreHashed, chunks_bytes, pbkdf2_cost};
-ghost use Rattle.scrypt_c.specs.Limits.{limited_reading, params_of};
-ghost use Rattle.scrypt_c.specs.Steps.{HasBegunVerifying, HasFinishedVerifying, kept_of};
-ghost use Rattle.scrypt_c.specs.Texts.{bytes_reading};
+ghost use Rattle.scrypt_c.specs.{HasBegunVerifying, HasFinishedVerifying, bytes_reading, kept_of, limited_reading, params_of};
 
 use crate::in_steps::are_for_steps;
 use crate::statuses::{BUFFER_SIZE, OK, UNFINISHED, limited_status_of, status_of, verdict_status};

@@ -8,10 +8,7 @@ ghost use Rattle.std.specs.Prelude.{◌≡◌, ◌⊎◌, length, replicate, ⊤
 ghost use Rattle.scrypt.specs.Terms.{AreCompressed, AreCounted, IsLeft, are_enough, cores_in, cost, crypt64_of};
 ghost use Rattle.scrypt.specs.Terms.{hash_cost, hash_text, hashed_in, is_salt_len, made_mcf, made_phc, verdict_in};
 ghost use Rattle.scrypt.specs.Terms.{workspace_of};
-ghost use Rattle.scrypt_c.specs.Keys.{IsUsed, IsWork};
-ghost use Rattle.scrypt_c.specs.Limits.{limited_reading};
-ghost use Rattle.scrypt_c.specs.Made.{AreHashParams, HasHashed, wanted};
-ghost use Rattle.scrypt_c.specs.Statuses.{result_status};
+ghost use Rattle.scrypt_c.specs.{AreHashParams, HasHashed, IsUsed, IsWork, limited_reading, result_status, wanted};
 
 use crate::statuses::{BUFFER_SIZE, INVALID_PARAMS, OK, SALT_INVALID, limited_verdict_status};
 use crate::texts::{copy_to, limited_hash};
