@@ -4,16 +4,12 @@ use Rattle.std.proofs.lemmas.Bool.{and_parts, false_from_ne_true}
 use Rattle.std.proofs.Math.Seq.{drop-length}
 use Rattle.std.proofs.lemmas.List.{append-nil}
 use Rattle.std.specs.Prelude.{◌&&◌, Err, IsTrue, replicate}
-use Rattle.password_hash.specs.Refusal.{ParamsInvalid}
-use Rattle.scrypt.specs.Accepted.{Parameters, are_accepted, is_stored_len}
+use Rattle.scrypt.specs.Terms.{IsDone, Parameters, ParamsInvalid, Workspace, are_accepted, decoy_reading, is_stored_len}
+use Rattle.scrypt.specs.Terms.{scratch_words, table_words}
+use Rattle.scrypt.specs.InBuffers.{IsWiped}
 use Rattle.scrypt.proofs.AcceptedFacts.{bounds}
 use Rattle.scrypt.proofs.CostFacts.{one_table}
-use Rattle.scrypt.specs.Cost.{scratch_words, table_words}
-use Rattle.scrypt.specs.Decoy.{decoy_reading}
-use Rattle.scrypt.specs.InBuffers.{IsWiped}
-use Rattle.scrypt.specs.Workspace.{IsDone, Workspace}
-use Rattle.scrypt_c.specs.Buffers.{AreBuffers}
-use Rattle.scrypt_c.specs.Limits.{params_of}
+use Rattle.scrypt_c.specs.{AreBuffers, params_of}
 
 -- parameters that no new hash can have make no decoy
 pub none_decoy : (c : Parameters) (salt : List ℕ) → ¬ (IsTrue (are_accepted c.log_n c.r c.p) × IsTrue (is_stored_len c.output_len))

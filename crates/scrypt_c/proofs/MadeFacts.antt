@@ -6,7 +6,7 @@ use Rattle.std.proofs.lemmas.Bool.{false≢true}
 use Rattle.std.specs.Prelude.{◌⊎◌, ◌&&◌, Bool, IsTrue, if◌then◌else◌, pos}
 use Rattle.std.specs.Str.{IsAscii}
 use Rattle.password_hash.specs.Refusal.{Refusal, BufferTooShort, SaltInvalid}
-use Rattle.scrypt_c.specs.Made.{HasHashed, IsWritten}
+use Rattle.scrypt_c.specs.{HasHashed, IsWritten}
 
 -- a text of ASCII bytes is UTF-8
 pub written_ascii : (text old new : List ℕ) (len : ℕ) → len ≡ length text → new ≡ text ++ drop len old → IsAscii (take len new)
@@ -15,31 +15,24 @@ written_ascii text old new len is_len is_new ascii = (IsUtf8-from_ascii text (rw
 
 -- the length of a text that was written
 pub len_is : {E : Type 0} (test : Bool) (n len : ℕ) (why : E) → Ok len ≡ (if test then Ok n else Err why) → len ≡ n
-len_is true n len why is = cc
-len_is false n len why is = absurd cc
+len_is test n len why is = grind arith
 
 -- a text is written only in buffers that are long enough
 pub enough_of : {E : Type 0} (fits enough : Bool) (n : ℕ) {len : ℕ} (why : E)
     → Ok len ≡ (if fits && enough then Ok n else Err why) → IsTrue enough
-enough_of true true n why is = refl
-enough_of true false n why is = absurd cc
-enough_of false enough n why is = absurd cc
+enough_of fits enough n why is = grind arith
 
 -- why a PHC hash is refused in the caller's buffers: the salt is none, or they are too short
 pub refused_in : {A : Type 0} (fits enough : Bool) (made : A) {why : Refusal}
     → Err why ≡ (if fits then if enough then Ok made else Err BufferTooShort else Err SaltInvalid)
     → ((why ≡ SaltInvalid) × (¬ IsTrue fits)) ⊎ ((why ≡ BufferTooShort) × IsTrue fits × (¬ IsTrue enough))
-refused_in true true made is = absurd cc
-refused_in true false made is = inr (cc, refl, false≢true)
-refused_in false enough made is = inl (cc, false≢true)
+refused_in fits enough made is = grind (arith, false≢true)
 
 -- the hash that is made there, and why
 pub made_in : {A : Type 0} (fits enough : Bool) (made : A) {hash : A}
     → Ok hash ≡ (if fits then if enough then Ok made else Err BufferTooShort else Err SaltInvalid)
     → (hash ≡ made) × IsTrue fits × IsTrue enough
-made_in true true made is = (cc, refl, refl)
-made_in true false made is = absurd cc
-made_in false enough made is = absurd cc
+made_in fits enough made is = grind arith
 
 -- a call that wrote its text
 pub is_hashed : {text old new : List ℕ} {Accepted Salted Enough : Type 0} {old_len len : ℕ} → Accepted → Salted → Enough

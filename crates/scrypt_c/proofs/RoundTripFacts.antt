@@ -2,14 +2,10 @@
 use Rattle.std.proofs.Common.{◌≡◌, ◌≢◌, ◌∙◌, ◌++◌, ℕ, List, Ok, ap, arith, drop, inl, inr, length, refl, take}
 use Rattle.std.specs.Prelude.{◌⊎◌, ℤ, pos}
 use Rattle.std.proofs.Math.Seq.{take-append_seam}
-use Rattle.scrypt.specs.Key.{derived_key}
-use Rattle.scrypt.specs.Reading.{made_stored}
-use Rattle.scrypt.specs.StoredHash.{reading}
+use Rattle.scrypt.specs.Terms.{derived_key, made_stored, reading}
 use Rattle.scrypt.proofs.KeyFacts.{length-key_by}
 use Rattle.scrypt.proofs.ReadingFacts.{read_as_made, verdict_wrong, within_limits}
-use Rattle.scrypt_c.specs.Limits.{Admit, limited_reading}
-use Rattle.scrypt_c.specs.Made.{IsWritten, wanted}
-use Rattle.scrypt_c.specs.Statuses.{IsVerifyStatus, result_status}
+use Rattle.scrypt_c.specs.{Admit, IsVerifyStatus, IsWritten, limited_reading, result_status, wanted}
 use Rattle.scrypt_c.proofs.TextFacts.{text_read}
 
 written_front : (text old new : List ℕ) (len : ℕ) → len ≡ length text → new ≡ text ++ drop len old → take len new ≡ text

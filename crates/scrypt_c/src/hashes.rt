@@ -49,6 +49,7 @@ pub extern "C" fn scrypt_hash_phc(
 }
 
 /// Does what [`scrypt_hash_phc`] does, and counts its cores and the blocks that SHA-256 compresses.
+#[tactic(auto, using(crate::proofs::MadeFacts::is_hashed))]
 pub fn hash_phc(
     alloc: Global,
     password: &[u8],
@@ -114,6 +115,7 @@ pub extern "C" fn scrypt_hash_mcf(
 }
 
 /// Does what [`scrypt_hash_mcf`] does, and counts its cores and the blocks that SHA-256 compresses.
+#[tactic(auto, using(crate::proofs::MadeFacts::is_hashed))]
 pub fn hash_mcf(
     alloc: Global,
     password: &[u8],

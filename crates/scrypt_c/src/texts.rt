@@ -13,6 +13,7 @@ use scrypt::{LimitedError, Limits, Params, Size, StoredHash};
 /// Reads the text of a hash.
 ///
 /// Returns `EncodingInvalid` if the bytes are not UTF-8 or the text does not match its format.
+#[tactic(auto, using(crate::proofs::TextFacts::texts))]
 pub fn stored_hash(bytes: &[u8]) -> Result<StoredHash<'_>>
     ensures reading { bytes_reading bytes.now ≡ with_refusal result and_then reading }
     ensures params { bytes_params bytes.now ≡ with_refusal result and_then params_reading }

@@ -1,7 +1,7 @@
 use Rattle.std.proofs.Common.{arith, length, rules}
 use Rattle.scrypt.proofs.CostFacts.{whole_table_cost}
 use Rattle.scrypt.specs.Terms.{workspace_of}
-use Rattle.scrypt_c.specs.Buffers.{AreBuffers}
+use Rattle.scrypt_c.specs.{AreBuffers}
 use Rattle.scrypt_c.proofs.InBuffersFacts.{wiped_at_zero}
 use Rattle.scrypt_c.proofs.keys.kdf_thin.Goals as goal
 

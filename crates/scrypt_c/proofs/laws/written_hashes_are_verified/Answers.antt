@@ -1,7 +1,7 @@
-use Rattle.password_hash.specs.Crypt64.{crypt64_of}
+use Rattle.scrypt.specs.Terms.{crypt64_of}
 use Rattle.scrypt.proofs.AcceptedFacts.{stored_is_output}
 use Rattle.scrypt.proofs.StoredHashFacts.{mcf_reading, phc_reading}
-use Rattle.scrypt_c.specs.Made.{wanted}
+use Rattle.scrypt_c.specs.{wanted}
 use Rattle.scrypt_c.proofs.RoundTripFacts.{right_status, wrong_status}
 use Rattle.scrypt_c.proofs.laws.written_hashes_are_verified.Goals as goal
 

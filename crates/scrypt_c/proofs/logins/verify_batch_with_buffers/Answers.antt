@@ -1,19 +1,15 @@
 use Rattle.std.proofs.Common.{◌≡◌, ◌∙◌, ℕ, List, [], ◌∷◌, Ok, ap, arith, get_or, length, map, refl, rules, sym, w32}
 use Rattle.std.proofs.lemmas.Simd.{map-map}
 use Rattle.std.proofs.lemmas.Int.{to_z-of_z}
-use Rattle.scrypt.specs.WithinLimits.{with_limited_refusal}
-use Rattle.scrypt_c.specs.Statuses.{result_status}
+use Rattle.scrypt.specs.Terms.{with_limited_refusal}
+use Rattle.scrypt_c.specs.{result_status}
 use Rattle.scrypt_c.proofs.logins.verify_batch_with_buffers.Goals as goal
 
 -- a list of four, by its elements
 four : {A B : Type 0} (f : A → B) (xs : List A) (d : A) → length xs ≡ 4
     → f (get_or xs 0 d) ∷ f (get_or xs 1 d) ∷ f (get_or xs 2 d) ∷ f (get_or xs 3 d) ∷ [] ≡ map f xs
 four f (a ∷ b ∷ c ∷ e ∷ []) d is = refl
-four f [] d is = absurd (omega (arith, is))
-four f (a ∷ []) d is = absurd (omega (arith, is))
-four f (a ∷ b ∷ []) d is = absurd (omega (arith, is))
-four f (a ∷ b ∷ c ∷ []) d is = absurd (omega (arith, is))
-four f (a ∷ b ∷ c ∷ e ∷ g ∷ rest) d is = absurd (omega (arith, is))
+four f others d is = absurd (omega (arith, is))
 
 pub returns-clause-verified : goal.returns-clause-verified
 returns-clause-verified c =
