@@ -1,5 +1,4 @@
-use Rattle.std.proofs.Common.{◌≡◌, ◌-◌, ◌*◌, ◌/◌, ◌+◌, ℕ, List, min, arith, length, refl, replicate, rules, take, take_all, ◌↔◌, ◌&&◌, Bool, true, ◌++◌, drop, ◌∙◌, sym, ap, ap₂, length-take-le, take-add}
-use Rattle.std.proofs.lemmas.Bool.{and_from, and_parts}
+use Rattle.std.proofs.Common.{◌≡◌, ◌-◌, ◌*◌, ◌/◌, ◌+◌, ℕ, List, min, arith, length, refl, replicate, rules, take, take_all, ◌↔◌, ◌&&◌, Bool, true, drop, ◌∙◌, length-take-le, take-add}
 use Rattle.std.proofs.lemmas.List.{drop-take, take-take}
 use Rattle.scrypt.specs.Terms.{derived_key, end_cost, key_bytes, pbkdf2, stored}
 use Rattle.scrypt_kernel.proofs.CountFacts.{hashed_both}
@@ -8,17 +7,15 @@ use Rattle.scrypt_kernel.proofs.Pbkdf2Facts.{length-pbkdf2, pbkdf2-piece}
 use Rattle.scrypt.proofs.ReadingFacts.{told_right}
 use Rattle.scrypt.proofs.comparing.is_derived_key.Goals as goal
 
+-- prefixes agree exactly if both of their parts do
+both_agree : (x y : List ℕ) (n m : ℕ) → (take (n + m) x ≡ take (n + m) y) ↔ ((take n x ≡ take n y) × (take m (drop n x) ≡ take m (drop n y)))
+both_agree x y n m = grind (arith, take-add n m x, take-add n m y, take-take n (n + m) x (omega arith), take-take n (n + m) y (omega arith), drop-take n m x, drop-take n m y)
+
 -- after one more piece
 compared_more : (key whole piece : List ℕ) (at size : ℕ) (before matches : Bool) → length piece ≡ size → piece ≡ take size (drop at whole)
     → (before ≡ true) ↔ (take at key ≡ take at whole) → (matches ≡ true) ↔ (piece ≡ take (length piece) (drop at key))
     → (before && matches ≡ true) ↔ (take (at + size) key ≡ take (at + size) whole)
-compared_more key whole piece at size before matches long is so_far here = (
-  λ told. let both = and_parts before matches told in
-      take-add at size key ∙ ap₂ (λ y z. y ++ z) (so_far.0 both.0) (sym (rw long at (here.0 both.1)) ∙ is) ∙ sym (take-add at size whole),
-  λ same. and_from before matches
-      (so_far.1 (sym (take-take at (at + size) key (omega arith)) ∙ ap (take at) same ∙ take-take at (at + size) whole (omega arith)))
-      (here.1 (rw long (is ∙ sym (drop-take at size whole) ∙ ap (drop at) (sym same) ∙ drop-take at size key))),
-)
+compared_more key whole piece at size before matches long is so_far here = grind (arith, both_agree key whole at size)
 
 pub loop-i-init : goal.loop-i-init
 loop-i-init c = record {

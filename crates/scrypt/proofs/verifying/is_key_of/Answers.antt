@@ -11,3 +11,6 @@ returns-clause-counted g c = grind (arith, counted_between)
 
 pub returns-clause-hashed : goal.returns-clause-hashed
 returns-clause-hashed g c = grind (arith, counted_between)
+
+pub returns-clause-spent : goal.returns-clause-spent
+returns-clause-spent g c = record { kept = search rules; chunks = search rules; scratch = search rules }
