@@ -1,6 +1,4 @@
 use Rattle.std.proofs.Common.{arith, ◌∙◌, sym}
-use Rattle.std.proofs.lemmas.Grind.{common_steps}
-use Rattle.std.proofs.lemmas.List.{places}
 use Rattle.std.proofs.lemmas.Bool.{false≢true, false_from_ne_true}
 use Rattle.password_hash.specs.{read_hash}
 use Rattle.password_hash.proofs.PhcReadingFacts.{not_begun}
@@ -11,8 +9,8 @@ returns-in_err-algorithm c = record { value = c.from_residual.ensures ∙ sym (n
 
 pub returns-in_default : goal.returns-in_default
 unfolding read_hash
-returns-in_default c = grind (arith, common_steps, places, false_from_ne_true, false≢true)
+returns-in_default c = grind (arith, false_from_ne_true, false≢true)
 
 pub returns : goal.returns
 unfolding read_hash
-returns c = grind (arith, common_steps, places)
+returns c = grind arith

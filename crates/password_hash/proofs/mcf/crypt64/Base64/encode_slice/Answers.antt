@@ -1,5 +1,5 @@
-use Rattle.std.proofs.lemmas.Grind.{common_steps, drop_more_same}
-use Rattle.std.proofs.lemmas.List.{places, drop-set-lt, length-take, take_more_set}
+use Rattle.std.proofs.lemmas.Grind.{drop_more_same}
+use Rattle.std.proofs.lemmas.List.{drop-set-lt, length-take, take_more_set}
 use Rattle.std.proofs.Common.{◌<◌, ◌∙◌, ◌++◌, sym, ap, arith, length, take, append_assoc, length-append}
 use Rattle.std.proofs.Math.ListN.{length-set}
 use Rattle.password_hash.proofs.GroupFacts.{length-crypt64_of}
@@ -17,4 +17,4 @@ pub bounds-out-len : goal.bounds-out-len
 bounds-out-len c = room c
 
 pub loop-letter-preserved : goal.loop-letter-preserved
-loop-letter-preserved c = grind (arith, common_steps, places, take_more_set, room, append_assoc, drop-set-lt, drop_more_same, length-set)
+loop-letter-preserved c = grind (arith, take_more_set, room, append_assoc, drop-set-lt, drop_more_same, length-set)

@@ -1,5 +1,3 @@
-use Rattle.std.proofs.lemmas.Grind.{common_steps}
-use Rattle.std.proofs.lemmas.List.{places}
 use Rattle.std.proofs.Common.{◌≡◌, ℕ, ◌+◌, ◌*◌, ◌/◌, ◌≤◌, List, refl, arith, length, take, drop, length-drop}
 use Rattle.password_hash.specs.Crypt64.{Crypt64, IsPiece, encoded_len}
 use Rattle.password_hash.proofs.Base64Facts.{IsBytes-drop, IsBytes-take}
@@ -22,10 +20,10 @@ piece_encoded all letters at n is piece =
 -- they are within the letters of all
 piece_inside : (all letters : List ℕ) (at n : ℕ) → Crypt64 all letters → IsPiece at n (length all)
     → at / 3 * 4 + encoded_len n ≤ length letters
-piece_inside all letters at n is piece = grind (arith, common_steps, places, length-crypt64_of)
+piece_inside all letters at n is piece = grind (arith, length-crypt64_of)
 
 pub letters_at-requires : goal.letters_at-requires
-letters_at-requires c = grind (arith, common_steps, places, piece_inside)
+letters_at-requires c = grind (arith, piece_inside)
 
 pub returns : goal.returns
 returns c = record {

@@ -1,12 +1,10 @@
-use Rattle.std.proofs.lemmas.Grind.{common_steps}
-use Rattle.std.proofs.lemmas.List.{places}
 use Rattle.std.proofs.Common.{◌≡◌, ◌-◌, sym, arith, length, take, drop}
 use Rattle.password_hash.proofs.GroupFacts.{cut_at, no_group, begins_with_group}
 use Rattle.password_hash.proofs.mcf.group.Group.split_first.Goals as goal
 use Rattle.password_hash.proofs.mcf.group.Group.split_first.Goals.{After-split_at, then-len-eq0-via-then-len-eq0, then-len-eq0-via-else-len-eq0+then-number-len-ne0}
 
 cut : (c : After-split_at) → (c.split_at.result.0.now ≡ take 4 c.args.letters.now) × (c.split_at.result.1.now ≡ drop 4 c.args.letters.now)
-cut c = grind (arith, common_steps, places, cut_at)
+cut c = grind (arith, cut_at)
 
 pub returns-in_err-number-clause-split : goal.returns-in_err-number-clause-split
 returns-in_err-number-clause-split c =

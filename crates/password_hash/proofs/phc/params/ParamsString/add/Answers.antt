@@ -1,6 +1,4 @@
 use Rattle.std.proofs.Common.{arith}
-use Rattle.std.proofs.lemmas.Grind.{common_steps}
-use Rattle.std.proofs.lemmas.List.{places}
 use Rattle.std.proofs.lemmas.Bool.{false≢true}
 use Rattle.password_hash.proofs.ParamsFacts.{IsAdded, added, last_pair}
 use Rattle.password_hash.proofs.phc.params.ParamsString.add.Goals as goal
@@ -13,7 +11,7 @@ put c =
     c.push_pair.ensures.exact c.push_pair.ensures.ok c.push_pair.ensures.unchanged
 
 pub returns-in-Some-clause-exact : goal.returns-in-Some-clause-exact
-returns-in-Some-clause-exact c = grind (arith, common_steps, places, false≢true, last_pair)
+returns-in-Some-clause-exact c = grind (arith, false≢true, last_pair)
 
 pub invariant_of-self : goal.invariant_of-self
 invariant_of-self c = (put (goal.at.invariant_of-self c).After-push_pair).kept

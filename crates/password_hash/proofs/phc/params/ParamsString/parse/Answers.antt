@@ -1,6 +1,5 @@
 use Rattle.std.proofs.Common.{arith, ◌≡◌, ◌∷◌, ◌++◌, ◌∙◌, [], append_assoc, map, ap, sym, rules}
-use Rattle.std.proofs.lemmas.Grind.{common_steps}
-use Rattle.std.proofs.lemmas.List.{places, append-nil}
+use Rattle.std.proofs.lemmas.List.{append-nil}
 use Rattle.std.proofs.lemmas.Bool.{false≢true, false_from_ne_true}
 use Rattle.password_hash.specs.{are_pairs, pair_of, pairs_left, pairs_of, parsed_pairs}
 use Rattle.password_hash.proofs.ParamsFacts.{ArePairs-front}
@@ -23,4 +22,4 @@ returns-in_err-add c =
 
 pub returns : goal.returns
 unfolding parsed_pairs
-returns c = grind (arith, common_steps, places, append-nil, pairs_decided)
+returns c = grind (arith, append-nil, pairs_decided)
