@@ -1,5 +1,3 @@
-use Rattle.std.proofs.lemmas.Grind.{common_steps}
-use Rattle.std.proofs.lemmas.List.{places}
 use Rattle.std.proofs.Common.{length, arith}
 use Rattle.scrypt_kernel.proofs.CountFacts.{counted_none}
 use Rattle.scrypt_kernel.proofs.PartFacts.{length-part, part_inside}
@@ -7,7 +5,7 @@ use Rattle.scrypt_kernel.proofs.BlockMixFacts.{all_turns, no_turn}
 use Rattle.scrypt_kernel.proofs.block_mix.mix.Goals as goal
 
 pub turns-init : goal.turns-init
-turns-init g c = grind (arith, common_steps, places, counted_none, no_turn)
+turns-init g c = grind (arith, counted_none, no_turn)
 
 pub returns-clause-value : goal.returns-clause-value
 returns-clause-value g c k h =

@@ -1,5 +1,4 @@
-use Rattle.std.proofs.lemmas.Grind.{common_steps}
-use Rattle.std.proofs.lemmas.List.{places, length-append, length-take-le, take_at}
+use Rattle.std.proofs.lemmas.List.{length-append, length-take-le, take_at}
 use Rattle.std.proofs.Common.{◌≡◌, ◌+◌, ◌*◌, ◌++◌, append_assoc, length, ◌∙◌, ap, arith, refl}
 use Rattle.scrypt_kernel.specs.{mixed_in, part}
 use Rattle.scrypt_kernel.proofs.PartFacts.{part-take}
@@ -28,4 +27,4 @@ returns-clause-words g c =
     ∙ ap (λ z. part len z k) row_is))
 
 pub returns-clause-rest : goal.returns-clause-rest
-returns-clause-rest g c = grind (arith, common_steps, places, length-take-le, behind)
+returns-clause-rest g c = grind (arith, length-take-le, behind)

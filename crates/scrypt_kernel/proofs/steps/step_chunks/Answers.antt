@@ -1,5 +1,4 @@
-use Rattle.std.proofs.lemmas.Grind.{common_steps}
-use Rattle.std.proofs.lemmas.List.{places, length-take-le}
+use Rattle.std.proofs.lemmas.List.{length-take-le}
 use Rattle.std.proofs.Common.{◌≡◌, ◌+◌, ◌-◌, ◌*◌, ◌/◌, ℕ, ap, min, arith}
 use Rattle.scrypt_kernel.proofs.CountFacts.{counted_both}
 use Rattle.scrypt_kernel.proofs.StepFacts.{behind, mixing_front, mixing_longer, steps_walked}
@@ -28,7 +27,7 @@ returns-then-at-end-clause-counted g c =
     grind (arith, counted_both, more_blocks)
 
 pub returns-then-at-end-clause-scratch_rest : goal.returns-then-at-end-clause-scratch_rest
-returns-then-at-end-clause-scratch_rest g c = grind (arith, common_steps, places, behind, length-take-le)
+returns-then-at-end-clause-scratch_rest g c = grind (arith, behind, length-take-le)
 
 pub returns-else-at-end-clause-scratch_rest : goal.returns-else-at-end-clause-scratch_rest
-returns-else-at-end-clause-scratch_rest g c = grind (arith, common_steps, places, behind, length-take-le)
+returns-else-at-end-clause-scratch_rest g c = grind (arith, behind, length-take-le)

@@ -1,6 +1,4 @@
 use Rattle.std.proofs.Common.{arith, bit_xor, sym, ap₂, ◌∙◌}
-use Rattle.std.proofs.lemmas.Grind.{common_steps}
-use Rattle.std.proofs.lemmas.List.{places}
 use Rattle.std.proofs.lemmas.Simd.{length-zip2}
 use Rattle.scrypt_kernel.specs.{part_of, xor_words}
 use Rattle.scrypt_kernel.proofs.PartFacts.{length-part_of}
@@ -14,4 +12,4 @@ returns-clause-value g c k h =
     ∙ sym (part-zip2 bit_xor 16 c.args.i (part_of a.x k) (part_of a.y k))
 
 pub returns-clause-long : goal.returns-clause-long
-returns-clause-long g c k h = grind (arith, common_steps, places, length-part_of, length-zip2)
+returns-clause-long g c k h = grind (arith, length-part_of, length-zip2)

@@ -1,6 +1,4 @@
 use Rattle.std.proofs.Common.{arith, ◌≡◌, ◌++◌, List, ℕ, ◌∙◌, length}
-use Rattle.std.proofs.lemmas.Grind.{common_steps}
-use Rattle.std.proofs.lemmas.List.{places}
 use Rattle.scrypt_kernel.specs.{AreFourEach, diagonal_round, lanes_of, quarter_rounds, turned}
 use Rattle.scrypt_kernel.proofs.LaneFacts.{double_rounds_are, lanes_joined, length-joined, length-round}
 use Rattle.scrypt_kernel.proofs.cores.simd.FourVectors.double_round.Goals as goal
@@ -8,7 +6,7 @@ use Rattle.scrypt_kernel.proofs.cores.simd.FourVectors.double_round.Goals as goa
 -- the lanes after both turns
 lanes_after : (l m n : List ℕ × List ℕ × List ℕ × List ℕ) → AreFourEach l → m ≡ turned (quarter_rounds l.0 l.1 l.2 l.3)
     → n ≡ turned (quarter_rounds m.0 m.1 m.2 m.3) → n ≡ lanes_of (diagonal_round (l.0 ++ l.1 ++ l.2 ++ l.3))
-lanes_after l m n four one two = grind (arith, common_steps, places, double_rounds_are)
+lanes_after l m n four one two = grind (arith, double_rounds_are)
 
 long : (l : List ℕ × List ℕ × List ℕ × List ℕ) → AreFourEach l → length (diagonal_round (l.0 ++ l.1 ++ l.2 ++ l.3)) ≡ 16
 long l four = length-round _ ∙ length-joined l four

@@ -1,5 +1,4 @@
-use Rattle.std.proofs.lemmas.Grind.{common_steps}
-use Rattle.std.proofs.lemmas.List.{places, length-take-le}
+use Rattle.std.proofs.lemmas.List.{length-take-le}
 use Rattle.std.proofs.Common.{◌≡◌, ◌<◌, ◌≤◌, ◌++◌, ℕ, List, length, take, drop, ◌*◌, arith, ap, refl, ◌∙◌}
 use Rattle.scrypt_kernel.specs.Words.{part}
 use Rattle.scrypt_kernel.proofs.PartFacts.{part_put_other, part_put_same}
@@ -18,7 +17,7 @@ module _ (s k : ℕ) (x ys : List ℕ) (room : s ≤ length x) (long : length ys
   others_kept some = part_put_other s 0 x ys 0 s (omega arith) refl (long ∙ length-take-le s x room) (omega arith) k (omega arith)
 
 pub returns-clause-written : goal.returns-clause-written
-returns-clause-written c k h = grind (arith, common_steps, places, first_put)
+returns-clause-written c k h = grind (arith, first_put)
 
 pub returns-clause-others : goal.returns-clause-others
-returns-clause-others c k i ne = grind (arith, common_steps, places, others_kept, first_put, first_part)
+returns-clause-others c k i ne = grind (arith, others_kept, first_put, first_part)

@@ -1,12 +1,10 @@
 use Rattle.std.proofs.Common.{arith, ◌≡◌, ℕ, List, [], ◌∷◌, bit_xor, refl, ap₂}
-use Rattle.std.proofs.lemmas.Grind.{common_steps}
-use Rattle.std.proofs.lemmas.List.{places}
 use Rattle.std.specs.Int.Bits.{xor_assoc, xor_comm}
 use Rattle.scrypt_kernel.specs.Words.{xor_words}
 use Rattle.scrypt_kernel.proofs.cores.simd.scalars.ScalarsLanes.xor.Goals as goal
 
 xor_exchange : (a b c d : ℕ) → bit_xor (bit_xor a b) (bit_xor c d) ≡ bit_xor (bit_xor a c) (bit_xor b d)
-xor_exchange a b c d = grind (arith, common_steps, places, xor_assoc, xor_comm)
+xor_exchange a b c d = grind (arith, xor_assoc, xor_comm)
 
 -- words and vectors are joined in either order
 xors_exchange : (w x y z : List ℕ) → xor_words (xor_words w x) (xor_words y z) ≡ xor_words (xor_words w y) (xor_words x z)
