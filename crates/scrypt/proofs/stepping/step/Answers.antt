@@ -28,7 +28,8 @@ returns-clause-under_way g c password salt at =
 
 -- what a step within a group adds
 pub returns-then-mixes-log_n-clause-exact : goal.returns-then-mixes-log_n-clause-exact
-returns-then-mixes-log_n-clause-exact g c = grind (arith, more_mixes)
+returns-then-mixes-log_n-clause-exact g c =
+    omega (arith, more_mixes c.args.at.interleaved _ _ _ _ c.requires.going.within.mixes c.mix_more-mixes.ensures.done)
 
 pub returns-clause-exact : goal.returns-clause-exact
 returns-clause-exact g c =

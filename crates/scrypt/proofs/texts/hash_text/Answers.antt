@@ -12,7 +12,15 @@ returns c =
     let accepted = c.expose_invariant.ensures.accepted in
     let stored = c.expose_invariant.ensures.stored in
     let law = c.made_hashes_are_accepted.ensures.phc_text params c.args.password.now c.args.salt accepted stored salt in
-    grind arith
+    let within = c.made_hashes_are_accepted.ensures.phc_within in
+    record {
+      made = printed;
+      read = rw printed law.read;
+      accepts = rw printed law.accepts;
+      strong = rw printed law.strong;
+      within = λ defaults n short bytes little. rw printed (within defaults params c.args.password.now c.args.salt n accepted stored salt short bytes little);
+      err = tt;
+    }
 
 pub returns-in_err-hash-clause-err : goal.returns-in_err-hash-clause-err
 returns-in_err-hash-clause-err c = grind (arith, only_memory c.args.salt _ (search rules) c.in_err-hash.ensures.err)
