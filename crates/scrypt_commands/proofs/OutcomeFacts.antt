@@ -2,12 +2,12 @@
 use Rattle.std.proofs.Common.{◌≡◌, ◌⊎◌, ℕ, true, List, [], Option, Some, None, Err, inl, inr, refl, sym, append-nil, arith}
 use Rattle.std.specs.Prelude.{IfSome, Result}
 use Rattle.std.specs.Io.KnownBytes.{Appends, Keeps}
+use Rattle.std.proofs.KnownBytes.{Appends-kept, Appends-nil, Keeps-refl}
 use Rattle.scrypt.specs.Terms.{Parameters, refusal, salt_refusal}
 use Rattle.password_hash.specs.declared.error.Error.{Error}
 use Rattle.scrypt_commands.specs.{AppendsReply, CommandLine, ErrorLine, FailsWith, HasOutcome, OnInput, Reply}
-use Rattle.scrypt_commands.specs.{Streams, error_line, hash_error}
-use Rattle.scrypt_commands.specs.{invocation_of, new_hash, no_options, options_of, outcome}
-use Rattle.scrypt_commands.specs.{plan_of, plan_of_words, reply_by, request_of, status_of, text_of_words}
+use Rattle.scrypt_commands.specs.{Streams, error_line, hash_error, invocation_of, new_hash, no_options, options_of}
+use Rattle.scrypt_commands.specs.{outcome, plan_of, plan_of_words, reply_by, request_of, status_of, text_of_words}
 use Rattle.scrypt_commands.specs.declared.command.Format.TheVariants.{Phc}
 use Rattle.scrypt_commands.specs.declared.error.CliError.{CliError}
 use Rattle.scrypt_commands.specs.declared.error.CliError.TheVariants.{InputFailed, OutOfMemory, OutputFailed}
@@ -29,9 +29,7 @@ on_no_input known P h = on_any_input known (λ _. P) (λ _. h)
 
 -- nothing was appended
 pub appends_nothing : (old new : Option (List ℕ)) → Keeps old new → Appends old new []
-appends_nothing None new h = tt
-appends_nothing (Some xs) None h = h
-appends_nothing (Some xs) (Some ys) h = rw h (sym (append-nil xs))
+appends_nothing old new h = Appends-kept old old new [] (Appends-nil old) h
 
 -- words that are refused are refused on each input
 pub refused_args : (command_line : CommandLine) (known : Option (List ℕ)) (error : CliError)
@@ -49,9 +47,7 @@ refused_input reply_on known input error same (inr (two, is)) _ = (input, same, 
 
 -- an error of status 4 other than `InputFailed` is `OutputFailed`
 pub output_failed : (error : CliError) → status_of error ≡ 4 → ¬ (error ≡ InputFailed) → error ≡ OutputFailed
-output_failed InputFailed is other = absurd (other refl)
-output_failed OutputFailed is other = refl
-output_failed others is other = absurd cc
+output_failed error is other = grind arith
 
 -- the outcome of a run that ends without a line
 pub end_outcome : (reply_on : List ℕ → Result Reply ErrorLine) (known old new faults faults' : Option (List ℕ)) (ended : Ended) (error : CliError)
@@ -60,16 +56,7 @@ pub end_outcome : (reply_on : List ℕ → Result Reply ErrorLine) (known old ne
     → (status_of error ≡ 2 → OnInput known (λ input. reply_on input ≡ Err (error_line error)))
     → (ended.status ≡ 3) ⊎ (ended.status ≡ 4) ⊎ OnInput known (λ input. HasOutcome ended
     (record { input = known; output = old; faults = faults }) (record { input = known; output = new; faults = faults' }) (outcome (reply_on input)))
-end_outcome reply_on known old new faults faults' ended OutOfMemory is kept written refused = inl is
-end_outcome reply_on known old new faults faults' ended InputFailed is kept written refused = inr (inl is)
-end_outcome reply_on known old new faults faults' ended OutputFailed is kept written refused = inr (inl is)
-end_outcome reply_on known old new faults faults' ended error is (inl failed) written refused = absurd cc
-end_outcome reply_on known old new faults faults' ended error is (inr kept) written refused = grind (arith, appends_nothing, kept)
-
--- known bytes keep themselves
-pub kept : (known : Option (List ℕ)) → Keeps known known
-kept None = tt
-kept (Some xs) = refl
+end_outcome reply_on known old new faults faults' ended error is kept written refused = grind (arith, appends_nothing)
 
 -- the outcome of a run that has written its line
 pub answered_outcome : (reply_on : List ℕ → Result Reply ErrorLine) (before after : Streams) (status : ℕ) (ended : Ended)
@@ -85,7 +72,7 @@ without_options salt words no_text none = grind arith
 -- the ends of a run
 pub ruleset endings = (refused_args, refused_input)
 
-pub ruleset ends = (end_outcome, answered_outcome, kept)
+pub ruleset ends = (end_outcome, answered_outcome, Keeps-refl)
 
 -- what is printed whatever the input is
-pub ruleset without_input = (on_no_input, appends_nothing, kept)
+pub ruleset without_input = (on_no_input, appends_nothing, Keeps-refl)

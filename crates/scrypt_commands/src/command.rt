@@ -2,10 +2,10 @@
 
 ghost use Rattle.std.specs.Prelude.{◌≡◌};
 ghost use Rattle.std.specs.Option.{option_copied};
-ghost use Rattle.scrypt_commands.specs.CliError.{Gives};
-ghost use Rattle.scrypt_commands.specs.Command.{before_words, checked_params, end_of, first_word, format_word, hash_word, hash_words, key_words, len_word, making_of, making_view, optional_len, params_words, rehash_words, request_of, request_view, salt_of, salt_word, verify_words};
-ghost use Rattle.scrypt_commands.specs.Invocation.{command_line_view};
-ghost use Rattle.scrypt_commands.specs.Options.{texts_of};
+ghost use Rattle.scrypt_commands.specs.{Gives, before_words, checked_params, command_line_view, end_of, first_word};
+ghost use Rattle.scrypt_commands.specs.{format_word, hash_word, hash_words, key_words, len_word, making_of, making_view};
+ghost use Rattle.scrypt_commands.specs.{optional_len, params_words, rehash_words, request_of, request_view, salt_of};
+ghost use Rattle.scrypt_commands.specs.{salt_word, texts_of, verify_words};
 
 use crate::command_line::{CommandLine, Name};
 use crate::error::{CliError, Result};

@@ -2,9 +2,8 @@
 
 ghost use Rattle.std.specs.Prelude.{◌≡◌, OnOk};
 ghost use Rattle.std.specs.Io.KnownBytes.{Appends};
-ghost use Rattle.password_hash.specs.Refusal.{refusal};
-ghost use Rattle.scrypt.specs.WithinLimits.{limited_refusal};
-ghost use Rattle.scrypt_commands.specs.CliError.{error_line, error_of, fixed_line, hash_error, limited_line, refused_line, status_of};
+ghost use Rattle.scrypt.specs.Terms.{limited_refusal, refusal};
+ghost use Rattle.scrypt_commands.specs.{error_line, error_of, fixed_line, hash_error, limited_line, refused_line, status_of};
 ghost use Rattle.scrypt_commands.specs.declared.error.CliError.TheVariants.{OutOfMemory};
 
 use crate::usage::USAGE;

@@ -4,9 +4,8 @@ ghost use Rattle.std.specs.Prelude.{◌≡◌, ◌⊎◌, ℕ, IfOk, IsTrue, Lis
 ghost use Rattle.std.specs.Io.KnownBytes.{Keeps};
 ghost use Rattle.std.specs.Bool.{then_some};
 ghost use Rattle.std.specs.Option.{option_copied};
-ghost use Rattle.scrypt_commands.specs.Invocation.{invocation_of, invocation_view, options_in, options_view, text_of, text_of_words};
-ghost use Rattle.scrypt_commands.specs.Options.{texts_of};
-ghost use Rattle.scrypt_commands.specs.Run.{EndsUnread, IsRefusedUnread, IsRun, unread_plan, plan_of};
+ghost use Rattle.scrypt_commands.specs.{EndsUnread, IsRefusedUnread, IsRun, invocation_of, invocation_view, options_in};
+ghost use Rattle.scrypt_commands.specs.{options_view, plan_of, text_of, text_of_words, texts_of, unread_plan};
 
 use crate::command_line::CommandLine;
 use crate::error::CliError;

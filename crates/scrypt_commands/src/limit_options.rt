@@ -1,7 +1,7 @@
 // The limits on the cost of a stored hash, and on the length of its key.
 
 ghost use Rattle.std.specs.Prelude.{◌≡◌};
-ghost use Rattle.scrypt_commands.specs.Options.{limits_of, with_number};
+ghost use Rattle.scrypt_commands.specs.{limits_of, with_number};
 
 use password_hash::decimal::read_usize;
 use scrypt::{Limits, Params};

@@ -1,8 +1,8 @@
 // The options before a command.
 
 ghost use Rattle.std.specs.Prelude.{◌≡◌, option_map};
-ghost use Rattle.scrypt_commands.specs.Invocation.{is_unfit, options_view};
-ghost use Rattle.scrypt_commands.specs.Options.{options_of, password_of, texts_of, with_option, with_value, without_newline};
+ghost use Rattle.scrypt_commands.specs.{is_unfit, options_of, options_view, password_of, texts_of, with_option};
+ghost use Rattle.scrypt_commands.specs.{with_value, without_newline};
 
 use crate::command_line::Name;
 use crate::limit_options::LimitOptions;

@@ -1,7 +1,7 @@
 // A key whose progress is shown.
 
 ghost use Rattle.std.specs.Prelude.{◌≡◌, ◌<◌, OnOk, length};
-ghost use Rattle.scrypt.specs.KeyOfParams.{key_by};
+ghost use Rattle.scrypt.specs.Terms.{key_by};
 
 use crate::invocation::Machine;
 use scrypt::{BufferLens, Buffers, DeriveError, Params, output_len_ok};
