@@ -13,11 +13,6 @@ pub record Laws : Type 0 where
   pub allowed : (limits : Limits) (s : Stored)
       → IsOk (within limits (Ok s)) ↔ (IsTrue (are_within limits s.params) × (limits.min_key_len ≤ length s.key))
 
--- an accepted hash can be read
-accepted : (password : List ℕ) (r : Result Stored Refusal) → IsOk (verdict password r) → IsOk r
-accepted password (Ok s) is = refl
-accepted password (Err why) is = absurd cc
-
 -- a renewed text is within limits that admit the policy
 made_within : Laws → (limits : Limits) (c : Parameters) (password salt : List ℕ) (read : Result Stored Refusal) → IsTrue (admits limits c)
     → read ≡ Ok (made_stored c password salt) → within limits read ≡ read
@@ -33,11 +28,7 @@ renewed_open laws old new current password salt is_open renewed = grind (arith, 
 step_open : Laws → (old new : Stores) (current : List ℕ) (call : Call) (answer : Bool) → IsOpen current old
     → Step old call answer new → IsOpen (password_after current call answer) new
 step_open laws old new current call false is_open (refused, same) = rw same is_open
-step_open laws old new current (LogIn password salt) true is_open (allowed, inl (weak, renewed)) = grind (arith, renewed_open)
-step_open laws old new current (LogIn password salt) true is_open (allowed, inr (strong, same)) = grind arith
-step_open laws old new current (ChangePassword password new_password salt) true is_open (allowed, renewed) = grind (arith, renewed_open)
-step_open laws old new current (SetPolicy policy) true is_open (allowed, same) = grind arith
-step_open laws old new current (SetLimits limits) true is_open (allowed, same) = grind arith
+step_open laws old new current call true is_open (allowed, made) = grind (arith, renewed_open)
 
 -- so does each history
 pub run_open : Laws → (start end : Stores) (current : List ℕ) (history : List (Call × Bool)) → IsOpen current start
@@ -49,5 +40,4 @@ run_open laws start end current (step ∷ history) is_open (mid, now, later) =
 -- a log-in leaves a text that is not weaker than the policy
 pub log_in_strong : (old new : Stores) (password salt : List ℕ) → Step old (LogIn password salt) true new
     → weaker new.policy (reading new.text) ≡ Ok false
-log_in_strong old new password salt (allowed, inl (weak, renewed)) = rw renewed.policy renewed.read.strong
-log_in_strong old new password salt (allowed, inr (strong, same)) = rw same strong
+log_in_strong old new password salt step = grind arith

@@ -25,8 +25,7 @@ pub struct Account {
 
 impl Model for Account {
     ghost use Rattle.std.specs.Prelude.{◌≡◌, IsOk, IsTrue, None, string_bytes};
-    ghost use Rattle.scrypt.specs.StoredHash.{reading};
-    ghost use Rattle.scrypt.specs.WithinLimits.{within};
+    ghost use Rattle.scrypt.specs.Terms.{reading, within};
     ghost use Rattle.scrypt_examples.specs.Account.{Stores, admits};
 
     ghost Value = { Stores };
