@@ -355,7 +355,7 @@ typedef struct scrypt_login {
  * scratch are w times as long as scrypt_buffer_lens returns for one hash and s = 0, up to w chunks
  * are interleaved, but no more than four. Otherwise the first password is verified on its own, and
  * the rest are tried again as a batch in the same way. Afterwards the used parts of chunks and
- * scratch are zeros. With AVX2 a batch of two takes 0.60 of the time of two calls, and a batch
+ * scratch are zeros. With AVX2 a batch of two takes 0.59 of the time of two calls, and a batch
  * of four 0.43 of the time of four; on some CPUs a batch of two takes as long as two calls.
  * SCRYPT_E_BUFFER_SIZE for a greater count; then no login is read, and no status is written.
  * SCRYPT_E_SALT_INVALID if salt_len is more than 86, the letters of 64 bytes. */
